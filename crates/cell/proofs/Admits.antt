@@ -1,0 +1,85 @@
+-- Reading takes a cell exactly when the format admits it.
+use mathlib.Core.Path.{_≡_, refl, _∙_}
+use mathlib.Core.Bool.{Bool, true, false, cond}
+use mathlib.Core.List.{List}
+use Prim.Native.Nat.{ℕ, _/_, _%_}
+use native.Mathlib.Omega.{arith}
+use borrow.Author.Tests.{eq-eqb, eqb-true, leb-true}
+use lib.Dec.{eqb, leb}
+use lib.ListN.{length}
+use Rattle.cell.specs.Octets.{octet}
+use Rattle.cell.specs.Header.{vpiOf, vciOf, typeOf, headerRight}
+use Rattle.cell.specs.Fields.{Fields, fieldsOf, crcRight}
+use Rattle.cell.specs.Reading.{Reading, User, Resource, need, reading}
+use Rattle.cell.specs.Admitted.{Admissible, userCell, rmCell, Admitted, Taken}
+use Rattle.cell.proofs.Readings.{takes-user, takes-rest, takes-fields}
+
+need-test : (n : ℕ) (t : Bool) (r : Reading) → Taken (need n t r) → t ≡ true
+unfolding need
+need-test n true r h = refl
+need-test n false r h = absurd (h n refl)
+
+need-rest : (n : ℕ) (t : Bool) (r : Reading) → Taken (need n t r) → Taken r
+unfolding need
+need-rest n true r h = h
+need-rest n false r h = absurd (h n refl)
+
+module _ (o : List ℕ) where
+  resourceRest : Reading
+  resourceRest = need 4 (eqb (typeOf o) 6) (need 5 (crcRight o) (need 6 (eqb (octet 6 o) 1) (Resource (fieldsOf o))))
+
+  admissible : (t : Bool) → leb (typeOf o) 3 ≡ t → Taken (cond t (User (vciOf o) (eqb (typeOf o / 2 % 2) 1)) resourceRest) → Admissible o
+  unfolding crcRight resourceRest
+  admissible true e h = userCell (leb-true _ _ e)
+  admissible false e h =
+      let h5 : Taken (need 5 (crcRight o) (need 6 (eqb (octet 6 o) 1) (Resource (fieldsOf o)))) = need-rest 4 (eqb (typeOf o) 6) _ h in
+      rmCell (eqb-true _ _ (need-test 4 (eqb (typeOf o) 6) _ h)) (eqb-true _ _ (need-test 5 (crcRight o) _ h5))
+      (eqb-true _ _ (need-test 6 (eqb (octet 6 o) 1) (Resource (fieldsOf o)) (need-rest 5 (crcRight o) _ h5)))
+
+  pub taken-admitted : Taken (reading o) → Admitted o
+  unfolding reading headerRight resourceRest
+  taken-admitted h =
+      let h2 : Taken _ = need-rest 1 (eqb (length o) 53) _ h in
+      let h3 : Taken _ = need-rest 2 (headerRight o) _ h2 in
+      let h4 : Taken _ = need-rest 3 (eqb (vpiOf o) 0) _ h3 in
+      record {
+        size = eqb-true _ _ (need-test 1 (eqb (length o) 53) _ h);
+        check = eqb-true _ _ (need-test 2 (headerRight o) _ h2);
+        vpi = eqb-true _ _ (need-test 3 (eqb (vpiOf o) 0) _ h3);
+        kind = admissible (leb (typeOf o) 3) refl h4;
+      }
+
+  -- what an admitted cell is read as
+  data Outcome : Type 0 where
+    userRead : User (vciOf o) (eqb (typeOf o / 2 % 2) 1) ≡ reading o → Outcome
+    resourceRead : octet 6 o ≡ 1 → Resource (fieldsOf o) ≡ reading o → Outcome
+
+  outcome : Admitted o → Outcome
+  unfolding headerRight crcRight
+  outcome h = of (h .kind)
+    where
+      check : headerRight o ≡ true
+      check = eq-eqb _ _ (h .check)
+
+      of : Admissible o → Outcome
+      of (userCell t) = userRead (takes-user o (h .size) check (h .vpi) t)
+      of (rmCell t w p) = resourceRead p (takes-fields o (eq-eqb _ _ w) p ∙ takes-rest o (h .size) check (h .vpi) t)
+
+  pub admitted-taken : Admitted o → Taken (reading o)
+  admitted-taken h n e = refuted (outcome h)
+    where
+      refuted : Outcome → ⊥
+      refuted (userRead u) = let z : _≡_ {A = ℕ} 0 1 = cc in omega arith
+      refuted (resourceRead p u) = let z : _≡_ {A = ℕ} 0 1 = cc in omega arith
+
+  -- a cell read as an RM cell is of protocol 1, and the fields are its own
+  pub record Received (f : Fields) : Type 0 where
+    pub protocol : octet 6 o ≡ 1
+    pub fields : f ≡ fieldsOf o
+
+  pub resource-received : (f : Fields) → reading o ≡ Resource f → Received f
+  resource-received f e = received (outcome (taken-admitted (λ n r. let z : _≡_ {A = ℕ} 0 1 = cc in omega arith)))
+    where
+      received : Outcome → Received f
+      received (userRead u) = let z : _≡_ {A = ℕ} 0 1 = cc in absurd (omega arith)
+      received (resourceRead p u) = record { protocol = p; fields = cc }

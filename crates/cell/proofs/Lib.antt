@@ -1,0 +1,10 @@
+pub mod Readings
+pub mod Admits
+pub mod OctetLists
+pub mod Sealed
+pub mod Fits
+pub mod Written
+pub mod Turned
+pub mod Stores
+pub mod PayloadWords
+pub mod Writes

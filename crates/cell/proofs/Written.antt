@@ -1,0 +1,97 @@
+-- What is written as an RM cell is read back: the fields, with both checks right.
+use mathlib.Core.Path.{_≡_, refl, ap, _∙_}
+use mathlib.Core.Bool.{true}
+use mathlib.Core.List.{List, [], _∷_, _++_}
+use Prim.Native.Nat.{ℕ, _+_, _*_, _/_, _%_, _≤_, _<_}
+use native.Mathlib.Omega.{arith}
+use lib.Dec.{lit<}
+use lib.ListN.{length, replicate}
+use Rattle.cell.specs.Octets.{octet, pair, AreOctets}
+use Rattle.cell.specs.Header.{vciOf, header}
+use Rattle.cell.specs.Fields.{Fields, fieldsFit, fieldsOf, body, sealed, resourceCell}
+use Rattle.cell.specs.Reading.{reading, Resource}
+use Rattle.cell.proofs.OctetLists.{octets-nil, octets-cons, octets-append, octets-replicate}
+use Rattle.cell.proofs.Sealed.{carried-size, carried-octets, carried-vci, carried-read}
+use Rattle.cell.proofs.Fits.{Fit, fit}
+
+-- the payload before its CRC-10 is written
+abbrev bare : Fields → List ℕ
+bare f = body f ++ (0 ∷ 0 ∷ [])
+
+pub bare-octets : (f : Fields) → Fit f → AreOctets (bare f)
+bare-octets f b =
+    octets-cons (lit< tt) (octets-cons marks
+    (two-octets (f .er) (two-octets (f .ccr) (two-octets (f .mcr) (two-octets (f .ql / 65536) (two-octets (f .ql)
+    (two-octets (f .sn / 65536) (two-octets (f .sn)
+    (octets-append (replicate 30 0x6A) (0 ∷ 0 ∷ []) (octets-replicate 30 (lit< tt)) (octets-cons (lit< tt) (octets-cons (lit< tt) octets-nil)))))))))))
+  where
+    marks : f .dir * 128 + f .bn * 64 + f .ci * 32 + f .ni * 16 + f .ra * 8 < 256
+    marks = omega arith
+
+    two-octets : (x : ℕ) {l : List ℕ} → AreOctets l → AreOctets (x / 256 % 256 ∷ x % 256 ∷ l)
+    two-octets x a =
+        let high : x / 256 % 256 < 256 = omega arith in
+        let low : x % 256 < 256 = omega arith in octets-cons high (octets-cons low a)
+
+module _ (clp : ℕ) (f : Fields) where
+  pub written-size : length (resourceCell clp f) ≡ 53
+  unfolding resourceCell
+  written-size = carried-size (bare f) refl clp (f .vci)
+
+  pub written-octets : clp ≤ 1 → fieldsFit f ≡ true → AreOctets (resourceCell clp f)
+  unfolding resourceCell
+  written-octets h e = carried-octets (bare f) refl clp (f .vci) h (bare-octets f (fit f e))
+
+  fields-back : clp ≤ 1 → Fit f → fieldsOf (resourceCell clp f) ≡ f
+  unfolding fieldsOf header sealed resourceCell
+  fields-back h b = λ i. record {
+    vci = p-vci i;
+    dir = p-dir i;
+    bn = p-bn i;
+    ci = p-ci i;
+    ni = p-ni i;
+    ra = p-ra i;
+    er = p-er i;
+    ccr = p-ccr i;
+    mcr = p-mcr i;
+    ql = p-ql i;
+    sn = p-sn i;
+  }
+    where
+      p-vci : vciOf (resourceCell clp f) ≡ f .vci
+      p-vci = carried-vci (bare f) refl clp (f .vci) h (b .vci)
+
+      p-dir : octet 7 (resourceCell clp f) / 128 % 2 ≡ f .dir
+      p-dir = omega arith
+
+      p-bn : octet 7 (resourceCell clp f) / 64 % 2 ≡ f .bn
+      p-bn = omega arith
+
+      p-ci : octet 7 (resourceCell clp f) / 32 % 2 ≡ f .ci
+      p-ci = omega arith
+
+      p-ni : octet 7 (resourceCell clp f) / 16 % 2 ≡ f .ni
+      p-ni = omega arith
+
+      p-ra : octet 7 (resourceCell clp f) / 8 % 2 ≡ f .ra
+      p-ra = omega arith
+
+      p-er : pair 8 (resourceCell clp f) % 32768 ≡ f .er
+      p-er = omega arith
+
+      p-ccr : pair 10 (resourceCell clp f) % 32768 ≡ f .ccr
+      p-ccr = omega arith
+
+      p-mcr : pair 12 (resourceCell clp f) % 32768 ≡ f .mcr
+      p-mcr = omega arith
+
+      p-ql : pair 14 (resourceCell clp f) * 65536 + pair 16 (resourceCell clp f) ≡ f .ql
+      p-ql = omega arith
+
+      p-sn : pair 18 (resourceCell clp f) * 65536 + pair 20 (resourceCell clp f) ≡ f .sn
+      p-sn = omega arith
+
+  pub read-written : clp ≤ 1 → fieldsFit f ≡ true → reading (resourceCell clp f) ≡ Resource f
+  unfolding resourceCell
+  read-written h e =
+      carried-read (bare f) refl clp (f .vci) h (fit f e .vci) refl ∙ ap Resource (fields-back h (fit f e))

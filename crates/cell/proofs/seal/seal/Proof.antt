@@ -1,0 +1,23 @@
+-- The last word with its low ten bits written new is that of the sealed octets.
+use Rattle.cell.proofs.PayloadWords.{seal-words}
+use borrow.Author.Needs.{needs}
+use Rattle.cell.proofs.seal.seal.Statement.{statement}
+use Rattle.cell.proofs.seal.seal.Tie as tie
+
+crc10-requires : tie.Need-crc10-requires
+crc10-requires c κs = search needs
+
+mul-t4 : tie.Need-mul-t4
+mul-t4 c = search needs
+
+add-t5 : tie.Need-add-t5
+add-t5 c = search needs
+
+returns : tie.Need-returns
+returns c =
+    let g = c .struct-known .given in
+    seal-words (c .before .before .args .p) (g .0 .fits) (g .1 .0 .fits) (g .1 .1 .0 .fits) (g .1 .1 .1 .0 .fits) (g .1 .1 .1 .1 .0 .fits)
+    (g .1 .1 .1 .1 .1 .0 .fits) (c .before .crc10 .ensures .0)
+
+pub seal-spec : {M : Type 1} → statement M
+seal-spec = tie.close (tie.spec crc10-requires mul-t4 add-t5 returns)

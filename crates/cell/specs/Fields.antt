@@ -1,0 +1,51 @@
+-- The fields of an RM cell, in its octets and out of them. (Document 01, "The cell, 53 octets"; the ranges are those of refusal 7.)
+use Prim.Native.Nat.{ℕ, _+_, _*_, _/_, _%_}
+use mathlib.Core.Bool.{Bool, _&&_}
+use mathlib.Core.List.{List, [], _∷_, _++_}
+use lib.Dec.{leb, eqb}
+use lib.ListN.{getD, take, replicate}
+use Rattle.crc.specs.Checks.{payloadCheck}
+use Rattle.cell.specs.Octets.{octet, pair, two, payload}
+use Rattle.cell.specs.Header.{vciOf, header}
+pub use Rattle.cell.specs.declared.fields.Fields.{Fields}
+
+-- octet 7 from the top: DIR, BN, CI, NI, RA; ER, CCR and MCR without bit 15; QL; SN
+unfoldable pub fieldsOf : List ℕ → Fields
+fieldsOf o = record {
+  vci = vciOf o;
+  dir = octet 7 o / 128 % 2;
+  bn = octet 7 o / 64 % 2;
+  ci = octet 7 o / 32 % 2;
+  ni = octet 7 o / 16 % 2;
+  ra = octet 7 o / 8 % 2;
+  er = pair 8 o % 32768;
+  ccr = pair 10 o % 32768;
+  mcr = pair 12 o % 32768;
+  ql = pair 14 o * 65536 + pair 16 o;
+  sn = pair 18 o * 65536 + pair 20 o;
+}
+
+-- what a cell can carry: a VCI of 16 bits, five bits, three rate codes of 15 bits; QL and SN of 32 bits
+unfoldable pub fieldsFit : Fields → Bool
+fieldsFit f =
+    leb (f .vci) 65535
+    && (leb (f .dir) 1 && (leb (f .bn) 1 && (leb (f .ci) 1 && (leb (f .ni) 1 && (leb (f .ra) 1
+    && (leb (f .er) 32767 && (leb (f .ccr) 32767 && (leb (f .mcr) 32767 && (leb (f .ql) 4_294_967_295 && leb (f .sn) 4_294_967_295)))))))))
+
+-- octets 6 to 51: protocol 1, octet 7, the rates, QL, SN, and 0x6A
+abbrev pub body : Fields → List ℕ
+body f =
+    1 ∷ (f .dir * 128 + f .bn * 64 + f .ci * 32 + f .ni * 16 + f .ra * 8)
+    ∷ (two (f .er) ++ (two (f .ccr) ++ (two (f .mcr) ++ (two (f .ql / 65536) ++ (two (f .ql) ++ (two (f .sn / 65536) ++ (two (f .sn) ++ replicate 30 0x6A)))))))
+
+-- a payload of 48 octets with its CRC-10 written new: the six bits before it stay
+unfoldable pub sealed : List ℕ → List ℕ
+sealed p = take 46 p ++ ((getD p 46 0 / 4 * 4 + payloadCheck p / 256) ∷ (payloadCheck p % 256) ∷ [])
+
+-- an RM cell of 53 octets, its six reserved bits 0
+unfoldable pub resourceCell : (clp : ℕ) → Fields → List ℕ
+resourceCell clp f = header clp (f .vci) ++ sealed (body f ++ (0 ∷ 0 ∷ []))
+
+-- the ten bits of the CRC-10, and if they are right
+unfoldable pub crcRight : List ℕ → Bool
+crcRight o = eqb (pair 52 o % 1024) (payloadCheck (payload o))

@@ -1,0 +1,28 @@
+-- A cell's header: GFC 4 bits, VPI 8, VCI 16, payload type 3, CLP 1, and octet 5. (Document 01, "The cell, 53 octets".)
+use Prim.Native.Nat.{ℕ, _+_, _*_, _/_, _%_}
+use mathlib.Core.Bool.{Bool}
+use mathlib.Core.List.{List, [], _∷_, _++_}
+use lib.Dec.{eqb}
+use lib.ListN.{take}
+use Rattle.crc.specs.Checks.{headerCheck}
+use Rattle.cell.specs.Octets.{octet}
+
+abbrev pub vpiOf : List ℕ → ℕ
+vpiOf o = octet 1 o % 16 * 16 + octet 2 o / 16
+
+abbrev pub vciOf : List ℕ → ℕ
+vciOf o = octet 2 o % 16 * 4096 + octet 3 o * 16 + octet 4 o / 16
+
+abbrev pub typeOf : List ℕ → ℕ
+typeOf o = octet 4 o / 2 % 8
+
+unfoldable pub headerRight : List ℕ → Bool
+headerRight o = eqb (octet 5 o) (headerCheck (take 4 o))
+
+-- octets 1 to 4 of an RM cell of this VCI: GFC and VPI 0, payload type 6, and the CLP
+abbrev pub firstFour : (clp vci : ℕ) → List ℕ
+firstFour clp vci = 0 ∷ (vci / 4096 % 16) ∷ (vci / 16 % 256) ∷ (vci % 16 * 16 + 12 + clp) ∷ []
+
+-- octets 1 to 5
+unfoldable pub header : (clp vci : ℕ) → List ℕ
+header clp vci = firstFour clp vci ++ (headerCheck (firstFour clp vci) ∷ [])

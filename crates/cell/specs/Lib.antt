@@ -1,0 +1,9 @@
+-- The cell, as document 01 sets it out. Each file states one part of it; the code follows with the same names.
+pub mod Octets
+pub mod Header
+pub mod Fields
+pub mod Reading
+pub mod Turning
+pub mod Admitted
+pub mod Returned
+pub mod Writing

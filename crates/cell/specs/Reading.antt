@@ -1,0 +1,29 @@
+-- What reading a cell gives, and writing one. (Document 01, "The cell, 53 octets" and "Refused because of the input"; the orders: "Refused because of the state".)
+use Prim.Native.Nat.{ℕ, _/_, _%_}
+use mathlib.Core.Bool.{Bool, true, false, cond}
+use mathlib.Core.List.{List}
+use lib.Dec.{leb, eqb}
+use lib.ListN.{length}
+use Rattle.cell.specs.Octets.{octet}
+use Rattle.cell.specs.Header.{vpiOf, vciOf, typeOf, headerRight}
+use Rattle.cell.specs.Fields.{fieldsOf, crcRight}
+pub use Rattle.cell.specs.declared.read.Reading.{Reading}
+pub use Rattle.cell.specs.declared.read.Reading.the-variants.{Refused, User, Resource}
+
+-- the rest, if the test passes; else refusal n
+unfoldable pub need : ℕ → Bool → Reading → Reading
+need n true r = r
+need n false r = Refused n
+
+-- refusals 1, 2, 3, 4, then 5 and 6 for RM cells; payload types 0 to 3 are user data, whose middle bit is EFCI; 6 is an RM cell
+unfoldable pub reading : List ℕ → Reading
+reading o =
+    need 1 (eqb (length o) 53)
+    (need 2 (headerRight o)
+    (need 3 (eqb (vpiOf o) 0)
+    (cond (leb (typeOf o) 3)
+    (User (vciOf o) (eqb (typeOf o / 2 % 2) 1))
+    (need 4 (eqb (typeOf o) 6)
+    (need 5 (crcRight o)
+    (need 6 (eqb (octet 6 o) 1)
+    (Resource (fieldsOf o))))))))

@@ -1,0 +1,22 @@
+-- A received forward cell turned round. (Document 01, "Turning cells round".)
+use Prim.Native.Nat.{ℕ, _+_, _*_, _/_, _%_}
+use mathlib.Core.Bool.{Bool, cond, _||_}
+use mathlib.Core.List.{List, _∷_, _++_}
+use lib.Dec.{eqb}
+use lib.ListN.{getD, drop}
+use Rattle.crc.specs.Payload.{octetsOf}
+use Rattle.crc.specs.declared.payload.Payload.{Payload}
+use Rattle.cell.specs.Header.{header}
+use Rattle.cell.specs.Fields.{sealed}
+
+-- octet 7: DIR 1 and BN 0; CI 1 with a saved EFCI or at level 2, NI 1 at level 1; every other bit as received, so that no mark is lost
+unfoldable pub turnedMarks : (level : ℕ) (efci : Bool) → ℕ → ℕ
+turnedMarks level efci x = 128 + cond (efci || eqb level 2) 1 (x / 32 % 2) * 32 + cond (eqb level 1) 1 (x / 16 % 2) * 16 + x % 16
+
+-- the payload of 48 octets, received and then turned
+unfoldable pub turnedPayload : (level : ℕ) (efci : Bool) → List ℕ → List ℕ
+turnedPayload level efci p = sealed (getD p 0 0 ∷ turnedMarks level efci (getD p 1 0) ∷ drop 2 p)
+
+-- the cell that carries a waiting payload
+unfoldable pub turnedCell : (vci : ℕ) → Payload → List ℕ
+turnedCell vci p = header 0 vci ++ octetsOf p

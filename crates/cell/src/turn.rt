@@ -1,0 +1,57 @@
+// A received forward cell turned round (document 01, "Turning cells round").
+ghost use mathlib.Core.Path.{_≡_};
+ghost use mathlib.Core.Bool.{cond};
+ghost use Prim.Native.Nat.{_≤_, _<_, _%_};
+ghost use lib.ListN.{length};
+ghost use Rattle.crc.specs.Payload.{octetsOf, payloadOf};
+ghost use Rattle.cell.specs.Turning.{turnedMarks, turnedPayload, turnedCell};
+use crate::put::put_header;
+use crate::put::put_payload;
+use crate::seal::seal;
+use crc::payload::Payload;
+
+// A bit that a mark sets; without the mark, the low bit of x.
+fn raised(mark: bool, x: u64) -> u64
+    ensures { λ r. ⌜ (r ≡ cond mark 1 (x % 2)) × (r ≤ 1) ⌝ }
+{
+    if mark {
+        return 1;
+    }
+    x % 2
+}
+
+// Octet 7.
+fn turned_marks(level: u32, efci: bool, x: u64) -> u64
+    ensures { λ r. ⌜ (r ≡ turnedMarks level efci x) × (r < 256) ⌝ }
+{
+    let ci = raised(efci | (level == 2), x / 32);
+    let ni = raised(level == 1, x / 16);
+    128 + ci * 32 + ni * 16 + x % 16
+}
+
+// The payload to send back, from the received one. Octet 7 is the second of the first word.
+pub fn turn(p: Payload, level: u32, efci: bool) -> Payload
+    ensures { λ r. ⌜ r ≡ payloadOf (turnedPayload level efci (octetsOf p)) ⌝ }
+{
+    let marks = turned_marks(level, efci, p.a / 0x1000000000000 % 256);
+    let marked = Payload {
+        a: p.a / 0x100000000000000 * 0x100000000000000
+            + marks * 0x1000000000000
+            + p.a % 0x1000000000000,
+        b: p.b,
+        c: p.c,
+        d: p.d,
+        e: p.e,
+        f: p.f,
+    };
+    seal(marked)
+}
+
+// The cell that carries a turned payload.
+pub fn put_turned(cell: &mut [u8], vci: u32, p: Payload)
+    requires { ⌜ length (now cell) ≡ 53 ⌝ }
+    ensures { λ _. ⌜ now (cell .exit) ≡ turnedCell vci p ⌝ }
+{
+    put_header(cell, 0, vci);
+    put_payload(cell, p);
+}

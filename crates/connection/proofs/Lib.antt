@@ -1,0 +1,12 @@
+-- The laws of one connection.
+pub mod Paces
+pub mod Ranged
+pub mod Reached
+pub mod ReadyCases
+pub mod KindCases
+pub mod SendCases
+pub mod ReceiveCases
+pub mod Turnings
+pub mod Keeps
+pub mod Spaced
+pub mod InHand

@@ -1,0 +1,46 @@
+-- What an open, an offer, a received cell and a slot make of a connection in range is in range again.
+use mathlib.Core.Bool.{Bool}
+use Prim.Native.Nat.{ℕ, _^_, _<_}
+use native.Mathlib.Omega.{arith}
+use Rattle.rate.specs.declared.params.Params.{Params}
+use Rattle.rate.proofs.Ranges.{trm-le}
+use Rattle.crc.specs.declared.payload.Payload.{Payload}
+use Rattle.cell.specs.declared.fields.Fields.{Fields}
+use Rattle.connection.specs.Parts.{Connection, Pace, Unsent, Running, fresh}
+use Rattle.connection.specs.Receiving.{offered, marked, answered, turningWords}
+use Rattle.connection.specs.Kind.{Kind, Forward, Turned, Data}
+use Rattle.connection.specs.Sending.{paced, sentForward, sentTurned, sentData, after}
+use Rattle.connection.specs.Range.{PaceInRange, InRange, HasRoom}
+
+pub fresh-ranged : (name time : ℕ) (p : Params) → time < 2 ^ 63 → InRange (fresh name time p)
+unfolding fresh
+fresh-ranged name time p h = record { opened = h; trm = omega (arith, trm-le (p .trm)); pace = tt }
+
+module _ (c : Connection) (h : InRange c) where
+  pub offered-ranged : (n : ℕ) → InRange (offered n c)
+  unfolding offered
+  offered-ranged n = record { opened = h .opened; trm = h .trm; pace = h .pace }
+
+  pub marked-ranged : (e : Bool) → InRange (marked e c)
+  unfolding marked
+  marked-ranged e = record { opened = h .opened; trm = h .trm; pace = h .pace }
+
+  pub answered-ranged : (f : Fields) → InRange (answered f c)
+  unfolding answered
+  answered-ranged f = record { opened = h .opened; trm = h .trm; pace = h .pace }
+
+  pub turning-ranged : (level : ℕ) (p : Payload) → InRange (turningWords level p c)
+  unfolding turningWords
+  turning-ranged level p = record { opened = h .opened; trm = h .trm; pace = h .pace }
+
+paced-ranged : (t : ℕ) (b : Bool) (p : Pace) → t < 2 ^ 63 → PaceInRange p → HasRoom p → PaceInRange (paced t b p)
+unfolding paced
+paced-ranged t b Unsent l h r = tt
+paced-ranged t b (Running sent forward k turned) l h r = (l, h .1, omega arith)
+
+-- a slot at t, with room for one more cell
+pub after-ranged : (kind : Kind) (t : ℕ) (c : Connection) → t < 2 ^ 63 → InRange c → HasRoom (c .pace) → InRange (after kind t c)
+unfolding after sentForward sentTurned sentData
+after-ranged Forward t c l h r = record { opened = h .opened; trm = h .trm; pace = (l, l, omega arith) }
+after-ranged Turned t c l h r = record { opened = h .opened; trm = h .trm; pace = paced-ranged t _ (c .pace) l (h .pace) r }
+after-ranged Data t c l h r = record { opened = h .opened; trm = h .trm; pace = paced-ranged t _ (c .pace) l (h .pace) r }

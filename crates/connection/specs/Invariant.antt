@@ -1,0 +1,36 @@
+-- What holds of each open connection in every table that the calls make from an empty one.
+-- It is said of the parts, so that it goes over by itself to a connection with the same parts.
+use Prim.Native.Nat.{ℕ, _+_, _≤_, _<_}
+use mathlib.Core.Path.{_≡_}
+use mathlib.Core.Bool.{true}
+use Rattle.rate.specs.declared.params.Params.{Params}
+use Rattle.rate.specs.declared.moves.Rate.{Rate}
+use Rattle.rate.specs.Params.{nrm, paramsFit, trmTime}
+use Rattle.rate.specs.Bounds.{Held}
+use Rattle.connection.specs.Parts.{Connection, Pace, Unsent, Running, Load, waiting}
+
+-- whatever the time: the rate between its bounds, Y and the waiting data within theirs
+pub record SoundParts (q : Rate) (y : ℕ) (l : Load) : Type 0 where
+  pub rates : Held q
+  pub counted : y ≤ 8_388_608
+  pub stocked : waiting l ≤ 65535
+
+abbrev pub Sound : Connection → Type 0
+Sound c = SoundParts (c .rate) (c .unacked) (c .load)
+
+-- no cell was sent after now, no forward cell after the last cell, and k is below Nrm
+abbrev pub PaceFits : (now nrm : ℕ) → Pace → Type 0
+PaceFits now n Unsent = Unit
+PaceFits now n (Running sent forward k turned) = (forward ≤ sent) × (sent ≤ now) × (k < n)
+
+-- a connection's name, parameters and instants, at the time of the last accepted open or slot
+pub record Framed (now name opened trm : ℕ) (p : Params) (pace : Pace) : Type 0 where
+  pub assigned : 32 ≤ name
+  pub coded : name ≤ 65535
+  pub fits : paramsFit p ≡ true
+  pub timed : trm ≡ trmTime (p .trm)
+  pub past : opened ≤ now
+  pub paced : PaceFits now (nrm p) pace
+
+abbrev pub Proper : (now : ℕ) → Connection → Type 0
+Proper now c = Framed now (c .name) (c .opened) (c .trm) (c .rate .params) (c .pace) × Sound c

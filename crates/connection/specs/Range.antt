@@ -1,0 +1,36 @@
+-- Ranges in which a connection's instants and counts are added without wrapping. Every table's seat is read into them, whatever it holds,
+-- and each connection in a table that calls made lies within them.
+use Prim.Native.Nat.{ℕ, _+_, _≤_, _<_, _^_}
+use mathlib.Core.Path.{_≡_}
+use mathlib.Core.Bool.{true}
+use Rattle.rate.specs.declared.moves.Rate.{Rate}
+use Rattle.rate.specs.Units.{largestRate}
+use Rattle.cell.specs.declared.fields.Fields.{Fields}
+use Rattle.cell.specs.Fields.{fieldsFit}
+use Rattle.connection.specs.Parts.{Connection, Pace, Unsent, Running}
+use Rattle.connection.specs.Ready.{Instant, Never, At}
+use Rattle.connection.specs.Sending.{forwardFields}
+
+abbrev pub PaceInRange : Pace → Type 0
+PaceInRange Unsent = Unit
+PaceInRange (Running sent forward k turned) = (sent < 2 ^ 63) × (forward < 2 ^ 63) × (k < 65536)
+
+pub record InRange (c : Connection) : Type 0 where
+  pub opened : c .opened < 2 ^ 63
+  pub trm : c .trm < 2 ^ 32
+  pub pace : PaceInRange (c .pace)
+
+-- room for one more cell in the count k, so that the range still holds after a cell that is no forward cell
+abbrev pub HasRoom : Pace → Type 0
+HasRoom Unsent = Unit
+HasRoom (Running sent forward k turned) = k < 65535
+
+-- an instant with room for what a caller adds to it
+abbrev pub InstantBelow : Instant → Type 0
+InstantBelow Never = Unit
+InstantBelow (At i) = i < 2 ^ 63 + 2 ^ 40
+
+-- the fields of a forward cell, where the allowed rate is a rate; and fields that a cell can carry, whatever stands there
+pub record ForwardCarried (name : ℕ) (q : Rate) (f : Fields) : Type 0 where
+  pub meant : q .acr ≤ largestRate → f ≡ forwardFields name q
+  pub fits : name ≤ 65535 → fieldsFit f ≡ true

@@ -1,0 +1,70 @@
+-- What a slot at t makes of the connection that it goes to, and what it writes. (Document 01, "Slots".)
+use Prim.Native.Nat.{ℕ, _+_, _-_, min}
+use mathlib.Core.Bool.{Bool, true, false, _||_}
+use mathlib.Core.List.{List, []}
+use Rattle.rate.specs.declared.moves.Rate.{Rate}
+use Rattle.rate.specs.Code.{codeOf}
+use Rattle.rate.specs.Params.{peak, least}
+use Rattle.rate.specs.Moves.{firstCell, idle, unanswered}
+use Rattle.cell.specs.declared.fields.Fields.{Fields}
+use Rattle.cell.specs.Fields.{resourceCell}
+use Rattle.cell.specs.Turning.{turnedCell}
+use Rattle.connection.specs.Parts.{Connection, Pace, Unsent, Running, Waiting, Nothing, Cell, rated, pacing, counting, loaded, keeping, spent}
+use Rattle.connection.specs.Kind.{Kind, Forward, Turned, Data}
+
+-- the moves before a forward cell at t: the first cell's; or idle, and then unanswered
+unfoldable pub movedBy : (t y : ℕ) → Pace → Rate → Rate
+movedBy t y Unsent q = firstCell q
+movedBy t y (Running sent forward k turned) q = unanswered y (idle (t - forward) q)
+
+-- one more cell at t that is no forward cell; the flag says if it is a turned one
+unfoldable pub paced : ℕ → Bool → Pace → Pace
+paced t isTurned Unsent = Unsent
+paced t isTurned (Running sent forward k turned) = Running t forward (k + 1) (turned || isTurned)
+
+-- Y stops at 2^23
+unfoldable pub sentForward : ℕ → Connection → Connection
+sentForward t c =
+    counting (pacing (rated c (movedBy t (c .unacked) (c .pace) (c .rate))) (Running t t 0 false)) (min (c .unacked + 1) 8_388_608)
+
+unfoldable pub sentTurned : ℕ → Connection → Connection
+sentTurned t c = keeping (pacing c (paced t true (c .pace))) (record { efci = c .back .efci; turned = Nothing })
+
+unfoldable pub sentData : ℕ → Connection → Connection
+sentData t c = loaded (pacing c (paced t false (c .pace))) (spent (c .load))
+
+unfoldable pub after : Kind → ℕ → Connection → Connection
+after Forward t c = sentForward t c
+after Turned t c = sentTurned t c
+after Data t c = sentData t c
+
+-- a forward cell: the codes of PCR as ER, of ACR as CCR, and of MCR; the five bits, QL and SN 0
+unfoldable pub forwardFields : (name : ℕ) → Rate → Fields
+forwardFields v q = record {
+  vci = v;
+  dir = 0;
+  bn = 0;
+  ci = 0;
+  ni = 0;
+  ra = 0;
+  er = codeOf (peak (q .params));
+  ccr = codeOf (q .acr);
+  mcr = codeOf (least (q .params));
+  ql = 0;
+  sn = 0;
+}
+
+unfoldable pub waitingCell : (name : ℕ) → Waiting → List ℕ
+waitingCell v Nothing = []
+waitingCell v (Cell p) = turnedCell v p
+
+-- what the lent buffer holds after a call: what it held, or these octets
+pub data Buffer : Type 0 where
+  untouched : Buffer
+  written : List ℕ → Buffer
+
+-- a forward cell carries the rate after the moves, a turned cell is the one that waited, and data is the caller's own
+unfoldable pub bufferAfter : Kind → (before now : Connection) → Buffer
+bufferAfter Forward before now = written (resourceCell 0 (forwardFields (now .name) (now .rate)))
+bufferAfter Turned before now = written (waitingCell (before .name) (before .back .turned))
+bufferAfter Data before now = untouched

@@ -1,0 +1,53 @@
+// What an offer, or a received cell, makes of its connection (document 01, "Opening", "Four moves of the allowed rate" and "Turning cells round").
+ghost use mathlib.Core.Path.{_≡_};
+ghost use Prim.Native.Nat.{_+_, _≤_};
+ghost use Rattle.connection.specs.Parts.{waiting};
+ghost use Rattle.connection.specs.Receiving.{offered, marked, answered, turningWords};
+use crate::obey::obeyed;
+use crate::parts::Back;
+use crate::parts::Connection;
+use crate::parts::Load;
+use crate::parts::Waiting;
+use cell::fields::Fields;
+use cell::turn::turn;
+use crc::payload::Payload;
+use rate::code::rate_of;
+
+// An offer adds to the waiting data.
+pub fn offered(n: u32, c: Connection) -> Connection
+    requires { ⌜ waiting (c .load) + n ≤ 65535 ⌝ }
+    ensures { λ r. ⌜ r ≡ offered n c ⌝ }
+{
+    c.loaded(Load {
+        cells: c.load.cells + n,
+    })
+}
+
+// A data cell stores its EFCI over the saved one.
+pub fn marked(efci: bool, c: Connection) -> Connection
+    ensures { λ r. ⌜ r ≡ marked efci c ⌝ }
+{
+    let back = c.back;
+    let turned = back.turned;
+    c.keeping(Back { efci, turned })
+}
+
+// A backward cell moves the rate record; with BN 0 it also sets Y to 0.
+pub fn answered(f: Fields, c: Connection) -> Connection
+    ensures { λ r. ⌜ r ≡ answered f c ⌝ }
+{
+    let rate = c.rate;
+    let moved = c.rated(obeyed(rate, f.ci == 1, f.ni == 1, rate_of(f.er)));
+    if f.bn == 0 { moved.counting(0) } else { moved }
+}
+
+// A forward cell becomes the one waiting cell, from the words of its payload; the saved EFCI is used up.
+pub fn turning(level: u32, p: Payload, c: Connection) -> Connection
+    ensures { λ r. ⌜ r ≡ turningWords level p c ⌝ }
+{
+    let turned = Waiting::Cell(turn(p, level, c.back.efci));
+    c.keeping(Back {
+        efci: false,
+        turned,
+    })
+}

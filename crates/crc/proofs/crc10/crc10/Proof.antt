@@ -1,0 +1,21 @@
+use mathlib.Core.Path.{_∙_, sym}
+use borrow.Author.Needs.{needs}
+use Rattle.crc.proofs.Check.{payload-words}
+use Rattle.crc.proofs.Limbs.{Six}
+use Rattle.crc.proofs.crc10.crc10.Statement.{statement}
+use Rattle.crc.proofs.crc10.crc10.Tie as tie
+
+mul-t3 : tie.Need-mul-t3
+mul-t3 c = search needs
+
+ten-requires : tie.Need-ten-requires
+ten-requires c κs = search needs
+
+returns : tie.Need-returns
+returns c =
+    let p = c .before .before .args .p in
+    let six : Six (p .a) (p .b) (p .c) (p .d) (p .e) (p .f) = search (needs, c .before .struct-known .given) in
+    (c .ten .ensures .0 ∙ sym (payload-words p six), c .ten .ensures .1)
+
+pub crc10-spec : {M : Type 1} → statement M
+crc10-spec = tie.close (tie.spec mul-t3 ten-requires returns)

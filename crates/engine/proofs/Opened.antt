@@ -1,0 +1,103 @@
+-- One lemma for each way out of an open.
+use Prim.Native.Nat.{ℕ, _+_, _≤_, _<_}
+use mathlib.Core.Path.{_≡_, refl, sym, ap, subst, _∙_}
+use mathlib.Core.Bool.{Bool, true, false, cond, _&&_}
+use mathlib.Core.List.{List}
+use lib.Dec.{leb}
+use lib.ListN.{getD, set}
+use borrow.Author.Tests.{le-leb, lt-leb}
+use Rattle.rate.specs.declared.params.Params.{Params}
+use Rattle.rate.specs.Units.{latestTime}
+use Rattle.rate.specs.Params.{paramsFit}
+use Rattle.connection.specs.declared.parts.Connection.{Connection}
+use Rattle.connection.specs.Parts.{fresh}
+use Rattle.table.specs.State.{State, Seat, free, taken, find, seated, roomLeft, timed, isFree, position}
+use Rattle.table.specs.Invariant.{Whole}
+use Rattle.table.specs.Layout.{words}
+use Rattle.table.specs.Storing.{stored}
+use Rattle.table.specs.Finding.{Sought, NotBelow}
+use Rattle.table.specs.declared.find.Found.{Found}
+use Rattle.table.specs.declared.find.Found.the-variants.{At, Nothing}
+use Rattle.table.proofs.Words.{store-at}
+use Rattle.table.proofs.Found.{lowest-at, room-at, room-none}
+use Rattle.engine.specs.Call.{Refused, Accepted}
+use Rattle.engine.specs.Step.{refuse, accept, require, openStep}
+use Rattle.engine.proofs.Outs.{refused-out, accepted-out, time-word, last-word}
+
+module _ (s : State) (v t : ℕ) (p : Params) where
+  pub open-low : v < 32 → openStep s v t p ≡ refuse s 10
+  unfolding openStep require
+  open-low h = rw (lt-leb 32 v h)
+
+  pub open-wide : 32 ≤ v → 65535 < v → openStep s v t p ≡ refuse s 7
+  unfolding openStep require
+  open-wide l h = rw (le-leb 32 v l, lt-leb v 65535 h)
+
+  pub open-unfit : 32 ≤ v → v ≤ 65535 → paramsFit p ≡ false → openStep s v t p ≡ refuse s 7
+  unfolding openStep require
+  open-unfit l h f = rw (le-leb 32 v l, le-leb v 65535 h, f)
+
+  pub open-late : 32 ≤ v → v ≤ 65535 → paramsFit p ≡ true → latestTime < t → openStep s v t p ≡ refuse s 8
+  unfolding openStep require
+  open-late l h f g = rw (le-leb 32 v l, le-leb v 65535 h, f, lt-leb t latestTime g)
+
+-- the tests of the input that an open has passed
+pub record Passed (v t : ℕ) (p : Params) : Type 0 where
+  pub low : 32 ≤ v
+  pub high : v ≤ 65535
+  pub fits : paramsFit p ≡ true
+  pub timely : t ≤ latestTime
+
+module _ (s : State) {v t : ℕ} {p : Params} (i : Passed v t p) where
+  rest :
+      openStep s v t p
+      ≡ require s 12 (isFree (find v (s .seats))) (require s 13 (roomLeft s) (require s 14 (leb (s .last) t) (accept (timed t (seated (fresh v t p) s)))))
+  unfolding openStep require
+  rest = rw (le-leb 32 v (i .low), le-leb v 65535 (i .high), i .fits, le-leb t latestTime (i .timely))
+
+  pub open-taken : (c : Connection) → find v (s .seats) ≡ taken c → openStep s v t p ≡ refuse s 12
+  unfolding require isFree
+  open-taken c e = rest ∙ rw e
+
+  module _ (new : find v (s .seats) ≡ free) where
+    pub open-full : roomLeft s ≡ false → openStep s v t p ≡ refuse s 13
+    unfolding require isFree
+    open-full e = rest ∙ rw (new, e)
+
+    pub open-early : roomLeft s ≡ true → t < s .last → openStep s v t p ≡ refuse s 14
+    unfolding require isFree
+    open-early e h = rest ∙ rw (new, e, lt-leb (s .last) t h)
+
+    pub open-done : roomLeft s ≡ true → s .last ≤ t → openStep s v t p ≡ accept (timed t (seated (fresh v t p) s))
+    unfolding require isFree
+    open-done e h = rest ∙ rw (new, e, le-leb (s .last) t h)
+
+-- the lowest free seat, as the scan found it
+pub lowest : (s : State) → Whole s → (l : List ℕ) → l ≡ words s → (r : Found) (i : ℕ) → Sought l 0 r → r ≡ At i → position isFree (s .seats) ≡ i
+lowest s w l e r i h q =
+    let g = subst (λ (x : List ℕ). Sought x 0 (At i)) e (subst (λ (x : Found). Sought l 0 x) q h) in
+    lowest-at s w i (g .0) (g .1) (g .2)
+
+pub seat-below : (l : List ℕ) (r : Found) (i : ℕ) → Sought l 0 r → r ≡ At i → i < 64
+seat-below l r i h q = subst (λ (x : Found). Sought l 0 x) q h .0
+
+pub room : (s : State) → Whole s → (i : ℕ) → i < 64 → position isFree (s .seats) ≡ i → roomLeft s ≡ true
+room s w i h e = room-at s w i h e
+
+pub no-room : (s : State) → Whole s → (l : List ℕ) → l ≡ words s → (r : Found) → Sought l 0 r → r ≡ Nothing → roomLeft s ≡ false
+no-room s w l e r h q = room-none s w (subst (λ (x : List ℕ). Sought x 0 Nothing) e (subst (λ (x : Found). Sought l 0 x) q h))
+
+-- the word of the last accepted time
+pub last-at : (s : State) {l : List ℕ} → l ≡ words s → getD l 1 0 ≡ s .last
+last-at s e = ap (λ (x : List ℕ). getD x 1 0) e ∙ last-word s
+
+-- the seat stored, and the time
+pub opened-words :
+    (s : State) → Whole s → {l m : List ℕ} → l ≡ words s → (t i : ℕ) → i < 64 → position isFree (s .seats) ≡ i → (c d : Connection) → d ≡ c → m ≡ stored l i d
+    → set m 1 t ≡ words (timed t (seated c s))
+unfolding seated
+opened-words s w {l} e t i h q c d a b =
+    ap (λ (x : List ℕ). set x 1 t)
+    (b ∙ ap (λ (x : Connection). stored l i x) a ∙ ap (λ (x : List ℕ). stored x i c) e ∙ store-at s (w .size) i h c
+    ∙ ap (λ (k : ℕ). words (record { level = s .level; last = s .last; seats = set (s .seats) k (taken c) })) (sym q))
+    ∙ time-word (seated c s) t

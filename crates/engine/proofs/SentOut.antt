@@ -1,0 +1,67 @@
+-- What a slot that goes to a seat leaves.
+use Prim.Native.Nat.{ℕ, _≤_, _<_}
+use mathlib.Core.Path.{_≡_, refl, sym, ap, subst, _∙_}
+use mathlib.Core.Bool.{true}
+use mathlib.Core.List.{List}
+use lib.ListN.{getD}
+use Rattle.rate.specs.Units.{largestRate}
+use Rattle.connection.specs.declared.parts.Connection.{Connection}
+use Rattle.connection.specs.declared.parts.Waiting.{Waiting}
+use Rattle.connection.specs.declared.parts.Waiting.the-variants.{Nothing, Cell}
+use Rattle.connection.specs.declared.kind.Kind.{Kind}
+use Rattle.connection.specs.declared.kind.Kind.the-variants.{Forward, Turned, Data}
+use Rattle.connection.specs.Invariant.{Proper}
+use Rattle.connection.specs.Ready.{waits}
+use Rattle.connection.specs.Kind.{kindAt}
+use Rattle.connection.specs.Sending.{after, bufferAfter, waitingCell}
+use Rattle.connection.proofs.Keeps.{after-same, after-proper}
+use Rattle.connection.proofs.Reached.{acr-is-rate}
+use Rattle.connection.proofs.InHand.{turned-waits}
+use Rattle.table.specs.State.{State, free, taken, position, holds, put}
+use Rattle.table.specs.Invariant.{Whole}
+use Rattle.table.specs.Layout.{words}
+use Rattle.table.specs.Loading.{connectionAt}
+use Rattle.table.specs.Storing.{updated}
+use Rattle.table.proofs.Found.{Located}
+use Rattle.engine.specs.Call.{Answer, Sent}
+use Rattle.engine.specs.Step.{sendStep}
+use Rattle.engine.specs.Contract.{held}
+use Rattle.engine.specs.Slots.{waitingOr, Carried}
+use Rattle.engine.proofs.Outs.{proper-in, loaded-is, updated-is}
+
+-- a turned cell that waits is the one in the buffer
+waiting-is : (v : ℕ) (w : Waiting) (old : List ℕ) → waits w ≡ true → waitingOr v w old ≡ waitingCell v w
+unfolding waits waitingCell
+waiting-is v Nothing old e = cc
+waiting-is v (Cell p) old e = refl
+
+carried-is :
+    (t : ℕ) (c : Connection) (k : Kind) (old new : List ℕ) → kindAt t c ≡ k → Proper t c → Carried k c (after k t c) old new
+    → new ≡ held (bufferAfter k c (after k t c)) old
+unfolding bufferAfter
+carried-is t c Forward old new e p h = h .is (acr-is-rate (after Forward t c .rate) (after-proper Forward t c e p .1 .rates))
+carried-is t c Turned old new e p h = h ∙ waiting-is (c .name) (c .back .turned) old (turned-waits t c e)
+carried-is t c Data old new e p h = h
+
+-- the connection that was loaded, its kind, and what comes after it
+pub sent-out :
+    (s : State) → Whole s → (t : ℕ) → s .last ≡ t → (l m old new : List ℕ) → l ≡ words s → (i : ℕ) → i < 64 → (c : Connection) → getD (s .seats) i free ≡ taken c
+    → position (holds (c .name)) (s .seats) ≡ i → (d : Connection) → d ≡ connectionAt l i → (k : Kind) → k ≡ kindAt t d → (n : Connection) → n ≡ after k t d
+    → Carried k d n old new → m ≡ updated l i n
+    → (m ≡ words (sendStep s t (c .name) c (kindAt t c) .state)) × (Sent (d .name) k (n .rate .acr) ≡ sendStep s t (c .name) c (kindAt t c) .answer)
+    × (new ≡ held (sendStep s t (c .name) c (kindAt t c) .buffer) old)
+unfolding sendStep
+sent-out s w t last l m old new e i h c seat place d q k a n b g u =
+    let p : Located (s .seats) (c .name) i = record { holder = c; seat = seat; named = refl; place = place } in
+    let is : d ≡ c = loaded-is s w p e h q in
+    let x : k ≡ kindAt t c = a ∙ ap (kindAt t) is in
+    let y : n ≡ after (kindAt t c) t c = b ∙ ap (λ (z : Kind). after z t d) x ∙ ap (after (kindAt t c) t) is in
+    let good : Proper t c = subst (λ (z : ℕ). Proper z c) last (proper-in s w p) in
+    let r : Carried (kindAt t c) c (after (kindAt t c) t c) old new =
+    subst (λ (z : Connection). Carried (kindAt t c) c z old new) y
+    (subst (λ (z : Connection). Carried (kindAt t c) z n old new) is (subst (λ (z : Kind). Carried z d n old new) x g)) in (
+      updated-is s w e h p (after (kindAt t c) t c) (after-same (kindAt t c) t c) (u ∙ ap (updated l i) y),
+      ap (λ (z : Connection). Sent (z .name) k (n .rate .acr)) is ∙ ap (λ (z : Kind). Sent (c .name) z (n .rate .acr)) x
+          ∙ ap (λ (z : Connection). Sent (c .name) (kindAt t c) (z .rate .acr)) y,
+      carried-is t c (kindAt t c) old new refl good r,
+    )

@@ -1,0 +1,35 @@
+use Prim.Native.Nat.{_<_}
+use borrow.Author.Needs.{needs}
+use Rattle.table.specs.State.{free, put}
+use Rattle.table.proofs.Found.{found-at}
+use Rattle.engine.proofs.Outs.{refused-out, accepted-out, below, missing, standing}
+use Rattle.engine.proofs.Calls.{close-missing, close-done, cleared-is}
+use Rattle.engine.proofs.close.close.Statement.{statement}
+use Rattle.engine.proofs.close.close.Tie as tie
+
+-- the seat that was found is one
+seat : (c : tie.After-i) → c .i .given .0 .0 < 64
+seat c = let f = c .before .before in below (f .before .before .args .t .now) (f .before .before .args .name) (f .find .ensures) (c .i .given .1)
+
+returns : tie.Need-returns
+returns c =
+    let f = c .before .before in
+    let v = f .before .before .args .name in
+    record { meets = λ s w e. refused-out s 11 e (close-missing s v (missing s w e v (f .find .ensures) (c .enum-told .given .1))) }
+
+clear-requires : tie.Need-clear-requires
+clear-requires c κs = seat (c .before .before)
+
+returns-2 : tie.Need-returns-2
+returns-2 c =
+    let i = c .before .before .before in
+    let f = i .before .before in
+    let v = f .before .before .args .name in
+    record {
+      meets = λ s w e.
+          let p = standing s w e v (f .find .ensures) (i .i .given .1) in
+          accepted-out (put v free s) (cleared-is s w e (seat i) p (c .clear .ensures)) (close-done s v (p .holder) (found-at p));
+    }
+
+pub close-spec : {M : Type 1} → statement M
+close-spec = tie.close (tie.spec (λ c κs. search needs) (λ c. search needs) (λ c. search needs) returns clear-requires returns-2)

@@ -1,0 +1,135 @@
+use Prim.Native.Nat.{_<_, _≤_}
+use mathlib.Core.Path.{_≡_, sym, subst, _∙_}
+use mathlib.Core.Bool.{true, false}
+use native.Mathlib.Omega.{arith}
+use borrow.Author.Needs.{needs}
+use borrow.Author.Tests.{not-true, not-false}
+use Rattle.connection.specs.Range.{InRange}
+use Rattle.connection.specs.Parts.{fresh}
+use Rattle.connection.proofs.Ranged.{fresh-ranged}
+use Rattle.table.specs.State.{timed, seated}
+use Rattle.table.proofs.Found.{found-at}
+use Rattle.engine.proofs.Outs.{refused-out, accepted-out, missing, standing}
+use Rattle.engine.proofs.Opened.{open-low, open-wide, open-unfit, open-late, Passed, open-taken, open-full, open-early, open-done, lowest, seat-below, room, no-room, last-at, opened-words}
+use Rattle.engine.proofs.open.open.Statement.{statement}
+use Rattle.engine.proofs.open.open.Tie as tie
+
+-- what is known past the tests of the input, and that the seat that was found is one
+passed : (c : tie.Else4) → let st = c .before .before .before .before .before in Passed (st .args .name) (st .args .time) (st .args .params)
+passed c =
+    let e3 = c .before in
+    let e2 = e3 .before .before in
+    record {
+      low = e2 .before .if1 .left;
+      high = e2 .if2 .left;
+      fits = sym (e3 .before .fits2 .ensures) ∙ not-false _ (e3 .if3 .left);
+      timely = c .if4 .left;
+    }
+
+seat : (c : tie.After-i) → c .i .given .0 .0 < 64
+seat c = let k = c .before .before in seat-below _ (k .seek .result) (c .i .given .0 .0) (k .seek .ensures) (c .i .given .1)
+
+returns : tie.Need-returns
+returns c =
+    let st = c .before in
+    record { meets = λ s w e. refused-out s 10 e (open-low s (st .args .name) (st .args .time) (st .args .params) (c .if1 .taken)) }
+
+returns-2 : tie.Need-returns-2
+returns-2 c =
+    let st = c .before .before in
+    record { meets = λ s w e. refused-out s 7 e (open-wide s (st .args .name) (st .args .time) (st .args .params) (c .before .if1 .left) (c .if2 .taken)) }
+
+returns-3 : tie.Need-returns-3
+returns-3 c =
+    let f = c .before in
+    let e2 = f .before in
+    let st = e2 .before .before in
+    record {
+      meets = λ s w e.
+          refused-out s 7 e
+          (open-unfit s (st .args .name) (st .args .time) (st .args .params) (e2 .before .if1 .left) (e2 .if2 .left) (sym (f .fits2 .ensures) ∙ not-true _ (c .if3 .taken)));
+    }
+
+returns-4 : tie.Need-returns-4
+returns-4 c =
+    let e3 = c .before in
+    let f = e3 .before in
+    let e2 = f .before in
+    let st = e2 .before .before in
+    record {
+      meets = λ s w e.
+          refused-out s 8 e
+          (open-late s (st .args .name) (st .args .time) (st .args .params) (e2 .before .if1 .left) (e2 .if2 .left) (sym (f .fits2 .ensures) ∙ not-false _ (e3 .if3 .left)) (c .if4 .taken));
+    }
+
+returns-5 : tie.Need-returns-5
+returns-5 c =
+    let fd = c .before .before in
+    let e4 = fd .before .before in
+    let v = e4 .before .before .before .before .before .args .name in
+    record {
+      meets = λ s w e.
+          let p = standing s w e v (fd .find .ensures) (c .enum-told2 .given .1) in
+          refused-out s 12 e (open-taken s (passed e4) (p .holder) (found-at p));
+    }
+
+returns-6 : tie.Need-returns-6
+returns-6 c =
+    let sk = c .before .before in
+    let new = sk .before .before in
+    let fd = new .before .before in
+    let e4 = fd .before .before in
+    let st = e4 .before .before .before .before .before in
+    record {
+      meets = λ s w e.
+          refused-out s 13 e
+          (open-full s (passed e4) (missing s w e (st .args .name) (fd .find .ensures) (new .enum-told .given .1))
+          (no-room s w (st .args .t .now) e (sk .seek .result) (sk .seek .ensures) (c .enum-told3 .given .1)));
+    }
+
+returns-7 : tie.Need-returns-7
+returns-7 c =
+    let i = c .before .before .before in
+    let sk = i .before .before in
+    let new = sk .before .before in
+    let fd = new .before .before in
+    let e4 = fd .before .before in
+    let st = e4 .before .before .before .before .before in
+    record {
+      meets = λ s w e.
+          let at = lowest s w (st .args .t .now) e (sk .seek .result) (i .i .given .0 .0) (sk .seek .ensures) (i .i .given .1) in
+          refused-out s 14 e
+          (open-early s (passed e4) (missing s w e (st .args .name) (fd .find .ensures) (new .enum-told .given .1)) (room s w (i .i .given .0 .0) (seat i) at)
+          (subst (λ x. st .args .time < x) (last-at s e) (c .if5 .taken)));
+    }
+
+store-requires : tie.Need-store-requires
+store-requires c κs =
+    let i = c .before .before .before .before .before in
+    let e4 = i .before .before .before .before .before .before .before .before in
+    let st = e4 .before .before .before .before .before in
+    (seat i, subst InRange (sym (c .fresh .ensures)) (fresh-ranged (st .args .name) (st .args .time) (st .args .params) (omega (arith, e4 .if4 .left))))
+
+returns-8 : tie.Need-returns-8
+returns-8 c =
+    let fr = c .before in
+    let e5 = fr .before .before in
+    let i = e5 .before .before .before in
+    let sk = i .before .before in
+    let new = sk .before .before in
+    let fd = new .before .before in
+    let e4 = fd .before .before in
+    let st = e4 .before .before .before .before .before in
+    record {
+      meets = λ s w e.
+          let at = lowest s w (st .args .t .now) e (sk .seek .result) (i .i .given .0 .0) (sk .seek .ensures) (i .i .given .1) in
+          accepted-out (timed (st .args .time) (seated (fresh (st .args .name) (st .args .time) (st .args .params)) s))
+          (opened-words s w e (st .args .time) (i .i .given .0 .0) (seat i) at (fresh (st .args .name) (st .args .time) (st .args .params)) (fr .fresh .result) (fr .fresh .ensures) (c .store .ensures))
+          (open-done s (passed e4) (missing s w e (st .args .name) (fd .find .ensures) (new .enum-told .given .1)) (room s w (i .i .given .0 .0) (seat i) at)
+          (subst (λ x. x ≤ st .args .time) (last-at s e) (e5 .if5 .left)));
+    }
+
+pub open-spec : {M : Type 1} → statement M
+open-spec =
+    tie.close
+    (tie.spec returns returns-2 (λ c κs. search needs) returns-3 returns-4 (λ c κs. search needs) (λ c. search needs) (λ c. search needs) returns-5 (λ c κs. search needs) (λ c. search needs) (λ c. search needs) returns-6 (λ c. search needs) returns-7 (λ c κs. search needs) store-requires (λ c. search needs) returns-8)

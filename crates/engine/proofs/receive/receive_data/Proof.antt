@@ -1,0 +1,50 @@
+use Prim.Native.Nat.{_<_}
+use mathlib.Core.Path.{sym, subst}
+use borrow.Author.Needs.{needs}
+use Rattle.connection.specs.Range.{InRange}
+use Rattle.connection.proofs.Ranged.{marked-ranged}
+use Rattle.engine.proofs.Outs.{refused-out, below, missing, standing, ranged}
+use Rattle.engine.proofs.Received.{data-missing, data-done}
+use Rattle.engine.proofs.receive.receive_data.Statement.{statement}
+use Rattle.engine.proofs.receive.receive_data.Tie as tie
+
+-- the seat that was found is one
+seat : (c : tie.After-i) → c .i .given .0 .0 < 64
+seat c = let f = c .before .before in below (f .before .before .args .t .now) (f .before .before .args .vci) (f .find .ensures) (c .i .given .1)
+
+returns : tie.Need-returns
+returns c =
+    let f = c .before .before in
+    let a = f .before .before .args in
+    record { meets = λ s w e. refused-out s 11 e (data-missing s (a .vci) (a .efci) (missing s w e (a .vci) (f .find .ensures) (c .enum-told .given .1))) }
+
+load-requires : tie.Need-load-requires
+load-requires c κs = seat (c .before .before)
+
+update-requires : tie.Need-update-requires
+update-requires c κs =
+    let ld = c .before .before in
+    let i = ld .before .before .before in
+    let a = i .before .before .before .before .args in (
+      seat i,
+      subst InRange (sym (c .marked .ensures))
+          (marked-ranged (ld .load .result) (ranged (a .t .now) (i .i .given .0 .0) (ld .load .ensures)) (a .efci)),
+    )
+
+returns-2 : tie.Need-returns-2
+returns-2 c =
+    let o = c .before in
+    let ld = o .before .before in
+    let i = ld .before .before .before in
+    let f = i .before .before in
+    let a = f .before .before .args in
+    record {
+      meets = λ s w e.
+          data-done s w e (i .i .given .0 .0) (seat i) (standing s w e (a .vci) (f .find .ensures) (i .i .given .1)) (ld .load .result) (ld .load .ensures)
+          (o .marked .result) (c .update .ensures) (a .efci) (o .marked .ensures);
+    }
+
+pub receive-data-spec : {M : Type 1} → statement M
+receive-data-spec =
+    tie.close
+    (tie.spec (λ c κs. search needs) (λ c. search needs) (λ c. search needs) returns load-requires (λ c κs. search needs) update-requires returns-2)

@@ -1,0 +1,44 @@
+-- What a slot that goes to a seat writes and leaves.
+use Prim.Native.Nat.{ℕ, _≤_}
+use mathlib.Core.Path.{_≡_}
+use mathlib.Core.List.{List}
+use lib.ListN.{getD}
+use Rattle.rate.specs.declared.moves.Rate.{Rate}
+use Rattle.rate.specs.Units.{largestRate}
+use Rattle.cell.specs.Fields.{resourceCell}
+use Rattle.cell.specs.Turning.{turnedCell}
+use Rattle.connection.specs.declared.parts.Connection.{Connection}
+use Rattle.connection.specs.declared.parts.Waiting.{Waiting}
+use Rattle.connection.specs.declared.parts.Waiting.the-variants.{Nothing, Cell}
+use Rattle.connection.specs.declared.kind.Kind.{Kind}
+use Rattle.connection.specs.declared.kind.Kind.the-variants.{Forward, Turned, Data}
+use Rattle.connection.specs.Kind.{kindAt}
+use Rattle.connection.specs.Sending.{forwardFields}
+use Rattle.table.specs.State.{State, free, taken, position, holds}
+use Rattle.table.specs.Invariant.{Whole}
+use Rattle.table.specs.Layout.{words}
+use Rattle.engine.specs.Call.{Answer}
+use Rattle.engine.specs.Step.{sendStep}
+use Rattle.engine.specs.Contract.{held}
+
+-- the waiting cell, in a buffer that held these octets; none waits only where no turned cell is sent
+abbrev pub waitingOr : (name : ℕ) → Waiting → List ℕ → List ℕ
+waitingOr v Nothing old = old
+waitingOr v (Cell p) old = turnedCell v p
+
+-- a forward cell, if the allowed rate is a rate, as that of every connection that calls made is
+pub record ForwardIn (name : ℕ) (q : Rate) (new : List ℕ) : Type 0 where
+  pub is : q .acr ≤ largestRate → new ≡ resourceCell 0 (forwardFields name q)
+
+-- the buffer after a cell of this kind, from a connection before and after it
+abbrev pub Carried : Kind → (before now : Connection) → (old new : List ℕ) → Type 0
+Carried Forward before now old new = ForwardIn (now .name) (now .rate) new
+Carried Turned before now old new = new ≡ waitingOr (before .name) (before .back .turned) old
+Carried Data before now old new = new ≡ old
+
+-- a slot at t that goes to seat i, in a state whose last accepted time is t
+pub record Sends (t i : ℕ) (before after : List ℕ) (r : Answer) (old new : List ℕ) : Type 0 where
+  pub sends :
+      (s : State) → Whole s → s .last ≡ t → before ≡ words s → (c : Connection) → getD (s .seats) i free ≡ taken c → position (holds (c .name)) (s .seats) ≡ i
+      → (after ≡ words (sendStep s t (c .name) c (kindAt t c) .state)) × (r ≡ sendStep s t (c .name) c (kindAt t c) .answer)
+      × (new ≡ held (sendStep s t (c .name) c (kindAt t c) .buffer) old)

@@ -1,0 +1,16 @@
+// Setting the congestion level (document 01, "Turning cells round").
+ghost use Rattle.engine.specs.Step.{levelStep};
+ghost use Rattle.engine.specs.Contract.{Meets};
+use crate::answer::Answer;
+use table::layout::WORDS;
+
+// Refusal 9.
+pub fn set_level(t: &mut [u64; WORDS], level: u32) -> Answer
+    ensures { λ r. ⌜ Meets (λ s. levelStep s level) (now (t .entry)) (now (t .exit)) r ⌝ }
+{
+    if 2 < level {
+        return Answer::Refused(9);
+    }
+    t[0] = level as u64;
+    Answer::Accepted
+}

@@ -1,0 +1,10 @@
+// The engine's calls on a lent table. Each has no requires, and its ensures is the equation with the definition of its step.
+pub mod acr;
+pub mod answer;
+pub mod close;
+pub mod level;
+pub mod offer;
+pub mod open;
+pub mod receive;
+pub mod send;
+pub mod slot;

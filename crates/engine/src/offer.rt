@@ -1,0 +1,29 @@
+// Offering data (document 01, "Opening").
+ghost use Rattle.engine.specs.Step.{offerStep};
+ghost use Rattle.engine.specs.Contract.{Meets};
+use crate::answer::Answer;
+use connection::receive::offered;
+use table::find::Found;
+use table::find::find;
+use table::layout::WORDS;
+use table::load::load;
+use table::store::update;
+
+// Refusals 11, 15. The sum is never formed before it is known to fit.
+pub fn offer(t: &mut [u64; WORDS], name: u32, cells: u64) -> Answer
+    ensures { λ r. ⌜ Meets (λ s. offerStep s name cells) (now (t .entry)) (now (t .exit)) r ⌝ }
+{
+    let Found::At(i) = find(t, name) else {
+        return Answer::Refused(11);
+    };
+    let c = load(t, i);
+    let waiting = c.load.cells as u64;
+    if 65535 < waiting {
+        return Answer::Refused(15);
+    }
+    if 65535 - waiting < cells {
+        return Answer::Refused(15);
+    }
+    update(t, i, offered(cells as u32, c));
+    Answer::Accepted
+}

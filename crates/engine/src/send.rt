@@ -1,0 +1,71 @@
+// A slot that goes to a seat: the cell that it sends, and what that makes of the seat (document 01, "Slots").
+ghost use mathlib.Core.Path.{_≡_};
+ghost use Prim.Native.Nat.{_≤_, _<_};
+ghost use lib.ListN.{length};
+ghost use Rattle.rate.specs.Units.{latestTime};
+ghost use Rattle.engine.specs.Slots.{waitingOr, ForwardIn, Carried, Sends};
+use crate::answer::Answer;
+use cell::turn::put_turned;
+use cell::write::put_resource;
+use connection::kind::Kind;
+use connection::kind::kind_at;
+use connection::parts::Connection;
+use connection::parts::Waiting;
+use connection::send::after;
+use connection::send::forward_fields;
+use rate::moves::Rate;
+use table::layout::WORDS;
+use table::load::load;
+use table::store::update;
+
+fn put_waiting(cell: &mut [u8], name: u32, w: Waiting)
+    requires { ⌜ length (now cell) ≡ 53 ⌝ }
+    ensures { λ _. ⌜ now (cell .exit) ≡ waitingOr name w (now (cell .entry)) ⌝ }
+{
+    match w {
+        Waiting::Nothing => {}
+        Waiting::Cell(p) => put_turned(cell, name, p),
+    }
+}
+
+fn put_forward(cell: &mut [u8], name: u32, rate: Rate)
+    requires { ⌜ (length (now cell) ≡ 53) × (name ≤ 65535) ⌝ }
+    ensures { λ _. ⌜ ForwardIn name rate (now (cell .exit)) ⌝ }
+{
+    put_resource(cell, 0, forward_fields(name, rate));
+}
+
+// Data is the caller's own: the buffer stays.
+fn put_cell(cell: &mut [u8], kind: Kind, c: Connection, next: Connection)
+    requires { ⌜ (length (now cell) ≡ 53) × (next .name ≤ 65535) ⌝ }
+    ensures { λ _. ⌜ Carried kind c next (now (cell .entry)) (now (cell .exit)) ⌝ }
+{
+    match kind {
+        Kind::Forward => {
+            let rate = next.rate;
+            put_forward(cell, next.name, rate)
+        }
+        Kind::Turned => {
+            let back = c.back;
+            let turned = back.turned;
+            put_waiting(cell, c.name, turned)
+        }
+        Kind::Data => {}
+    }
+}
+
+pub fn send(t: &mut [u64; WORDS], time: u64, i: usize, cell: &mut [u8]) -> Answer
+    requires { ⌜ (i < 64) × ((time ≤ latestTime) × (length (now cell) ≡ 53)) ⌝ }
+    ensures { λ r. ⌜ Sends time i (now (t .entry)) (now (t .exit)) r (now (cell .entry)) (now (cell .exit)) ⌝ }
+{
+    let c = load(t, i);
+    let kind = kind_at(time, c);
+    let next = after(kind, time, c);
+    put_cell(cell, kind, c, next);
+    update(t, i, next);
+    Answer::Sent {
+        name: c.name,
+        kind,
+        acr: next.rate.acr,
+    }
+}

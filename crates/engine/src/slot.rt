@@ -1,0 +1,30 @@
+// A slot: whom it goes to, what it sends, and the allowed rate it leaves (document 01, "Slots").
+ghost use lib.ListN.{length};
+ghost use Rattle.engine.specs.Step.{slotStep};
+ghost use Rattle.engine.specs.Contract.{MeetsWriting};
+use crate::answer::Answer;
+use crate::send::send;
+use table::choose::Choice;
+use table::choose::choose;
+use table::layout::WORDS;
+
+// Refusals 1, 8, 14. An idle slot's time counts too.
+pub fn slot(t: &mut [u64; WORDS], time: u64, cell: &mut [u8]) -> Answer
+    ensures { λ r. ⌜ MeetsWriting (λ s. slotStep s time (length (now (cell .entry)))) (now (t .entry)) (now (t .exit)) r (now (cell .entry)) (now (cell .exit)) ⌝ }
+{
+    if cell.len() != 53 {
+        return Answer::Refused(1);
+    }
+    if 4611686018427387904 < time {
+        return Answer::Refused(8);
+    }
+    if time < t[1] {
+        return Answer::Refused(14);
+    }
+    let choice = choose(t, time);
+    t[1] = time;
+    match choice {
+        Choice::Nobody => Answer::Idle,
+        Choice::Seat(i) => send(t, time, i, cell),
+    }
+}

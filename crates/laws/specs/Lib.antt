@@ -1,0 +1,2 @@
+-- Blocks of words, and runs of stores.
+pub mod Blocks

@@ -1,0 +1,11 @@
+-- The promises hold.
+pub mod Relation
+pub mod Readings
+pub mod Pairs
+pub mod Demand3
+pub mod Witness
+pub mod Refusals
+pub mod Interference
+pub mod Moves
+pub mod Stock
+pub mod Liveness

@@ -1,0 +1,27 @@
+-- A refusal leaves table and buffer as they were.
+use Prim.Native.Nat.{ℕ}
+use mathlib.Core.Path.{_≡_, refl}
+use mathlib.Core.Option.{some}
+use Rattle.table.specs.State.{State, empty}
+use Rattle.engine.specs.Call.{Call, Outcome, refusal}
+use Rattle.engine.specs.Step.{refuse, accept, sendStep, idleStep}
+use Rattle.engine.specs.Run.{final}
+use Rattle.engine.proofs.Effects.{Effect, refuses, begins, ends, offers, marks, works, levels, idles, sends, effect}
+use Rattle.engine.proofs.Keeps.{reached-whole}
+use Rattle.promises.specs.Refusals.{Unchanged, RefusedUnchanged}
+use Rattle.promises.proofs.Pairs.{none≢some}
+
+effect-refused : {s : State} {c : Call} {o : Outcome} → Effect s c o → (n : ℕ) → refusal (o .answer) ≡ some n → Unchanged s o
+unfolding refuse accept sendStep idleStep refusal
+effect-refused (refuses c m) n e = record { table = refl; buffer = refl }
+effect-refused (begins u t p g) n e = absurd (none≢some e)
+effect-refused (ends u d f) n e = absurd (none≢some e)
+effect-refused (offers u k d f h) n e = absurd (none≢some e)
+effect-refused (marks o u b d r f) n e = absurd (none≢some e)
+effect-refused (works o q d r f) n e = absurd (none≢some e)
+effect-refused (levels l h) n e = absurd (none≢some e)
+effect-refused (idles t room g b) n e = absurd (none≢some e)
+effect-refused (sends t room i u g b) n e = absurd (none≢some e)
+
+pub refused-unchanged : RefusedUnchanged
+refused-unchanged cs c n e = effect-refused (effect (final empty cs) (reached-whole cs .apart) c) n e

@@ -1,0 +1,77 @@
+-- What a connection that waits can count on: it is ready in time, and slots reach it. (Beyond document 01's demands; "Slots" says who is ready when.)
+use Prim.Native.Nat.{ℕ, _+_, _≤_}
+use mathlib.Core.Path.{_≡_}
+use mathlib.Core.Bool.{true}
+use mathlib.Core.List.{List, [], _∷_}
+use mathlib.Core.Option.{some}
+use lib.ListN.{length}
+use Rattle.rate.specs.Params.{least}
+use Rattle.rate.specs.Gap.{gap}
+use Rattle.connection.specs.declared.parts.Connection.{Connection}
+use Rattle.connection.specs.declared.parts.Pace.{Pace}
+use Rattle.connection.specs.declared.parts.Pace.the-variants.{Unsent, Running}
+use Rattle.connection.specs.declared.ready.Instant.the-variants.{At}
+use Rattle.connection.specs.Ready.{anyWaits, readyInstant}
+use Rattle.table.specs.State.{State, taken, capacity, empty, find}
+use Rattle.table.specs.Invariant.{Each}
+use Rattle.table.specs.Choice.{Ahead}
+use Rattle.engine.specs.Call.{Call, slot, Outcome, goesTo}
+use Rattle.engine.specs.Step.{step}
+use Rattle.engine.specs.Run.{run, final, isAccepted}
+
+-- before the first cell the opening time, afterwards a gap at the minimum rate after the last cell
+unfoldable pub latestReady : Connection → Pace → ℕ
+latestReady c Unsent = c .opened
+latestReady c (Running sent forward k turned) = sent + gap (least (c .rate .params))
+
+pub record ReadySoon (c : Connection) : Type 0 where
+  pub instant : ℕ
+  pub readyAt : readyInstant c ≡ At instant
+  pub soon : instant ≤ latestReady c (c .pace)
+
+-- the outcome is a cell of a connection of s that comes before instant i of name v, or is it
+pub record Precedes (s : State) (i v : ℕ) (o : Outcome) : Type 0 where
+  pub instant : ℕ
+  pub name : ℕ
+  pub holder : Connection
+  pub found : find name (s .seats) ≡ taken holder
+  pub readyAt : readyInstant holder ≡ At instant
+  pub ahead : Ahead instant name i v
+  pub goes : goesTo (o .answer) ≡ some name
+
+abbrev pub GoesTo : ℕ → Outcome → Type 0
+GoesTo v o = goesTo (o .answer) ≡ some v
+
+abbrev pub IsAccepted : Outcome → Type 0
+IsAccepted o = isAccepted (o .answer) ≡ true
+
+abbrev pub All : {A : Type 0} → (A → Type 0) → List A → Type 0
+All P [] = Unit
+All P (x ∷ xs) = P x × All P xs
+
+pub data Somewhere {A : Type 0} (P : A → Type 0) : List A → Type 0 where
+  here : {x : A} {xs : List A} → P x → Somewhere P (x ∷ xs)
+  there : {x : A} {xs : List A} → Somewhere P xs → Somewhere P (x ∷ xs)
+
+-- slots at these times, each with a buffer of 53 octets
+abbrev pub slots : List ℕ → List Call
+slots [] = []
+slots (t ∷ ts) = slot t 53 ∷ slots ts
+
+-- In every table s that calls make from the empty one, of a connection c with the name v:
+pub record Live (s : State) (v : ℕ) (c : Connection) : Type 0 where
+  -- if data or a turned cell waits, it is ready, and no later than that
+  pub ready : anyWaits c ≡ true → ReadySoon c
+  -- from its ready instant on, an accepted slot is not idle: it goes to one that does not come after it
+  pub ahead : (i t room : ℕ) → readyInstant c ≡ At i → i ≤ t → IsAccepted (step s (slot t room)) → Precedes s i v (step s (slot t room))
+  -- and to itself, if no connection comes before it
+  pub first :
+      (i t room : ℕ) → readyInstant c ≡ At i → i ≤ t → IsAccepted (step s (slot t room))
+      → Each (λ d. (j : ℕ) → readyInstant d ≡ At j → Ahead i v j (d .name)) (s .seats) → GoesTo v (step s (slot t room))
+  -- of as many slots in a row as connections can be open, one is its own
+  pub served :
+      (i : ℕ) (ts : List ℕ) → readyInstant c ≡ At i → length ts ≡ capacity → All (λ t. i ≤ t) ts → All IsAccepted (run s (slots ts))
+      → Somewhere (GoesTo v) (run s (slots ts))
+
+abbrev pub Liveness : Type 0
+Liveness = (cs : List Call) (v : ℕ) (c : Connection) → find v (final empty cs .seats) ≡ taken c → Live (final empty cs) v c

@@ -1,0 +1,34 @@
+-- Parameters within their ranges, and an allowed rate between its bounds. (Document 01, "Opening" and "Four moves of the allowed rate".)
+use Prim.Native.Nat.{ℕ, _≤_}
+use Rattle.rate.specs.Params.{Params, peak, least, initial}
+use Rattle.rate.specs.Moves.{Rate}
+
+-- what `paramsFit` tests, each range by itself
+pub record Fits (p : Params) : Type 0 where
+  pub pcrCode : p .pcr ≤ 65535
+  pub mcrCode : p .mcr ≤ 65535
+  pub icrCode : p .icr ≤ 65535
+  pub floor : 512 ≤ least p
+  pub low : least p ≤ initial p
+  pub high : initial p ≤ peak p
+  pub nLeast : 1 ≤ p .n
+  pub nMost : p .n ≤ 8
+  pub rMost : p .r ≤ 15
+  pub dMost : p .d ≤ 15
+  pub cMost : p .c ≤ 7
+  pub crmLeast : 1 ≤ p .crm
+  pub crmMost : p .crm ≤ 8_388_608
+  pub adtfLeast : 1 ≤ p .adtf
+  pub adtfMost : p .adtf ≤ 1023
+  pub trmMost : p .trm ≤ 7
+
+-- parameters in order, and a rate between their minimum and their peak
+pub record Between (p : Params) (a : ℕ) : Type 0 where
+  pub floor : 512 ≤ least p
+  pub low : least p ≤ initial p
+  pub high : initial p ≤ peak p
+  pub above : least p ≤ a
+  pub below : a ≤ peak p
+
+abbrev pub Held : Rate → Type 0
+Held q = Between (q .params) (q .acr)

@@ -1,0 +1,45 @@
+// The 16-bit rate code (document 01, "Units and the 16-bit rate code").
+ghost use mathlib.Core.Path.{_≡_};
+ghost use Rattle.rate.specs.Code.{rateOf, codeOrZero, coded};
+
+// A rate's code, or the number of the refusal.
+pub enum Coded {
+    Code(u32),
+    Refused(u32),
+}
+
+// The rate that a code stands for; bit 15, and whatever lies above it, does not count.
+pub fn rate_of(code: u32) -> u64
+    ensures { λ r. ⌜ r ≡ rateOf code ⌝ }
+{
+    if code / 16384 % 2 == 1 {
+        (512 + (code % 512) as u64) << (code / 512 % 32)
+    } else {
+        0
+    }
+}
+
+// The code of a rate up to the largest, and 0 for what is no rate. The exponent is read off the leading zeros:
+// a rate with ten binary digits has exponent 0, and each digit more adds 1.
+pub fn code_or_zero(rate: u64) -> u32
+    ensures { λ r. ⌜ r ≡ codeOrZero rate ⌝ }
+{
+    if 2196875771904 < rate {
+        return 0;
+    }
+    if rate < 512 {
+        return 0;
+    }
+    let e = 54 - u64::leading_zeros(rate);
+    16384 + e * 512 + ((rate >> e) - 512) as u32
+}
+
+// Coding a rate, with refusal 9 above the largest.
+pub fn code_of(rate: u64) -> Coded
+    ensures { λ r. ⌜ r ≡ coded rate ⌝ }
+{
+    if 2196875771904 < rate {
+        return Coded::Refused(9);
+    }
+    Coded::Code(code_or_zero(rate))
+}

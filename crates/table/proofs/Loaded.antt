@@ -1,0 +1,113 @@
+-- Loading gives back the connection that stands in the seat: no number of a connection that calls made lies outside the range it is brought into.
+use Prim.Native.Nat.{ℕ, _+_, _*_, _%_, _^_, _≤_, _<_}
+use mathlib.Core.Path.{_≡_, refl, sym, ap, _∙_}
+use mathlib.Core.Bool.{Bool, true, false, cond}
+use mathlib.Core.List.{List, [], _∷_, _++_}
+use native.Mathlib.Nat.{mod-eq-of-lt, add-assoc, add-zero}
+use native.Mathlib.Omega.{arith}
+use lib.Dec.{eqb}
+use lib.ListN.{getD, drop}
+use lib.Pow.{pow-mono}
+use lib.Seq.{getD-drop}
+use Rattle.rate.specs.declared.params.Params.{Params}
+use Rattle.rate.specs.Units.{latestTime}
+use Rattle.rate.specs.Params.{nrm}
+use Rattle.rate.specs.Bounds.{Fits}
+use Rattle.rate.proofs.Ranges.{fits}
+use Rattle.connection.specs.declared.parts.Pace.{Pace}
+use Rattle.connection.specs.declared.parts.Pace.the-variants.{Unsent, Running}
+use Rattle.connection.specs.declared.parts.Waiting.{Waiting}
+use Rattle.connection.specs.declared.parts.Waiting.the-variants.{Nothing, Cell}
+use Rattle.connection.specs.declared.parts.Back.{Back}
+use Rattle.connection.specs.declared.parts.Connection.{Connection}
+use Rattle.connection.specs.Invariant.{Proper, PaceFits}
+use Rattle.connection.specs.Range.{InRange, PaceInRange, HasRoom}
+use Rattle.connection.proofs.Reached.{in-range}
+use Rattle.table.specs.Layout.{paceTag, paceSent, paceForward, paceK, backTag, waitTag, waitingPayload, payloadWords, liveWords, fixedWords}
+use Rattle.table.specs.Loading.{paceOf, waitingOf, paramsAt, connectionFrom, connectionAt}
+
+-- Each part is what its words stand for.
+pace-back : (now n : ℕ) (p : Pace) → n ≤ 256 → PaceFits now n p → PaceInRange p → paceOf (paceTag p) (paceSent p) (paceForward p) (paceK p) ≡ p
+pace-back now n Unsent l f h = refl
+pace-back now n (Running sent forward k true) l f h = let m : k < 32768 = omega arith in rw (mod-eq-of-lt (h .0), mod-eq-of-lt (h .1), mod-eq-of-lt m)
+pace-back now n (Running sent forward k false) l f h = let m : k < 32768 = omega arith in rw (mod-eq-of-lt (h .0), mod-eq-of-lt (h .1), mod-eq-of-lt m)
+
+-- numbers below 2^32 stay
+narrow : (x : ℕ) → x < 2 ^ 32 → x % 2 ^ 32 ≡ x
+narrow x l = mod-eq-of-lt l
+
+params-back : (c : Connection) (t : List ℕ) → Fits (c .rate .params) → paramsAt (fixedWords c ++ t) 2 ≡ c .rate .params
+params-back c t h =
+    let p = c .rate .params in
+    rw (
+      narrow (p .pcr) (omega arith),
+      narrow (p .mcr) (omega arith),
+      narrow (p .icr) (omega arith),
+      narrow (p .n) (omega arith),
+      narrow (p .r) (omega arith),
+      narrow (p .d) (omega arith),
+      narrow (p .c) (omega arith),
+      narrow (p .crm) (omega arith),
+      narrow (p .adtf) (omega arith),
+      narrow (p .trm) (omega arith),
+    )
+
+-- the word of a waiting cell, and of the saved EFCI
+efci-back : (e : Bool) (w : Waiting) → eqb ((waitTag w + cond e 1 0) % 2) 1 ≡ e
+efci-back true Nothing = refl
+efci-back false Nothing = refl
+efci-back true (Cell p) = refl
+efci-back false (Cell p) = refl
+
+turned-back : (e : Bool) (w : Waiting) → waitingOf (waitTag w + cond e 1 0) (waitingPayload w) ≡ w
+turned-back true Nothing = refl
+turned-back false Nothing = refl
+turned-back true (Cell p) = refl
+turned-back false (Cell p) = refl
+
+-- a connection from its own words
+pub words-back :
+    (now : ℕ) (c : Connection) (s t : List ℕ) → now ≤ latestTime → Proper now c → connectionFrom (c .name) (liveWords c ++ s) 0 (fixedWords c ++ t) 0 ≡ c
+words-back now c s t l h =
+    let r = in-range now c l h in
+    let short : c .name % 65536 ≡ c .name = mod-eq-of-lt (omega (arith, h .0 .coded)) in
+    rw (
+      short,
+      mod-eq-of-lt (r .opened),
+      mod-eq-of-lt (r .trm),
+      params-back c t (fits (c .rate .params) (h .0 .fits)),
+      pace-back now (nrm (c .rate .params)) (c .pace) (pow-mono (fits (c .rate .params) (h .0 .fits) .nMost)) (h .0 .paced) (r .pace),
+      narrow (c .unacked) (omega (arith, h .1 .counted)),
+      narrow (c .load .cells) (omega (arith, h .1 .stocked)),
+      efci-back (c .back .efci) (c .back .turned),
+      turned-back (c .back .efci) (c .back .turned),
+    )
+
+-- words further on in a list
+pub from-drop : (n : ℕ) (l : List ℕ) (a : ℕ) (m : List ℕ) (b : ℕ) → connectionFrom n l a m b ≡ connectionFrom n (drop a l) 0 (drop b m) 0
+from-drop n l a m b = simp (getD-drop, add-assoc, add-zero)
+
+-- Whatever the words are, what is loaded lies in range, with room for one more cell.
+pace-ranged : (tag sent forward k : ℕ) → PaceInRange (paceOf tag sent forward k) × HasRoom (paceOf tag sent forward k)
+pace-ranged tag sent forward k = go (eqb tag 0)
+  where
+    p : Bool → Pace
+    p b = cond b Unsent (Running (sent % 2 ^ 63) (forward % 2 ^ 63) (k % 32768) (eqb tag 2))
+
+    go : (b : Bool) → PaceInRange (p b) × HasRoom (p b)
+    go true = (tt, tt)
+    go false = ((omega arith, omega arith, omega arith), omega arith)
+
+pub load-ranged : (l : List ℕ) (i : ℕ) → InRange (connectionAt l i)
+load-ranged l i = record {
+  opened = omega arith;
+  trm = omega arith;
+  pace = pace-ranged (getD l (130 + i * 14 + 3) 0) (getD l (130 + i * 14 + 3 + 1) 0) (getD l (130 + i * 14 + 3 + 2) 0) (getD l (130 + i * 14 + 3 + 3) 0) .0;
+}
+
+pub load-room : (l : List ℕ) (i : ℕ) → HasRoom (connectionAt l i .pace)
+load-room l i =
+    pace-ranged (getD l (130 + i * 14 + 3) 0) (getD l (130 + i * 14 + 3 + 1) 0) (getD l (130 + i * 14 + 3 + 2) 0) (getD l (130 + i * 14 + 3 + 3) 0) .1
+
+pub load-named : (l : List ℕ) (i : ℕ) → connectionAt l i .name ≤ 65535
+load-named l i = omega arith

@@ -1,0 +1,57 @@
+-- What the choice for a slot says of a table's words. (Document 01, "Slots".)
+use Prim.Native.Nat.{ℕ, zero, suc, _+_, _≤_, _<_}
+use mathlib.Core.Path.{_≡_}
+use mathlib.Core.Bool.{cond, _&&_, _||_}
+use mathlib.Core.List.{List}
+use lib.Dec.{leb, ltb, eqb}
+use lib.ListN.{getD}
+use Rattle.connection.specs.declared.parts.Connection.{Connection}
+use Rattle.connection.specs.declared.ready.Instant.the-variants.{At}
+use Rattle.connection.specs.Ready.{readyInstant}
+use Rattle.table.specs.declared.choose.Best.{Best}
+use Rattle.table.specs.declared.choose.Choice.{Choice}
+use Rattle.table.specs.declared.choose.Choice.the-variants.{Seat as InSeat, Nobody}
+use Rattle.table.specs.State.{State, Seat, free, taken, position, holds}
+use Rattle.table.specs.Invariant.{Whole}
+use Rattle.table.specs.Layout.{words}
+use Rattle.table.specs.Choice.{nobody, wins, winner}
+
+-- the columns of ready keys and of names
+abbrev pub keyAt : List ℕ → (seat : ℕ) → ℕ
+keyAt l i = getD l (66 + i) 0
+
+abbrev pub nameAt : List ℕ → (seat : ℕ) → ℕ
+nameAt l i = getD l (2 + i) 0
+
+-- the better of the best so far and seat i: a key of 0 never wins, a lower key does, ties to the lower name
+abbrev pub betterOf : Best → (i key name : ℕ) → Best
+betterOf b i key name =
+    cond (eqb key 0 || (ltb (b .key) key || (eqb key (b .key) && leb (b .name) name))) b (record { at = i; key = key; name = name })
+
+-- the best of the seats below n, of which the keys and names are told; only keys below the limit count
+unfoldable pub bestBelow : (limit : ℕ) (keys names : ℕ → ℕ) → ℕ → Best
+bestBelow limit keys names zero = record { at = 64; key = limit; name = 0 }
+bestBelow limit keys names (suc n) = betterOf (bestBelow limit keys names n) n (keys n) (names n)
+
+-- of any table: a seat that it has
+abbrev pub Seated : Choice → Type 0
+Seated (InSeat i) = i < 64
+Seated Nobody = Unit
+
+-- seat i is that of the winner, whose connection is ready not after t
+pub record Won (t : ℕ) (ss : List Seat) (i : ℕ) : Type 0 where
+  pub instant : ℕ
+  pub holder : Connection
+  pub here : getD ss i free ≡ taken holder
+  pub place : position (holds (holder .name)) ss ≡ i
+  pub readyAt : readyInstant holder ≡ At instant
+  pub due : instant ≤ t
+  pub won : winner t ss ≡ wins instant (holder .name)
+
+abbrev pub Picks : ℕ → List Seat → Choice → Type 0
+Picks t ss (InSeat i) = Won t ss i
+Picks t ss Nobody = winner t ss ≡ nobody
+
+-- of the words of a state: the winner's seat, or nobody
+pub record Chooses (l : List ℕ) (t : ℕ) (r : Choice) : Type 0 where
+  pub is : (s : State) → Whole s → l ≡ words s → Picks t (s .seats) r

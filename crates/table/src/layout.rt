@@ -1,0 +1,2 @@
+// The lent memory. All zero is the empty table; specs/Layout.antt says what stands where.
+pub const WORDS: usize = 1794;

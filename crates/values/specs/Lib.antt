@@ -1,0 +1,2 @@
+-- The starred checked values of document 01.
+pub mod Checked

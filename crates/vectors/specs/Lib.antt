@@ -1,0 +1,2 @@
+-- The message of the published check values.
+pub mod Message

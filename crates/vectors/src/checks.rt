@@ -1,0 +1,57 @@
+// The two checks on published vectors (document 01, "The cell, 53 octets").
+ghost use mathlib.Core.Path.{_≡_};
+ghost use lib.Bits.{bitXor};
+ghost use Rattle.crc.specs.Remainder.{remainder, octetBits};
+ghost use Rattle.vectors.specs.Message.{message};
+use crate::say;
+use crc::crc10::crc10;
+use crc::header::header_check;
+use crc::payload::Payload;
+
+fn header_line(s: &[u8], d: u8) {
+    say::hex(b"I.432 header 00 00 00 ", d as u64, 2);
+    say::words(s);
+    say::hex(b": octet 5 is ", header_check(0, 0, 0, d) as u64, 2);
+    say::end();
+}
+
+// The cell headers that ITU-T I.432 gives away.
+fn headers() {
+    header_line(b", unassigned", 0x00);
+    header_line(b", idle", 0x01);
+    header_line(b", physical layer OAM F1", 0x03);
+    header_line(b", physical layer OAM F3", 0x09);
+}
+
+// CRC-8/I-432-1 of the nine octets, four at a time. The exclusive-or with 0x55 is taken back between the steps; the remainder so far
+// goes into the next octet; and leading zero octets have no remainder.
+fn crc8_check() -> u8
+    ensures { λ r. ⌜ (r ≡ bitXor (remainder 8 0x107 (octetBits message)) 0x55) × (r ≡ 0xA1) ⌝ }
+{
+    let four = header_check(b'1', b'2', b'3', b'4') ^ 0x55;
+    let eight = header_check(four ^ b'5', b'6', b'7', b'8') ^ 0x55;
+    header_check(0, 0, 0, eight ^ b'9')
+}
+
+// CRC-10/ATM of the nine octets, as the last of a payload's 374 checked bits: ten places up in the last two words. The division
+// starts from 0, so the zero bits before them leave nothing.
+fn crc10_check() -> u64
+    ensures { λ r. ⌜ (r ≡ remainder 10 0x633 (octetBits message)) × (r ≡ 0x199) ⌝ }
+{
+    crc10(Payload {
+        a: 0,
+        b: 0,
+        c: 0,
+        d: 0,
+        e: 0xc4c8,
+        f: 0xccd0d4d8dce0e400,
+    })
+}
+
+pub fn show() {
+    headers();
+    say::hex(b"CRC-8/I-432-1 of 123456789 is 0x", crc8_check() as u64, 2);
+    say::end();
+    say::hex(b"CRC-10/ATM of 123456789 is 0x", crc10_check(), 3);
+    say::end();
+}
