@@ -8,3 +8,4 @@ pub mod Opened
 pub mod SentOut
 pub mod Received
 pub mod SlotOut
+pub mod Library

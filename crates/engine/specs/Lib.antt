@@ -5,3 +5,4 @@ pub mod Run
 pub mod Queries
 pub mod Contract
 pub mod Slots
+pub mod Library
