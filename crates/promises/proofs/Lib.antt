@@ -3,6 +3,7 @@ pub mod Relation
 pub mod Readings
 pub mod Pairs
 pub mod Demand3
+pub mod Library
 pub mod Witness
 pub mod Refusals
 pub mod Interference

@@ -1,6 +1,7 @@
 -- The promises on whole lists of calls.
 pub mod Congestion
 pub mod Demand3
+pub mod Library
 pub mod Witness
 pub mod Refusals
 pub mod Interference
