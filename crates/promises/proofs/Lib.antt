@@ -5,6 +5,7 @@ pub mod Pairs
 pub mod Demand3
 pub mod Library
 pub mod Witness
+pub mod Unstarred
 pub mod Refusals
 pub mod Interference
 pub mod Moves

@@ -25,7 +25,7 @@ use Rattle.promises.specs.Demand3.{equal, congested}
 use Rattle.promises.specs.Witness.{easy, hard, Witness}
 
 -- its unfolding line opens all that these calls compute with, wherever it is itself unfolded
-computing : Unit {0}
+unfoldable pub computing : Unit {0}
 unfolding rateOf codeBelow codeOf within ratesFit codesFit numbersFit paramsFit trmTimes trmTime gap firstCell idle cut unanswered aim feedback markLevel bring divide remainder bits octetBits headerCheck payloadCheck headerRight header fieldsOf sealed resourceCell crcRight need reading fresh offered answered resourceWork waits anyWaits lastBefore readyFrom readyInstant isForward isTurned kindAt movedBy paced sentForward sentData after empty position isFree holds find put seated roomLeft timed entry candidate better winner goesTo accept require ofOpen openStep offerStep readStep receiveStep sendStep serveSeat serve slotStep step seatRate
 computing = tt
 

@@ -3,6 +3,7 @@ pub mod Congestion
 pub mod Demand3
 pub mod Library
 pub mod Witness
+pub mod Unstarred
 pub mod Refusals
 pub mod Interference
 pub mod Moves
