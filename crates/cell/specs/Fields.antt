@@ -25,7 +25,7 @@ fieldsOf o = record {
   sn = pair 18 o * 65536 + pair 20 o;
 }
 
--- what a cell can carry: a VCI of 16 bits, five bits, three rate codes of 15 bits; QL and SN of 32 bits
+-- each field fits the bits that a cell has for it; a rate code has 15, since bit 15 stays 0
 unfoldable pub fieldsFit : Fields → Bool
 fieldsFit f =
     leb (f .vci) 65535
@@ -46,6 +46,6 @@ sealed p = take 46 p ++ ((getD p 46 0 / 4 * 4 + payloadCheck p / 256) ∷ (paylo
 unfoldable pub resourceCell : (clp : ℕ) → Fields → List ℕ
 resourceCell clp f = header clp (f .vci) ++ sealed (body f ++ (0 ∷ 0 ∷ []))
 
--- the ten bits of the CRC-10, and if they are right
+-- whether the ten bits of the CRC-10 are right
 unfoldable pub crcRight : List ℕ → Bool
 crcRight o = eqb (pair 52 o % 1024) (payloadCheck (payload o))

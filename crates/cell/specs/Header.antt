@@ -1,4 +1,4 @@
--- A cell's header: GFC 4 bits, VPI 8, VCI 16, payload type 3, CLP 1, and octet 5. (Document 01, "The cell, 53 octets".)
+-- A cell's header of five octets: what its first four carry, and the check over them. (Document 01, "The cell, 53 octets".)
 use Prim.Native.Nat.{ℕ, _+_, _*_, _/_, _%_}
 use mathlib.Core.Bool.{Bool}
 use mathlib.Core.List.{List, [], _∷_, _++_}

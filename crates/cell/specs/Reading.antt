@@ -1,4 +1,4 @@
--- What reading a cell gives, and writing one. (Document 01, "The cell, 53 octets" and "Refused because of the input"; the orders: "Refused because of the state".)
+-- What reading a cell gives. (Document 01, "The cell, 53 octets" and "Refused because of the input"; the orders: "Refused because of the state".)
 use Prim.Native.Nat.{ℕ, _/_, _%_}
 use mathlib.Core.Bool.{Bool, true, false, cond}
 use mathlib.Core.List.{List}
@@ -15,7 +15,7 @@ unfoldable pub need : ℕ → Bool → Reading → Reading
 need n true r = r
 need n false r = Refused n
 
--- refusals 1, 2, 3, 4, then 5 and 6 for RM cells; payload types 0 to 3 are user data, whose middle bit is EFCI; 6 is an RM cell
+-- size, header check, VPI and payload type are judged first, the CRC-10 and the protocol of RM cells (type 6) alone; a data cell (types 0 to 3) has its EFCI in the middle bit of its type
 unfoldable pub reading : List ℕ → Reading
 reading o =
     need 1 (eqb (length o) 53)

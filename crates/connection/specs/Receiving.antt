@@ -16,11 +16,11 @@ use Rattle.connection.specs.Parts.{Connection, Cell, rated, counting, lo
 unfoldable pub offered : ℕ → Connection → Connection
 offered n c = loaded c (filled n (c .load))
 
--- a data cell stores its EFCI over the saved one
+-- the latest data cell decides the saved EFCI
 unfoldable pub marked : Bool → Connection → Connection
 marked e c = keeping c (record { efci = e; turned = c .back .turned })
 
--- a backward cell moves the rate record; with BN 0 it also sets Y to 0
+-- feedback; the answer of a destination, BN 0, clears Y as well
 unfoldable pub answered : Fields → Connection → Connection
 answered f c =
     counting (rated c (feedback (eqb (f .ci) 1) (eqb (f .ni) 1) (rateOf (f .er)) (c .rate))) (cond (eqb (f .bn) 0) 0 (c .unacked))

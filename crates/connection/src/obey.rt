@@ -1,4 +1,4 @@
-// A backward cell moves the rate record of its own connection (document 01, "Four moves of the allowed rate"): the one place where a
+// Feedback on a record that is lent (document 01, "Four moves of the allowed rate" and "The forms we expect"): the one place where a
 // record is lent.
 ghost use mathlib.Core.Path.{_≡_};
 ghost use Rattle.rate.specs.Moves.{feedback};

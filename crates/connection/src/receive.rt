@@ -23,7 +23,7 @@ pub fn offered(n: u32, c: Connection) -> Connection
     })
 }
 
-// A data cell stores its EFCI over the saved one.
+// The latest data cell decides the saved EFCI.
 pub fn marked(efci: bool, c: Connection) -> Connection
     ensures { λ r. ⌜ r ≡ marked efci c ⌝ }
 {
@@ -32,7 +32,7 @@ pub fn marked(efci: bool, c: Connection) -> Connection
     c.keeping(Back { efci, turned })
 }
 
-// A backward cell moves the rate record; with BN 0 it also sets Y to 0.
+// Feedback; the answer of a destination, BN 0, clears Y as well.
 pub fn answered(f: Fields, c: Connection) -> Connection
     ensures { λ r. ⌜ r ≡ answered f c ⌝ }
 {

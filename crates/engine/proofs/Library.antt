@@ -12,9 +12,9 @@ use Rattle.engine.specs.Call.{Call, opening, closing, receiving, offerin
 use Rattle.engine.specs.Step.{refuse, accept, step}
 use Rattle.engine.specs.Run.{run, final, seatRate, allowed}
 use Rattle.engine.specs.Contract.{held}
-use Rattle.engine.specs.Queries.{seatAcr, acrOf, Tells}
+use Rattle.engine.specs.Queries.{seatAcr, acrOf, Tells, told}
 use Rattle.engine.specs.declared.acr.Acr.{Acr}
-use Rattle.engine.specs.Library.{Seen, unlent, Performs, opens, closes, receives, offers, levels, slots, Trace, ended, then, lastWords, zeros, Shows, EachShows, told, LibraryIsRun}
+use Rattle.engine.specs.Library.{Seen, unlent, Performs, opens, closes, receives, offers, levels, slots, Trace, ended, then, lastWords, zeros, Shows, EachShows, LibraryIsRun}
 use Rattle.engine.proofs.Effects.{Effect, refuses, begins, ends, offers as offersTo, marks, works, levels as levelsTo, idles, sends, effect}
 use Rattle.engine.proofs.Keeps.{step-whole, reached-whole}
 

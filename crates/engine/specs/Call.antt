@@ -10,7 +10,7 @@ use Rattle.table.specs.State.{State}
 pub use Rattle.engine.specs.declared.answer.Answer.{Answer}
 pub use Rattle.engine.specs.declared.answer.Answer.the-variants.{Refused, Accepted, Idle, Sent}
 
--- Arguments are any numbers; of a buffer to be written only the length counts.
+-- Nothing bounds the arguments. What a lent buffer holds before a slot is no argument, so room is its length.
 pub data Call : Type 0 where
   opening : (name time : ℕ) → Params → Call
   closing : (name : ℕ) → Call

@@ -8,7 +8,7 @@ use Rattle.table.specs.Invariant.{Whole}
 use Rattle.table.specs.Layout.{words}
 use Rattle.engine.specs.Call.{Answer, Outcome}
 
--- Of the words of a state that calls reach, the call makes the words of the state that f gives, and answers as f says. It has no requires:
+-- Of the words of a whole state, as every state that calls reach is, the call makes the words of the state that f gives, and answers as f says. It has no requires:
 -- of any other words it is known that the call ends and stays within its bounds.
 pub record Meets (f : State → Outcome) (before after : List ℕ) (r : Answer) : Type 0 where
   pub meets : (s : State) → Whole s → before ≡ words s → (after ≡ words (f s .state)) × (r ≡ f s .answer)

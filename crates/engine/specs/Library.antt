@@ -2,7 +2,6 @@
 use Prim.Native.Nat.{ℕ}
 use mathlib.Core.Path.{_≡_}
 use mathlib.Core.List.{List, [], _∷_}
-use mathlib.Core.Option.{Option, none, some}
 use lib.ListN.{length, replicate}
 use Rattle.rate.specs.declared.params.Params.{Params}
 use Rattle.table.specs.State.{State, empty}
@@ -12,9 +11,8 @@ use Rattle.engine.specs.Call.{Call, opening, closing, receiving, offerin
 use Rattle.engine.specs.Step.{openStep, closeStep, receiveStep, offerStep, levelStep, slotStep}
 use Rattle.engine.specs.Run.{run, final, allowed}
 use Rattle.engine.specs.Contract.{Meets, MeetsWriting, held}
-use Rattle.engine.specs.Queries.{Tells}
+use Rattle.engine.specs.Queries.{Tells, told}
 use Rattle.engine.specs.declared.acr.Acr.{Acr}
-use Rattle.engine.specs.declared.acr.Acr.the-variants.{NotOpen, Rate}
 
 -- what a caller sees of one call: the words of the table after it, its answer, and the lent buffer before and after it
 pub record Seen : Type 0 where
@@ -65,11 +63,6 @@ EachShows [] [] = Unit
 EachShows [] (o ∷ os) = ⊥
 EachShows (p ∷ ps) [] = ⊥
 EachShows (p ∷ ps) (o ∷ os) = Shows p o × EachShows ps os
-
--- the rate that reading an ACR gave, if it was not refused
-abbrev pub told : Acr → Option ℕ
-told NotOpen = none
-told (Rate a) = some a
 
 -- Library calls do what `run` says.
 pub record LibraryIsRun : Type 0 where

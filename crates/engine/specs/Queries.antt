@@ -2,6 +2,7 @@
 use Prim.Native.Nat.{ℕ}
 use mathlib.Core.Path.{_≡_}
 use mathlib.Core.List.{List}
+use mathlib.Core.Option.{Option, none, some}
 use Rattle.table.specs.State.{State, Seat, free, taken, find}
 use Rattle.table.specs.Invariant.{Whole}
 use Rattle.table.specs.Layout.{words}
@@ -15,9 +16,14 @@ seatAcr (taken c) = Rate (c .rate .acr)
 unfoldable pub acrOf : State → (name : ℕ) → Acr
 acrOf s v = seatAcr (find v (s .seats))
 
--- document 01's number for the refusal
-abbrev pub acrRefusal : ℕ
-acrRefusal = 11
+-- document 01's number for the refusal, and the rate that is told
+abbrev pub acrRefusal : Acr → Option ℕ
+acrRefusal NotOpen = some 11
+acrRefusal (Rate a) = none
+
+abbrev pub told : Acr → Option ℕ
+told NotOpen = none
+told (Rate a) = some a
 
 pub record Tells (v : ℕ) (l : List ℕ) (r : Acr) : Type 0 where
   pub tells : (s : State) → Whole s → l ≡ words s → r ≡ acrOf s v

@@ -1,4 +1,4 @@
--- Lists of calls, each given the table that the call before it left; and what can be told of a connection from the calls and answers alone.
+-- Lists of calls on one table, and what can be told of a connection from the calls and answers alone.
 -- (Document 01, "The lists of demand 3".)
 use Prim.Native.Nat.{ℕ}
 use mathlib.Core.Bool.{Bool, true, false, cond, _&&_}

@@ -1,7 +1,7 @@
 // What a call answers (document 01, "Slots" and "Refused because of the state").
 use connection::kind::Kind;
 
-// A refusal gives its number only; a slot that sends names the connection, the kind of cell and the allowed rate it leaves.
+// Of a refusal there is only its number; a slot that sends says who went, with what kind of cell, and the allowed rate afterwards.
 pub enum Answer {
     Refused(u32),
     Accepted,

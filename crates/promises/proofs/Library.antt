@@ -11,8 +11,8 @@ use Rattle.engine.specs.declared.acr.Acr.{Acr}
 use Rattle.engine.specs.Call.{Call, Outcome, refusal, goesTo, kindSent}
 use Rattle.engine.specs.Step.{step}
 use Rattle.engine.specs.Run.{run, final, given, givenFrom, allowed, paramsGiven}
-use Rattle.engine.specs.Queries.{Tells}
-use Rattle.engine.specs.Library.{Seen, Trace, lastWords, zeros, Shows, EachShows, told}
+use Rattle.engine.specs.Queries.{Tells, told}
+use Rattle.engine.specs.Library.{Seen, Trace, lastWords, zeros, Shows, EachShows}
 use Rattle.engine.proofs.Keeps.{step-whole}
 use Rattle.engine.proofs.Library.{acr-told, library-is-run}
 use Rattle.promises.specs.Demand3.{Bounded, InPlace, SamePlace, NotAbove, Agree}

@@ -36,7 +36,7 @@ use Rattle.promises.specs.Moves.{Moves, stays, first, later, fed, FourMo
 abbrev MovesTo : ℕ → Call → Answer → Seat → Seat → Type 0
 MovesTo v c a free y = Unit
 MovesTo v c a (taken d) free = Unit
-MovesTo v c a (taken d) (taken e) = Moves v (d .rate) c a (e .rate)
+MovesTo v c a (taken d) (taken e) = Moves v d c a (e .rate)
 
 rests : (v : ℕ) (c : Call) (a : Answer) (x : Seat) → MovesTo v c a x x
 rests v c a free = tt
@@ -61,28 +61,28 @@ read-moves v u s c a y m = go (case u v)
 
 changes :
     (v u : ℕ) (s : State) → Apart (s .seats) → (d e : Connection) → find u (s .seats) ≡ taken d → e .name ≡ d .name → (c : Call) (a : Answer)
-    → (u ≡ v → Moves v (d .rate) c a (e .rate)) → MovesTo v c a (find v (s .seats)) (find v (put u (taken e) s .seats))
+    → (u ≡ v → Moves v d c a (e .rate)) → MovesTo v c a (find v (s .seats)) (find v (put u (taken e) s .seats))
 unfolding self
 changes v u s z d e f n c a m =
     rw (put-read self v u s z d e f n) (read-moves v u s c a (taken e) (λ h. rw (ap (λ w. find w (s .seats)) (sym h) ∙ f) (m h)))
 
 works-move :
-    (v level : ℕ) (o : List ℕ) (f : Fields) (d : Connection) → reading o ≡ Resource f → f .vci ≡ v → Moves v (d .rate) (receiving o) Accepted (resourceWork level o f d .rate)
+    (v level : ℕ) (o : List ℕ) (f : Fields) (d : Connection) → reading o ≡ Resource f → f .vci ≡ v → Moves v d (receiving o) Accepted (resourceWork level o f d .rate)
 unfolding resourceWork answered turning
 works-move v level o f d r n = go (eqb (f .dir) 1) refl
   where
-    go : (t : Bool) → eqb (f .dir) 1 ≡ t → Moves v (d .rate) (receiving o) Accepted (cond t (answered f d) (turning level o d) .rate)
+    go : (t : Bool) → eqb (f .dir) 1 ≡ t → Moves v d (receiving o) Accepted (cond t (answered f d) (turning level o d) .rate)
     go true e = fed f r n (eqb-true _ _ e)
     go false e = stays
 
-forward-moves : (v t room acr y : ℕ) (p : Pace) (q : Rate) → Moves v q (slot t room) (Sent v Forward acr) (movedBy t y p q)
+forward-moves : (v t room acr : ℕ) (d : Connection) (p : Pace) → d .pace ≡ p → Moves v d (slot t room) (Sent v Forward acr) (movedBy t (d .unacked) p (d .rate))
 unfolding movedBy
-forward-moves v t room acr y Unsent q = first
-forward-moves v t room acr y (Running sent forward k turned) q = later (t - forward) y
+forward-moves v t room acr d Unsent e = first e
+forward-moves v t room acr d (Running sent forward k turned) e = later e
 
-sent-moves : (v t room acr : ℕ) (k : Kind) (d : Connection) → Moves v (d .rate) (slot t room) (Sent v k acr) (after k t d .rate)
+sent-moves : (v t room acr : ℕ) (k : Kind) (d : Connection) → Moves v d (slot t room) (Sent v k acr) (after k t d .rate)
 unfolding after sentForward sentTurned sentData
-sent-moves v t room acr Forward d = forward-moves v t room acr (d .unacked) (d .pace) (d .rate)
+sent-moves v t room acr Forward d = forward-moves v t room acr d (d .pace) refl
 sent-moves v t room acr Turned d = stays
 sent-moves v t room acr Data d = stays
 

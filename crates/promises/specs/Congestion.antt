@@ -12,7 +12,7 @@ use Rattle.cell.specs.Octets.{octet}
 use Rattle.cell.specs.Header.{typeOf, headerRight}
 use Rattle.cell.specs.Fields.{fieldsOf, crcRight}
 
--- 2 if CI, else 1 if NI, else 0
+-- the level of the marks that the fields carry
 abbrev pub levelOf : Fields → ℕ
 levelOf f = markLevel (eqb (f .ci) 1) (eqb (f .ni) 1)
 
@@ -26,7 +26,7 @@ pub record Backward (o : List ℕ) : Type 0 where
   pub isResource : typeOf o ≡ 6
   pub isBackward : fieldsOf o .dir ≡ 1
 
--- the cells differ in CI, NI, ER and CRC only: octets 1 to 6, octet 7 but for CI and NI, octets 10 to 51 and the six bits before the CRC are the same
+-- all that marks, ER and CRC do not occupy is equal: octets 1 to 6, octet 7 but for CI and NI, octets 10 to 51 and the six bits before the CRC
 pub record MarksApart (a b : List ℕ) : Type 0 where
   pub start : take 6 a ≡ take 6 b
   pub dirBn : octet 7 a / 64 ≡ octet 7 b / 64

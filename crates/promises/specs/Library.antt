@@ -8,8 +8,8 @@ use Rattle.rate.specs.declared.params.Params.{Params}
 use Rattle.engine.specs.declared.acr.Acr.{Acr}
 use Rattle.engine.specs.Call.{Call, refusal, goesTo, kindSent}
 use Rattle.engine.specs.Run.{given}
-use Rattle.engine.specs.Queries.{Tells}
-use Rattle.engine.specs.Library.{Seen, Trace, lastWords, zeros, told}
+use Rattle.engine.specs.Queries.{Tells, told}
+use Rattle.engine.specs.Library.{Seen, Trace, lastWords, zeros}
 use Rattle.promises.specs.Demand3.{Bounded, InPlace, Comparable, NotAbove}
 
 -- the parameters under which a name is open, from the calls and the answers that were seen

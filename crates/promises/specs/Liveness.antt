@@ -29,7 +29,7 @@ pub record ReadySoon (c : Connection) : Type 0 where
   pub readyAt : readyInstant c ≡ At instant
   pub soon : instant ≤ latestReady c (c .pace)
 
--- the outcome is a cell of a connection of s that comes before instant i of name v, or is it
+-- the outcome is a cell of a connection of s that comes before instant i of name v, or is the same
 pub record Precedes (s : State) (i v : ℕ) (o : Outcome) : Type 0 where
   pub instant : ℕ
   pub name : ℕ

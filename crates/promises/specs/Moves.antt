@@ -1,6 +1,7 @@
--- Exactly four moves change an allowed rate: its own forward cells make the first three, its own backward cells the fourth. (Document 01, "Four moves of the allowed rate".)
-use Prim.Native.Nat.{ℕ}
+-- Only four moves change an allowed rate: its own forward cells make the first three, its own backward cells the fourth. (Document 01, "Four moves of the allowed rate".)
+use Prim.Native.Nat.{ℕ, _-_}
 use mathlib.Core.Path.{_≡_}
+use mathlib.Core.Bool.{Bool}
 use mathlib.Core.List.{List}
 use lib.Dec.{eqb}
 use Rattle.rate.specs.declared.moves.Rate.{Rate}
@@ -10,6 +11,7 @@ use Rattle.cell.specs.declared.fields.Fields.{Fields}
 use Rattle.cell.specs.declared.read.Reading.the-variants.{Resource}
 use Rattle.cell.specs.Reading.{reading}
 use Rattle.connection.specs.declared.parts.Connection.{Connection}
+use Rattle.connection.specs.declared.parts.Pace.the-variants.{Unsent, Running}
 use Rattle.connection.specs.declared.kind.Kind.the-variants.{Forward}
 use Rattle.table.specs.State.{taken, empty, find}
 use Rattle.engine.specs.declared.answer.Answer.{Answer}
@@ -18,17 +20,19 @@ use Rattle.engine.specs.Call.{Call, receiving, slot}
 use Rattle.engine.specs.Step.{step}
 use Rattle.engine.specs.Run.{final}
 
--- what a call with this answer may make of the rate record of the connection v
-pub data Moves (v : ℕ) (q : Rate) : Call → Answer → Rate → Type 0 where
-  stays : {c : Call} {a : Answer} → Moves v q c a q
-  first : {t room acr : ℕ} → Moves v q (slot t room) (Sent v Forward acr) (firstCell q)
-  later : {t room acr : ℕ} (passed y : ℕ) → Moves v q (slot t room) (Sent v Forward acr) (unanswered y (idle passed q))
+-- what a call with this answer may make of the rate record of the connection v, which is d before it
+pub data Moves (v : ℕ) (d : Connection) : Call → Answer → Rate → Type 0 where
+  stays : {c : Call} {a : Answer} → Moves v d c a (d .rate)
+  first : {t room acr : ℕ} → d .pace ≡ Unsent → Moves v d (slot t room) (Sent v Forward acr) (firstCell (d .rate))
+  later :
+      {t room acr sent forward k : ℕ} {turned : Bool} → d .pace ≡ Running sent forward k turned
+      → Moves v d (slot t room) (Sent v Forward acr) (unanswered (d .unacked) (idle (t - forward) (d .rate)))
   fed :
       {o : List ℕ} (f : Fields) → reading o ≡ Resource f → f .vci ≡ v → f .dir ≡ 1
-      → Moves v q (receiving o) Accepted (feedback (eqb (f .ci) 1) (eqb (f .ni) 1) (rateOf (f .er)) q)
+      → Moves v d (receiving o) Accepted (feedback (eqb (f .ci) 1) (eqb (f .ni) 1) (rateOf (f .er)) (d .rate))
 
 -- after any list of calls from the empty table, of a connection that is open before and after the next call
 abbrev pub FourMoves : Type 0
 FourMoves =
     (cs : List Call) (c : Call) (v : ℕ) (d e : Connection) → find v (final empty cs .seats) ≡ taken d → find v (step (final empty cs) c .state .seats) ≡ taken e
-    → Moves v (d .rate) c (step (final empty cs) c .answer) (e .rate)
+    → Moves v d c (step (final empty cs) c .answer) (e .rate)

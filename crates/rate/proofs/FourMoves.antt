@@ -33,10 +33,6 @@ pub firstCell-held : (q : Rate) → Held q → Held (firstCell q)
 unfolding firstCell
 firstCell-held q h = held-at h _ (omega arith) (omega arith)
 
-pub firstCell-params : (q : Rate) → firstCell q .params ≡ q .params
-unfolding firstCell
-firstCell-params q = refl
-
 pub firstCell-mono : (q : Rate) (a : ℕ) → a ≤ q .acr → firstCell (moved q a) .acr ≤ firstCell q .acr
 unfolding firstCell
 firstCell-mono q a h = omega arith
@@ -47,10 +43,6 @@ unfolding idle
 idle-held t q h =
     held-at h _ (cond-all (λ a. least (q .params) ≤ a) (ltb (adtfTime (q .params)) t) (omega arith) (h .above))
     (cond-all (λ a. a ≤ peak (q .params)) (ltb (adtfTime (q .params)) t) (omega arith) (h .below))
-
-pub idle-params : (t : ℕ) (q : Rate) → idle t q .params ≡ q .params
-unfolding idle
-idle-params t q = refl
 
 pub idle-mono : (t : ℕ) (q : Rate) (a : ℕ) → a ≤ q .acr → idle t (moved q a) .acr ≤ idle t q .acr
 unfolding idle
@@ -64,10 +56,6 @@ unanswered-held y q h =
     let t : Bool = leb (q .params .crm) y && not (eqb (q .params .c) 7) in
     held-at h _ (cond-all (λ a. least (q .params) ≤ a) t (omega arith) (h .above))
     (cond-all (λ a. a ≤ peak (q .params)) t (omega arith) (h .below))
-
-pub unanswered-params : (y : ℕ) (q : Rate) → unanswered y q .params ≡ q .params
-unfolding unanswered
-unanswered-params y q = refl
 
 pub unanswered-mono : (y : ℕ) (q : Rate) (a : ℕ) → a ≤ q .acr → unanswered y (moved q a) .acr ≤ unanswered y q .acr
 unfolding unanswered
@@ -85,10 +73,6 @@ aim-high false false q h = omega arith
 pub feedback-held : (ci ni : Bool) (er : ℕ) (q : Rate) → Held q → Held (feedback ci ni er q)
 unfolding feedback
 feedback-held ci ni er q h = held-at h _ (omega arith) (omega (arith, aim-high ci ni q h))
-
-pub feedback-params : (ci ni : Bool) (er : ℕ) (q : Rate) → feedback ci ni er q .params ≡ q .params
-unfolding feedback
-feedback-params ci ni er q = refl
 
 aim-mono :
     (c₁ n₁ c₂ n₂ : Bool) (q : Rate) (a : ℕ) → a ≤ q .acr → q .acr ≤ peak (q .params) → markLevel c₁ n₁ ≤ markLevel c₂ n₂

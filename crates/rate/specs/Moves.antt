@@ -41,7 +41,7 @@ aim false false q = min (peak (q .params)) (q .acr + peak (q .params) / 2 ^ q .p
 unfoldable pub feedback : Bool → Bool → ℕ → Rate → Rate
 feedback ci ni er q = moved q (max (least (q .params)) (min (aim ci ni q) er))
 
--- the level of a backward cell's marks: 2 if CI, else 1 if NI, else 0
+-- how congested a backward cell's marks say the path is; CI outweighs NI
 unfoldable pub markLevel : Bool → Bool → ℕ
 markLevel true ni = 2
 markLevel false true = 1

@@ -65,7 +65,7 @@ live-split a b n k l m = ap (λ (x : List ℕ). a ∷ b ∷ x) (sym (append-asso
 fixed-split : (a b : ℕ) (n k l m : List Seat) → mixed a b n k l m ≡ most a b n k l ++ (flat fixedOf m ++ [])
 fixed-split a b n k l m = simp (append-assoc, append-nil)
 
--- six rows that are as long as the table
+-- four rows that are as long as the table
 pub record Rows (n k l m : List Seat) : Type 0 where
   pub names : length n ≡ 64
   pub keys : length k ≡ 64
@@ -127,9 +127,6 @@ module _ (a b : ℕ) (n k l m : List Seat) (r : Rows n k l m) (i : ℕ) (h : i <
       ∙ read fixedOf 12 fixed-wide (most a b n k l) [] i (1026 + i * 12) at-fixed m (omega (arith, r .fixeds))
 
 -- Of a state that calls reach.
-pub sized-seats : (s : State) → Whole s → length (s .seats) ≡ 64
-sized-seats s w = w .size
-
 rows : (n k l m : List Seat) → length n ≡ 64 → length k ≡ 64 → length l ≡ 64 → length m ≡ 64 → Rows n k l m
 rows n k l m a b c d = record { names = a; keys = b; lives = c; fixeds = d }
 

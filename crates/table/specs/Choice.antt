@@ -1,4 +1,4 @@
--- Whom a slot at t goes to: the connection with the earliest ready instant not after t, ties to the lower name. (Document 01, "Slots".)
+-- Who is served at t: of the connections that are ready by then, the one that was ready first; of several, the lowest name. (Document 01, "Slots".)
 use Prim.Native.Nat.{ℕ, _≤_, _<_}
 use mathlib.Core.Path.{_≡_}
 use mathlib.Core.Bool.{Bool, true, false, cond, _&&_, _||_}
@@ -35,7 +35,7 @@ winner t [] = nobody
 winner t (s ∷ ss) = better (candidate t s) (winner t ss)
 
 -- That the scan above picks the right one is a theorem, in these words:
--- instant i of name v comes before instant j of name w, or is it
+-- instant i of name v comes before instant j of name w, or is the same
 pub data Ahead (i v j w : ℕ) : Type 0 where
   sooner : i < j → Ahead i v j w
   tied : i ≡ j → v ≤ w → Ahead i v j w

@@ -19,7 +19,7 @@ pub record State : Type 0 where
 abbrev pub capacity : ℕ
 capacity = 64
 
--- level 0, nothing open, no open or slot accepted yet
+-- the table that every list starts from
 unfoldable pub empty : State
 empty = record { level = 0; last = 0; seats = replicate capacity free }
 

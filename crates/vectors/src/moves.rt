@@ -69,7 +69,7 @@ fn feedback_line(pcr: u32, acr: u64, ci: bool, ni: bool, er: u64) {
     moved(q.feedback(ci, ni, er));
 }
 
-// Above ICR and below it; at exactly ADTF the rate stands, a nanosecond later it drops, but never rises.
+// Above ICR and below it, at ADTF and past it.
 fn idles() {
     opened_line();
     first_line(512000);
