@@ -1,6 +1,6 @@
 -- Library calls do what `run` says.
 use Prim.Native.Nat.{ℕ}
-use mathlib.Core.Path.{_≡_, refl, _∙_}
+use mathlib.Core.Path.{_≡_, refl}
 use mathlib.Core.List.{List, [], _∷_}
 use Rattle.connection.specs.Sending.{Buffer, untouched}
 use Rattle.table.specs.State.{State, Seat, free, taken, empty, find}
@@ -14,7 +14,7 @@ use Rattle.engine.specs.Run.{run, final, seatRate, allowed}
 use Rattle.engine.specs.Contract.{held}
 use Rattle.engine.specs.Queries.{seatAcr, acrOf, Tells, told}
 use Rattle.engine.specs.declared.acr.Acr.{Acr}
-use Rattle.engine.specs.Library.{Seen, unlent, Performs, opens, closes, receives, offers, levels, slots, Trace, ended, then, lastWords, zeros, Shows, EachShows, LibraryIsRun}
+use Rattle.engine.specs.Library.{Seen, unlent, Performs, opens, closes, receives, offers, levels, slots, Trace, ended, then, lastWords, zeros, Shows, EachShows, neither, both, LibraryIsRun}
 use Rattle.engine.proofs.Effects.{Effect, refuses, begins, ends, offers as offersTo, marks, works, levels as levelsTo, idles, sends, effect}
 use Rattle.engine.proofs.Keeps.{step-whole, reached-whole}
 
@@ -63,11 +63,11 @@ performs-shows {s} w (slots h) e = let g = h .meets s w e in record { table = g 
 onward :
     (s : State) → Whole s → (cs : List Call) (l : List ℕ) (os : List Seen) → Trace cs l os → l ≡ words s
     → EachShows (run s cs) os × (lastWords l os ≡ words (final s cs))
-onward s w [] l [] ended e = (tt, e)
+onward s w [] l [] ended e = (neither, e)
 onward s w (c ∷ cs) l (o ∷ os) (then h t) e =
     let g = performs-shows w h e in
     let rest = onward (step s c .state) (step-whole w c) cs (o .table) os t (g .table) in
-    ((g, rest .0), rest .1)
+    (both g (rest .0), rest .1)
 
 zeros-words : zeros ≡ words empty
 zeros-words = rw empty-words refl

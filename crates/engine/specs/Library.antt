@@ -58,11 +58,9 @@ pub record Shows (p : Outcome) (o : Seen) : Type 0 where
   pub buffer : o .new ≡ held (p .buffer) (o .old)
 
 -- each of them in its place, and as many of the one as of the other
-abbrev pub EachShows : List Outcome → List Seen → Type 0
-EachShows [] [] = Unit
-EachShows [] (o ∷ os) = ⊥
-EachShows (p ∷ ps) [] = ⊥
-EachShows (p ∷ ps) (o ∷ os) = Shows p o × EachShows ps os
+pub data EachShows : List Outcome → List Seen → Type 0 where
+  neither : EachShows [] []
+  both : {p : Outcome} {ps : List Outcome} {o : Seen} {os : List Seen} → Shows p o → EachShows ps os → EachShows (p ∷ ps) (o ∷ os)
 
 -- Library calls do what `run` says.
 pub record LibraryIsRun : Type 0 where

@@ -8,14 +8,14 @@ use Rattle.table.specs.State.{State, empty}
 use Rattle.table.specs.Invariant.{Whole}
 use Rattle.table.proofs.Keeps.{empty-whole}
 use Rattle.engine.specs.declared.acr.Acr.{Acr}
-use Rattle.engine.specs.Call.{Call, Outcome, refusal, goesTo, kindSent}
+use Rattle.engine.specs.Call.{Call, Outcome, refusal, kindSent}
 use Rattle.engine.specs.Step.{step}
-use Rattle.engine.specs.Run.{run, final, given, givenFrom, allowed, paramsGiven}
+use Rattle.engine.specs.Run.{run, given, givenFrom}
 use Rattle.engine.specs.Queries.{Tells, told}
-use Rattle.engine.specs.Library.{Seen, Trace, lastWords, zeros, Shows, EachShows}
+use Rattle.engine.specs.Library.{Seen, Trace, lastWords, zeros, Shows, EachShows, neither, both}
 use Rattle.engine.proofs.Keeps.{step-whole}
 use Rattle.engine.proofs.Library.{acr-told, library-is-run}
-use Rattle.promises.specs.Demand3.{Bounded, InPlace, SamePlace, NotAbove, Agree}
+use Rattle.promises.specs.Demand3.{Bounded, InPlace, SamePlace, Agree}
 use Rattle.promises.specs.Library.{paramsSeen, SeenInPlace, SeenAgree, LibraryDemand3}
 use Rattle.promises.proofs.Demand3.{demand3}
 
@@ -23,11 +23,9 @@ use Rattle.promises.proofs.Demand3.{demand3}
 params-seen :
     (v : ℕ) (s : State) (before : Option Params) (cs : List Call) (os : List Seen) → EachShows (run s cs) os
     → paramsSeen v before cs os ≡ givenFrom v s before cs
-params-seen v s b [] os h = refl
-params-seen v s b (c ∷ cs) [] h = absurd h
-params-seen v s b (c ∷ cs) (o ∷ os) h =
-    ap (λ a. paramsSeen v (given v c a b) cs os) (h .0 .answer)
-    ∙ params-seen v (step s c .state) (given v c (step s c .answer) b) cs os (h .1)
+params-seen v s b [] [] neither = refl
+params-seen v s b (c ∷ cs) (o ∷ os) (both g gs) =
+    ap (λ a. paramsSeen v (given v c a b) cs os) (g .answer) ∙ params-seen v (step s c .state) (given v c (step s c .answer) b) cs os gs
 
 bounds :
     (cs : List Call) (os : List Seen) → Trace cs zeros os → (v : ℕ) (a : Acr) → Tells v (lastWords zeros os) a
@@ -40,18 +38,11 @@ seen-place : {x y : Outcome} {o p : Seen} → Shows x o → Shows y p → SeenIn
 seen-place g h e = rw (← g .answer, ← h .answer) e
 
 place-from :
-    (s₁ s₂ : State) (xs ys : List Call) (os ps : List Seen) → EachShows (run s₁ xs) os → EachShows (run s₂ ys) ps → InPlace SeenInPlace os ps
-    → InPlace SamePlace (run s₁ xs) (run s₂ ys)
-place-from s₁ s₂ [] [] os ps g h e = tt
-place-from s₁ s₂ [] (y ∷ ys) [] [] g h e = absurd h
-place-from s₁ s₂ [] (y ∷ ys) [] (p ∷ ps) g h e = absurd e
-place-from s₁ s₂ [] (y ∷ ys) (o ∷ os) ps g h e = absurd g
-place-from s₁ s₂ (x ∷ xs) ys [] ps g h e = absurd g
-place-from s₁ s₂ (x ∷ xs) [] (o ∷ os) [] g h e = absurd e
-place-from s₁ s₂ (x ∷ xs) [] (o ∷ os) (p ∷ ps) g h e = absurd h
-place-from s₁ s₂ (x ∷ xs) (y ∷ ys) (o ∷ os) [] g h e = absurd h
-place-from s₁ s₂ (x ∷ xs) (y ∷ ys) (o ∷ os) (p ∷ ps) g h e =
-    (seen-place (g .0) (h .0) (e .0), place-from (step s₁ x .state) (step s₂ y .state) xs ys os ps (g .1) (h .1) (e .1))
+    {xs ys : List Outcome} {os ps : List Seen} → EachShows xs os → EachShows ys ps → InPlace SeenInPlace os ps → InPlace SamePlace xs ys
+place-from neither neither e = tt
+place-from neither (both h hs) e = absurd e
+place-from (both g gs) neither e = absurd e
+place-from (both g gs) (both h hs) e = (seen-place g h (e .0), place-from gs hs (e .1))
 
 seen-agree :
     {x y : Outcome} {o p : Seen} → Whole (x .state) → Whole (y .state) → Shows x o → Shows y p → Agree x y → SeenAgree o p
@@ -62,17 +53,13 @@ seen-agree {x} {y} {o} {p} w z g h a = record {
 }
 
 agree-from :
-    {s₁ s₂ : State} → Whole s₁ → Whole s₂ → (xs ys : List Call) (os ps : List Seen) → EachShows (run s₁ xs) os → EachShows (run s₂ ys) ps
+    {s₁ s₂ : State} → Whole s₁ → Whole s₂ → (xs ys : List Call) {os ps : List Seen} → EachShows (run s₁ xs) os → EachShows (run s₂ ys) ps
     → InPlace Agree (run s₁ xs) (run s₂ ys) → InPlace SeenAgree os ps
-agree-from w z [] [] [] [] g h a = tt
-agree-from w z [] ys (o ∷ os) ps g h a = absurd g
-agree-from w z [] [] [] (p ∷ ps) g h a = absurd h
-agree-from w z [] (y ∷ ys) [] ps g h a = absurd a
-agree-from w z (x ∷ xs) ys [] ps g h a = absurd g
-agree-from w z (x ∷ xs) [] (o ∷ os) ps g h a = absurd a
-agree-from w z (x ∷ xs) (y ∷ ys) (o ∷ os) [] g h a = absurd h
-agree-from w z (x ∷ xs) (y ∷ ys) (o ∷ os) (p ∷ ps) g h a =
-    (seen-agree (step-whole w x) (step-whole z y) (g .0) (h .0) (a .0), agree-from (step-whole w x) (step-whole z y) xs ys os ps (g .1) (h .1) (a .1))
+agree-from w z [] [] neither neither a = tt
+agree-from w z [] (y ∷ ys) g h a = absurd a
+agree-from w z (x ∷ xs) [] g h a = absurd a
+agree-from w z (x ∷ xs) (y ∷ ys) (both g gs) (both h hs) a =
+    (seen-agree (step-whole w x) (step-whole z y) g h (a .0), agree-from (step-whole w x) (step-whole z y) xs ys gs hs (a .1))
 
 pub library-demand3 : LibraryDemand3
 library-demand3 = record {
@@ -80,5 +67,5 @@ library-demand3 = record {
   pairs = λ xs ys os ps t u c e.
       let g = library-is-run .each xs os t in
       let h = library-is-run .each ys ps u in
-      agree-from empty-whole empty-whole xs ys os ps g h (demand3 .pairs xs ys c (place-from empty empty xs ys os ps g h e));
+      agree-from empty-whole empty-whole xs ys g h (demand3 .pairs xs ys c (place-from g h e));
 }

@@ -3,7 +3,7 @@
 use Prim.Native.Nat.{ℕ}
 use mathlib.Core.Path.{_≡_}
 use mathlib.Core.List.{List, [], _∷_}
-use mathlib.Core.Option.{Option, none, some}
+use mathlib.Core.Option.{Option, none}
 use Rattle.rate.specs.declared.params.Params.{Params}
 use Rattle.engine.specs.declared.acr.Acr.{Acr}
 use Rattle.engine.specs.Call.{Call, refusal, goesTo, kindSent}
