@@ -1,0 +1,2 @@
+-- What the exports' proofs share.
+pub mod Told
