@@ -23,25 +23,30 @@ use Rattle.abr.specs.Contract.{Numbered, NumberedSlot, NumberedAcr}
 pub told :
     {A B : Type 0} (number : A → ℕ) (word : A → B → B) {a b : A} {r : ℕ} {old new : B} → a ≡ b → (r ≡ number a) × (new ≡ word a old)
     → (r ≡ number b) × (new ≡ word b old)
-told {A} {B} number word {old = old} q e = (e .0 ∙ ap number q, e .1 ∙ ap (λ (x : A). word x old) q)
+told {A} number word {old = old} q e = (e .0 ∙ ap number q, e .1 ∙ ap (λ (x : A). word x old) q)
 
+-- a call that answers only
 pub numbers : {f : State → Outcome} {before after : List ℕ} {a : Answer} {r : ℕ} → r ≡ number a → Meets f before after a → Numbered f before after r
 numbers e m = record { numbered = λ s w b. let k = m .meets s w b in (k .0, e ∙ ap number (k .1)) }
 
+-- an open, of parameters that equal those passed
 pub opens :
     (v t : ℕ) {p q : Params} {before after : List ℕ} {a : Answer} {r : ℕ} → p ≡ q → r ≡ number a → Meets (λ s. openStep s v t p) before after a
     → Numbered (λ s. openStep s v t q) before after r
 opens v t {before = before} {after = after} {r = r} i e m = subst (λ (x : Params). Numbered (λ s. openStep s v t x) before after r) i (numbers e m)
 
+-- a slot
 pub sends :
-    {f : State → Outcome} {before after : List ℕ} {a : Answer} {r : ℕ} {old new out sent : List ℕ} → (r ≡ number a) × (sent ≡ sentWords a out)
-    → MeetsWriting f before after a old new → NumberedSlot f before after r old new out sent
+    {f : State → Outcome} {before after : List ℕ} {a : Answer} {r : ℕ} {old new was sent : List ℕ} → (r ≡ number a) × (sent ≡ sentWords a was)
+    → MeetsWriting f before after a old new → NumberedSlot f before after r old new was sent
 sends e m = record { numbered = λ s w b. let k = m .meets s w b in let t = told number sentWords (k .1) e in (k .0, t .0, k .2, t .1) }
 
+-- reading an ACR
 pub reads :
     {v : ℕ} {l : List ℕ} {a : Acr} {r old new : ℕ} → (r ≡ acrNumber a) × (new ≡ acrWord a old) → Tells v l a → NumberedAcr v l r old new
 reads e m = record { numbered = λ s w b. told acrNumber acrWord (m .tells s w b) e }
 
+-- writing an RM cell, of fields that equal those passed
 pub writes :
     {f g : Fields} {a : Written} {r : ℕ} (old : List ℕ) {new : List ℕ} → f ≡ g → r ≡ writeNumber a
     → (a ≡ writing (length old) f) × (new ≡ bufferAfter a (resourceCell 0 f) old) → (r ≡ numberOf g old) × (new ≡ octetsAfter g old)

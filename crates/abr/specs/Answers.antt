@@ -4,9 +4,9 @@ use Prim.Native.Nat.{ℕ}
 use mathlib.Core.List.{List, [], _∷_}
 use Rattle.connection.specs.declared.kind.Kind.{Kind}
 use Rattle.connection.specs.declared.kind.Kind.the-variants.{Forward, Turned, Data}
+use Rattle.engine.specs.Queries.{acrRefusal}
 use Rattle.engine.specs.declared.answer.Answer.{Answer}
 use Rattle.engine.specs.declared.answer.Answer.the-variants.{Refused, Accepted, Idle, Sent}
-use Rattle.engine.specs.Queries.{acrRefusal}
 use Rattle.engine.specs.declared.acr.Acr.{Acr}
 use Rattle.engine.specs.declared.acr.Acr.the-variants.{NotOpen, Rate}
 
@@ -17,6 +17,7 @@ number Accepted = 0
 number Idle = 0
 number (Sent v k a) = 0
 
+-- the kinds of cell that a slot sends
 abbrev pub kindNumber : Kind → ℕ
 kindNumber Forward = 1
 kindNumber Turned = 2
@@ -29,7 +30,7 @@ sentWords Accepted old = old
 sentWords Idle old = 0 ∷ 0 ∷ 0 ∷ []
 sentWords (Sent v k a) old = v ∷ kindNumber k ∷ a ∷ []
 
--- reading an ACR
+-- reading an ACR: 11, or the rate
 abbrev pub acrNumber : Acr → ℕ
 acrNumber NotOpen = acrRefusal
 acrNumber (Rate x) = 0

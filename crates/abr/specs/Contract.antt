@@ -14,11 +14,11 @@ use Rattle.abr.specs.Answers.{number, sentWords, acrNumber, acrWord}
 pub record Numbered (f : State → Outcome) (before after : List ℕ) (r : ℕ) : Type 0 where
   pub numbered : (s : State) → Whole s → before ≡ words s → (after ≡ words (f s .state)) × (r ≡ number (f s .answer))
 
--- the same of a slot, with the buffer and what it tells of the cell that it sends
-pub record NumberedSlot (f : State → Outcome) (before after : List ℕ) (r : ℕ) (old new told tells : List ℕ) : Type 0 where
+-- the same of a slot, with its buffer before and after, and the three words in which it tells what it sends
+pub record NumberedSlot (f : State → Outcome) (before after : List ℕ) (r : ℕ) (old new was sent : List ℕ) : Type 0 where
   pub numbered :
       (s : State) → Whole s → before ≡ words s
-      → (after ≡ words (f s .state)) × (r ≡ number (f s .answer)) × (new ≡ held (f s .buffer) old) × (tells ≡ sentWords (f s .answer) told)
+      → (after ≡ words (f s .state)) × (r ≡ number (f s .answer)) × (new ≡ held (f s .buffer) old) × (sent ≡ sentWords (f s .answer) was)
 
 -- the same of reading an ACR, which leaves the table
 pub record NumberedAcr (v : ℕ) (l : List ℕ) (r old new : ℕ) : Type 0 where
