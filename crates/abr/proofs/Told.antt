@@ -12,10 +12,10 @@ use Rattle.table.specs.State.{State}
 use Rattle.engine.specs.Call.{Outcome}
 use Rattle.engine.specs.Step.{openStep}
 use Rattle.engine.specs.Contract.{Meets, MeetsWriting}
-use Rattle.engine.specs.Queries.{Tells}
+use Rattle.engine.specs.Queries.{Tells, acrNumber}
 use Rattle.engine.specs.declared.answer.Answer.{Answer}
 use Rattle.engine.specs.declared.acr.Acr.{Acr}
-use Rattle.abr.specs.Answers.{number, sentWords, acrNumber, acrWord}
+use Rattle.abr.specs.Answers.{number, sentWords, acrWord}
 use Rattle.abr.specs.Cells.{writeNumber, numberOf, octetsAfter}
 use Rattle.abr.specs.Contract.{Numbered, NumberedSlot, NumberedAcr}
 

@@ -4,7 +4,6 @@ use Prim.Native.Nat.{ℕ}
 use mathlib.Core.List.{List, [], _∷_}
 use Rattle.connection.specs.declared.kind.Kind.{Kind}
 use Rattle.connection.specs.declared.kind.Kind.the-variants.{Forward, Turned, Data}
-use Rattle.engine.specs.Queries.{acrRefusal}
 use Rattle.engine.specs.declared.answer.Answer.{Answer}
 use Rattle.engine.specs.declared.answer.Answer.the-variants.{Refused, Accepted, Idle, Sent}
 use Rattle.engine.specs.declared.acr.Acr.{Acr}
@@ -30,11 +29,7 @@ sentWords Accepted old = old
 sentWords Idle old = 0 ∷ 0 ∷ 0 ∷ []
 sentWords (Sent v k a) old = v ∷ kindNumber k ∷ a ∷ []
 
--- reading an ACR: 11, or the rate
-abbrev pub acrNumber : Acr → ℕ
-acrNumber NotOpen = acrRefusal
-acrNumber (Rate x) = 0
-
+-- what reading an ACR tells
 abbrev pub acrWord : Acr → (old : ℕ) → ℕ
 acrWord NotOpen old = old
 acrWord (Rate x) old = x

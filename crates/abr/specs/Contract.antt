@@ -7,8 +7,8 @@ use Rattle.table.specs.Invariant.{Whole}
 use Rattle.table.specs.Layout.{words}
 use Rattle.engine.specs.Call.{Outcome}
 use Rattle.engine.specs.Contract.{held}
-use Rattle.engine.specs.Queries.{acrOf}
-use Rattle.abr.specs.Answers.{number, sentWords, acrNumber, acrWord}
+use Rattle.engine.specs.Queries.{acrOf, acrNumber}
+use Rattle.abr.specs.Answers.{number, sentWords, acrWord}
 
 -- Of the words of a state that calls reach, the export makes the words of the state that f gives, and answers the number of f's answer.
 pub record Numbered (f : State → Outcome) (before after : List ℕ) (r : ℕ) : Type 0 where

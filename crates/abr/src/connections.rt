@@ -2,7 +2,8 @@
 ghost use mathlib.Core.Path.{_≡_};
 ghost use Rattle.engine.specs.Step.{openStep, closeStep, offerStep};
 ghost use Rattle.abr.specs.Args.{paramsIn};
-ghost use Rattle.abr.specs.Answers.{acrNumber, acrWord};
+ghost use Rattle.abr.specs.Answers.{acrWord};
+ghost use Rattle.engine.specs.Queries.{acrNumber};
 ghost use Rattle.abr.specs.Contract.{Numbered, NumberedAcr};
 use crate::answers::number;
 use crate::params::params_of;

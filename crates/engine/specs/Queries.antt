@@ -16,10 +16,10 @@ seatAcr (taken c) = Rate (c .rate .acr)
 unfoldable pub acrOf : State → (name : ℕ) → Acr
 acrOf s v = seatAcr (find v (s .seats))
 
--- document 01's number for the refusal, and the rate that is told
-abbrev pub acrRefusal : Acr → Option ℕ
-acrRefusal NotOpen = some 11
-acrRefusal (Rate a) = none
+-- document 01's number for the refusal, 0 if there is none; and the rate that is told
+abbrev pub acrNumber : Acr → ℕ
+acrNumber NotOpen = 11
+acrNumber (Rate a) = 0
 
 abbrev pub told : Acr → Option ℕ
 told NotOpen = none

@@ -1,0 +1,67 @@
+# The ABR end-system rate engine.
+#
+#   make lib                prove the library and write target/staticlib/libabr.a
+#   make demo               two connections, slot by slot, and a picture of them
+#   make test               the gate: proofs, then every test
+#   make install PREFIX=    library, header and abr.pc
+#   make dist               the tarball that is sold
+#   make bench              the cost of each call, beside the plain reference
+#   make soak [SEED=n]      random lists without end
+#
+# ABR_LIB names another archive than the proved one, which then is not built.
+
+VERSION := 0.1.0
+PREFIX ?= /usr/local
+DESTDIR ?=
+CC ?= gcc
+CFLAGS ?= -O2 -Wall -Wextra
+BUILD := target/make
+DIST := abr-$(VERSION)-x86_64
+
+ifdef ABR_LIB
+LIB := $(abspath $(ABR_LIB))
+else
+LIB := $(abspath target/staticlib/libabr.a)
+LIB_GOAL := lib
+endif
+export ABR_LIB := $(LIB)
+
+.PHONY: lib demo test install dist bench soak clean
+
+lib:
+	rt staticlib abr
+
+demo: $(LIB_GOAL)
+	@mkdir -p $(BUILD)
+	$(CC) -std=c99 $(CFLAGS) -Iinclude examples/two_connections.c $(LIB) -o $(BUILD)/two_connections
+	$(BUILD)/two_connections
+	cargo run --release --quiet -p picture -- $(BUILD)/rates.svg
+	@echo "The allowed rates of two connections over time: $(BUILD)/rates.svg"
+
+test:
+	.ci/run
+
+$(BUILD)/abr.pc: abr.pc.in Makefile FORCE
+	@mkdir -p $(BUILD)
+	@sed -e 's|@PREFIX@|$(PREFIX)|' -e 's|@VERSION@|$(VERSION)|' $< > $@
+
+install: $(LIB_GOAL) $(BUILD)/abr.pc
+	install -d $(DESTDIR)$(PREFIX)/lib/pkgconfig $(DESTDIR)$(PREFIX)/include
+	install -m 644 $(LIB) $(DESTDIR)$(PREFIX)/lib/libabr.a
+	install -m 644 include/abr.h $(DESTDIR)$(PREFIX)/include/abr.h
+	install -m 644 $(BUILD)/abr.pc $(DESTDIR)$(PREFIX)/lib/pkgconfig/abr.pc
+
+dist: $(LIB_GOAL)
+	scripts/dist $(DIST) $(LIB) $(VERSION)
+
+bench: $(LIB_GOAL)
+	bench/run
+
+soak: $(LIB_GOAL)
+	cargo run --release --quiet -p differential --bin soak -- $(SEED)
+
+clean:
+	rm -rf $(BUILD) target/cargo target/tests target/bench dist
+
+.PHONY: FORCE
+FORCE:

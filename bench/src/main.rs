@@ -1,0 +1,74 @@
+//! The cost of each call, beside the plain reference.
+//!
+//! * `bench`: nanoseconds of library and reference and their ratio;
+//! * `bench names`: the works that can be counted;
+//! * `bench times`: the same numbers in columns, for a script;
+//! * `bench count NAME library|reference [CALLS]`: one work many times in a
+//!   function `bench_region`, for callgrind;
+//! * `bench picture FILE`: slot cost over the number of connections, an SVG.
+
+mod draw;
+mod engines;
+mod measure;
+mod work;
+
+use std::process::ExitCode;
+
+use engines::{Library, Plain};
+use work::{Work, WORKS};
+
+fn main() -> ExitCode {
+    let words: Vec<String> = std::env::args().skip(1).collect();
+    let words: Vec<&str> = words.iter().map(String::as_str).collect();
+    match words[..] {
+        [] => measure::table(),
+        ["names"] => WORKS.iter().for_each(|(name, ..)| println!("{name}")),
+        ["times"] => measure::columns(),
+        ["picture", path] => return picture(path),
+        ["count", name, side] => return count(name, side, 1_000),
+        ["count", name, side, calls] => match calls.parse() {
+            Ok(calls) => return count(name, side, calls),
+            Err(_) => return usage(),
+        },
+        _ => return usage(),
+    }
+    ExitCode::SUCCESS
+}
+
+fn usage() -> ExitCode {
+    eprintln!("usage: bench [names | times | count NAME library|reference [CALLS] | picture FILE]");
+    ExitCode::from(2)
+}
+
+/// Runs one work in the function that callgrind looks at.
+fn count(name: &str, side: &str, calls: u64) -> ExitCode {
+    let Some((_, _, work)) = WORKS.iter().find(|(known, ..)| *known == name) else {
+        return usage();
+    };
+    match side {
+        "library" => work::Bench::<Library>::new(*work).counted(calls),
+        "reference" => work::Bench::<Plain>::new(*work).counted(calls),
+        _ => return usage(),
+    }
+    ExitCode::SUCCESS
+}
+
+/// Measures slots by the number of connections and draws them.
+fn picture(path: &str) -> ExitCode {
+    let points = measure::by_connections();
+    for (connections, library, reference) in &points {
+        println!("{connections} connections: library {library:.1} ns, reference {reference:.1} ns");
+    }
+    match std::fs::write(path, draw::svg(&points)) {
+        Ok(()) => ExitCode::SUCCESS,
+        Err(error) => {
+            eprintln!("{path}: {error}");
+            ExitCode::FAILURE
+        }
+    }
+}
+
+/// A slot with this many busy connections.
+pub fn slot_work(connections: u32) -> Work {
+    Work::Slot { connections, n: 5 }
+}

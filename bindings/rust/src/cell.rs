@@ -1,0 +1,135 @@
+//! Cells of 53 octets, written and read without a table.
+
+use crate::ffi;
+use crate::Refusal;
+
+/// The octets of a cell.
+pub const CELL_OCTETS: usize = 53;
+
+/// The fields of an RM cell (document 01, "The cell, 53 octets").
+#[derive(Debug, Clone, Copy, PartialEq, Eq, Hash, Default)]
+pub struct Rm {
+    /// The connection, at most 16 bits.
+    pub vci: u32,
+    /// DIR: a backward cell.
+    pub backward: bool,
+    /// BN: not made by a source.
+    pub bn: bool,
+    /// Congestion.
+    pub ci: bool,
+    /// No increase.
+    pub ni: bool,
+    /// Carried only.
+    pub ra: bool,
+    /// Code of the explicit rate, at most 15 bits like the two after it.
+    pub er: u32,
+    /// Code of the current rate.
+    pub ccr: u32,
+    /// Code of the minimum rate.
+    pub mcr: u32,
+    /// Carried only.
+    pub ql: u32,
+    /// Carried only.
+    pub sn: u32,
+}
+
+/// What reading a cell gives.
+#[derive(Debug, Clone, Copy, PartialEq, Eq, Hash)]
+pub enum Cell {
+    /// User data.
+    Data {
+        /// The connection.
+        vci: u32,
+        /// The congestion mark.
+        efci: bool,
+    },
+    /// An RM cell, forward or backward.
+    Rm(Rm),
+}
+
+/// Writes an RM cell into a buffer of 53 octets.
+///
+/// # Errors
+/// In this order: [`Refusal::Length`], [`Refusal::Range`].
+///
+/// ```
+/// use abr::{Cell, Refusal, Rm, CELL_OCTETS};
+///
+/// let rm = Rm { vci: 32, backward: true, ci: true, er: 0x53E8, ..Rm::default() };
+/// let mut cell = [0; CELL_OCTETS];
+/// abr::write_rm(&rm, &mut cell)?;
+/// assert_eq!(abr::read(&cell)?, Cell::Rm(rm));
+///
+/// cell[20] ^= 1;
+/// assert_eq!(abr::read(&cell), Err(Refusal::Crc));
+/// assert_eq!(abr::write_rm(&rm, &mut cell[1..]), Err(Refusal::Length));
+/// # Ok::<(), Refusal>(())
+/// ```
+pub fn write_rm(rm: &Rm, cell: &mut [u8]) -> Result<(), Refusal> {
+    let raw = rm.raw();
+    // SAFETY: both pointers are live and the length is the buffer's own.
+    Refusal::outcome(unsafe { ffi::abr_write_rm(&raw, cell.as_mut_ptr(), cell.len()) })
+}
+
+/// Reads a cell.
+///
+/// # Errors
+/// In this order: [`Refusal::Length`], [`Refusal::HeaderCheck`],
+/// [`Refusal::Path`], [`Refusal::PayloadType`], and for RM cells
+/// [`Refusal::Crc`], [`Refusal::Protocol`].
+///
+/// ```
+/// use abr::{Cell, CELL_OCTETS};
+///
+/// let mut cell = [0; CELL_OCTETS];
+/// cell[..5].copy_from_slice(&[0x00, 0x00, 0x00, 0x01, 0x52]);
+/// assert_eq!(abr::read(&cell), Ok(Cell::Data { vci: 0, efci: false }));
+/// ```
+pub fn read(cell: &[u8]) -> Result<Cell, Refusal> {
+    let mut raw = ffi::abr_cell::default();
+    // SAFETY: both pointers are live and the length is the cell's own.
+    Refusal::outcome(unsafe { ffi::abr_read(cell.as_ptr(), cell.len(), &mut raw) })?;
+    Ok(Cell::from_raw(&raw))
+}
+
+impl Rm {
+    fn raw(&self) -> ffi::abr_rm {
+        ffi::abr_rm {
+            vci: self.vci,
+            dir: self.backward.into(),
+            bn: self.bn.into(),
+            ci: self.ci.into(),
+            ni: self.ni.into(),
+            ra: self.ra.into(),
+            er: self.er,
+            ccr: self.ccr,
+            mcr: self.mcr,
+            ql: self.ql,
+            sn: self.sn,
+        }
+    }
+}
+
+impl Cell {
+    fn from_raw(raw: &ffi::abr_cell) -> Self {
+        if raw.kind == 1 {
+            return Cell::Data {
+                vci: raw.vci,
+                efci: raw.efci == 1,
+            };
+        }
+        Cell::Rm(Rm {
+            vci: raw.vci,
+            backward: raw.dir == 1,
+            bn: raw.bn == 1,
+            ci: raw.ci == 1,
+            ni: raw.ni == 1,
+            ra: raw.ra == 1,
+            er: raw.er,
+            ccr: raw.ccr,
+            mcr: raw.mcr,
+            ql: raw.ql,
+            sn: raw.sn,
+        })
+    }
+}

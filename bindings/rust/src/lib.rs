@@ -1,0 +1,43 @@
+//! Safe Rust over the sealed ABR end-system rate engine.
+//!
+//! A transmitter asks once per cell slot which of up to 64 connections of one
+//! link sends, what kind of cell, and what rate it is allowed afterwards. All
+//! state is in a [`Table`]. Rates are whole numbers of 1/512 cell per second,
+//! times are nanoseconds.
+//!
+//! ```
+//! use abr::{Kind, Params, Table, CELL_OCTETS};
+//!
+//! # fn main() -> Result<(), abr::Refusal> {
+//! let mut table = Table::new();
+//! let thousand = abr::code(512_000)?; // 1,000 cells per second
+//! table.open(32, 0, &Params::house(thousand, abr::code(512)?, thousand))?;
+//! table.offer(32, 10)?;
+//!
+//! let mut cell = [0; CELL_OCTETS];
+//! let sent = table.slot(0, &mut cell)?.expect("data waits");
+//! assert_eq!((sent.vci, sent.kind, sent.acr), (32, Kind::Forward, 512_000));
+//! // The next cell is allowed a millisecond later.
+//! assert_eq!(table.slot(999_999, &mut cell)?, None);
+//! let sent = table.slot(1_000_000, &mut cell)?.expect("data waits");
+//! assert_eq!(sent.kind, Kind::Data);
+//! # Ok(())
+//! # }
+//! ```
+
+#![warn(missing_docs)]
+
+mod cell;
+pub mod ffi;
+mod params;
+mod rate;
+mod refusal;
+mod table;
+
+pub use cell::{read, write_rm, Cell, Rm, CELL_OCTETS};
+pub use params::Params;
+pub use rate::{code, rate, RATE_MAX, RATE_ONE};
+pub use refusal::Refusal;
+pub use table::{
+    Kind, Sent, Table, CONNECTIONS_MAX, LEVEL_MAX, TIME_MAX, VCI_MAX, VCI_MIN, WAITING_MAX,
+};

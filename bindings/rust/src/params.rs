@@ -1,0 +1,76 @@
+//! The parameters of an open.
+
+use crate::ffi;
+
+/// What an open gives beside VCI and time (document 01, "Opening"). The ranges
+/// are judged by [`crate::Table::open`].
+#[derive(Debug, Clone, Copy, PartialEq, Eq, Hash)]
+pub struct Params {
+    /// Code of the peak rate.
+    pub pcr: u32,
+    /// Code of the minimum rate, at least one cell per second.
+    pub mcr: u32,
+    /// Code of the initial rate, from minimum to peak.
+    pub icr: u32,
+    /// Nrm is 2^n, n from 1 to 8.
+    pub n: u32,
+    /// RIF is 1/2^r, r from 0 to 15.
+    pub r: u32,
+    /// RDF is 1/2^d, d from 0 to 15.
+    pub d: u32,
+    /// CDF is 1/2^c, c from 0 to 6; 7 means zero.
+    pub c: u32,
+    /// CRM, from 1 to 8,388,608.
+    pub crm: u32,
+    /// ADTF in steps of 10 ms, from 1 to 1,023.
+    pub adtf: u32,
+    /// Trm number, from 0 to 7.
+    pub trm: u32,
+}
+
+impl Params {
+    /// The house set around three rate codes.
+    ///
+    /// ```
+    /// let params = abr::Params::house(0x53E8, 0x4000, 0x4200);
+    /// assert_eq!((params.pcr, params.mcr, params.icr), (0x53E8, 0x4000, 0x4200));
+    /// assert_eq!((params.n, params.r, params.d, params.c), (5, 4, 4, 4));
+    /// assert_eq!((params.crm, params.adtf, params.trm), (524_288, 50, 7));
+    /// ```
+    pub fn house(pcr: u32, mcr: u32, icr: u32) -> Self {
+        let mut raw = ffi::abr_params::default();
+        // SAFETY: the pointer is to a live abr_params.
+        unsafe { ffi::abr_house(pcr, mcr, icr, &mut raw) };
+        Params::from_raw(&raw)
+    }
+
+    fn from_raw(raw: &ffi::abr_params) -> Self {
+        Params {
+            pcr: raw.pcr,
+            mcr: raw.mcr,
+            icr: raw.icr,
+            n: raw.n,
+            r: raw.r,
+            d: raw.d,
+            c: raw.c,
+            crm: raw.crm,
+            adtf: raw.adtf,
+            trm: raw.trm,
+        }
+    }
+
+    pub(crate) fn raw(&self) -> ffi::abr_params {
+        ffi::abr_params {
+            pcr: self.pcr,
+            mcr: self.mcr,
+            icr: self.icr,
+            n: self.n,
+            r: self.r,
+            d: self.d,
+            c: self.c,
+            crm: self.crm,
+            adtf: self.adtf,
+            trm: self.trm,
+        }
+    }
+}

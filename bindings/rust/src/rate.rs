@@ -1,0 +1,46 @@
+//! Rates and their 16-bit codes.
+
+use crate::ffi;
+use crate::Refusal;
+
+/// One cell per second.
+pub const RATE_ONE: u64 = 512;
+
+/// The largest rate that has a code.
+pub const RATE_MAX: u64 = 1023 << 31;
+
+/// Codes a rate: the code of the greatest code rate not above it.
+///
+/// # Errors
+/// [`Refusal::TooLarge`] above [`RATE_MAX`].
+///
+/// ```
+/// use abr::{Refusal, RATE_MAX};
+/// assert_eq!(abr::code(512_000), Ok(0x53E8));
+/// assert_eq!(abr::code(511), Ok(0));
+/// assert_eq!(abr::code(RATE_MAX), Ok(0x7FFF));
+/// assert_eq!(abr::code(RATE_MAX + 1), Err(Refusal::TooLarge));
+/// ```
+pub fn code(rate: u64) -> Result<u32, Refusal> {
+    let mut code = 0;
+    // SAFETY: the pointer is to a live u32.
+    Refusal::outcome(unsafe { ffi::abr_code(rate, &mut code) })?;
+    Ok(code)
+}
+
+/// The rate of a code. Bit 15 is ignored.
+///
+/// # Errors
+/// [`Refusal::Range`] if the code has more than 16 bits.
+///
+/// ```
+/// assert_eq!(abr::rate(0x4000), Ok(512));
+/// assert_eq!(abr::rate(0xC000), Ok(512));
+/// assert_eq!(abr::rate(0x3FFF), Ok(0));
+/// ```
+pub fn rate(code: u32) -> Result<u64, Refusal> {
+    let mut rate = 0;
+    // SAFETY: the pointer is to a live u64.
+    Refusal::outcome(unsafe { ffi::abr_rate(code, &mut rate) })?;
+    Ok(rate)
+}

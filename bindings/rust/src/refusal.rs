@@ -1,0 +1,130 @@
+//! Why a call was refused.
+
+use std::error::Error;
+use std::fmt;
+
+/// A refused call changes nothing and says why (document 01, "Refused because
+/// of the input" and "Refused because of the state").
+///
+/// ```
+/// use abr::Refusal;
+/// assert_eq!(abr::rate(0x1_0000), Err(Refusal::Range));
+/// assert_eq!(Refusal::Range.number(), 7);
+/// assert_eq!(Refusal::try_from(7), Ok(Refusal::Range));
+/// assert_eq!(Refusal::try_from(16), Err(16));
+/// assert_eq!(Refusal::Full.to_string(), "64 connections are open");
+/// ```
+#[derive(Debug, Clone, Copy, PartialEq, Eq, Hash)]
+#[repr(u32)]
+pub enum Refusal {
+    /// A cell or a slot's buffer is not 53 octets.
+    Length = 1,
+    /// Octet 5 is wrong.
+    HeaderCheck = 2,
+    /// The VPI is not 0.
+    Path = 3,
+    /// The payload type is 4, 5 or 7.
+    PayloadType = 4,
+    /// The CRC-10 of an RM cell is wrong.
+    Crc = 5,
+    /// The protocol of an RM cell is not 1.
+    Protocol = 6,
+    /// A parameter, a field to write or a rate code is out of range.
+    Range = 7,
+    /// The time is over 2^62.
+    Time = 8,
+    /// The level is over 2, or the rate to code above the largest.
+    TooLarge = 9,
+    /// A VCI under 32 was to be opened.
+    LowVci = 10,
+    /// The VCI is not open.
+    NotOpen = 11,
+    /// The VCI is already open.
+    AlreadyOpen = 12,
+    /// 64 connections are open.
+    Full = 13,
+    /// The time is before that of the last accepted open or slot.
+    TimeBackward = 14,
+    /// More than 65,535 data cells would wait.
+    TooMuchData = 15,
+}
+
+impl Refusal {
+    /// All refusals in the order of their numbers.
+    pub const ALL: [Refusal; 15] = [
+        Refusal::Length,
+        Refusal::HeaderCheck,
+        Refusal::Path,
+        Refusal::PayloadType,
+        Refusal::Crc,
+        Refusal::Protocol,
+        Refusal::Range,
+        Refusal::Time,
+        Refusal::TooLarge,
+        Refusal::LowVci,
+        Refusal::NotOpen,
+        Refusal::AlreadyOpen,
+        Refusal::Full,
+        Refusal::TimeBackward,
+        Refusal::TooMuchData,
+    ];
+
+    /// The number that document 01 gives it.
+    pub const fn number(self) -> u32 {
+        self as u32
+    }
+
+    /// It in words, the same as `abr_refusal_text` of the C header.
+    pub const fn text(self) -> &'static str {
+        match self {
+            Refusal::Length => "cell or buffer is not 53 octets",
+            Refusal::HeaderCheck => "header check (octet 5) is wrong",
+            Refusal::Path => "VPI is not 0",
+            Refusal::PayloadType => "payload type is 4, 5 or 7",
+            Refusal::Crc => "CRC-10 is wrong",
+            Refusal::Protocol => "RM protocol is not 1",
+            Refusal::Range => "parameter or field is out of range",
+            Refusal::Time => "time is over 2^62",
+            Refusal::TooLarge => "level is over 2 or rate above the largest",
+            Refusal::LowVci => "VCI is under 32",
+            Refusal::NotOpen => "VCI is not open",
+            Refusal::AlreadyOpen => "VCI is already open",
+            Refusal::Full => "64 connections are open",
+            Refusal::TimeBackward => "time is before the last accepted open or slot",
+            Refusal::TooMuchData => "waiting data would pass 65,535 cells",
+        }
+    }
+
+    /// The outcome that an answer of the C interface stands for.
+    pub(crate) fn outcome(answer: u32) -> Result<(), Refusal> {
+        match Refusal::try_from(answer) {
+            Ok(refusal) => Err(refusal),
+            Err(0) => Ok(()),
+            Err(other) => unreachable!("the library answered {other}"),
+        }
+    }
+}
+
+impl TryFrom<u32> for Refusal {
+    type Error = u32;
+
+    /// The refusal with a number, or the number back if there is none.
+    fn try_from(number: u32) -> Result<Self, u32> {
+        let found = Refusal::ALL.into_iter().find(|r| r.number() == number);
+        found.ok_or(number)
+    }
+}
+
+impl From<Refusal> for u32 {
+    fn from(refusal: Refusal) -> u32 {
+        refusal.number()
+    }
+}
+
+impl fmt::Display for Refusal {
+    fn fmt(&self, f: &mut fmt::Formatter<'_>) -> fmt::Result {
+        f.write_str(self.text())
+    }
+}
+
+impl Error for Refusal {}

@@ -1,0 +1,230 @@
+//! The table of connections and the calls on it.
+
+use std::fmt;
+
+use crate::ffi;
+use crate::{Params, Refusal};
+
+/// The connections that may be open at once.
+pub const CONNECTIONS_MAX: usize = 64;
+/// The least VCI that can be opened.
+pub const VCI_MIN: u32 = 32;
+/// The greatest VCI that can be opened.
+pub const VCI_MAX: u32 = 65_535;
+/// The latest time.
+pub const TIME_MAX: u64 = 1 << 62;
+/// The most data cells that wait on one connection.
+pub const WAITING_MAX: u64 = 65_535;
+/// The highest congestion level.
+pub const LEVEL_MAX: u32 = 2;
+
+/// The kinds of cell that a slot sends.
+#[derive(Debug, Clone, Copy, PartialEq, Eq, Hash)]
+pub enum Kind {
+    /// A forward RM cell; its octets are in the buffer.
+    Forward,
+    /// A received forward RM cell, turned round; its octets are in the buffer.
+    Turned,
+    /// Data, which the caller holds; the buffer is unchanged.
+    Data,
+}
+
+/// What a slot that goes to a connection sends.
+#[derive(Debug, Clone, Copy, PartialEq, Eq, Hash)]
+pub struct Sent {
+    /// The connection.
+    pub vci: u32,
+    /// The kind of cell.
+    pub kind: Kind,
+    /// Its allowed rate afterwards.
+    pub acr: u64,
+}
+
+/// The connections of one link. A refused call leaves it as it was.
+#[derive(Clone, PartialEq, Eq)]
+pub struct Table {
+    raw: Box<ffi::abr_table>,
+}
+
+impl Table {
+    /// A table with nothing open and congestion level 0.
+    pub fn new() -> Self {
+        let words = [0; ffi::ABR_TABLE_WORDS];
+        Table {
+            raw: Box::new(ffi::abr_table { words }),
+        }
+    }
+
+    /// Opens a connection.
+    ///
+    /// # Errors
+    /// In this order: [`Refusal::LowVci`], [`Refusal::Range`],
+    /// [`Refusal::Time`], [`Refusal::AlreadyOpen`], [`Refusal::Full`],
+    /// [`Refusal::TimeBackward`].
+    ///
+    /// ```
+    /// use abr::{Params, Refusal, Table};
+    /// let mut table = Table::new();
+    /// let params = Params::house(0x53E8, 0x4000, 0x53E8);
+    /// assert_eq!(table.open(31, 0, &params), Err(Refusal::LowVci));
+    /// assert_eq!(table.open(32, 0, &params), Ok(()));
+    /// assert_eq!(table.open(32, 0, &params), Err(Refusal::AlreadyOpen));
+    /// assert_eq!(table.acr(32), Ok(512_000));
+    /// ```
+    pub fn open(&mut self, vci: u32, time: u64, params: &Params) -> Result<(), Refusal> {
+        let params = params.raw();
+        // SAFETY: both pointers are live for the call.
+        Refusal::outcome(unsafe { ffi::abr_open(&mut *self.raw, vci, time, &params) })
+    }
+
+    /// Closes a connection and drops all that waits on it.
+    ///
+    /// # Errors
+    /// [`Refusal::NotOpen`].
+    ///
+    /// ```
+    /// # use abr::{Params, Refusal, Table};
+    /// # let mut table = Table::new();
+    /// # table.open(32, 0, &Params::house(0x53E8, 0x4000, 0x53E8)).unwrap();
+    /// assert_eq!(table.close(32), Ok(()));
+    /// assert_eq!(table.close(32), Err(Refusal::NotOpen));
+    /// ```
+    pub fn close(&mut self, vci: u32) -> Result<(), Refusal> {
+        // SAFETY: the pointer is live for the call.
+        Refusal::outcome(unsafe { ffi::abr_close(&mut *self.raw, vci) })
+    }
+
+    /// Takes a received cell in: a backward RM cell moves the rate of its
+    /// connection, a forward one is turned and waits, a data cell leaves its
+    /// congestion mark.
+    ///
+    /// # Errors
+    /// In this order: [`Refusal::Length`], [`Refusal::HeaderCheck`],
+    /// [`Refusal::Path`], [`Refusal::PayloadType`], for RM cells
+    /// [`Refusal::Crc`] and [`Refusal::Protocol`], [`Refusal::NotOpen`].
+    ///
+    /// ```
+    /// use abr::{Params, Rm, Table, CELL_OCTETS};
+    /// let mut table = Table::new();
+    /// table.open(32, 0, &Params::house(0x53E8, 0x4000, 0x53E8))?;
+    /// let rm = Rm { vci: 32, backward: true, ci: true, er: 0x7FFF, ..Rm::default() };
+    /// let mut cell = [0; CELL_OCTETS];
+    /// abr::write_rm(&rm, &mut cell)?;
+    /// table.receive(&cell)?;
+    /// assert_eq!(table.acr(32), Ok(480_000)); // a sixteenth less
+    /// # Ok::<(), abr::Refusal>(())
+    /// ```
+    pub fn receive(&mut self, cell: &[u8]) -> Result<(), Refusal> {
+        // SAFETY: both pointers are live and the length is the cell's own.
+        Refusal::outcome(unsafe { ffi::abr_receive(&mut *self.raw, cell.as_ptr(), cell.len()) })
+    }
+
+    /// Adds data cells to those that wait on a connection; 0 is accepted.
+    ///
+    /// # Errors
+    /// In this order: [`Refusal::NotOpen`], [`Refusal::TooMuchData`].
+    ///
+    /// ```
+    /// # use abr::{Params, Refusal, Table, WAITING_MAX};
+    /// # let mut table = Table::new();
+    /// # table.open(32, 0, &Params::house(0x53E8, 0x4000, 0x53E8)).unwrap();
+    /// assert_eq!(table.offer(32, WAITING_MAX), Ok(()));
+    /// assert_eq!(table.offer(32, 1), Err(Refusal::TooMuchData));
+    /// ```
+    pub fn offer(&mut self, vci: u32, cells: u64) -> Result<(), Refusal> {
+        // SAFETY: the pointer is live for the call.
+        Refusal::outcome(unsafe { ffi::abr_offer(&mut *self.raw, vci, cells) })
+    }
+
+    /// Sets the congestion level, which marks the cells turned from now on:
+    /// 0 none, 1 no increase, 2 congestion.
+    ///
+    /// # Errors
+    /// [`Refusal::TooLarge`] over 2.
+    ///
+    /// ```
+    /// # use abr::{Refusal, Table};
+    /// let mut table = Table::new();
+    /// assert_eq!(table.set_level(2), Ok(()));
+    /// assert_eq!(table.set_level(3), Err(Refusal::TooLarge));
+    /// ```
+    pub fn set_level(&mut self, level: u32) -> Result<(), Refusal> {
+        // SAFETY: the pointer is live for the call.
+        Refusal::outcome(unsafe { ffi::abr_set_level(&mut *self.raw, level) })
+    }
+
+    /// Gives the slot at a time to the connection whose turn it is, if any is
+    /// ready. A forward or turned cell is written to the buffer.
+    ///
+    /// # Errors
+    /// In this order: [`Refusal::Length`], [`Refusal::Time`],
+    /// [`Refusal::TimeBackward`].
+    ///
+    /// ```
+    /// use abr::{Refusal, Table, CELL_OCTETS, TIME_MAX};
+    /// let mut table = Table::new();
+    /// let mut cell = [0; CELL_OCTETS];
+    /// assert_eq!(table.slot(5, &mut cell), Ok(None));
+    /// assert_eq!(table.slot(4, &mut cell), Err(Refusal::TimeBackward));
+    /// assert_eq!(table.slot(TIME_MAX + 1, &mut cell), Err(Refusal::Time));
+    /// ```
+    pub fn slot(&mut self, time: u64, cell: &mut [u8]) -> Result<Option<Sent>, Refusal> {
+        let mut sent = ffi::abr_sent::default();
+        // SAFETY: the pointers are live and the length is the buffer's own.
+        Refusal::outcome(unsafe {
+            ffi::abr_slot(
+                &mut *self.raw,
+                time,
+                cell.as_mut_ptr(),
+                cell.len(),
+                &mut sent,
+            )
+        })?;
+        Ok(Sent::from_raw(&sent))
+    }
+
+    /// The allowed rate of a connection.
+    ///
+    /// # Errors
+    /// [`Refusal::NotOpen`].
+    ///
+    /// ```
+    /// assert_eq!(abr::Table::new().acr(32), Err(abr::Refusal::NotOpen));
+    /// ```
+    pub fn acr(&self, vci: u32) -> Result<u64, Refusal> {
+        let mut acr = 0;
+        // SAFETY: both pointers are live for the call.
+        Refusal::outcome(unsafe { ffi::abr_acr(&*self.raw, vci, &mut acr) })?;
+        Ok(acr)
+    }
+}
+
+impl Default for Table {
+    fn default() -> Self {
+        Table::new()
+    }
+}
+
+impl fmt::Debug for Table {
+    fn fmt(&self, f: &mut fmt::Formatter<'_>) -> fmt::Result {
+        f.debug_struct("Table").finish_non_exhaustive()
+    }
+}
+
+impl Sent {
+    /// Nothing for an idle slot.
+    fn from_raw(raw: &ffi::abr_sent) -> Option<Self> {
+        let kind = match raw.kind {
+            0 => return None,
+            1 => Kind::Forward,
+            2 => Kind::Turned,
+            3 => Kind::Data,
+            other => unreachable!("the library answered kind {other}"),
+        };
+        Some(Sent {
+            vci: raw.vci as u32,
+            kind,
+            acr: raw.acr,
+        })
+    }
+}

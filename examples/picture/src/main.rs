@@ -1,0 +1,28 @@
+//! Draws the allowed rates of two connections over time as congestion comes
+//! and goes: `picture [FILE]`, an SVG, to standard output without a file.
+
+mod draw;
+mod scene;
+
+use std::process::ExitCode;
+
+fn main() -> ExitCode {
+    let svg = match scene::play() {
+        Ok(tracks) => draw::svg(&tracks),
+        Err(refusal) => {
+            eprintln!("refused: {refusal}");
+            return ExitCode::FAILURE;
+        }
+    };
+    let Some(path) = std::env::args().nth(1) else {
+        print!("{svg}");
+        return ExitCode::SUCCESS;
+    };
+    match std::fs::write(&path, svg) {
+        Ok(()) => ExitCode::SUCCESS,
+        Err(error) => {
+            eprintln!("{path}: {error}");
+            ExitCode::FAILURE
+        }
+    }
+}

@@ -1,0 +1,150 @@
+//! Two connections on one link, and a network that answers their RM cells.
+
+use std::collections::VecDeque;
+
+use abr::{Cell, Kind, Params, Refusal, Rm, Table, CELL_OCTETS, RATE_ONE};
+
+/// One millisecond.
+pub const MS: u64 = 1_000_000;
+/// How long the scene lasts.
+pub const END: u64 = 1_600 * MS;
+/// The link carries 20,000 cells per second.
+const SLOT: u64 = 50_000;
+/// From a forward cell to its answer.
+const ROUND_TRIP: u64 = 20 * MS;
+
+/// The two connections.
+pub const VCIS: [u32; 2] = [32, 33];
+
+/// What the network does to whom, and when.
+pub struct Spell {
+    /// From and to, in nanoseconds.
+    pub span: (u64, u64),
+    /// What it is, for the reader.
+    pub name: [&'static str; 2],
+    /// Whom it touches.
+    vcis: &'static [u32],
+    ci: bool,
+    ni: bool,
+    /// The most cells per second that it lets through.
+    cells: u64,
+}
+
+/// The spells of the scene.
+pub const SPELLS: [Spell; 3] = [
+    Spell {
+        span: (300 * MS, 420 * MS),
+        name: ["congestion (CI)", "on both paths"],
+        vcis: &VCIS,
+        ci: true,
+        ni: false,
+        cells: 1_000_000,
+    },
+    Spell {
+        span: (800 * MS, 1_050 * MS),
+        name: ["explicit rate (ER)", "1,500 for VCI 33"],
+        vcis: &[33],
+        ci: false,
+        ni: false,
+        cells: 1_500,
+    },
+    Spell {
+        span: (1_200 * MS, 1_350 * MS),
+        name: ["congestion (CI)", "for VCI 32"],
+        vcis: &[32],
+        ci: true,
+        ni: false,
+        cells: 1_000_000,
+    },
+];
+
+/// The allowed rate of one connection over time.
+pub struct Track {
+    /// The connection.
+    pub vci: u32,
+    /// Instants, and the cells per second allowed from then on.
+    pub points: Vec<(u64, f64)>,
+}
+
+/// Plays the scene.
+pub fn play() -> Result<Vec<Track>, Refusal> {
+    let mut table = Table::new();
+    table.open(32, 0, &contract(8_000, 1_000, 6)?)?;
+    table.open(33, 0, &contract(5_000, 500, 5)?)?;
+    let mut tracks = VCIS.map(|vci| Track {
+        vci,
+        points: Vec::new(),
+    });
+    let mut answers: VecDeque<(u64, [u8; CELL_OCTETS])> = VecDeque::new();
+    for time in (0..=END).step_by(SLOT as usize) {
+        while answers.front().is_some_and(|(due, _)| *due <= time) {
+            let (_, cell) = answers.pop_front().expect("a front");
+            table.receive(&cell)?;
+        }
+        for vci in VCIS {
+            table.offer(vci, 1).or_else(full_is_fine)?;
+        }
+        let mut cell = [0; CELL_OCTETS];
+        if let Some(sent) = table.slot(time, &mut cell)? {
+            if sent.kind == Kind::Forward {
+                answers.push_back((time + ROUND_TRIP, answer(&cell, time + ROUND_TRIP / 2)?));
+            }
+        }
+        for track in &mut tracks {
+            track.note(time, table.acr(track.vci)?);
+        }
+    }
+    Ok(tracks.into())
+}
+
+/// Peak and initial rate in cells per second, and the exponent of RIF.
+fn contract(peak: u64, initial: u64, r: u32) -> Result<Params, Refusal> {
+    let code = |cells: u64| abr::code(cells * RATE_ONE);
+    let mut params = Params::house(code(peak)?, code(200)?, code(initial)?);
+    (params.n, params.r, params.d) = (4, r, 3);
+    Ok(params)
+}
+
+/// Data that has no room waits outside.
+fn full_is_fine(refusal: Refusal) -> Result<(), Refusal> {
+    match refusal {
+        Refusal::TooMuchData => Ok(()),
+        other => Err(other),
+    }
+}
+
+/// The far end turns a forward cell round, and the network at this time has
+/// its say.
+fn answer(forward: &[u8], time: u64) -> Result<[u8; CELL_OCTETS], Refusal> {
+    let Cell::Rm(mut rm) = abr::read(forward)? else {
+        return Err(Refusal::PayloadType);
+    };
+    rm.backward = true;
+    for spell in &SPELLS {
+        let (from, to) = spell.span;
+        if (from..to).contains(&time) && spell.vcis.contains(&rm.vci) {
+            mark(&mut rm, spell)?;
+        }
+    }
+    let mut cell = [0; CELL_OCTETS];
+    abr::write_rm(&rm, &mut cell)?;
+    Ok(cell)
+}
+
+/// Puts the marks of a spell on a cell.
+fn mark(rm: &mut Rm, spell: &Spell) -> Result<(), Refusal> {
+    rm.ci |= spell.ci;
+    rm.ni |= spell.ni;
+    rm.er = rm.er.min(abr::code(spell.cells * RATE_ONE)?);
+    Ok(())
+}
+
+impl Track {
+    /// Notes the rate if it is another.
+    fn note(&mut self, time: u64, acr: u64) {
+        let cells = acr as f64 / RATE_ONE as f64;
+        if self.points.last().is_none_or(|(_, last)| *last != cells) || time == END {
+            self.points.push((time, cells));
+        }
+    }
+}

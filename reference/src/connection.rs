@@ -1,0 +1,281 @@
+//! One connection: the four moves of its allowed rate (document 01, "Four
+//! moves of the allowed rate"), what waits on it, and when and what it sends
+//! ("Slots").
+
+use crate::cell::{self, Octets, Rm};
+use crate::params::{Contract, CDF_ZERO, CRM_MAX, MRM};
+use crate::rate::{code_within, gap, rate_of};
+use crate::refusal::{self, Refusal};
+
+/// The most data cells that may wait on a connection.
+pub const DATA_MAX: u64 = 65_535;
+
+/// The kinds of cell that a slot sends.
+#[derive(Debug, Clone, Copy, PartialEq, Eq)]
+pub enum Kind {
+    /// A forward RM cell of this source.
+    Forward,
+    /// A backward RM cell, made of a forward cell that was received.
+    Turned,
+    /// A cell of waiting data.
+    Data,
+}
+
+/// The answer of a slot that goes to a connection.
+#[derive(Debug, Clone, Copy, PartialEq, Eq)]
+pub struct Sent {
+    /// The connection.
+    pub vci: u32,
+    /// What it sends.
+    pub kind: Kind,
+    /// Its allowed rate, after the moves of a forward cell.
+    pub acr: u64,
+}
+
+/// The allowed rate and the contract that it moves under. Each move takes the
+/// record and hands back the moved one.
+#[derive(Debug, Clone, Copy, PartialEq, Eq)]
+pub struct RateRecord {
+    /// The allowed rate.
+    pub acr: u64,
+    /// The contract.
+    pub contract: Contract,
+}
+
+impl RateRecord {
+    /// A new connection starts at the initial rate.
+    pub fn new(contract: Contract) -> Self {
+        RateRecord {
+            acr: contract.icr,
+            contract,
+        }
+    }
+
+    /// Before the first cell: not above the initial rate.
+    pub fn first_cell(self) -> Self {
+        self.at(self.acr.min(self.contract.icr))
+    }
+
+    /// Rule 5, `passed` nanoseconds after the last forward cell: the rate is
+    /// stale once more than ADTF has passed.
+    pub fn idle(self, passed: u64) -> Self {
+        if passed > self.contract.adtf {
+            self.at(self.acr.min(self.contract.icr))
+        } else {
+            self
+        }
+    }
+
+    /// Rule 6, after rule 5, with `unanswered` forward cells out.
+    pub fn unanswered(self, unanswered: u32) -> Self {
+        let Contract { crm, c, mcr, .. } = self.contract;
+        if unanswered >= crm && c != CDF_ZERO {
+            self.at(cut(self.acr, c).max(mcr))
+        } else {
+            self
+        }
+    }
+
+    /// Rules 8 and 9: the marks of a backward cell, then its explicit rate,
+    /// whatever the marks were. `er` is a rate and not a code.
+    pub fn feedback(self, ci: bool, ni: bool, er: u64) -> Self {
+        let Contract { pcr, mcr, r, d, .. } = self.contract;
+        let marked = if ci {
+            cut(self.acr, d)
+        } else if ni {
+            self.acr
+        } else {
+            pcr.min(self.acr + (pcr >> r))
+        };
+        self.at(marked.min(er).max(mcr))
+    }
+
+    /// The record with another allowed rate.
+    fn at(self, acr: u64) -> Self {
+        RateRecord { acr, ..self }
+    }
+}
+
+/// A rate less one 2^exponent-th of it, rounded down. No overflow: a rate has
+/// 41 bits at most and the exponent is 15 at most.
+fn cut(rate: u64, exponent: u32) -> u64 {
+    (rate * ((1 << exponent) - 1)) >> exponent
+}
+
+/// What a connection remembers of its sending, from its first cell on.
+#[derive(Debug, Clone, Copy, PartialEq, Eq)]
+struct History {
+    /// When it last sent a cell.
+    last_send: u64,
+    /// When it last sent a forward cell.
+    last_forward: u64,
+    /// The cells sent since that forward cell.
+    k: u32,
+    /// Whether one of them was a turned cell.
+    turned: bool,
+}
+
+/// An open connection.
+#[derive(Debug, Clone, PartialEq, Eq)]
+pub struct Connection {
+    vci: u32,
+    opened: u64,
+    rate: RateRecord,
+    /// Nothing before the first cell.
+    history: Option<History>,
+    /// Waiting data cells.
+    data: u64,
+    /// The waiting turned cell.
+    turned: Option<Octets>,
+    /// The saved EFCI.
+    efci: bool,
+    /// Forward cells sent since the last answer, the document's Y.
+    unanswered: u32,
+}
+
+impl Connection {
+    /// A connection as its open makes it.
+    pub fn new(vci: u32, time: u64, contract: Contract) -> Self {
+        Connection {
+            vci,
+            opened: time,
+            rate: RateRecord::new(contract),
+            history: None,
+            data: 0,
+            turned: None,
+            efci: false,
+            unanswered: 0,
+        }
+    }
+
+    /// The allowed rate.
+    pub fn acr(&self) -> u64 {
+        self.rate.acr
+    }
+
+    /// Adds waiting data. Refusal: 15.
+    pub fn offer(&mut self, cells: u64) -> Result<(), Refusal> {
+        if cells > DATA_MAX - self.data {
+            return Err(refusal::TOO_MUCH_DATA);
+        }
+        self.data += cells;
+        Ok(())
+    }
+
+    /// A data cell arrived: its mark replaces the saved one.
+    pub fn receive_data(&mut self, efci: bool) {
+        self.efci = efci;
+    }
+
+    /// A forward cell arrived: it is turned at once, under today's congestion
+    /// level, and replaces the one that waited. The saved mark is used up.
+    pub fn receive_forward(&mut self, cell: &Octets, level: u32) {
+        let ci = self.efci || level == 2;
+        let ni = level == 1;
+        self.turned = Some(cell::turn(cell, self.vci, ci, ni));
+        self.efci = false;
+    }
+
+    /// A backward cell arrived: it moves the rate, and is an answer unless
+    /// some other than a source made it.
+    pub fn receive_backward(&mut self, rm: &Rm) {
+        self.rate = self.rate.feedback(rm.ci == 1, rm.ni == 1, rate_of(rm.er));
+        if rm.bn == 0 {
+            self.unanswered = 0;
+        }
+    }
+
+    /// From when on a slot may go to this connection; nothing for never.
+    pub fn ready(&self) -> Option<u64> {
+        let waiting = self.data > 0 || self.turned.is_some();
+        let Some(history) = self.history else {
+            return waiting.then_some(self.opened);
+        };
+        let due = history.last_send + gap(self.rate.acr);
+        if waiting || history.k == self.rate.contract.nrm - 1 {
+            Some(due)
+        } else if history.k >= MRM {
+            Some(due.max(history.last_forward + self.rate.contract.trm))
+        } else {
+            None
+        }
+    }
+
+    /// What a slot at this time sends, on a connection that is ready.
+    fn next_kind(&self, time: u64) -> Kind {
+        let Some(history) = self.history else {
+            return Kind::Forward;
+        };
+        let Contract { nrm, trm, .. } = self.rate.contract;
+        let passed = time - history.last_forward;
+        if history.k == nrm - 1 || (history.k >= MRM && passed >= trm) {
+            Kind::Forward
+        } else if self.turned.is_some() && (!history.turned || self.data == 0) {
+            Kind::Turned
+        } else {
+            Kind::Data
+        }
+    }
+
+    /// Sends a cell at this time, on a connection that is ready.
+    pub fn send(&mut self, time: u64, buffer: &mut Octets) -> Sent {
+        let kind = self.next_kind(time);
+        match kind {
+            Kind::Forward => *buffer = self.forward_cell(time),
+            Kind::Turned => {
+                if let Some(cell) = self.turned.take() {
+                    *buffer = cell;
+                }
+            }
+            Kind::Data => self.data -= 1,
+        }
+        self.remember(kind, time);
+        Sent {
+            vci: self.vci,
+            kind,
+            acr: self.rate.acr,
+        }
+    }
+
+    /// Makes the moves that go before a forward cell, counts the cell as
+    /// unanswered, and gives its octets.
+    fn forward_cell(&mut self, time: u64) -> Octets {
+        self.rate = match self.history {
+            None => self.rate.first_cell(),
+            Some(history) => self
+                .rate
+                .idle(time - history.last_forward)
+                .unanswered(self.unanswered),
+        };
+        self.unanswered = CRM_MAX.min(self.unanswered + 1);
+        cell::rm_octets(&Rm {
+            vci: self.vci,
+            er: code_within(self.rate.contract.pcr),
+            ccr: code_within(self.rate.acr),
+            mcr: code_within(self.rate.contract.mcr),
+            ..Rm::default()
+        })
+    }
+
+    /// Brings the history up to date after a cell of this kind.
+    fn remember(&mut self, kind: Kind, time: u64) {
+        self.history = match (kind, self.history) {
+            (Kind::Forward, _) | (_, None) => Some(History {
+                last_send: time,
+                last_forward: time,
+                k: 0,
+                turned: false,
+            }),
+            (_, Some(history)) => Some(History {
+                last_send: time,
+                last_forward: history.last_forward,
+                k: history.k + 1,
+                turned: history.turned || kind == Kind::Turned,
+            }),
+        };
+    }
+}
+
+#[cfg(test)]
+#[path = "connection_tests.rs"]
+mod tests;

@@ -1,0 +1,789 @@
+//! Tests of the whole engine through its calls.
+
+use crate::cell::{crc10, header_check, LENGTH};
+use crate::engine::{Engine, TIME_MAX};
+use crate::{code_of, rate_of, read, write_rm, Cell, Kind, Params, Rm, Sent};
+
+/// One millisecond, the gap at 1,000 cells per second.
+const MS: u64 = 1_000_000;
+
+/// The code of 1,000 cells per second.
+const THOUSAND: u32 = 0x53E8;
+
+/// A rate of 1,000 cells per second.
+const RATE: u64 = 512_000;
+
+/// A steady thousand cells per second at first, room up and down.
+fn params() -> Params {
+    Params::house(0x7FFF, 0x4000, THOUSAND)
+}
+
+/// An engine with one connection, VCI 32, opened at time 0.
+fn engine_with(params: &Params) -> Engine {
+    let mut engine = Engine::new();
+    engine.open(32, 0, params).unwrap();
+    engine
+}
+
+/// The octets of an RM cell.
+fn octets(rm: &Rm) -> [u8; LENGTH] {
+    let mut cell = [0; LENGTH];
+    write_rm(rm, &mut cell).unwrap();
+    cell
+}
+
+/// A backward cell that asks for nothing.
+fn backward(vci: u32) -> Rm {
+    Rm {
+        vci,
+        dir: 1,
+        ni: 1,
+        er: 0x7FFF,
+        ..Rm::default()
+    }
+}
+
+/// A forward cell as some other source may send it.
+fn forward(vci: u32) -> Rm {
+    Rm {
+        vci,
+        er: THOUSAND,
+        ccr: 0x4000,
+        mcr: 0x4000,
+        ..Rm::default()
+    }
+}
+
+/// A data cell.
+fn data(vci: u32, efci: bool) -> [u8; LENGTH] {
+    let mut cell = [0x77; LENGTH];
+    let word = vci << 4 | u32::from(efci) << 2;
+    cell[..4].copy_from_slice(&word.to_be_bytes());
+    cell[4] = header_check(&cell[..4]);
+    cell
+}
+
+/// The cell with a right CRC-10, the six reserved bits being 0.
+fn sealed(mut cell: [u8; LENGTH]) -> [u8; LENGTH] {
+    let crc = (0..6).fold(crc10(&cell[5..51]), |crc, _| {
+        let next = crc << 1;
+        if next & 0x400 == 0 {
+            next
+        } else {
+            next ^ 0x633
+        }
+    });
+    cell[51..].copy_from_slice(&crc.to_be_bytes());
+    cell
+}
+
+/// A slot whose kind alone counts; nothing when idle.
+fn kind(engine: &mut Engine, time: u64) -> Option<Kind> {
+    let sent = engine.slot(time, &mut [0; LENGTH]).unwrap();
+    sent.map(|sent| sent.kind)
+}
+
+/// A slot and the RM cell that it wrote.
+fn slot_rm(engine: &mut Engine, time: u64) -> (Sent, Rm) {
+    let mut buffer = [0; LENGTH];
+    let sent = engine.slot(time, &mut buffer).unwrap().unwrap();
+    match read(&buffer) {
+        Ok(Cell::Rm(rm)) => (sent, rm),
+        other => panic!("no RM cell: {other:?}"),
+    }
+}
+
+/// Asserts that a call is refused with a number and changes nothing.
+fn refused<T: std::fmt::Debug + PartialEq>(
+    engine: &Engine,
+    number: u32,
+    call: impl FnOnce(&mut Engine) -> Result<T, u32>,
+) {
+    let mut after = engine.clone();
+    assert_eq!(call(&mut after), Err(number));
+    assert_eq!(&after, engine);
+}
+
+#[test]
+fn the_first_cell_is_forward() {
+    let mut engine = engine_with(&params());
+    assert_eq!(kind(&mut engine, 5), None);
+    engine.offer(32, 1).unwrap();
+    let (sent, rm) = slot_rm(&mut engine, 5);
+    assert_eq!(
+        sent,
+        Sent {
+            vci: 32,
+            kind: Kind::Forward,
+            acr: RATE
+        }
+    );
+    let expected = Rm {
+        vci: 32,
+        er: 0x7FFF,
+        ccr: THOUSAND,
+        mcr: 0x4000,
+        ..Rm::default()
+    };
+    assert_eq!(rm, expected);
+    assert_eq!(kind(&mut engine, 5 + MS - 1), None);
+    assert_eq!(kind(&mut engine, 5 + MS), Some(Kind::Data));
+    assert_eq!(kind(&mut engine, 5 + 2 * MS), None);
+}
+
+#[test]
+fn forward_cells_have_no_bit_15() {
+    let mut engine = engine_with(&Params::house(0xFFFF, 0xC000, 0x8000 | THOUSAND));
+    engine.offer(32, 1).unwrap();
+    let mut buffer = [0; LENGTH];
+    engine.slot(0, &mut buffer).unwrap();
+    assert_eq!(buffer[7..13], [0x7F, 0xFF, 0x53, 0xE8, 0x40, 0x00]);
+}
+
+#[test]
+fn ccr_is_the_code_below_the_rate() {
+    let mut engine = engine_with(&params());
+    engine.offer(32, 1).unwrap();
+    let cut = Rm {
+        ci: 1,
+        ..backward(32)
+    };
+    for _ in 0..3 {
+        engine.receive(&octets(&cut)).unwrap();
+    }
+    let acr = 421_875;
+    assert_eq!(engine.acr(32), Ok(acr));
+    let (sent, rm) = slot_rm(&mut engine, 0);
+    assert_eq!(sent.acr, acr);
+    assert_eq!(Ok(rm.ccr), code_of(acr));
+    assert!(rate_of(rm.ccr) < acr && acr < rate_of(rm.ccr + 1));
+}
+
+#[test]
+fn a_forward_cell_comes_at_nrm_less_1() {
+    let mut engine = engine_with(&params());
+    engine.offer(32, 100).unwrap();
+    for cycle in 0..2 {
+        for k in 0..32 {
+            let expected = if k == 0 { Kind::Forward } else { Kind::Data };
+            assert_eq!(kind(&mut engine, (cycle * 32 + k) * MS), Some(expected));
+        }
+    }
+}
+
+#[test]
+fn at_nrm_less_1_nothing_need_wait() {
+    let mut engine = engine_with(&Params { n: 2, ..params() });
+    engine.offer(32, 3).unwrap();
+    for time in 0..4 {
+        assert!(kind(&mut engine, time * MS).is_some());
+    }
+    assert_eq!(kind(&mut engine, 4 * MS - 1), None);
+    assert_eq!(kind(&mut engine, 4 * MS), Some(Kind::Forward));
+    assert_eq!(kind(&mut engine, 1_000 * MS), None);
+}
+
+#[test]
+fn nrm_2_alternates() {
+    let mut engine = engine_with(&Params { n: 1, ..params() });
+    engine.offer(32, 3).unwrap();
+    for time in 0..7 {
+        let expected = if time % 2 == 0 {
+            Kind::Forward
+        } else {
+            Kind::Data
+        };
+        assert_eq!(kind(&mut engine, time * MS), Some(expected));
+    }
+    assert_eq!(kind(&mut engine, 1_000 * MS), None);
+}
+
+#[test]
+fn trm_with_nothing_waiting() {
+    let mut engine = engine_with(&params());
+    engine.offer(32, 2).unwrap();
+    for time in [0, 1, 2] {
+        assert!(kind(&mut engine, time * MS).is_some());
+    }
+    assert_eq!(kind(&mut engine, 100 * MS - 1), None);
+    assert_eq!(kind(&mut engine, 100 * MS), Some(Kind::Forward));
+    assert_eq!(kind(&mut engine, 1_000 * MS), None);
+}
+
+#[test]
+fn trm_with_data_waiting() {
+    for (time, expected) in [(100 * MS - 1, Kind::Data), (100 * MS, Kind::Forward)] {
+        let mut engine = engine_with(&params());
+        engine.offer(32, 9).unwrap();
+        for time in [0, 1, 2] {
+            assert!(kind(&mut engine, time * MS).is_some());
+        }
+        assert_eq!(kind(&mut engine, time), Some(expected));
+    }
+}
+
+#[test]
+fn trm_needs_two_cells() {
+    let mut engine = engine_with(&params());
+    engine.offer(32, 1).unwrap();
+    assert_eq!(kind(&mut engine, 0), Some(Kind::Forward));
+    assert_eq!(kind(&mut engine, MS), Some(Kind::Data));
+    assert_eq!(kind(&mut engine, 500 * MS), None);
+    engine.offer(32, 2).unwrap();
+    assert_eq!(kind(&mut engine, 500 * MS), Some(Kind::Data));
+    assert_eq!(kind(&mut engine, 501 * MS), Some(Kind::Forward));
+    assert_eq!(kind(&mut engine, 502 * MS), Some(Kind::Data));
+}
+
+#[test]
+fn trm_does_not_hurry_a_cell() {
+    let mut engine = engine_with(&Params::house(0x4000, 0x4000, 0x4000));
+    engine.offer(32, 2).unwrap();
+    for time in [0, 1_000, 2_000] {
+        assert!(kind(&mut engine, time * MS).is_some());
+    }
+    assert_eq!(kind(&mut engine, 3_000 * MS - 1), None); // Trm passed, the gap not
+    assert_eq!(kind(&mut engine, 3_000 * MS), Some(Kind::Forward));
+}
+
+/// Feedback raises the rate to the peak; then a forward cell goes at `time`.
+fn rate_after_pause(time: u64) -> u64 {
+    let mut engine = engine_with(&Params { r: 0, ..params() });
+    engine.offer(32, 9).unwrap();
+    for time in [0, 1, 2] {
+        assert!(kind(&mut engine, time * MS).is_some());
+    }
+    engine
+        .receive(&octets(&Rm {
+            ni: 0,
+            ..backward(32)
+        }))
+        .unwrap();
+    assert_eq!(engine.acr(32), Ok(2_196_875_771_904));
+    let (sent, rm) = slot_rm(&mut engine, time);
+    assert_eq!(sent.kind, Kind::Forward);
+    assert_eq!(code_of(sent.acr), Ok(rm.ccr));
+    assert_eq!(engine.acr(32), Ok(sent.acr));
+    sent.acr
+}
+
+#[test]
+fn the_rate_stands_at_exactly_adtf() {
+    assert_eq!(rate_after_pause(500 * MS), 2_196_875_771_904);
+    assert_eq!(rate_after_pause(500 * MS + 1), RATE);
+}
+
+#[test]
+fn feedback_before_the_first_cell() {
+    let mut engine = engine_with(&params());
+    engine
+        .receive(&octets(&Rm {
+            ni: 0,
+            ..backward(32)
+        }))
+        .unwrap();
+    assert_eq!(engine.acr(32), Ok(RATE + 2_196_875_771_904 / 16));
+    engine.offer(32, 1).unwrap();
+    let (sent, rm) = slot_rm(&mut engine, 0);
+    assert_eq!((sent.acr, rm.ccr), (RATE, THOUSAND));
+    assert_eq!(engine.acr(32), Ok(RATE));
+}
+
+#[test]
+fn idle_is_tested_before_unanswered() {
+    let mut engine = engine_with(&Params {
+        crm: 1,
+        r: 0,
+        c: 1,
+        ..params()
+    });
+    engine.offer(32, 9).unwrap();
+    for time in [0, 1, 2] {
+        assert!(kind(&mut engine, time * MS).is_some());
+    }
+    let raise = Rm {
+        ni: 0,
+        bn: 1,
+        ..backward(32)
+    };
+    engine.receive(&octets(&raise)).unwrap();
+    let (sent, _) = slot_rm(&mut engine, 501 * MS);
+    assert_eq!(sent.acr, RATE / 2);
+}
+
+#[test]
+fn unanswered_cells_cut_the_rate() {
+    let mut engine = engine_with(&Params {
+        n: 1,
+        crm: 2,
+        ..params()
+    });
+    engine.offer(32, 50).unwrap();
+    let mut rates = Vec::new();
+    for step in 0..12 {
+        let sent = engine
+            .slot(step * 2 * MS, &mut [0; LENGTH])
+            .unwrap()
+            .unwrap();
+        if sent.kind == Kind::Forward {
+            rates.push(sent.acr);
+        }
+    }
+    assert_eq!(
+        rates,
+        [512_000, 512_000, 480_000, 450_000, 421_875, 395_507]
+    );
+}
+
+/// The rate of a third forward cell after a backward cell with this BN.
+fn rate_after_answer(bn: u32) -> u64 {
+    let mut engine = engine_with(&Params {
+        n: 1,
+        crm: 2,
+        ..params()
+    });
+    engine.offer(32, 9).unwrap();
+    for step in 0..4 {
+        assert!(kind(&mut engine, step * MS).is_some());
+    }
+    engine.receive(&octets(&Rm { bn, ..backward(32) })).unwrap();
+    slot_rm(&mut engine, 4 * MS).0.acr
+}
+
+#[test]
+fn bn_1_is_no_answer() {
+    assert_eq!(rate_after_answer(0), 512_000);
+    assert_eq!(rate_after_answer(1), 480_000);
+}
+
+#[test]
+fn feedback_reaches_its_own_connection_only() {
+    let mut engine = engine_with(&params());
+    engine.open(33, 0, &params()).unwrap();
+    let cut = Rm {
+        ci: 1,
+        ..backward(33)
+    };
+    engine.receive(&octets(&cut)).unwrap();
+    engine.receive(&octets(&cut)).unwrap();
+    assert_eq!(engine.acr(32), Ok(512_000));
+    assert_eq!(engine.acr(33), Ok(450_000));
+}
+
+#[test]
+fn bit_15_of_er_is_ignored() {
+    let mut engine = engine_with(&params());
+    let mut cell = octets(&Rm {
+        er: 0x4200,
+        ..backward(32)
+    });
+    cell[7] |= 0x80;
+    engine.receive(&sealed(cell)).unwrap();
+    assert_eq!(engine.acr(32), Ok(1_024));
+}
+
+#[test]
+fn the_gap_follows_todays_rate() {
+    let mut engine = engine_with(&params());
+    engine.offer(32, 9).unwrap();
+    assert_eq!(kind(&mut engine, 0), Some(Kind::Forward));
+    engine
+        .receive(&octets(&Rm {
+            er: 0x4000,
+            ..backward(32)
+        }))
+        .unwrap();
+    assert_eq!(kind(&mut engine, 1_000 * MS - 1), None);
+    engine
+        .receive(&octets(&Rm {
+            ni: 0,
+            ..backward(32)
+        }))
+        .unwrap();
+    assert_eq!(kind(&mut engine, 1_000 * MS - 1), Some(Kind::Data));
+}
+
+#[test]
+fn a_turned_cell_alone_starts_a_connection() {
+    let mut engine = engine_with(&params());
+    engine.receive(&octets(&forward(32))).unwrap();
+    assert_eq!(kind(&mut engine, 0), Some(Kind::Forward));
+    let (sent, rm) = slot_rm(&mut engine, MS);
+    assert_eq!(
+        sent,
+        Sent {
+            vci: 32,
+            kind: Kind::Turned,
+            acr: RATE
+        }
+    );
+    assert_eq!(
+        rm,
+        Rm {
+            dir: 1,
+            ..forward(32)
+        }
+    );
+    assert_eq!(kind(&mut engine, 2 * MS), None);
+}
+
+#[test]
+fn one_turned_cell_and_then_data() {
+    let mut engine = engine_with(&params());
+    engine.offer(32, 2).unwrap();
+    let mut kinds = Vec::new();
+    for step in 0..6 {
+        engine.receive(&octets(&forward(32))).unwrap();
+        kinds.extend(kind(&mut engine, step * MS));
+    }
+    use Kind::{Data, Forward, Turned};
+    assert_eq!(kinds, [Forward, Turned, Data, Data, Turned, Turned]);
+}
+
+#[test]
+fn a_new_forward_cell_lets_a_turned_one_go_first_again() {
+    let mut engine = engine_with(&Params { n: 2, ..params() });
+    engine.offer(32, 9).unwrap();
+    let mut kinds = Vec::new();
+    for step in 0..8 {
+        engine.receive(&octets(&forward(32))).unwrap();
+        kinds.extend(kind(&mut engine, step * MS));
+    }
+    use Kind::{Data, Forward, Turned};
+    let cycle = [Forward, Turned, Data, Data];
+    assert_eq!(kinds, [cycle, cycle].concat());
+}
+
+#[test]
+fn a_later_forward_cell_replaces_the_waiting_one() {
+    let mut engine = engine_with(&params());
+    engine
+        .receive(&octets(&Rm {
+            sn: 1,
+            ci: 1,
+            ..forward(32)
+        }))
+        .unwrap();
+    engine
+        .receive(&octets(&Rm {
+            sn: 2,
+            ni: 1,
+            ..forward(32)
+        }))
+        .unwrap();
+    assert_eq!(kind(&mut engine, 0), Some(Kind::Forward));
+    let (_, rm) = slot_rm(&mut engine, MS);
+    assert_eq!(
+        rm,
+        Rm {
+            sn: 2,
+            ni: 1,
+            dir: 1,
+            ..forward(32)
+        }
+    );
+    assert_eq!(kind(&mut engine, 2 * MS), None);
+}
+
+#[test]
+fn a_mark_goes_with_the_cell_that_was_replaced() {
+    let mut engine = engine_with(&params());
+    engine.receive(&data(32, true)).unwrap();
+    engine.receive(&octets(&forward(32))).unwrap();
+    engine.receive(&octets(&forward(32))).unwrap();
+    assert_eq!(kind(&mut engine, 0), Some(Kind::Forward));
+    assert_eq!(slot_rm(&mut engine, MS).1.ci, 0);
+}
+
+#[test]
+fn the_level_at_receipt_counts() {
+    let mut engine = engine_with(&params());
+    engine.set_level(2).unwrap();
+    engine.receive(&octets(&forward(32))).unwrap();
+    engine.set_level(1).unwrap();
+    assert_eq!(kind(&mut engine, 0), Some(Kind::Forward));
+    let (_, rm) = slot_rm(&mut engine, MS);
+    assert_eq!((rm.ci, rm.ni), (1, 0));
+}
+
+#[test]
+fn the_level_holds_for_all_connections() {
+    let mut engine = engine_with(&params());
+    engine.set_level(1).unwrap();
+    engine.close(32).unwrap();
+    for vci in [32, 33] {
+        engine.open(vci, 0, &params()).unwrap();
+        engine.receive(&octets(&forward(vci))).unwrap();
+        assert_eq!(kind(&mut engine, 0), Some(Kind::Forward));
+    }
+    for _ in 0..2 {
+        assert_eq!(slot_rm(&mut engine, MS).1.ni, 1);
+    }
+}
+
+#[test]
+fn data_and_idle_slots_leave_the_buffer() {
+    let mut engine = engine_with(&params());
+    let mut buffer = [0xA5; LENGTH];
+    assert_eq!(engine.slot(0, &mut buffer), Ok(None));
+    assert_eq!(buffer, [0xA5; LENGTH]);
+    engine.offer(32, 1).unwrap();
+    assert_eq!(kind(&mut engine, 0), Some(Kind::Forward));
+    let sent = Sent {
+        vci: 32,
+        kind: Kind::Data,
+        acr: RATE,
+    };
+    assert_eq!(engine.slot(MS, &mut buffer), Ok(Some(sent)));
+    assert_eq!(buffer, [0xA5; LENGTH]);
+}
+
+#[test]
+fn the_earliest_goes_first_and_ties_to_the_lower_vci() {
+    let mut engine = Engine::new();
+    for (vci, time) in [(50, 0), (40, 7), (60, 7), (45, 7)] {
+        engine.open(vci, time, &params()).unwrap();
+        engine.offer(vci, 9).unwrap();
+    }
+    let mut served = Vec::new();
+    for time in [7, 8, 9, 10, MS + 7, MS + 8, MS + 9, MS + 10, MS + 10] {
+        let sent = engine.slot(time, &mut [0; LENGTH]).unwrap();
+        served.push(sent.map_or(0, |sent| sent.vci));
+    }
+    assert_eq!(served, [50, 40, 45, 60, 50, 40, 45, 60, 0]);
+}
+
+#[test]
+fn an_old_ready_instant_wins_over_a_newer_one() {
+    let mut engine = engine_with(&params());
+    engine.open(40, 0, &params()).unwrap();
+    engine.offer(32, 2).unwrap();
+    assert_eq!(kind(&mut engine, 0), Some(Kind::Forward));
+    engine.offer(40, 2).unwrap(); // ready since time 0, though data came later
+    let sent = engine.slot(900 * MS, &mut [0; LENGTH]).unwrap().unwrap();
+    assert_eq!(sent.vci, 40);
+}
+
+#[test]
+fn opening_again_starts_afresh() {
+    let mut engine = engine_with(&params());
+    engine.offer(32, 9).unwrap();
+    engine.receive(&data(32, true)).unwrap();
+    engine.receive(&octets(&forward(32))).unwrap();
+    engine
+        .receive(&octets(&Rm {
+            ci: 1,
+            ..backward(32)
+        }))
+        .unwrap();
+    assert_eq!(kind(&mut engine, 0), Some(Kind::Forward));
+    engine.close(32).unwrap();
+    refused(&engine, 11, |engine| engine.acr(32));
+    engine.open(32, 0, &params()).unwrap();
+    assert_eq!(engine, engine_with(&params()));
+}
+
+#[test]
+fn offers_up_to_65_535() {
+    let mut engine = engine_with(&params());
+    refused(&engine, 15, |engine| engine.offer(32, 65_536));
+    refused(&engine, 15, |engine| engine.offer(32, u64::MAX));
+    assert_eq!(engine.offer(32, 0), Ok(()));
+    assert_eq!(engine, engine_with(&params()));
+    assert_eq!(engine.offer(32, 65_535), Ok(()));
+    assert_eq!(engine.offer(32, 0), Ok(()));
+    refused(&engine, 15, |engine| engine.offer(32, 1));
+    refused(&engine, 15, |engine| engine.offer(32, u64::MAX));
+    refused(&engine, 11, |engine| engine.offer(33, u64::MAX));
+}
+
+#[test]
+fn calls_on_what_is_not_open_meet_11() {
+    let engine = engine_with(&params());
+    for vci in [0, 31, 33, 65_535, 65_536, 65_568, u32::MAX] {
+        refused(&engine, 11, |engine| engine.close(vci));
+        refused(&engine, 11, |engine| engine.offer(vci, 0));
+        refused(&engine, 11, |engine| engine.acr(vci));
+    }
+    for cell in [data(33, true), octets(&forward(33)), octets(&backward(31))] {
+        refused(&engine, 11, |engine| engine.receive(&cell));
+    }
+}
+
+#[test]
+fn levels_over_2_meet_9() {
+    let mut engine = engine_with(&params());
+    for level in 0..3 {
+        assert_eq!(engine.set_level(level), Ok(()));
+    }
+    refused(&engine, 9, |engine| engine.set_level(3));
+    refused(&engine, 9, |engine| engine.set_level(u32::MAX));
+}
+
+#[test]
+fn vcis_that_open() {
+    for vci in [32, 65_535] {
+        let mut engine = Engine::new();
+        assert_eq!(engine.open(vci, 0, &params()), Ok(()));
+        assert_eq!(engine.acr(vci), Ok(RATE));
+    }
+    let engine = Engine::new();
+    for vci in [0, 31] {
+        refused(&engine, 10, |engine| engine.open(vci, 0, &params()));
+    }
+    for vci in [65_536, u32::MAX] {
+        refused(&engine, 7, |engine| engine.open(vci, 0, &params()));
+    }
+}
+
+#[test]
+fn the_latest_time() {
+    let mut engine = Engine::new();
+    refused(&engine, 8, |engine| {
+        engine.open(32, TIME_MAX + 1, &params())
+    });
+    refused(&engine, 8, |engine| {
+        engine.slot(TIME_MAX + 1, &mut [0; LENGTH])
+    });
+    assert_eq!(TIME_MAX, 4_611_686_018_427_387_904);
+    assert_eq!(engine.open(32, TIME_MAX, &params()), Ok(()));
+    engine.offer(32, 1).unwrap();
+    assert_eq!(kind(&mut engine, TIME_MAX), Some(Kind::Forward));
+    assert_eq!(kind(&mut engine, TIME_MAX), None);
+}
+
+#[test]
+fn sixty_four_may_be_open() {
+    let mut engine = Engine::new();
+    for vci in 32..96 {
+        assert_eq!(engine.open(vci, 0, &params()), Ok(()));
+    }
+    refused(&engine, 13, |engine| engine.open(96, 0, &params()));
+    engine.close(40).unwrap();
+    assert_eq!(engine.open(96, 0, &params()), Ok(()));
+}
+
+#[test]
+fn the_order_of_refusals_when_opening() {
+    let mut engine = Engine::new();
+    for vci in 32..96 {
+        engine.open(vci, 9, &params()).unwrap();
+    }
+    let bad = Params { n: 0, ..params() };
+    let late = TIME_MAX + 1;
+    refused(&engine, 10, |engine| engine.open(31, late, &bad));
+    refused(&engine, 7, |engine| engine.open(32, late, &bad));
+    refused(&engine, 7, |engine| engine.open(65_536, late, &params()));
+    refused(&engine, 8, |engine| engine.open(32, late, &params()));
+    refused(&engine, 12, |engine| engine.open(32, 8, &params()));
+    refused(&engine, 13, |engine| engine.open(96, 8, &params()));
+    engine.close(95).unwrap();
+    refused(&engine, 14, |engine| engine.open(96, 8, &params()));
+    assert_eq!(engine.open(96, 9, &params()), Ok(()));
+}
+
+#[test]
+fn the_order_of_refusals_of_a_slot() {
+    let mut engine = engine_with(&params());
+    engine.offer(32, 1).unwrap();
+    engine.open(33, 9, &params()).unwrap();
+    for length in [0, 52, 54] {
+        let mut buffer = vec![0xA5; length];
+        refused(&engine, 1, |engine| engine.slot(TIME_MAX + 1, &mut buffer));
+        refused(&engine, 1, |engine| engine.slot(8, &mut buffer));
+    }
+    let mut buffer = [0xA5; LENGTH];
+    refused(&engine, 8, |engine| engine.slot(TIME_MAX + 1, &mut buffer));
+    refused(&engine, 14, |engine| engine.slot(8, &mut buffer));
+    assert_eq!(buffer, [0xA5; LENGTH]);
+    assert_eq!(kind(&mut engine, 9), Some(Kind::Forward));
+}
+
+#[test]
+fn the_order_of_refusals_when_receiving() {
+    let engine = engine_with(&params());
+    let mut cell = octets(&forward(33));
+    refused(&engine, 11, |engine| engine.receive(&cell));
+    cell[5] = 0;
+    refused(&engine, 5, |engine| engine.receive(&cell));
+    refused(&engine, 6, |engine| engine.receive(&sealed(cell)));
+    cell[3] ^= 0x0A; // payload type 3 without the CLP touched
+    cell[4] = header_check(&cell[..4]);
+    refused(&engine, 11, |engine| engine.receive(&cell));
+    cell[3] |= 0x0E;
+    cell[4] = header_check(&cell[..4]);
+    refused(&engine, 4, |engine| engine.receive(&cell));
+    cell[1] |= 0x10;
+    cell[4] = header_check(&cell[..4]);
+    refused(&engine, 3, |engine| engine.receive(&cell));
+    cell[4] ^= 1;
+    refused(&engine, 2, |engine| engine.receive(&cell));
+    refused(&engine, 1, |engine| engine.receive(&cell[1..]));
+}
+
+#[test]
+fn an_idle_slots_time_counts_and_a_refused_ones_does_not() {
+    let mut engine = engine_with(&params());
+    assert_eq!(kind(&mut engine, 10), None);
+    refused(&engine, 14, |engine| engine.slot(9, &mut [0; LENGTH]));
+    refused(&engine, 14, |engine| engine.open(33, 9, &params()));
+    refused(&engine, 1, |engine| engine.slot(20, &mut []));
+    assert_eq!(kind(&mut engine, 10), None);
+    assert_eq!(engine.open(33, 10, &params()), Ok(()));
+}
+
+#[test]
+fn closing_does_not_turn_time_back() {
+    let mut engine = Engine::new();
+    engine.open(32, 10, &params()).unwrap();
+    engine.close(32).unwrap();
+    refused(&engine, 14, |engine| engine.open(32, 9, &params()));
+}
+
+/// A random call on the engine; on VCIs 32 to 35, accepted or refused.
+fn random_call(engine: &mut Engine, time: &mut u64, mut draw: impl FnMut(u32) -> u32) {
+    let vci = 32 + draw(4);
+    let _accepted_or_refused = match draw(8) {
+        0 if draw(8) == 0 => engine.close(vci),
+        0 => engine.open(vci, *time, &Params::house(0x53E8, 0x4000, 0x4A00)),
+        1 => engine.offer(vci, u64::from(draw(9))),
+        2 => engine.set_level(draw(4)),
+        3 => engine.receive(&data(vci, draw(2) == 1)),
+        4 | 5 => {
+            let (dir, bn, ci, ni) = (draw(2), draw(2), draw(2), draw(2));
+            let rm = Rm {
+                vci,
+                dir,
+                bn,
+                ci,
+                ni,
+                er: draw(0x8000),
+                ..Rm::default()
+            };
+            engine.receive(&octets(&rm))
+        }
+        _ => {
+            *time += u64::from(draw(40_000_000));
+            engine.slot(*time, &mut [0; LENGTH]).map(drop)
+        }
+    };
+}
+
+#[test]
+fn rates_stay_in_bounds_in_long_lists() {
+    let mut engine = Engine::new();
+    let (mut state, mut time, mut moved) = (1u64, 0, 0);
+    for _ in 0..200_000 {
+        let before = engine.acr(33);
+        random_call(&mut engine, &mut time, |limit| {
+            state = state.wrapping_mul(6_364_136_223_846_793_005);
+            state = state.wrapping_add(1_442_695_040_888_963_407);
+            (state >> 33) as u32 % limit
+        });
+        moved += u32::from(engine.acr(33) != before);
+        for acr in (32..36).filter_map(|vci| engine.acr(vci).ok()) {
+            assert!((512..=512_000).contains(&acr));
+        }
+    }
+    assert!(moved > 1_000);
+}

@@ -1,0 +1,30 @@
+//! A plain reference version of the ABR end-system rate engine of document 01.
+//!
+//! It favours being easy to compare with the document over speed: nothing is
+//! cached, every slot works out every ready instant again and scans them all.
+//!
+//! * [`rate`]: rate codes and the gap between cells;
+//! * [`params`]: the parameters of an open, their ranges, the house set;
+//! * [`cell`]: header check, CRC-10, writing, reading and turning cells;
+//! * [`connection`]: the four moves of the allowed rate, and pacing;
+//! * [`engine`]: the table of connections and the calls on it;
+//! * [`refusal`]: the numbers of the refusals.
+
+#![forbid(unsafe_code)]
+
+pub mod cell;
+pub mod connection;
+pub mod engine;
+pub mod params;
+pub mod rate;
+pub mod refusal;
+
+#[cfg(test)]
+mod engine_tests;
+
+pub use cell::{read, write_rm, Cell, Rm};
+pub use connection::{Kind, Sent};
+pub use engine::Engine;
+pub use params::Params;
+pub use rate::{code_of, gap, rate, rate_of};
+pub use refusal::Refusal;

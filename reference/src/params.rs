@@ -1,0 +1,256 @@
+//! The parameters of an open (document 01, "Opening").
+
+use std::ops::RangeInclusive;
+
+use crate::rate::{self, SMALLEST};
+use crate::refusal::{self, Refusal};
+
+/// The eight times of Trm in nanoseconds, by Trm number.
+pub const TRM_TIMES: [u64; 8] = [
+    781_250,
+    1_562_500,
+    3_125_000,
+    6_250_000,
+    12_500_000,
+    25_000_000,
+    50_000_000,
+    100_000_000,
+];
+
+/// One step of ADTF in nanoseconds.
+pub const ADTF_STEP: u64 = 10_000_000;
+
+/// The cells that must have gone since the last forward cell before the time
+/// Trm alone makes another one due.
+pub const MRM: u32 = 2;
+
+/// The largest CRM, and the number at which the unanswered count stops.
+pub const CRM_MAX: u32 = 8_388_608;
+
+/// The value of c that stands for a CDF of zero.
+pub const CDF_ZERO: u32 = 7;
+
+/// The parameters as an open gives them: rate codes, exponents and numbers.
+#[derive(Debug, Clone, Copy, PartialEq, Eq)]
+pub struct Params {
+    /// Code of the peak rate.
+    pub pcr: u32,
+    /// Code of the minimum rate.
+    pub mcr: u32,
+    /// Code of the initial rate.
+    pub icr: u32,
+    /// Nrm is 2^n.
+    pub n: u32,
+    /// RIF is 1/2^r.
+    pub r: u32,
+    /// RDF is 1/2^d.
+    pub d: u32,
+    /// CDF is 1/2^c, or zero if c is 7.
+    pub c: u32,
+    /// Unanswered forward cells at which the rate begins to fall.
+    pub crm: u32,
+    /// Steps of 10 ms after which a rate above ICR is no longer trusted.
+    pub adtf: u32,
+    /// Trm number.
+    pub trm: u32,
+}
+
+impl Params {
+    /// n of the house set.
+    pub const HOUSE_N: u32 = 5;
+    /// r of the house set.
+    pub const HOUSE_R: u32 = 4;
+    /// d of the house set.
+    pub const HOUSE_D: u32 = 4;
+    /// c of the house set.
+    pub const HOUSE_C: u32 = 4;
+    /// CRM of the house set.
+    pub const HOUSE_CRM: u32 = 524_288;
+    /// ADTF of the house set.
+    pub const HOUSE_ADTF: u32 = 50;
+    /// Trm number of the house set.
+    pub const HOUSE_TRM: u32 = 7;
+
+    /// The house set around three rate codes.
+    pub const fn house(pcr: u32, mcr: u32, icr: u32) -> Self {
+        Params {
+            pcr,
+            mcr,
+            icr,
+            n: Self::HOUSE_N,
+            r: Self::HOUSE_R,
+            d: Self::HOUSE_D,
+            c: Self::HOUSE_C,
+            crm: Self::HOUSE_CRM,
+            adtf: Self::HOUSE_ADTF,
+            trm: Self::HOUSE_TRM,
+        }
+    }
+
+    /// Checks every range and translates the set; anything outside meets 7.
+    pub fn contract(&self) -> Result<Contract, Refusal> {
+        let (pcr, mcr, icr) = self.rates()?;
+        within(self.n, 1..=8)?;
+        within(self.r, 0..=15)?;
+        within(self.d, 0..=15)?;
+        within(self.c, 0..=CDF_ZERO)?;
+        within(self.crm, 1..=CRM_MAX)?;
+        within(self.adtf, 1..=1_023)?;
+        within(self.trm, 0..=7)?;
+        Ok(Contract {
+            pcr,
+            mcr,
+            icr,
+            nrm: 1 << self.n,
+            r: self.r,
+            d: self.d,
+            c: self.c,
+            crm: self.crm,
+            adtf: u64::from(self.adtf) * ADTF_STEP,
+            trm: TRM_TIMES[self.trm as usize],
+        })
+    }
+
+    /// The three rates in the order peak, minimum, initial.
+    fn rates(&self) -> Result<(u64, u64, u64), Refusal> {
+        let pcr = rate::rate(self.pcr)?;
+        let mcr = rate::rate(self.mcr)?;
+        let icr = rate::rate(self.icr)?;
+        if SMALLEST <= mcr && mcr <= icr && icr <= pcr {
+            Ok((pcr, mcr, icr))
+        } else {
+            Err(refusal::RANGE)
+        }
+    }
+}
+
+/// Refuses a number outside its range with 7.
+fn within(number: u32, range: RangeInclusive<u32>) -> Result<(), Refusal> {
+    if range.contains(&number) {
+        Ok(())
+    } else {
+        Err(refusal::RANGE)
+    }
+}
+
+/// Checked parameters: rates as rates, times in nanoseconds, Nrm as a count.
+#[derive(Debug, Clone, Copy, PartialEq, Eq)]
+pub struct Contract {
+    /// Peak rate.
+    pub pcr: u64,
+    /// Minimum rate.
+    pub mcr: u64,
+    /// Initial rate.
+    pub icr: u64,
+    /// A forward cell and the cells that may follow it number at most this.
+    pub nrm: u32,
+    /// Exponent of RIF.
+    pub r: u32,
+    /// Exponent of RDF.
+    pub d: u32,
+    /// Exponent of CDF, or 7.
+    pub c: u32,
+    /// Unanswered forward cells at which the rate begins to fall.
+    pub crm: u32,
+    /// ADTF in nanoseconds.
+    pub adtf: u64,
+    /// Trm in nanoseconds.
+    pub trm: u64,
+}
+
+#[cfg(test)]
+mod tests {
+    use super::*;
+
+    /// Sets one parameter.
+    type Setter = fn(&mut Params, u32);
+
+    fn good() -> Params {
+        Params::house(0x53E8, 0x4000, 0x4200)
+    }
+
+    #[test]
+    fn the_house_set() {
+        let expected = Params {
+            pcr: 0x53E8,
+            mcr: 0x4000,
+            icr: 0x4200,
+            n: 5,
+            r: 4,
+            d: 4,
+            c: 4,
+            crm: 524_288,
+            adtf: 50,
+            trm: 7,
+        };
+        assert_eq!(good(), expected);
+    }
+
+    #[test]
+    fn the_house_set_translated() {
+        let contract = good().contract().unwrap();
+        assert_eq!(contract.pcr, 512_000);
+        assert_eq!(contract.mcr, 512);
+        assert_eq!(contract.icr, 1_024);
+        assert_eq!(contract.nrm, 32);
+        assert_eq!(contract.adtf, 500_000_000);
+        assert_eq!(contract.trm, 100_000_000);
+    }
+
+    #[test]
+    fn each_trm_doubles_the_one_before() {
+        for trm in 0..8 {
+            let contract = Params { trm, ..good() }.contract().unwrap();
+            assert_eq!(contract.trm, 781_250 << trm);
+        }
+    }
+
+    #[test]
+    fn numbers_at_their_ends() {
+        let cases: [(Setter, u32, u32); 7] = [
+            (|p, v| p.n = v, 1, 8),
+            (|p, v| p.r = v, 0, 15),
+            (|p, v| p.d = v, 0, 15),
+            (|p, v| p.c = v, 0, 7),
+            (|p, v| p.crm = v, 1, 8_388_608),
+            (|p, v| p.adtf = v, 1, 1_023),
+            (|p, v| p.trm = v, 0, 7),
+        ];
+        for (set, low, high) in cases {
+            let answer = |value| {
+                let mut params = good();
+                set(&mut params, value);
+                params.contract().map(|_| ())
+            };
+            assert_eq!(answer(low), Ok(()));
+            assert_eq!(answer(high), Ok(()));
+            assert_eq!(answer(high + 1), Err(7));
+            assert_eq!(answer(u32::MAX), Err(7));
+            if low > 0 {
+                assert_eq!(answer(low - 1), Err(7));
+            }
+        }
+    }
+
+    #[test]
+    fn the_three_rates_must_be_in_order() {
+        let answer = |pcr, mcr, icr| Params::house(pcr, mcr, icr).contract().map(|_| ());
+        assert_eq!(answer(0x4000, 0x4000, 0x4000), Ok(()));
+        assert_eq!(answer(0x7FFF, 0x4000, 0x7FFF), Ok(()));
+        assert_eq!(answer(0x4001, 0x4000, 0x4002), Err(7));
+        assert_eq!(answer(0x4002, 0x4001, 0x4000), Err(7));
+        assert_eq!(answer(0x4000, 0x4001, 0x4001), Err(7));
+        assert_eq!(answer(0x4000, 0x3FFF, 0x4000), Err(7));
+        assert_eq!(answer(0x0000, 0x0000, 0x0000), Err(7));
+    }
+
+    #[test]
+    fn bit_15_is_ignored_and_wider_codes_are_not() {
+        let clear = Params::house(0x53E8, 0x4000, 0x4200).contract();
+        assert_eq!(Params::house(0xD3E8, 0xC000, 0xC200).contract(), clear);
+        let answer = |pcr, mcr, icr| Params::house(pcr, mcr, icr).contract().map(|_| ());
+        assert_eq!(answer(0x1_53E8, 0x4000, 0x4200), Err(7));
+        assert_eq!(answer(0x53E8, 0x1_4000, 0x4200), Err(7));
+        assert_eq!(answer(0x53E8, 0x4000, 0x1_4200), Err(7));
+    }
+}

@@ -1,0 +1,139 @@
+//! Rates, their 16-bit codes and the gap between cells (document 01, "Units
+//! and the 16-bit rate code" and "Slots").
+
+use crate::refusal::{self, Refusal};
+
+/// The largest rate that has a code: exponent 31 and mantissa 511.
+pub const LARGEST: u64 = 1023 << 31;
+
+/// The smallest rate above 0 that has a code, one cell per second.
+pub const SMALLEST: u64 = 512;
+
+/// The largest code, bit 15 included.
+pub const MAX_CODE: u32 = 0xFFFF;
+
+/// The largest code with bit 15 clear.
+pub const MAX_CLEAR_CODE: u32 = 0x7FFF;
+
+/// The bit that says "not zero".
+const NZ: u32 = 1 << 14;
+
+/// A second, in nanoseconds times the 512 units of one cell per second.
+const UNITS_BY_NANOSECONDS: u64 = 512_000_000_000;
+
+/// The rate of a code. Bit 15, and anything above it, plays no part.
+pub fn rate_of(code: u32) -> u64 {
+    if code & NZ == 0 {
+        return 0;
+    }
+    let exponent = (code >> 9) & 0x1F;
+    let mantissa = u64::from(code & 0x1FF);
+    (512 + mantissa) << exponent
+}
+
+/// The rate of a code handed in by a caller: one of over 16 bits meets 7.
+pub fn rate(code: u32) -> Result<u64, Refusal> {
+    if code > MAX_CODE {
+        return Err(refusal::RANGE);
+    }
+    Ok(rate_of(code))
+}
+
+/// The code of a rate, rounded down; a rate above the largest meets 9.
+pub fn code_of(rate: u64) -> Result<u32, Refusal> {
+    if rate > LARGEST {
+        return Err(refusal::TOO_LARGE);
+    }
+    Ok(code_within(rate))
+}
+
+/// The code of a rate that is known to be at most the largest.
+///
+/// The top ten bits of the rate are kept: the leading one is implied by the
+/// code, the other nine are the mantissa.
+pub(crate) fn code_within(rate: u64) -> u32 {
+    debug_assert!(rate <= LARGEST);
+    if rate < SMALLEST {
+        return 0;
+    }
+    let exponent = rate.ilog2() - 9;
+    let mantissa = (rate >> exponent) as u32 - 512;
+    NZ | (exponent << 9) | mantissa
+}
+
+/// The nanoseconds from one cell to the next at an allowed rate, rounded up.
+///
+/// # Panics
+/// When the rate is 0. No connection has that rate: the least minimum is 512.
+pub fn gap(acr: u64) -> u64 {
+    UNITS_BY_NANOSECONDS.div_ceil(acr)
+}
+
+#[cfg(test)]
+mod tests {
+    use super::*;
+
+    #[test]
+    fn starred_codes() {
+        assert_eq!(rate_of(0x4000), 512);
+        assert_eq!(rate_of(0x7FFF), 2_196_875_771_904);
+        assert_eq!(LARGEST, 2_196_875_771_904);
+        assert_eq!(code_of(512_000), Ok(0x53E8));
+        assert_eq!(code_of(1_023), Ok(0x41FF));
+        assert_eq!(code_of(1_025), Ok(0x4200));
+        assert_eq!(code_of(511), Ok(0x0000));
+    }
+
+    #[test]
+    fn starred_gaps() {
+        assert_eq!(gap(512_000), 1_000_000);
+        assert_eq!(gap(1_536), 333_333_334);
+    }
+
+    #[test]
+    fn gaps_at_the_ends() {
+        assert_eq!(gap(512), 1_000_000_000);
+        assert_eq!(gap(LARGEST), 1);
+        assert_eq!(gap(512_000_000_000), 1);
+        assert_eq!(gap(511_999_999_999), 2);
+    }
+
+    #[test]
+    fn every_code_comes_back() {
+        for code in 0..=MAX_CODE {
+            let clear = code & MAX_CLEAR_CODE;
+            let expected = if clear & NZ == 0 { 0 } else { clear };
+            assert_eq!(code_of(rate_of(code)), Ok(expected));
+            assert_eq!(rate_of(code), rate_of(clear));
+        }
+    }
+
+    #[test]
+    fn coding_gives_the_greatest_rate_not_above() {
+        for code in NZ..MAX_CLEAR_CODE {
+            let (here, next) = (rate_of(code), rate_of(code + 1));
+            assert!(here < next);
+            assert_eq!(code_of(next - 1), Ok(code));
+            assert_eq!(code_of(here + (next - here) / 2), Ok(code));
+        }
+        for rate in 0..512 {
+            assert_eq!(code_of(rate), Ok(0));
+        }
+    }
+
+    #[test]
+    fn rates_above_the_largest_meet_9() {
+        assert_eq!(code_of(LARGEST), Ok(0x7FFF));
+        assert_eq!(code_of(LARGEST + 1), Err(9));
+        assert_eq!(code_of(u64::MAX), Err(9));
+    }
+
+    #[test]
+    fn codes_over_16_bits_meet_7() {
+        assert_eq!(rate(0xFFFF), Ok(LARGEST));
+        assert_eq!(rate(0xBFFF), Ok(0));
+        assert_eq!(rate(0x1_0000), Err(7));
+        assert_eq!(rate(0x1_4000), Err(7));
+        assert_eq!(rate(u32::MAX), Err(7));
+    }
+}

@@ -1,0 +1,130 @@
+/*
+ * Two connections share a link, VCI 32 and VCI 33, at 1,000 cells per second
+ * each. The first is congested once, the second gets an explicit rate. The
+ * numbers follow from document 01 by hand. Plain C that is C++ too.
+ */
+#ifndef SCENE_H
+#define SCENE_H
+
+#include <string.h>
+
+#include "abr.h"
+#include "check.h"
+
+enum { THOUSAND = 0x53E8, SLOWEST = 0x4000 };
+
+#define MS ((uint64_t)1000000)
+
+static abr_table table;
+static uint8_t cell[ABR_CELL_OCTETS];
+
+/* The slot at a time goes to vci with this kind and rate. */
+static int slot_is(uint64_t time, uint64_t vci, uint64_t kind, uint64_t acr)
+{
+    abr_sent sent = {9, 9, 9};
+    uint32_t answer = abr_slot(&table, time, cell, sizeof cell, &sent);
+    return answer == ABR_OK && sent.vci == vci && sent.kind == kind && sent.acr == acr;
+}
+
+/* A backward cell for vci comes in. */
+static uint32_t feedback(uint32_t vci, uint32_t ci, uint32_t er)
+{
+    abr_rm rm = {0, 0, 0, 0, 0, 0, 0, 0, 0, 0, 0};
+    uint8_t octets[ABR_CELL_OCTETS];
+    rm.vci = vci;
+    rm.dir = 1;
+    rm.ci = ci;
+    rm.er = er;
+    if (abr_write_rm(&rm, octets, sizeof octets) != ABR_OK) {
+        return ABR_REFUSED_RANGE;
+    }
+    return abr_receive(&table, octets, sizeof octets);
+}
+
+static uint64_t acr_of(uint32_t vci)
+{
+    uint64_t acr = 0;
+    return abr_acr(&table, vci, &acr) == ABR_OK ? acr : 0;
+}
+
+static void scene_opens(void)
+{
+    abr_params params;
+    abr_house(THOUSAND, SLOWEST, THOUSAND, &params);
+    CHECK(params.n == ABR_HOUSE_N && params.r == ABR_HOUSE_R && params.d == ABR_HOUSE_D);
+    CHECK(params.c == ABR_HOUSE_C && params.crm == ABR_HOUSE_CRM);
+    CHECK(params.adtf == ABR_HOUSE_ADTF && params.trm == ABR_HOUSE_TRM);
+    CHECK(abr_open(&table, 31, 0, &params) == ABR_REFUSED_LOW_VCI);
+    CHECK(abr_open(&table, 33, 0, &params) == ABR_OK);
+    CHECK(abr_open(&table, 32, 0, &params) == ABR_OK);
+    CHECK(abr_open(&table, 32, 0, &params) == ABR_REFUSED_ALREADY_OPEN);
+    CHECK(abr_offer(&table, 32, 100) == ABR_OK);
+    CHECK(abr_offer(&table, 33, 100) == ABR_OK);
+    CHECK(abr_offer(&table, 34, 100) == ABR_REFUSED_NOT_OPEN);
+    CHECK(abr_offer(&table, 33, ABR_WAITING_MAX) == ABR_REFUSED_TOO_MUCH_DATA);
+}
+
+static void scene_shares(void)
+{
+    abr_cell read;
+    CHECK(slot_is(0, 32, ABR_SENT_FORWARD, 512000));
+    CHECK(abr_read(cell, sizeof cell, &read) == ABR_OK);
+    CHECK(read.kind == ABR_CELL_RM && read.vci == 32 && read.dir == 0);
+    CHECK(read.er == THOUSAND && read.ccr == THOUSAND && read.mcr == SLOWEST);
+    CHECK(slot_is(1, 33, ABR_SENT_FORWARD, 512000));
+    CHECK(slot_is(2, 0, ABR_SENT_IDLE, 0));
+    CHECK(slot_is(1 * MS, 32, ABR_SENT_DATA, 512000));
+    CHECK(slot_is(1 * MS + 1, 33, ABR_SENT_DATA, 512000));
+}
+
+static void scene_is_congested(void)
+{
+    CHECK(feedback(32, 1, ABR_CODE_MAX) == ABR_OK);
+    CHECK(acr_of(32) == 480000 && acr_of(33) == 512000);
+    CHECK(feedback(33, 0, 0x4E00) == ABR_OK); /* 128 cells per second */
+    CHECK(acr_of(33) == 65536);
+    CHECK(slot_is(2 * MS + 66666, 0, ABR_SENT_IDLE, 0)); /* the gap is 1,066,667 */
+    CHECK(slot_is(2 * MS + 66667, 32, ABR_SENT_DATA, 480000));
+    CHECK(slot_is(8 * MS + 812500, 32, ABR_SENT_DATA, 480000));
+    CHECK(slot_is(8 * MS + 812501, 33, ABR_SENT_DATA, 65536)); /* 7,812,500 */
+    CHECK(feedback(32, 0, ABR_CODE_MAX) == ABR_OK);
+    CHECK(acr_of(32) == 512000);
+}
+
+static void scene_turns_a_cell(void)
+{
+    abr_rm rm = {32, 0, 0, 0, 0, 0, THOUSAND, THOUSAND, SLOWEST, 0, 0};
+    uint8_t octets[ABR_CELL_OCTETS];
+    abr_cell read;
+    CHECK(abr_set_level(&table, 3) == ABR_REFUSED_TOO_LARGE);
+    CHECK(abr_set_level(&table, 2) == ABR_OK);
+    CHECK(abr_write_rm(&rm, octets, sizeof octets) == ABR_OK);
+    CHECK(abr_receive(&table, octets, sizeof octets) == ABR_OK);
+    CHECK(slot_is(20 * MS, 32, ABR_SENT_TURNED, 512000));
+    CHECK(abr_read(cell, sizeof cell, &read) == ABR_OK);
+    CHECK(read.vci == 32 && read.dir == 1 && read.ci == 1 && read.ni == 0);
+    CHECK(read.er == THOUSAND && read.ccr == THOUSAND && read.mcr == SLOWEST);
+}
+
+static void scene_closes(void)
+{
+    CHECK(abr_close(&table, 32) == ABR_OK);
+    CHECK(abr_close(&table, 32) == ABR_REFUSED_NOT_OPEN);
+    CHECK(abr_close(&table, 33) == ABR_OK);
+    CHECK(slot_is(ABR_TIME_MAX, 0, ABR_SENT_IDLE, 0));
+    CHECK(strcmp(abr_refusal_text(ABR_OK), "accepted") == 0);
+    CHECK(strcmp(abr_refusal_text(15), abr_refusal_text(16)) != 0);
+}
+
+static int scene(const char *name)
+{
+    scene_opens();
+    scene_shares();
+    scene_is_congested();
+    scene_turns_a_cell();
+    scene_closes();
+    printf("%s: %s\n", name, claims_failed ? "FAILED" : "ok");
+    return claims_failed != 0;
+}
+
+#endif

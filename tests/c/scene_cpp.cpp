@@ -1,0 +1,7 @@
+/* The scene in C++. */
+#include "scene.h"
+
+int main()
+{
+    return scene("scene in C++");
+}

@@ -1,0 +1,131 @@
+//! A call with its arguments.
+
+use abr::ffi::{abr_params, abr_rm};
+
+use crate::octets::Octets;
+
+/// One call of the interface. Of a buffer to be written only the length is
+/// given.
+#[derive(Debug, Clone, Copy)]
+pub enum Call {
+    Open {
+        vci: u32,
+        time: u64,
+        params: abr_params,
+    },
+    Close {
+        vci: u32,
+    },
+    Receive {
+        cell: Octets,
+    },
+    Offer {
+        vci: u32,
+        cells: u64,
+    },
+    SetLevel {
+        level: u32,
+    },
+    Slot {
+        time: u64,
+        len: usize,
+    },
+    Acr {
+        vci: u32,
+    },
+    WriteRm {
+        rm: abr_rm,
+        len: usize,
+    },
+    Read {
+        cell: Octets,
+    },
+    Code {
+        rate: u64,
+    },
+    Rate {
+        code: u32,
+    },
+    House {
+        pcr: u32,
+        mcr: u32,
+        icr: u32,
+    },
+}
+
+/// The sorts of call, in the order of [`Call::sort`].
+pub const SORTS: [&str; 12] = [
+    "open",
+    "close",
+    "receive",
+    "offer",
+    "set_level",
+    "slot",
+    "acr",
+    "write_rm",
+    "read",
+    "code",
+    "rate",
+    "house",
+];
+
+impl Call {
+    /// The place of its sort in [`SORTS`].
+    pub fn sort(&self) -> usize {
+        match self {
+            Call::Open { .. } => 0,
+            Call::Close { .. } => 1,
+            Call::Receive { .. } => 2,
+            Call::Offer { .. } => 3,
+            Call::SetLevel { .. } => 4,
+            Call::Slot { .. } => 5,
+            Call::Acr { .. } => 6,
+            Call::WriteRm { .. } => 7,
+            Call::Read { .. } => 8,
+            Call::Code { .. } => 9,
+            Call::Rate { .. } => 10,
+            Call::House { .. } => 11,
+        }
+    }
+
+    /// Whether it writes the table when it is accepted.
+    pub fn may_change_table(&self) -> bool {
+        self.sort() < 6
+    }
+
+    /// The connection that it names, if it names one.
+    pub fn vci(&self) -> Option<u32> {
+        match *self {
+            Call::Open { vci, .. }
+            | Call::Close { vci }
+            | Call::Offer { vci, .. }
+            | Call::Acr { vci } => Some(vci),
+            Call::Receive { cell } => vci_of(cell.as_slice()),
+            _ => None,
+        }
+    }
+}
+
+/// The VCI in the header of some octets, if there are enough.
+fn vci_of(octets: &[u8]) -> Option<u32> {
+    let header = octets.get(..4)?.try_into().ok()?;
+    Some((u32::from_be_bytes(header) >> 4) & 0xFFFF)
+}
+
+/// What a call that is accepted answers.
+#[derive(Debug, Clone, Copy, PartialEq, Eq)]
+pub enum Answer {
+    /// Nothing but that it was accepted.
+    Done,
+    /// A slot.
+    Sent(abr::ffi::abr_sent),
+    /// A number: an allowed rate, a rate or a code.
+    Number(u64),
+    /// A cell that was read.
+    Cell(abr::ffi::abr_cell),
+    /// The house set.
+    Params(abr_params),
+}
+
+/// An answer, or the number of the refusal.
+pub type Outcome = Result<Answer, u32>;

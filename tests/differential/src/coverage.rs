@@ -1,0 +1,223 @@
+//! What the lists reached.
+
+use crate::call::{Call, Outcome, SORTS};
+
+macro_rules! events {
+    ($($(#[$doc:meta])* $name:ident,)*) => {
+        /// Something worth reaching.
+        #[derive(Debug, Clone, Copy, PartialEq, Eq)]
+        pub enum Event { $($(#[$doc])* $name,)* }
+
+        /// All of them, in order.
+        pub const EVENTS: &[Event] = &[$(Event::$name,)*];
+    };
+}
+
+events! {
+    /// The first cell brought a rate above ICR down.
+    FirstMove,
+    /// More than ADTF had passed, and the rate came down.
+    IdleMove,
+    /// A forward cell at exactly ADTF, with a rate above ICR.
+    AdtfExact,
+    /// A forward cell a nanosecond after ADTF, with a rate above ICR.
+    AdtfPassed,
+    /// CRM unanswered cells brought the rate down.
+    UnansweredMove,
+    /// A forward cell with CRM unanswered cells exactly.
+    CrmExact,
+    /// A forward cell with one unanswered cell less than CRM.
+    CrmLessOne,
+    /// CRM was reached, and CDF is zero.
+    CdfZero,
+    /// Idle and unanswered, both at one forward cell.
+    IdleAndUnanswered,
+    /// Feedback raised the rate.
+    FeedbackUp,
+    /// NI alone held the rate.
+    FeedbackHold,
+    /// CI cut the rate.
+    FeedbackCut,
+    /// ER bound the rate.
+    FeedbackEr,
+    /// ER bound it although CI was 1.
+    FeedbackErUnderCi,
+    /// The minimum bound the rate.
+    FeedbackMcr,
+    /// The peak bound the rate.
+    FeedbackPcr,
+    /// A backward cell with BN 1 left unanswered cells.
+    BnLeaves,
+    /// A backward cell with BN 0 answered unanswered cells.
+    BnAnswers,
+    /// A forward cell because of Nrm, within Trm.
+    NrmForward,
+    /// Another cell with one less than Nrm - 1 sent, within Trm.
+    NrmLessOne,
+    /// A forward cell at exactly Trm.
+    TrmExact,
+    /// Another cell one nanosecond before Trm.
+    TrmLessOne,
+    /// A forward cell because of Trm with nothing waiting.
+    TrmAlone,
+    /// Two first cells were ready at the same instant.
+    TieFirst,
+    /// Two later cells were ready at the same instant.
+    TieLater,
+    /// A slot at the very ready instant.
+    ReadyExact,
+    /// An idle slot a nanosecond before the earliest ready instant.
+    ReadyLessOne,
+    /// A turned cell went before waiting data.
+    TurnedFirst,
+    /// Data went while a second turned cell waited.
+    TurnedSecond,
+    /// A second turned cell went, no data waiting.
+    TurnedAlone,
+    /// A waiting turned cell was replaced.
+    TurnedReplaced,
+    /// A forward cell was turned under a saved EFCI.
+    MarkEfci,
+    /// A forward cell was turned under level 1.
+    MarkLevelOne,
+    /// A forward cell was turned under level 2.
+    MarkLevelTwo,
+    /// A forward cell came marked, and nothing else marked it.
+    MarkKept,
+    /// A data cell cleared a saved EFCI.
+    EfciCleared,
+    /// A closed VCI was opened again.
+    Reopened,
+    /// A closed VCI with data, a turned cell or unanswered cells on it was
+    /// opened again.
+    ReopenedLoaded,
+    /// The 64th connection was opened.
+    Full,
+    /// A slot or an open at 2^62.
+    TimeMax,
+    /// A cell was sent at 2^62.
+    SentAtTimeMax,
+    /// Exactly 65,535 cells wait after an offer.
+    OfferFills,
+    /// An offer of nothing to a full connection.
+    OfferNothing,
+}
+
+/// Counts of all that was reached.
+#[derive(Debug, Clone)]
+pub struct Coverage {
+    /// Calls made.
+    pub calls: u64,
+    /// By sort of call and refusal number; 0 stands for accepted.
+    pub outcomes: [[u64; 16]; SORTS.len()],
+    /// By kind of slot; 0 is idle.
+    pub kinds: [u64; 4],
+    /// By damaged octet of a refused cell.
+    pub damaged: [u64; 53],
+    events: [u64; EVENTS.len()],
+}
+
+impl Default for Coverage {
+    fn default() -> Self {
+        Coverage {
+            calls: 0,
+            outcomes: [[0; 16]; SORTS.len()],
+            kinds: [0; 4],
+            damaged: [0; 53],
+            events: [0; EVENTS.len()],
+        }
+    }
+}
+
+/// The refusals that each sort of call has, in the order of [`SORTS`].
+const REFUSALS: [&[usize]; SORTS.len()] = [
+    &[7, 8, 10, 12, 13, 14],
+    &[11],
+    &[1, 2, 3, 4, 5, 6, 11],
+    &[11, 15],
+    &[9],
+    &[1, 8, 14],
+    &[11],
+    &[1, 7],
+    &[1, 2, 3, 4, 5, 6],
+    &[9],
+    &[7],
+    &[],
+];
+
+impl Coverage {
+    /// Counts a call and its outcome.
+    pub fn count(&mut self, call: &Call, outcome: &Outcome) {
+        self.calls += 1;
+        let number = outcome.err().unwrap_or(0) as usize;
+        self.outcomes[call.sort()][number] += 1;
+    }
+
+    /// Counts an event if it happened.
+    pub fn reach(&mut self, event: Event, happened: bool) {
+        self.events[event as usize] += u64::from(happened);
+    }
+
+    /// How often an event was reached.
+    pub fn reached(&self, event: Event) -> u64 {
+        self.events[event as usize]
+    }
+
+    /// Takes the counts of another run in.
+    pub fn add(&mut self, other: &Coverage) {
+        let add = |to: &mut [u64], from: &[u64]| {
+            to.iter_mut().zip(from).for_each(|(to, from)| *to += from);
+        };
+        self.calls += other.calls;
+        for (to, from) in self.outcomes.iter_mut().zip(&other.outcomes) {
+            add(to, from);
+        }
+        add(&mut self.kinds, &other.kinds);
+        add(&mut self.damaged, &other.damaged);
+        add(&mut self.events, &other.events);
+    }
+
+    /// What was reached fewer than `least` times, by name.
+    pub fn missing(&self, least: u64) -> Vec<String> {
+        let mut missing = Vec::new();
+        let mut demand = |count: u64, name: String| {
+            if count < least {
+                missing.push(format!("{name}: {count}"));
+            }
+        };
+        for (sort, refusals) in REFUSALS.iter().enumerate() {
+            demand(self.outcomes[sort][0], format!("{} accepted", SORTS[sort]));
+            for number in *refusals {
+                let name = format!("{} refused {number}", SORTS[sort]);
+                demand(self.outcomes[sort][*number], name);
+            }
+        }
+        for (kind, count) in self.kinds.iter().enumerate() {
+            demand(*count, format!("slot of kind {kind}"));
+        }
+        for (octet, count) in self.damaged.iter().enumerate() {
+            demand(*count, format!("damaged octet {}", octet + 1));
+        }
+        for event in EVENTS {
+            demand(self.reached(*event), format!("{event:?}"));
+        }
+        missing
+    }
+
+    /// The events with their counts, for a reader.
+    pub fn summary(&self) -> String {
+        let events: Vec<String> = EVENTS
+            .iter()
+            .map(|event| format!("{event:?} {}", self.reached(*event)))
+            .collect();
+        format!(
+            "{} calls; slots idle {}, forward {}, turned {}, data {}; {}",
+            self.calls,
+            self.kinds[0],
+            self.kinds[1],
+            self.kinds[2],
+            self.kinds[3],
+            events.join(", ")
+        )
+    }
+}

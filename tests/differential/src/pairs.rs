@@ -1,0 +1,182 @@
+//! Two lists that differ in backward cells only, those of the second at least
+//! as congested (document 01, "Four moves of the allowed rate" and "The lists
+//! of demand 3"): as long as the slots go to the same connections, no allowed
+//! rate of the second is above that of the first, and every allowed rate is
+//! between its minimum and its peak.
+
+use abr::CELL_OCTETS;
+
+use crate::call::{Answer, Call, Outcome};
+use crate::coverage::Coverage;
+use crate::generate::{Generator, Profile};
+use crate::library::{Difference, Library};
+use crate::lists::touched;
+use crate::octets::{put_crc, Buffer, Octets};
+use crate::rng::Rng;
+use crate::watch::Watch;
+
+/// The calls of one list of a pair.
+const LIST: u64 = 1_000;
+
+/// What the pairs showed.
+#[derive(Debug, Clone, Copy, Default)]
+pub struct Tally {
+    /// Pairs run.
+    pub pairs: u64,
+    /// Pairs that ended early, a slot going to different connections.
+    pub cut_off: u64,
+    /// Pairs of allowed rates compared.
+    pub compared: u64,
+    /// Those of which the second was really lower.
+    pub lower: u64,
+    /// Backward cells made more congested by CI or NI.
+    pub raised: u64,
+    /// Backward cells with a lower explicit rate.
+    pub lowered: u64,
+}
+
+/// Both lists of a pair, as far as they have run.
+#[derive(Default)]
+struct Pair {
+    first: Library,
+    second: Library,
+    watch: Watch,
+}
+
+/// Runs the pair of a seed, and says where the claim breaks.
+pub fn run(seed: u64, profile: Profile, tally: &mut Tally) -> Result<(), Difference> {
+    let mut generator = Generator::new(seed, profile);
+    let mut rng = Rng::new(!seed);
+    let mut pair = Pair::default();
+    tally.pairs += 1;
+    for index in 0..LIST {
+        let call = generator.next(&pair.watch);
+        let worse = congested(&call, &mut rng, tally);
+        let goes_on = pair.step(&call, &worse, tally).map_err(|difference| {
+            let name = profile.name;
+            format!("pair {seed} ({name}), call {index}, {call:x?} and {worse:x?}: {difference}")
+        })?;
+        if !goes_on {
+            tally.cut_off += 1;
+            break;
+        }
+    }
+    Ok(())
+}
+
+impl Pair {
+    /// Makes one call of each list. False if a slot goes to different
+    /// connections, so that the claim says no more.
+    fn step(&mut self, call: &Call, worse: &Call, tally: &mut Tally) -> Result<bool, Difference> {
+        let first = self.first.call(call, &mut Buffer::new(0))?;
+        let second = self.second.call(worse, &mut Buffer::new(0))?;
+        if goes_to(&first) != goes_to(&second) {
+            return Ok(false);
+        }
+        if kind(&first) != kind(&second) {
+            return Err(format!("{first:?} and {second:?}"));
+        }
+        let vci = touched(call, &first).unwrap_or(0);
+        let acr = number(&self.first.acr(vci)?).unwrap_or(0);
+        self.watch
+            .learn(call, &first, acr, &mut Coverage::default());
+        self.compare(tally)?;
+        Ok(true)
+    }
+
+    /// Holds all allowed rates of both lists to the claim.
+    fn compare(&self, tally: &mut Tally) -> Result<(), Difference> {
+        for (vci, seat) in &self.watch.seats {
+            let first = self.first.acr(*vci)?;
+            let second = self.second.acr(*vci)?;
+            let (Some(one), Some(two)) = (number(&first), number(&second)) else {
+                return Err(format!("ACR of {vci}: {first:?} and {second:?}"));
+            };
+            let ordered = seat.mcr <= two && two <= one && one <= seat.pcr;
+            if !ordered {
+                let (mcr, pcr) = (seat.mcr, seat.pcr);
+                return Err(format!(
+                    "ACR of {vci}: {one} and {two}, from {mcr} to {pcr}"
+                ));
+            }
+            tally.compared += 1;
+            tally.lower += u64::from(two < one);
+        }
+        Ok(())
+    }
+}
+
+/// The number that an accepted call answers.
+fn number(outcome: &Outcome) -> Option<u64> {
+    match outcome {
+        Ok(Answer::Number(number)) => Some(*number),
+        _ => None,
+    }
+}
+
+/// The connection that a slot goes to; 0 for an idle one.
+fn goes_to(outcome: &Outcome) -> Option<u64> {
+    match outcome {
+        Ok(Answer::Sent(sent)) => Some(sent.vci),
+        _ => None,
+    }
+}
+
+/// What two calls of a pair must share beside the connection.
+fn kind(outcome: &Outcome) -> Result<u64, u32> {
+    match outcome {
+        Ok(Answer::Sent(sent)) => Ok(sent.kind),
+        Ok(_) => Ok(0),
+        Err(number) => Err(*number),
+    }
+}
+
+/// The call of the second list: of a good backward cell sometimes one that is
+/// at least as congested, of anything else the same.
+fn congested(call: &Call, rng: &mut Rng, tally: &mut Tally) -> Call {
+    let Call::Receive { cell } = call else {
+        return *call;
+    };
+    let Ok(reference::Cell::Rm(rm)) = reference::read(cell.as_slice()) else {
+        return *call;
+    };
+    let Ok(octets) = <[u8; CELL_OCTETS]>::try_from(cell.as_slice()) else {
+        return *call;
+    };
+    if rm.dir == 0 || rng.once_in(2) {
+        return *call;
+    }
+    let mut octets = octets;
+    if rng.once_in(2) {
+        raise_level(&mut octets[6], rng);
+        tally.raised += 1;
+    }
+    if rng.once_in(2) {
+        lower_er(&mut octets, rm.er, rng);
+        tally.lowered += 1;
+    }
+    put_crc(&mut octets);
+    Call::Receive {
+        cell: Octets::cell(&octets),
+    }
+}
+
+/// Sets CI and NI to a level that is not lower.
+fn raise_level(bits: &mut u8, rng: &mut Rng) {
+    const CI: u8 = 0x20;
+    const NI: u8 = 0x10;
+    let ni = rng.pick(&[0, NI]);
+    let (clear, at_least_one) = (*bits & !(CI | NI), *bits & (CI | NI) == 0);
+    *bits = match at_least_one && rng.once_in(2) {
+        true => clear | NI,
+        false => clear | CI | ni,
+    };
+}
+
+/// Gives a cell an explicit rate that is not higher; bit 15 as it comes.
+fn lower_er(octets: &mut [u8; CELL_OCTETS], code: u32, rng: &mut Rng) {
+    let less = rng.below(u64::from(code) + 1) as u32;
+    let little = code.saturating_sub(rng.within(0, 300));
+    let lower = rng.pick(&[less, little, little]) | rng.pick(&[0, 0x8000]);
+    octets[7..9].copy_from_slice(&(lower as u16).to_be_bytes());
+}

@@ -1,0 +1,216 @@
+//! The checked values of document 01, through the safe binding, and the edges
+//! that need many cells.
+
+use abr::{Kind, Params, Refusal, Rm, Table, CELL_OCTETS, TIME_MAX};
+
+const MS: u64 = 1_000_000;
+/// The code of 1,000 cells per second, and its rate.
+const THOUSAND: u32 = 0x53E8;
+const RATE: u64 = 512_000;
+
+fn slot(table: &mut Table, time: u64) -> Option<(Kind, u64)> {
+    let mut cell = [0; CELL_OCTETS];
+    let sent = table.slot(time, &mut cell).expect("a good slot");
+    sent.map(|sent| (sent.kind, sent.acr))
+}
+
+fn kind(table: &mut Table, time: u64) -> Option<Kind> {
+    slot(table, time).map(|(kind, _)| kind)
+}
+
+fn backward(table: &mut Table, rm: Rm) {
+    let mut cell = [0; CELL_OCTETS];
+    let rm = Rm {
+        vci: 32,
+        backward: true,
+        ..rm
+    };
+    abr::write_rm(&rm, &mut cell).expect("fields in range");
+    table.receive(&cell).expect("a good cell");
+}
+
+/// VCI 32, opened at time 0.
+fn opened(params: &Params) -> Table {
+    let mut table = Table::new();
+    table.open(32, 0, params).expect("good parameters");
+    table
+}
+
+#[test]
+fn rate_codes() {
+    assert_eq!(abr::rate(0x4000), Ok(512));
+    assert_eq!(abr::rate(0x7FFF), Ok(2_196_875_771_904));
+    assert_eq!(abr::code(512_000), Ok(0x53E8));
+    assert_eq!(abr::code(1_023), Ok(0x41FF));
+    assert_eq!(abr::code(1_025), Ok(0x4200));
+    assert_eq!(abr::code(511), Ok(0));
+}
+
+#[test]
+fn header_check_of_00_00_00_01_is_52() {
+    let mut cell = [0; CELL_OCTETS];
+    cell[3] = 1;
+    let good = (0..=255).filter(|octet| {
+        cell[4] = *octet;
+        abr::read(&cell).is_ok()
+    });
+    assert_eq!(good.collect::<Vec<u8>>(), [0x52]);
+}
+
+#[test]
+fn feedback_values() {
+    // ACR 1,000 units, d 4, CI 1, MCR 512: 937.
+    let thousand_units = abr::code(1_000).unwrap();
+    let mut table = opened(&Params::house(0x7FFF, 0x4000, thousand_units));
+    assert_eq!(table.acr(32), Ok(1_000));
+    let ci = Rm {
+        ci: true,
+        er: 0x7FFF,
+        ..Rm::default()
+    };
+    backward(&mut table, ci);
+    assert_eq!(table.acr(32), Ok(937));
+    // PCR 512,000, r 4, ACR 500,000, no marks: 512,000.
+    let below = abr::code(500_000).unwrap();
+    let mut table = opened(&Params::house(THOUSAND, 0x4000, below));
+    assert_eq!(table.acr(32), Ok(499_712)); // the code rate below 500,000
+    let free = Rm {
+        er: 0x7FFF,
+        ..Rm::default()
+    };
+    backward(&mut table, free);
+    assert_eq!(table.acr(32), Ok(RATE));
+    // ACR 512,000, d 4, CI 1, ER 204,800, MCR 512: 204,800.
+    let mut table = opened(&Params::house(THOUSAND, 0x4000, THOUSAND));
+    let er = abr::code(204_800).unwrap();
+    backward(&mut table, Rm { er, ..ci });
+    assert_eq!(table.acr(32), Ok(204_800));
+}
+
+#[test]
+fn the_gap_is_kept_to_the_nanosecond() {
+    for (code, gap) in [(THOUSAND, MS), (abr::code(1_536).unwrap(), 333_333_334)] {
+        let mut table = opened(&Params::house(code, 0x4000, code));
+        table.offer(32, 2).unwrap();
+        assert_eq!(kind(&mut table, 0), Some(Kind::Forward));
+        assert_eq!(kind(&mut table, gap - 1), None);
+        assert_eq!(kind(&mut table, gap), Some(Kind::Data));
+    }
+}
+
+#[test]
+fn nrm_32_within_trm() {
+    // A million cells per second: 32 cells are well within Trm.
+    let fast = abr::code(512_000_000).unwrap();
+    let mut table = opened(&Params::house(fast, 0x4000, fast));
+    table.offer(32, 100).unwrap();
+    let kinds: Vec<_> = (0..33).map(|i| kind(&mut table, i * 10_000)).collect();
+    assert_eq!(kinds[0], Some(Kind::Forward));
+    assert!(kinds[1..32].iter().all(|kind| *kind == Some(Kind::Data)));
+    assert_eq!(kinds[32], Some(Kind::Forward));
+}
+
+#[test]
+fn trm_to_the_nanosecond() {
+    let fast = abr::code(512_000_000).unwrap();
+    for (time, expected) in [(100 * MS - 1, Kind::Data), (100 * MS, Kind::Forward)] {
+        let mut table = opened(&Params::house(fast, 0x4000, fast));
+        table.offer(32, 100).unwrap();
+        assert_eq!(kind(&mut table, 0), Some(Kind::Forward));
+        assert_eq!(kind(&mut table, 10_000), Some(Kind::Data));
+        assert_eq!(kind(&mut table, 20_000), Some(Kind::Data));
+        assert_eq!(kind(&mut table, time), Some(expected));
+    }
+}
+
+#[test]
+fn adtf_to_the_nanosecond() {
+    let (fast, slow) = (abr::code(512_000_000).unwrap(), THOUSAND);
+    let raised = RATE + abr::rate(fast).unwrap() / 16;
+    for (late, expected) in [(0, raised), (1, RATE)] {
+        let mut table = opened(&Params::house(fast, 0x4000, slow));
+        table.offer(32, 3).unwrap();
+        assert_eq!(slot(&mut table, 0), Some((Kind::Forward, RATE)));
+        let free = Rm {
+            er: 0x7FFF,
+            ..Rm::default()
+        };
+        backward(&mut table, free);
+        assert_eq!(table.acr(32), Ok(raised));
+        assert_eq!(kind(&mut table, MS), Some(Kind::Data));
+        assert_eq!(kind(&mut table, 2 * MS), Some(Kind::Data));
+        let adtf = 500 * MS;
+        assert_eq!(
+            slot(&mut table, adtf + late),
+            Some((Kind::Forward, expected))
+        );
+    }
+}
+
+#[test]
+fn ends_of_time_and_of_the_vcis() {
+    let params = Params::house(THOUSAND, 0x4000, THOUSAND);
+    let mut table = Table::new();
+    let mut cell = [0; CELL_OCTETS];
+    assert_eq!(table.slot(TIME_MAX + 1, &mut cell), Err(Refusal::Time));
+    assert_eq!(table.open(31, 0, &params), Err(Refusal::LowVci));
+    assert_eq!(table.open(32, TIME_MAX, &params), Ok(()));
+    assert_eq!(table.open(65_535, TIME_MAX, &params), Ok(()));
+    assert_eq!(table.open(65_536, TIME_MAX, &params), Err(Refusal::Range));
+    assert_eq!(table.slot(TIME_MAX, &mut cell), Ok(None));
+    assert_eq!(
+        table.slot(TIME_MAX - 1, &mut cell),
+        Err(Refusal::TimeBackward)
+    );
+}
+
+#[test]
+fn sixty_four_open_and_no_more_in_any_order() {
+    let params = Params::house(THOUSAND, 0x4000, THOUSAND);
+    let mut table = Table::new();
+    for i in 0..64 {
+        let vci = 32 + (i * 37) % 64;
+        assert_eq!(table.open(vci, 0, &params), Ok(()), "{vci}");
+    }
+    assert_eq!(table.open(96, 0, &params), Err(Refusal::Full));
+    assert_eq!(table.close(50), Ok(()));
+    assert_eq!(table.open(96, 0, &params), Ok(()));
+    assert_eq!(table.open(50, 0, &params), Err(Refusal::Full));
+    for vci in (32..97).filter(|vci| *vci != 50) {
+        table.offer(vci, 1).unwrap();
+    }
+    let mut cell = [0; CELL_OCTETS];
+    let order = (0..64).map(|_| table.slot(0, &mut cell).unwrap().unwrap().vci);
+    let expected = (32..97).filter(|vci| *vci != 50);
+    assert!(
+        order.eq(expected),
+        "first cells go in the order of the VCIs"
+    );
+}
+
+#[test]
+fn the_unanswered_count_reaches_crm_and_stops() {
+    // Nrm 2: every second cell is a forward cell. CRM is the largest.
+    const CRM: u64 = 8_388_608;
+    let fast = abr::code(512_000_000).unwrap();
+    let mut params = Params::house(fast, 0x4000, fast);
+    (params.n, params.c, params.crm) = (1, 1, CRM as u32);
+    let mut table = opened(&params);
+    let full = abr::rate(fast).unwrap();
+    table.offer(32, 1).unwrap();
+    let (mut time, mut forward) = (0, 0);
+    let mut next_forward = |table: &mut Table| loop {
+        time += 1_000_000_000;
+        if let (Kind::Forward, acr) = slot(table, time).expect("data waits") {
+            forward += 1;
+            return (forward, acr);
+        }
+        table.offer(32, 1).unwrap();
+    };
+    while next_forward(&mut table) != (CRM, full) {
+        assert_eq!(table.acr(32), Ok(full));
+    }
+    assert_eq!(next_forward(&mut table), (CRM + 1, full / 2));
+    assert_eq!(next_forward(&mut table), (CRM + 2, full / 4));
+    assert_eq!(next_forward(&mut table), (CRM + 3, full / 8));
+}
