@@ -3,7 +3,8 @@ pub mod Octets
 pub mod Header
 pub mod Fields
 pub mod Reading
+pub mod Writing
 pub mod Turning
+-- What is claimed of them: which cells are taken in, and what a turned cell is read as.
 pub mod Admitted
 pub mod Returned
-pub mod Writing

@@ -4,5 +4,7 @@ pub mod Receiving
 pub mod Ready
 pub mod Kind
 pub mod Sending
+-- What holds of every connection that calls made:
 pub mod Invariant
+-- For the code's own functions:
 pub mod Range
