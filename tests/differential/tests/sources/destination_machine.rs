@@ -1,0 +1,179 @@
+//! The destination machine of source document 001, and the transitions T8 to
+//! T12 by which its source machine queues what was turned.
+
+use abr::{Kind, Rm};
+
+use crate::station::{
+    paper, read, written, Station, BELOW_INITIAL_CODE, INITIAL_CODE, MS, THREE_HUNDRED_CODE, VCI,
+};
+
+/// A forward cell with these two marks, other fields set too.
+fn marked(ci: bool, ni: bool) -> Rm {
+    Rm {
+        vci: VCI,
+        ci,
+        ni,
+        ra: true,
+        er: THREE_HUNDRED_CODE,
+        ccr: INITIAL_CODE,
+        mcr: BELOW_INITIAL_CODE,
+        ql: 7,
+        sn: 9,
+        ..Rm::default()
+    }
+}
+
+/// The backward cell with the same fields.
+fn backward(forward: Rm) -> Rm {
+    Rm {
+        backward: true,
+        ..forward
+    }
+}
+
+/// The cell that a station turns, read: after its own first cell, at 5 ms.
+fn turned(station: &mut Station) -> Rm {
+    station.forward(0);
+    let sent = station.slot(5 * MS).expect("a cell waits");
+    assert_eq!(sent.kind, Kind::Turned);
+    read(&sent.cell)
+}
+
+/// How a forward cell comes back: under a congestion level, after data cells
+/// with these congestion marks.
+fn turn(level: u32, efci: &[bool], forward: Rm) -> Rm {
+    let mut station = Station::open(&paper());
+    station.set_level(level);
+    efci.iter().for_each(|efci| station.receive_data(*efci));
+    station.receive_forward(forward);
+    turned(&mut station)
+}
+
+/// CI and NI of a cell that came without marks, after it was turned.
+fn marks(level: u32, efci: &[bool]) -> (bool, bool) {
+    let cell = turn(level, efci, marked(false, false));
+    (cell.ci, cell.ni)
+}
+
+#[test]
+fn t1_the_last_data_cell_counts() {
+    assert_eq!(marks(0, &[true]), (true, false));
+    assert_eq!(marks(0, &[true, false]), (false, false));
+    assert_eq!(marks(0, &[false, true]), (true, false));
+}
+
+#[test]
+fn t2_turns_without_marks_and_keeps_those_of_the_way() {
+    for (ci, ni) in [(false, false), (false, true), (true, false), (true, true)] {
+        // All fields as received but DIR; the paper would clear CI and NI.
+        let forward = marked(ci, ni);
+        assert_eq!(turn(0, &[], forward), backward(forward));
+    }
+}
+
+#[test]
+fn t2_clears_bn() {
+    let forward = marked(false, false);
+    let bn = true;
+    let came_with_bn = Rm { bn, ..forward };
+    assert_eq!(turn(0, &[], came_with_bn), backward(forward));
+}
+
+#[test]
+fn t3_saved_efci_becomes_ci_once() {
+    let mut station = Station::open(&paper());
+    station.receive_data(true);
+    station.receive_forward(marked(false, true));
+    let first = turned(&mut station);
+    assert_eq!((first.ci, first.ni), (true, true)); // NI as received
+    station.receive_forward(marked(false, false));
+    let sent = station.slot(10 * MS).expect("a cell waits");
+    assert!(!read(&sent.cell).ci);
+}
+
+#[test]
+fn t4_and_t7_er_is_never_reduced() {
+    for level in [0, 1, 2] {
+        for efci in [false, true] {
+            let cell = turn(level, &[efci], marked(false, false));
+            assert_eq!(cell.er, THREE_HUNDRED_CODE);
+        }
+    }
+}
+
+#[test]
+fn t5_level_1_sets_ni() {
+    assert_eq!(marks(1, &[]), (false, true));
+    // CI as received; the paper would clear it.
+    assert!(turn(1, &[], marked(true, false)).ci);
+}
+
+#[test]
+fn t6_level_2_sets_ci() {
+    assert_eq!(marks(2, &[]), (true, false));
+    assert!(turn(2, &[], marked(false, true)).ni); // as received
+}
+
+#[test]
+fn t8_congestion_at_both_places() {
+    assert_eq!(marks(1, &[true]), (true, true));
+    assert_eq!(marks(2, &[true]), (true, false));
+}
+
+#[test]
+fn t8_the_level_of_the_arrival_counts() {
+    // Raised between the arrival and the sending: no mark.
+    let mut station = Station::open(&paper());
+    station.receive_forward(marked(false, false));
+    station.set_level(2);
+    assert!(!turned(&mut station).ci);
+}
+
+#[test]
+fn t9_and_t10_congestion_alone_makes_no_cell() {
+    let mut station = Station::open(&paper());
+    for level in [1, 2] {
+        station.set_level(level);
+        assert_eq!(station.slot(0), None);
+    }
+    station.offer(1);
+    station.forward(0);
+    assert_eq!(station.kind(5 * MS), Some(Kind::Data));
+    station.set_level(2);
+    assert_eq!(station.slot(1_000 * MS), None);
+}
+
+#[test]
+fn t14_an_empty_queue_takes_the_cell() {
+    let mut station = Station::open(&paper());
+    station.receive_forward(marked(false, false));
+    assert_eq!(turned(&mut station).sn, 9);
+    assert_eq!(station.slot(1_000 * MS), None); // k is 1 and nothing waits
+}
+
+#[test]
+fn t12_a_new_cell_drops_the_waiting_one() {
+    // The waiting cell was marked by EFCI; the new one comes without, and
+    // neither its marks nor its number are those of the first.
+    let mut station = Station::open(&paper());
+    station.receive_data(true);
+    station.receive_forward(marked(false, false));
+    let sn = 10;
+    let second = Rm {
+        sn,
+        ..marked(false, false)
+    };
+    station.receive_forward(second);
+    assert_eq!(turned(&mut station), backward(second));
+    // One cell waited, not two as after the rewriting of T11.
+    assert_eq!(station.slot(1_000 * MS), None);
+}
+
+#[test]
+fn a_turned_cell_is_octet_for_octet_the_backward_one() {
+    let mut station = Station::open(&paper());
+    station.receive_forward(marked(false, true));
+    station.forward(0);
+    let sent = station.slot(5 * MS).expect("a cell waits");
+    assert_eq!(sent.cell, written(&backward(marked(false, true))));
+}
