@@ -56,6 +56,7 @@ dist: $(LIB_GOAL)
 
 bench: $(LIB_GOAL)
 	bench/run
+	bench/worst
 
 soak: $(LIB_GOAL)
 	cargo run --release --quiet -p differential --bin soak -- $(SEED)

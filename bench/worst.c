@@ -1,0 +1,121 @@
+/*
+ * One call in the scene that costs it most, for an instruction count: 64 connections are open, the one concerned sits
+ * in the last seat, and in a slot every seat is ready before the ones in front of it. The call stands in measured().
+ */
+#include <stdio.h>
+#include <string.h>
+
+#include "abr.h"
+
+static abr_table table;
+static uint8_t cell[ABR_CELL_OCTETS];
+static abr_rm rm = {95, 0, 0, 1, 0, 0, 0x53E8, 0x5000, 0x4000, 7, 9};
+static abr_params params;
+static abr_sent sent;
+static abr_cell content;
+static uint64_t rate;
+static uint32_t code;
+
+#define LAST 95
+#define SECOND ((uint64_t)1000000000)
+
+enum call { SLOT, RECEIVE, OPEN, CLOSE, OFFER, LEVEL, ACR, WRITE, READ, CODE, RATE };
+
+static const struct {
+    const char *name;
+    enum call call;
+} scenes[] = {
+    {"slot, forward cell", SLOT},         {"slot, turned cell", SLOT},
+    {"slot, data", SLOT},                 {"receive, forward cell", RECEIVE},
+    {"receive, backward cell", RECEIVE},  {"receive, data", RECEIVE},
+    {"open", OPEN},   {"close", CLOSE},   {"offer", OFFER},
+    {"set level", LEVEL}, {"acr", ACR},   {"write", WRITE},
+    {"read", READ},   {"code", CODE},     {"rate", RATE},
+};
+
+uint32_t measured(enum call call);
+
+__attribute__((noinline, noclone)) uint32_t measured(enum call call)
+{
+    switch (call) {
+    case SLOT: return abr_slot(&table, 3 * SECOND, cell, sizeof cell, &sent);
+    case RECEIVE: return abr_receive(&table, cell, sizeof cell);
+    case OPEN: return abr_open(&table, LAST, 3 * SECOND, &params);
+    case CLOSE: return abr_close(&table, LAST);
+    case OFFER: return abr_offer(&table, LAST, 1);
+    case LEVEL: return abr_set_level(&table, 2);
+    case ACR: return abr_acr(&table, LAST, &rate);
+    case WRITE: return abr_write_rm(&rm, cell, sizeof cell);
+    case READ: return abr_read(cell, sizeof cell, &content);
+    case CODE: return abr_code(ABR_RATE_MAX, &code);
+    case RATE: return abr_rate(ABR_CODE_MAX, &rate);
+    }
+    return 0;
+}
+
+/* Seats 0 to 63, each with a higher rate than the one before it, so that it is due earlier after a cell at one time. */
+static void fill(uint32_t n)
+{
+    for (uint32_t seat = 0; seat < 64; seat++) {
+        abr_house(0x7FFF, 0x4000, 0x5000 + 64 * seat, &params);
+        params.n = n;
+        abr_open(&table, 32 + seat, 0, &params);
+        abr_offer(&table, 32 + seat, 100);
+    }
+}
+
+/* Every connection sends one cell at this time. */
+static void round_at(uint64_t time)
+{
+    for (int slot = 0; slot < 64; slot++) {
+        abr_slot(&table, time, cell, sizeof cell, &sent);
+    }
+}
+
+static void cell_in(uint32_t dir)
+{
+    rm.dir = dir;
+    abr_write_rm(&rm, cell, sizeof cell);
+}
+
+/* A data cell for the last seat, its octet 5 found by trying. */
+static void data_in(void)
+{
+    static const uint8_t header[] = {0x00, 0x00, 0x05, 0xF0};
+    memcpy(cell, header, sizeof header);
+    for (unsigned octet = 0; octet < 256; octet++) {
+        cell[4] = (uint8_t)octet;
+        if (abr_read(cell, sizeof cell, &content) == ABR_OK) {
+            return;
+        }
+    }
+}
+
+static void set_scene(const char *name)
+{
+    fill(strcmp(name, "slot, forward cell") == 0 ? 1 : 5);
+    round_at(0);
+    round_at(SECOND);
+    cell_in(strcmp(name, "receive, backward cell") == 0);
+    if (strcmp(name, "slot, turned cell") == 0) {
+        abr_receive(&table, cell, sizeof cell);
+    } else if (strcmp(name, "receive, data") == 0) {
+        data_in();
+    } else if (strcmp(name, "open") == 0) {
+        abr_close(&table, LAST);
+    }
+}
+
+/* With no word: the names of the scenes. With one: that scene. */
+int main(int argc, char **argv)
+{
+    for (size_t scene = 0; scene < sizeof scenes / sizeof scenes[0]; scene++) {
+        if (argc < 2) {
+            puts(scenes[scene].name);
+        } else if (strcmp(argv[1], scenes[scene].name) == 0) {
+            set_scene(argv[1]);
+            return measured(scenes[scene].call) != ABR_OK;
+        }
+    }
+    return argc > 1;
+}
