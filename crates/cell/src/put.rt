@@ -1,6 +1,6 @@
 // Stores into a cell of 53 octets: a header, and a payload eight octets at a time.
 ghost use mathlib.Core.Path.{_≡_};
-ghost use mathlib.Core.List.{_++_};
+ghost use mathlib.Core.List.{_++_, reverse};
 ghost use Prim.Native.Nat.{_≤_};
 ghost use lib.ListN.{length, take, drop};
 ghost use lib.Seq.{sets};
@@ -9,19 +9,34 @@ ghost use Rattle.cell.specs.Header.{header};
 use crc::header::header_check;
 use crc::payload::Payload;
 
+// The octets of w in the other order. A processor that keeps a word's lowest octet first then stores the word at once.
+fn swapped(w: u64) -> u64
+    ensures { λ r. ⌜ wordOctets r ≡ reverse (wordOctets w) ⌝ }
+{
+    w % 256 * 0x100000000000000
+        + w / 0x100 % 256 * 0x1000000000000
+        + w / 0x10000 % 256 * 0x10000000000
+        + w / 0x1000000 % 256 * 0x100000000
+        + w / 0x100000000 % 256 * 0x1000000
+        + w / 0x10000000000 % 256 * 0x10000
+        + w / 0x1000000000000 % 256 * 0x100
+        + w / 0x100000000000000 % 256
+}
+
 // The eight octets of w, from index at on.
 fn put_word(cell: &mut [u8], at: usize, w: u64)
     requires { ⌜ (length (now cell) ≡ 53) × (at ≤ 45) ⌝ }
     ensures { λ _. ⌜ now (cell .exit) ≡ sets (now (cell .entry)) at (wordOctets w) ⌝ }
 {
-    cell[at] = (w / 0x100000000000000 % 256) as u8;
-    cell[at + 1] = (w / 0x1000000000000 % 256) as u8;
-    cell[at + 2] = (w / 0x10000000000 % 256) as u8;
-    cell[at + 3] = (w / 0x100000000 % 256) as u8;
-    cell[at + 4] = (w / 0x1000000 % 256) as u8;
-    cell[at + 5] = (w / 0x10000 % 256) as u8;
-    cell[at + 6] = (w / 0x100 % 256) as u8;
-    cell[at + 7] = (w % 256) as u8;
+    let v = swapped(w);
+    cell[at] = (v % 256) as u8;
+    cell[at + 1] = (v / 0x100 % 256) as u8;
+    cell[at + 2] = (v / 0x10000 % 256) as u8;
+    cell[at + 3] = (v / 0x1000000 % 256) as u8;
+    cell[at + 4] = (v / 0x100000000 % 256) as u8;
+    cell[at + 5] = (v / 0x10000000000 % 256) as u8;
+    cell[at + 6] = (v / 0x1000000000000 % 256) as u8;
+    cell[at + 7] = (v / 0x100000000000000 % 256) as u8;
 }
 
 // Octets 6 to 53.

@@ -1,10 +1,13 @@
--- Eight stores, each within the cell.
+-- Eight stores, each within the cell, of the swapped word from its lowest octet on.
 use native.Mathlib.Omega.{arith}
 use lib.ListN.{length-set}
-use Rattle.cell.proofs.Stores.{eight}
+use Rattle.cell.proofs.Stores.{word-put}
 use borrow.Author.Needs.{needs}
 use Rattle.cell.proofs.put.put_word.Statement.{statement}
 use Rattle.cell.proofs.put.put_word.Tie as tie
+
+swapped-requires : tie.Need-swapped-requires
+swapped-requires c κs = search needs
 
 cast-cell : tie.Need-cast-cell
 cast-cell c = search needs
@@ -79,12 +82,15 @@ same-length : tie.Need-same-length
 same-length c = simp length-set
 
 returns : tie.Need-returns
-returns c = eight (c .args .cell .now) (c .args .at) _ _ _ _ _ _ _ _
+returns c =
+    let s = c .before .before in
+    word-put (s .args .cell .now) (s .args .at) (c .swapped .result) (s .args .w) (c .swapped .ensures)
 
 pub put-word-spec : {M : Type 1} → statement M
 put-word-spec =
     tie.close
     (tie.spec
+    swapped-requires
     cast-cell
     slice-write-cell
     cast-cell-2
