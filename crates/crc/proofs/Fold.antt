@@ -71,14 +71,23 @@ module _ (w g : ℕ) (degree : g / 2 ^ w ≡ 1) where
       ∙ rem-append m n 0 y h
       ∙ ap (λ (r : ℕ). divide w g r (bits n y)) (ap (divide w g 0) (bits-zero m) ∙ up-zero m)
 
+  -- nor does the number of bits that hold it
+  rem-wide : (n b q h : ℕ) → q + b ≡ n → h < 2 ^ q → rem q h ≡ rem n h
+  rem-wide n b q h e hq = sym (rem-more b q h hq) ∙ ap (λ (m : ℕ). rem m h) (add-comm b q ∙ e)
+
+  -- a number b places up
+  pub rem-up : (n b q h : ℕ) → q + b ≡ n → h < 2 ^ q → rem n (h * 2 ^ b) ≡ up b (rem n h)
+  rem-up n b q h e hq =
+      ap₂ rem (sym e) (sym (add-zero (h * 2 ^ b))) ∙ rem-append q b h 0 (pow-pos b) ∙ ap₂ (divide w g) (rem-wide n b q h e hq) (bits-zero b)
+
   -- the bits from a on may give way to a z that has their remainder
-  swap : (n a p x z : ℕ) → p + a ≡ n → rem n z ≡ up a (rem p (x / 2 ^ a)) → rem n (bitXor (x % 2 ^ a) z) ≡ rem n x
-  swap n a p x z e h =
+  pub swap : (n a p x z : ℕ) → p + a ≡ n → x / 2 ^ a < 2 ^ p → rem n z ≡ up a (rem n (x / 2 ^ a)) → rem n (bitXor (x % 2 ^ a) z) ≡ rem n x
+  swap n a p x z e hp h =
       let l : ℕ = x % 2 ^ a in
       let r : ℕ = rem p (x / 2 ^ a) in
       let hl : l < 2 ^ a = mod-lt x (pow-pos a) in
       rem-xor n l z
-      ∙ ap₂ bitXor (ap (λ (m : ℕ). rem m l) (sym e) ∙ rem-more p a l hl) h
+      ∙ ap₂ bitXor (ap (λ (m : ℕ). rem m l) (sym e) ∙ rem-more p a l hl) (h ∙ ap (up a) (sym (rem-wide n a p (x / 2 ^ a) e hp)))
       ∙ xor-comm (rem a l) (up a r)
       ∙ sym (ap₂ rem (sym e) (sym (split x a)) ∙ rem-append p a (x / 2 ^ a) l hl ∙ apart a r l (rem-lt p (x / 2 ^ a)))
 
@@ -92,16 +101,12 @@ module _ (w g : ℕ) (degree : g / 2 ^ w ≡ 1) where
   fold n a b p q k x ea eb kp kq hx law =
       let h : ℕ = x / 2 ^ a in
       let hk : h < 2 ^ k = shr-lt k a hx in
-      let hp : h < 2 ^ p = lt-of-lt-of-le hk (pow-mono kp) in
-      let hq : h < 2 ^ q = lt-of-lt-of-le hk (pow-mono kq) in
-      let r : ℕ = rem p h in
-      let same : rem n h ≡ r = ap (λ (m : ℕ). rem m h) (sym ea ∙ add-comm p a) ∙ rem-more a p h hp in
-      let qs : rem q h ≡ r = sym (rem-more b q h hq) ∙ ap (λ (m : ℕ). rem m h) (add-comm b q ∙ eb) ∙ same in
-      swap n a p x (bitXor h (h * 2 ^ b)) ea
+      let r : ℕ = rem n h in
+      swap n a p x (bitXor h (h * 2 ^ b)) ea (lt-of-lt-of-le hk (pow-mono kp))
       (rem-xor n h (h * 2 ^ b)
-      ∙ ap₂ bitXor same
-      (ap₂ rem (sym eb) (sym (add-zero (h * 2 ^ b))) ∙ rem-append q b h 0 (pow-pos b) ∙ ap₂ (divide w g) qs (bits-zero b))
-      ∙ xor-comm r (up b r) ∙ sym (law r (rem-lt p h)))
+      ∙ ap (bitXor r) (rem-up n b q h eb (lt-of-lt-of-le hk (pow-mono kq)))
+      ∙ xor-comm r (up b r)
+      ∙ sym (law r (rem-lt n h)))
 
   up-up : (m n r : ℕ) → up n (up m r) ≡ up (m + n) r
   up-up m n r = sym (divide-append w g r (replicate m 0) (replicate n 0)) ∙ ap (divide w g r) (replicate-append-replicate m n 0)

@@ -1,17 +1,20 @@
 -- The header check, octet by octet.
-use mathlib.Core.Path.{_≡_, refl, sym, ap, ap₂, _∙_}
+use mathlib.Core.Path.{_≡_, refl, sym, ap, ap₂, _∙_, subst}
 use mathlib.Core.List.{List, [], _∷_, _++_, append-assoc}
-use Prim.Native.Nat.{ℕ, _+_, _%_, _<_}
-use native.Mathlib.Nat.{mod-eq-of-lt, zero-add}
+use Prim.Native.Nat.{ℕ, _+_, _*_, _/_, _%_, _^_, _≤_, _<_}
+use native.Mathlib.Nat.{lt-of-lt-of-le, mod-eq-of-lt, mod-lt, zero-add}
 use native.Mathlib.Omega.{arith}
 use lib.Bits.{bitXor, xor-lt}
-use lib.Dec.{lit<}
+use lib.Dec.{lit<, lit≤}
 use lib.ListN.{replicate}
+use lib.Pow.{pow-pos}
 use Rattle.crc.specs.Remainder.{bring, divide, remainder, bits, octetBits}
 use Rattle.crc.specs.Checks.{headerCheck}
+use Rattle.crc.specs.Folding.{times, foldedOctet}
+use Rattle.crc.proofs.Below.{agree}
 use Rattle.crc.proofs.Bits.{bits-binary, octets-binary}
 use Rattle.crc.proofs.Division.{divide-append, divide-low, remainder-lt}
-use Rattle.crc.proofs.Fold.{apart}
+use Rattle.crc.proofs.Fold.{apart, rem, rem-lt, rem-more, rem-up, rem-xor, swap, up}
 
 -- the remainder of an octet times x ^ 8
 abbrev pub X8 : ℕ → ℕ
@@ -36,7 +39,7 @@ Octets [] = Unit
 Octets (o ∷ os) = (o < 256) × Octets os
 
 -- each octet is added to what the octets before it left, and the sum goes up by x ^ 8
-abbrev direct : ℕ → List ℕ → ℕ
+abbrev pub direct : ℕ → List ℕ → ℕ
 direct r [] = r
 direct r (o ∷ os) = direct (X8 (bitXor r o)) os
 
@@ -54,7 +57,7 @@ unfolding remainder divide bring bits
 X8-zero = refl
 
 pub header-is : (a b c d : ℕ) → a < 256 → b < 256 → c < 256 → d < 256
-    → headerCheck (a ∷ b ∷ c ∷ d ∷ []) ≡ bitXor (X8 (bitXor (X8 (bitXor (X8 (bitXor (X8 a) b)) c)) d)) 0x55
+    → headerCheck (a ∷ b ∷ c ∷ d ∷ []) ≡ bitXor (direct (X8 a) (b ∷ c ∷ d ∷ [])) 0x55
 unfolding headerCheck remainder
 header-is a b c d ha hb hc hd =
     ap (λ (x : ℕ). bitXor x 0x55)
@@ -65,3 +68,80 @@ header-is a b c d ha hb hc hd =
 pub header-lt : (os : List ℕ) → headerCheck os < 256
 unfolding headerCheck
 header-lt os = xor-lt 8 (remainder 8 0x107 (octetBits os)) 0x55 (remainder-lt 8 0x107 refl (octetBits os) (octets-binary os)) (lit< tt)
+
+-- ---- the octets carried, and folded down only at the end
+
+-- the remainder of a number of 16 bits
+abbrev by8 : ℕ → ℕ
+by8 v = rem 8 0x107 refl 16 v
+
+octet-own : (b : ℕ) → b < 256 → by8 b ≡ b
+octet-own b h = rem-more 8 0x107 refl 8 8 b h ∙ low8 b h
+
+-- x^8 has the remainder of x^2 + x + 1
+law8 : (r : ℕ) → r < 256 → up 8 0x107 refl 8 r ≡ bitXor (bitXor r (up 8 0x107 refl 1 r)) (up 8 0x107 refl 2 r)
+unfolding divide bring
+law8 r h = agree (λ r. up 8 0x107 refl 8 r) (λ r. bitXor (bitXor r (up 8 0x107 refl 1 r)) (up 8 0x107 refl 2 r)) 256 tt r h
+
+times-up : (v : ℕ) → v < 2 ^ 14 → by8 (times v) ≡ up 8 0x107 refl 8 (by8 v)
+times-up v h =
+    rem-xor 8 0x107 refl 16 (bitXor v (v * 2)) (v * 4)
+    ∙ ap₂ bitXor
+    (rem-xor 8 0x107 refl 16 v (v * 2) ∙ ap (bitXor (by8 v)) (rem-up 8 0x107 refl 16 1 15 v refl (omega arith)))
+    (rem-up 8 0x107 refl 16 2 14 v refl h)
+    ∙ sym (law8 (by8 v) (rem-lt 8 0x107 refl 16 v))
+
+times-lt : (n v : ℕ) → v * 4 < 2 ^ n → times v < 2 ^ n
+times-lt n v h = xor-lt n (bitXor v (v * 2)) (v * 4) (xor-lt n v (v * 2) (omega arith) (omega arith)) h
+
+-- folded, a number has the remainder that it had, and 10 bits if it had 16, 8 if it had 10
+fold-keeps : (v : ℕ) → v < 2 ^ 16 → by8 (foldedOctet v) ≡ by8 v
+fold-keeps v h = swap 8 0x107 refl 16 8 8 v (times (v / 256)) refl (omega arith) (times-up (v / 256) (omega arith))
+
+fold-lt : (n v : ℕ) → 2 ^ 8 ≤ 2 ^ n → v / 256 * 4 < 2 ^ n → foldedOctet v < 2 ^ n
+fold-lt n v hn h = xor-lt n (v % 256) (times (v / 256)) (lt-of-lt-of-le (mod-lt v (pow-pos 8)) hn) (times-lt n (v / 256) h)
+
+-- an octet times x^2 + x + 1, and the two bits that then stand above the octet times that again, is the remainder of the octet times x^8
+pub octet-formula : (b : ℕ) → b < 256 → foldedOctet (times b) ≡ remainder 8 0x107 (bits 8 b)
+octet-formula b h =
+    let l : times b < 2 ^ 10 = times-lt 10 b (omega arith) in
+    sym (octet-own (foldedOctet (times b)) (fold-lt 8 (times b) (lit≤ tt) (omega arith)))
+    ∙ fold-keeps (times b) (omega arith)
+    ∙ times-up b (omega arith)
+    ∙ ap (up 8 0x107 refl 8) (octet-own b h)
+    ∙ sym (X8-is b h)
+
+-- an octet more is added to what is carried, which goes up by x ^ 8 and has two bits more
+pub record Carried (n v r : ℕ) : Type 0 where
+  pub size : v < 2 ^ n
+  pub same : by8 v ≡ r
+  pub low : r < 256
+
+pub carried-lt : {n v r : ℕ} (o : ℕ) → Carried n v r → 2 ^ 8 ≤ 2 ^ n → o < 256 → bitXor v o < 2 ^ n
+carried-lt {n} {v} o c hn ho = xor-lt n v o (c .size) (lt-of-lt-of-le ho hn)
+
+pub carry : {n v r : ℕ} (k o : ℕ) {u : ℕ} → Carried n v r → 2 ^ 8 ≤ 2 ^ n → 2 ^ n ≤ 2 ^ 14 → 2 ^ n * 4 ≤ 2 ^ k → o < 256 → u ≡ times (bitXor v o)
+    → Carried k u (X8 (bitXor r o))
+carry {n} {v} {r} k o {u} c hn h14 hk ho e =
+    let l : bitXor v o < 2 ^ n = carried-lt o c hn ho in
+    record {
+      size = subst (λ (z : ℕ). z < 2 ^ k) (sym e) (times-lt k (bitXor v o) (omega arith));
+      same =
+          ap by8 e
+          ∙ times-up (bitXor v o) (omega arith)
+          ∙ ap (up 8 0x107 refl 8) (rem-xor 8 0x107 refl 16 v o ∙ ap₂ bitXor (c .same) (octet-own o ho))
+          ∙ sym (X8-is (bitXor r o) (xor-lt 8 r o (c .low) ho));
+      low = X8-lt (bitXor r o);
+    }
+
+-- the first octet
+pub carried : (a : ℕ) {u : ℕ} → a < 256 → u ≡ times a → Carried 10 u (X8 a)
+carried a h e = carry {n = 8} 10 a (record { size = lit< tt; same = octet-own 0 (lit< tt); low = lit< tt }) (lit≤ tt) (lit≤ tt) (lit≤ tt) h e
+
+-- all four, folded twice
+pub folded-down : {v r f g : ℕ} → Carried 16 v r → f ≡ foldedOctet v → g ≡ foldedOctet f → (g ≡ r) × (g < 256)
+folded-down {v} {r} {f} {g} c ef eg =
+    let hv : v < 2 ^ 16 = c .size in
+    let hf : f < 2 ^ 10 = subst (λ (z : ℕ). z < 2 ^ 10) (sym ef) (fold-lt 10 v (lit≤ tt) (omega arith)) in
+    let hg : g < 2 ^ 8 = subst (λ (z : ℕ). z < 2 ^ 8) (sym eg) (fold-lt 8 f (lit≤ tt) (omega arith)) in
+    (sym (octet-own g hg) ∙ ap by8 eg ∙ fold-keeps f (omega arith) ∙ ap by8 ef ∙ fold-keeps v hv ∙ c .same, hg)

@@ -1,26 +1,33 @@
 // The header check, octet by octet, without a table. (Document 01, "The cell, 53 octets"; document 02, L3.)
 ghost use mathlib.Core.Path.{_≡_};
 ghost use mathlib.Core.List.{[], _∷_};
-ghost use Rattle.crc.specs.Remainder.{bits, remainder};
+ghost use Prim.Native.Nat.{_<_};
 ghost use Rattle.crc.specs.Checks.{headerCheck};
+ghost use Rattle.crc.specs.Folding.{times, foldedOctet};
 
-// The remainder of b times x^8: b times x^2 + x + 1, and the two bits that then stand above the octet times that again.
-pub fn octet_remainder(b: u8) -> u8
-    ensures { λ r. ⌜ r ≡ remainder 8 0x107 (bits 8 b) ⌝ }
+// v times x^2 + x + 1, whose remainder is that of v times x^8.
+fn times(v: u16) -> u16
+    requires { ⌜ v < 0x4000 ⌝ }
+    ensures { λ r. ⌜ r ≡ times v ⌝ }
 {
-    let w = b as u16;
-    let p = w ^ (w << 1) ^ (w << 2);
-    let h = p >> 8;
-    ((p & 0xff) ^ h ^ (h << 1) ^ (h << 2)) as u8
+    v ^ (v * 2) ^ (v * 4)
 }
 
-// Octet 5 of a header, from octets 1 to 4.
+// The bits above the octet brought down.
+fn fold(v: u16) -> u16
+    ensures { λ r. ⌜ r ≡ foldedOctet v ⌝ }
+{
+    (v % 256) ^ times(v / 256)
+}
+
+// Octet 5 of a header, from octets 1 to 4. Each octet makes what is carried two bits longer, 16 bits at the end; only then are those above the octet brought
+// down: of 8 bits 2 are left, and of these none.
 pub fn header_check(a: u8, b: u8, c: u8, d: u8) -> u8
     ensures { λ r. ⌜ r ≡ headerCheck (a ∷ b ∷ c ∷ d ∷ []) ⌝ }
 {
-    let one = octet_remainder(a);
-    let two = octet_remainder(one ^ b);
-    let three = octet_remainder(two ^ c);
-    let four = octet_remainder(three ^ d);
-    four ^ 0x55
+    let one = times(a as u16);
+    let two = times(one ^ b as u16);
+    let three = times(two ^ c as u16);
+    let four = times(three ^ d as u16);
+    (fold(fold(four)) ^ 0x55) as u8
 }
