@@ -1,6 +1,8 @@
-//! Library and reference under one set of names, each as directly as it goes.
+//! Library and reference under one set of names, each as directly as it goes:
+//! what a caller holds in memory anyway is made before.
 
 use std::hint::black_box;
+use std::mem::MaybeUninit;
 
 use abr::ffi;
 use reference::{Params, Rm};
@@ -10,32 +12,43 @@ pub type Octets = [u8; abr::CELL_OCTETS];
 
 /// What both sides can do. Answers go to the black box.
 pub trait Engine {
+    /// The parameters of an open, as this side takes them.
+    type Params;
+    /// The fields of an RM cell, as this side takes them.
+    type Rm;
+
+    fn params(params: &Params) -> Self::Params;
+    fn rm(rm: &Rm) -> Self::Rm;
+
     /// An empty table.
     fn empty() -> Self;
-    fn open(&mut self, vci: u32, time: u64, params: &Params);
+    fn open(&mut self, vci: u32, time: u64, params: &Self::Params);
     fn close(&mut self, vci: u32);
     fn offer(&mut self, vci: u32, cells: u64);
     fn receive(&mut self, cell: &Octets);
     fn slot(&mut self, time: u64, buffer: &mut Octets);
-    fn write_rm(rm: &Rm, buffer: &mut Octets);
+    fn set_level(&mut self, level: u32);
+    fn acr(&self, vci: u32);
+
+    fn write_rm(rm: &Self::Rm, buffer: &mut Octets);
     fn read(cell: &Octets);
+    fn code(rate: u64);
+    fn rate(code: u32);
+    /// The house set with one code for the three rates.
+    fn house(code: u32);
 }
 
 /// The sealed library over its C interface.
 pub struct Library {
-    table: Box<ffi::abr_table>,
+    pub table: Box<ffi::abr_table>,
 }
 
 impl Engine for Library {
-    fn empty() -> Self {
-        let words = [0; ffi::ABR_TABLE_WORDS];
-        Library {
-            table: Box::new(ffi::abr_table { words }),
-        }
-    }
+    type Params = ffi::abr_params;
+    type Rm = ffi::abr_rm;
 
-    fn open(&mut self, vci: u32, time: u64, params: &Params) {
-        let params = ffi::abr_params {
+    fn params(params: &Params) -> ffi::abr_params {
+        ffi::abr_params {
             pcr: params.pcr,
             mcr: params.mcr,
             icr: params.icr,
@@ -46,9 +59,35 @@ impl Engine for Library {
             crm: params.crm,
             adtf: params.adtf,
             trm: params.trm,
-        };
+        }
+    }
+
+    fn rm(rm: &Rm) -> ffi::abr_rm {
+        ffi::abr_rm {
+            vci: rm.vci,
+            dir: rm.dir,
+            bn: rm.bn,
+            ci: rm.ci,
+            ni: rm.ni,
+            ra: rm.ra,
+            er: rm.er,
+            ccr: rm.ccr,
+            mcr: rm.mcr,
+            ql: rm.ql,
+            sn: rm.sn,
+        }
+    }
+
+    fn empty() -> Self {
+        let words = [0; ffi::ABR_TABLE_WORDS];
+        Library {
+            table: Box::new(ffi::abr_table { words }),
+        }
+    }
+
+    fn open(&mut self, vci: u32, time: u64, params: &ffi::abr_params) {
         // SAFETY: here and below every pointer is live and every length true.
-        black_box(unsafe { ffi::abr_open(&mut *self.table, vci, time, &params) });
+        black_box(unsafe { ffi::abr_open(&mut *self.table, vci, time, params) });
     }
 
     fn close(&mut self, vci: u32) {
@@ -64,42 +103,64 @@ impl Engine for Library {
     }
 
     fn slot(&mut self, time: u64, buffer: &mut Octets) {
-        let mut sent = ffi::abr_sent::default();
         let (at, len) = (buffer.as_mut_ptr(), buffer.len());
-        black_box(unsafe { ffi::abr_slot(&mut *self.table, time, at, len, &mut sent) });
-        black_box(sent);
+        told(|sent| unsafe { ffi::abr_slot(&mut *self.table, time, at, len, sent) });
     }
 
-    fn write_rm(rm: &Rm, buffer: &mut Octets) {
-        let rm = ffi::abr_rm {
-            vci: rm.vci,
-            dir: rm.dir,
-            bn: rm.bn,
-            ci: rm.ci,
-            ni: rm.ni,
-            ra: rm.ra,
-            er: rm.er,
-            ccr: rm.ccr,
-            mcr: rm.mcr,
-            ql: rm.ql,
-            sn: rm.sn,
-        };
-        black_box(unsafe { ffi::abr_write_rm(&rm, buffer.as_mut_ptr(), buffer.len()) });
+    fn set_level(&mut self, level: u32) {
+        black_box(unsafe { ffi::abr_set_level(&mut *self.table, level) });
+    }
+
+    fn acr(&self, vci: u32) {
+        told(|acr| unsafe { ffi::abr_acr(&*self.table, vci, acr) });
+    }
+
+    fn write_rm(rm: &ffi::abr_rm, buffer: &mut Octets) {
+        black_box(unsafe { ffi::abr_write_rm(rm, buffer.as_mut_ptr(), buffer.len()) });
     }
 
     fn read(cell: &Octets) {
-        let mut read = ffi::abr_cell::default();
-        black_box(unsafe { ffi::abr_read(cell.as_ptr(), cell.len(), &mut read) });
-        black_box(read);
+        told(|read| unsafe { ffi::abr_read(cell.as_ptr(), cell.len(), read) });
     }
+
+    fn code(rate: u64) {
+        told(|code| unsafe { ffi::abr_code(rate, code) });
+    }
+
+    fn rate(code: u32) {
+        told(|rate| unsafe { ffi::abr_rate(code, rate) });
+    }
+
+    fn house(code: u32) {
+        told(|params| unsafe { ffi::abr_house(code, code, code, params) });
+    }
+}
+
+/// A call with a place for what it tells, which is not cleared before.
+#[inline(always)]
+fn told<T, A>(call: impl FnOnce(*mut T) -> A) {
+    let mut place = MaybeUninit::<T>::uninit();
+    black_box(call(place.as_mut_ptr()));
+    black_box(&place);
 }
 
 /// The plain reference.
 pub struct Plain {
-    engine: reference::Engine,
+    pub engine: reference::Engine,
 }
 
 impl Engine for Plain {
+    type Params = Params;
+    type Rm = Rm;
+
+    fn params(params: &Params) -> Params {
+        *params
+    }
+
+    fn rm(rm: &Rm) -> Rm {
+        *rm
+    }
+
     fn empty() -> Self {
         Plain {
             engine: reference::Engine::new(),
@@ -107,30 +168,50 @@ impl Engine for Plain {
     }
 
     fn open(&mut self, vci: u32, time: u64, params: &Params) {
-        let _ = black_box(self.engine.open(vci, time, params));
+        black_box(&self.engine.open(vci, time, params));
     }
 
     fn close(&mut self, vci: u32) {
-        let _ = black_box(self.engine.close(vci));
+        black_box(&self.engine.close(vci));
     }
 
     fn offer(&mut self, vci: u32, cells: u64) {
-        let _ = black_box(self.engine.offer(vci, cells));
+        black_box(&self.engine.offer(vci, cells));
     }
 
     fn receive(&mut self, cell: &Octets) {
-        let _ = black_box(self.engine.receive(cell));
+        black_box(&self.engine.receive(cell));
     }
 
     fn slot(&mut self, time: u64, buffer: &mut Octets) {
-        let _ = black_box(self.engine.slot(time, buffer));
+        black_box(&self.engine.slot(time, buffer));
+    }
+
+    fn set_level(&mut self, level: u32) {
+        black_box(&self.engine.set_level(level));
+    }
+
+    fn acr(&self, vci: u32) {
+        black_box(&self.engine.acr(vci));
     }
 
     fn write_rm(rm: &Rm, buffer: &mut Octets) {
-        let _ = black_box(reference::write_rm(rm, buffer));
+        black_box(&reference::write_rm(rm, buffer));
     }
 
     fn read(cell: &Octets) {
-        let _ = black_box(reference::read(cell));
+        black_box(&reference::read(cell));
+    }
+
+    fn code(rate: u64) {
+        black_box(&reference::code_of(rate));
+    }
+
+    fn rate(code: u32) {
+        black_box(&reference::rate(code));
+    }
+
+    fn house(code: u32) {
+        black_box(&Params::house(code, code, code));
     }
 }

@@ -10,19 +10,21 @@
 mod draw;
 mod engines;
 mod measure;
+mod scene;
 mod work;
 
 use std::process::ExitCode;
 
 use engines::{Library, Plain};
-use work::{Work, WORKS};
+use scene::Scene;
+use work::WORKS;
 
 fn main() -> ExitCode {
     let words: Vec<String> = std::env::args().skip(1).collect();
     let words: Vec<&str> = words.iter().map(String::as_str).collect();
     match words[..] {
         [] => measure::table(),
-        ["names"] => WORKS.iter().for_each(|(name, ..)| println!("{name}")),
+        ["names"] => WORKS.iter().for_each(|row| println!("{}", row.name)),
         ["times"] => measure::columns(),
         ["picture", path] => return picture(path),
         ["count", name, side] => return count(name, side, 1_000),
@@ -42,12 +44,12 @@ fn usage() -> ExitCode {
 
 /// Runs one work in the function that callgrind looks at.
 fn count(name: &str, side: &str, calls: u64) -> ExitCode {
-    let Some((_, _, work)) = WORKS.iter().find(|(known, ..)| *known == name) else {
+    let Some(row) = WORKS.iter().find(|row| row.name == name) else {
         return usage();
     };
     match side {
-        "library" => work::Bench::<Library>::new(*work).counted(calls),
-        "reference" => work::Bench::<Plain>::new(*work).counted(calls),
+        "library" => Scene::<Library>::new(row.connections, row.work).counted(calls),
+        "reference" => Scene::<Plain>::new(row.connections, row.work).counted(calls),
         _ => return usage(),
     }
     ExitCode::SUCCESS
@@ -66,9 +68,4 @@ fn picture(path: &str) -> ExitCode {
             ExitCode::FAILURE
         }
     }
-}
-
-/// A slot with this many busy connections.
-pub fn slot_work(connections: u32) -> Work {
-    Work::Slot { connections, n: 5 }
 }
