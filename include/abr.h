@@ -39,7 +39,7 @@ extern "C" {
 /* ---- Limits ------------------------------------------------------------ */
 
 /* The words of a table. */
-#define ABR_TABLE_WORDS 1794
+#define ABR_TABLE_WORDS 1859
 
 /* The octets of a cell, the only length that any buffer may have. */
 #define ABR_CELL_OCTETS 53

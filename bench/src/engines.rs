@@ -144,7 +144,8 @@ fn told<T, A>(call: impl FnOnce(*mut T) -> A) {
     black_box(&place);
 }
 
-/// The plain reference.
+/// The plain reference. None of its calls is inlined into the loop that measures
+/// it, since a call of the sealed library cannot be.
 pub struct Plain {
     pub engine: reference::Engine,
 }
@@ -167,50 +168,62 @@ impl Engine for Plain {
         }
     }
 
+    #[inline(never)]
     fn open(&mut self, vci: u32, time: u64, params: &Params) {
         black_box(&self.engine.open(vci, time, params));
     }
 
+    #[inline(never)]
     fn close(&mut self, vci: u32) {
         black_box(&self.engine.close(vci));
     }
 
+    #[inline(never)]
     fn offer(&mut self, vci: u32, cells: u64) {
         black_box(&self.engine.offer(vci, cells));
     }
 
+    #[inline(never)]
     fn receive(&mut self, cell: &Octets) {
         black_box(&self.engine.receive(cell));
     }
 
+    #[inline(never)]
     fn slot(&mut self, time: u64, buffer: &mut Octets) {
         black_box(&self.engine.slot(time, buffer));
     }
 
+    #[inline(never)]
     fn set_level(&mut self, level: u32) {
         black_box(&self.engine.set_level(level));
     }
 
+    #[inline(never)]
     fn acr(&self, vci: u32) {
         black_box(&self.engine.acr(vci));
     }
 
+    #[inline(never)]
     fn write_rm(rm: &Rm, buffer: &mut Octets) {
         black_box(&reference::write_rm(rm, buffer));
     }
 
+    #[inline(never)]
     fn read(cell: &Octets) {
         black_box(&reference::read(cell));
     }
 
+    #[inline(never)]
     fn code(rate: u64) {
         black_box(&reference::code_of(rate));
     }
 
+    #[inline(never)]
     fn rate(code: u32) {
         black_box(&reference::rate(code));
     }
 
+    #[inline(never)]
     fn house(code: u32) {
         black_box(&Params::house(code, code, code));
     }

@@ -56,7 +56,7 @@ static void make_objects(void)
 static uint64_t odd_word(void)
 {
     static const uint64_t odd[] = {0, 1, 2, 31, 32, 53, 63, 64, 65, 255, 256, 65535, 65536,
-                                   1793, 1794, 1ULL << 32, 1ULL << 62, 1ULL << 63};
+                                   1858, 1859, 1ULL << 32, 1ULL << 62, 1ULL << 63};
     uint64_t word = next();
     switch (word & 7) {
     case 0: return ~0ULL - (next() & 63);

@@ -4,7 +4,7 @@
 #![allow(non_camel_case_types, missing_docs)]
 
 /// The words of a table.
-pub const ABR_TABLE_WORDS: usize = 1794;
+pub const ABR_TABLE_WORDS: usize = 1859;
 
 /// The state of an engine; all zero when empty.
 #[repr(C)]

@@ -1,18 +1,23 @@
 -- Reading takes a cell exactly when the format admits it.
-use mathlib.Core.Path.{_≡_, refl, _∙_}
+use mathlib.Core.Path.{_≡_, refl, sym, _∙_, subst}
 use mathlib.Core.Bool.{Bool, true, false, cond}
 use mathlib.Core.List.{List}
 use Prim.Native.Nat.{ℕ, _/_, _%_}
 use native.Mathlib.Omega.{arith}
 use borrow.Author.Tests.{eq-eqb, eqb-true, leb-true}
 use lib.Dec.{eqb, leb}
-use lib.ListN.{length}
-use Rattle.cell.specs.Octets.{octet}
+use lib.ListN.{length, length-drop}
+use lib.Seq.{getD-drop}
+use Rattle.crc.specs.Checks.{payloadCheck}
+use Rattle.crc.specs.Payload.{payloadOf}
+use Rattle.crc.specs.declared.payload.Payload.{Payload}
+use Rattle.cell.specs.Octets.{octet, pair, payload, AreOctets}
 use Rattle.cell.specs.Header.{vpiOf, vciOf, typeOf, headerRight}
-use Rattle.cell.specs.Fields.{Fields, fieldsOf, crcRight}
+use Rattle.cell.specs.Fields.{Fields, fieldsOf, crcRight, Checked}
 use Rattle.cell.specs.Reading.{Reading, User, Resource, need, reading}
 use Rattle.cell.specs.Admitted.{Admissible, userCell, rmCell, Admitted, Taken}
-use Rattle.cell.proofs.Readings.{takes-user, takes-rest, takes-fields}
+use Rattle.cell.proofs.OctetLists.{octets-drop}
+use Rattle.cell.proofs.Readings.{words-checked, takes-user, takes-rest, takes-fields}
 
 need-test : (n : ℕ) (t : Bool) (r : Reading) → Taken (need n t r) → t ≡ true
 unfolding need
@@ -52,7 +57,7 @@ module _ (o : List ℕ) where
   -- what an admitted cell is read as
   data Outcome : Type 0 where
     userRead : User (vciOf o) (eqb (typeOf o / 2 % 2) 1) ≡ reading o → Outcome
-    resourceRead : octet 6 o ≡ 1 → Resource (fieldsOf o) ≡ reading o → Outcome
+    resourceRead : pair 52 o % 1024 ≡ payloadCheck (payload o) → octet 6 o ≡ 1 → Resource (fieldsOf o) ≡ reading o → Outcome
 
   outcome : Admitted o → Outcome
   unfolding headerRight crcRight
@@ -63,23 +68,35 @@ module _ (o : List ℕ) where
 
       of : Admissible o → Outcome
       of (userCell t) = userRead (takes-user o (h .size) check (h .vpi) t)
-      of (rmCell t w p) = resourceRead p (takes-fields o (eq-eqb _ _ w) p ∙ takes-rest o (h .size) check (h .vpi) t)
+      of (rmCell t w p) = resourceRead w p (takes-fields o (eq-eqb _ _ w) p ∙ takes-rest o (h .size) check (h .vpi) t)
 
   pub admitted-taken : Admitted o → Taken (reading o)
   admitted-taken h n e = refuted (outcome h)
     where
       refuted : Outcome → ⊥
       refuted (userRead u) = let z : _≡_ {A = ℕ} 0 1 = cc in omega arith
-      refuted (resourceRead p u) = let z : _≡_ {A = ℕ} 0 1 = cc in omega arith
+      refuted (resourceRead w p u) = let z : _≡_ {A = ℕ} 0 1 = cc in omega arith
 
-  -- a cell read as an RM cell is of protocol 1, and the fields are its own
+  -- a cell read as an RM cell is whole, has the right CRC-10 and is of protocol 1, and the fields are its own
   pub record Received (f : Fields) : Type 0 where
+    pub size : length o ≡ 53
+    pub check : pair 52 o % 1024 ≡ payloadCheck (payload o)
     pub protocol : octet 6 o ≡ 1
     pub fields : f ≡ fieldsOf o
 
   pub resource-received : (f : Fields) → reading o ≡ Resource f → Received f
-  resource-received f e = received (outcome (taken-admitted (λ n r. let z : _≡_ {A = ℕ} 0 1 = cc in omega arith)))
+  resource-received f e = received (outcome admitted)
     where
+      admitted : Admitted o
+      admitted = taken-admitted (λ n r. let z : _≡_ {A = ℕ} 0 1 = cc in omega arith)
+
       received : Outcome → Received f
       received (userRead u) = let z : _≡_ {A = ℕ} 0 1 = cc in absurd (omega arith)
-      received (resourceRead p u) = record { protocol = p; fields = cc }
+      received (resourceRead w p u) = record { size = admitted .size; check = w; protocol = p; fields = cc }
+
+  -- so the words of its payload have the right CRC-10, as turning them asks
+  pub received-checked : (f : Fields) {p : Payload} → reading o ≡ Resource f → AreOctets o → p ≡ payloadOf (payload o) → Checked p
+  received-checked f e a q =
+      let r : Received f = resource-received f e in
+      let n : length o ≡ 53 = r .size in
+      subst Checked (sym q) (words-checked (payload o) (simp length-drop (omega arith)) (octets-drop 5 o a) (simp getD-drop (r .check)))

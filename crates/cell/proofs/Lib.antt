@@ -7,4 +7,5 @@ pub mod Written
 pub mod Turned
 pub mod Stores
 pub mod PayloadWords
+pub mod Changes
 pub mod Writes

@@ -1,8 +1,11 @@
 -- Lists of octets, put together and taken apart.
 use mathlib.Core.List.{List, [], _∷_, _++_}
 use Prim.Native.Nat.{ℕ, zero, suc, _<_}
+use native.Mathlib.Omega.{arith}
 use lib.Dec.{lit<}
 use lib.ListN.{getD, take, drop, replicate}
+use Rattle.crc.specs.Payload.{wordOctets, octetsOf}
+use Rattle.crc.specs.declared.payload.Payload.{Payload}
 use Rattle.cell.specs.Octets.{AreOctets}
 
 pub octets-nil : AreOctets []
@@ -35,3 +38,19 @@ octets-drop (suc n) (x ∷ l) a = octets-drop n l (octets-tail a)
 pub octets-replicate : (n : ℕ) {x : ℕ} → x < 256 → AreOctets (replicate n x)
 octets-replicate zero h = octets-nil
 octets-replicate (suc n) h = octets-cons h (octets-replicate n h)
+
+-- the octets of a payload's words
+pub octets-words : (p : Payload) → AreOctets (octetsOf p)
+octets-words p =
+    octets-append (wordOctets (p .a)) _ (word (p .a))
+    (octets-append (wordOctets (p .b)) _ (word (p .b))
+    (octets-append (wordOctets (p .c)) _ (word (p .c))
+    (octets-append (wordOctets (p .d)) _ (word (p .d)) (octets-append (wordOctets (p .e)) _ (word (p .e)) (word (p .f))))))
+  where
+    word : (w : ℕ) → AreOctets (wordOctets w)
+    word w =
+        octets-cons (omega arith)
+        (octets-cons (omega arith)
+        (octets-cons (omega arith)
+        (octets-cons (omega arith)
+        (octets-cons (omega arith) (octets-cons (omega arith) (octets-cons (omega arith) (octets-cons (omega arith) octets-nil)))))))

@@ -88,19 +88,19 @@ second-octet w m h = made (w / 0x100000000000000) (w / 0x1000000000000) (w % 0x1
         ap (λ (x : ℕ). drop 2 (wordOctets x)) apart ∙ low-octets (a * 256 + m) l ∙ sym (ap (λ (x : ℕ). drop 2 (wordOctets x)) e ∙ low-octets k l) in
         ap₂ (λ (x y : ℕ). x % 256 ∷ y ∷ drop 2 (wordOctets v)) top next ∙ ap (λ (t : List ℕ). a % 256 ∷ m ∷ t) low
 
+-- a payload with these bits in octet 7, the second of its first word
+abbrev pub remarked : Payload → ℕ → Payload
+remarked p m = record {
+  a = p .a / 0x100000000000000 * 0x100000000000000 + m * 0x1000000000000 + p .a % 0x1000000000000;
+  b = p .b;
+  c = p .c;
+  d = p .d;
+  e = p .e;
+  f = p .f;
+}
+
 pub turn-words : (p : Payload) (level : ℕ) (efci : Bool) (m : ℕ) → m ≡ turnedMarks level efci (p .a / 0x1000000000000 % 256) → m < 256
-    → payloadOf
-    (sealed
-    (octetsOf
-    (record {
-      a = p .a / 0x100000000000000 * 0x100000000000000 + m * 0x1000000000000 + p .a % 0x1000000000000;
-      b = p .b;
-      c = p .c;
-      d = p .d;
-      e = p .e;
-      f = p .f;
-    })))
-    ≡ payloadOf (turnedPayload level efci (octetsOf p))
+    → payloadOf (sealed (octetsOf (remarked p m))) ≡ payloadOf (turnedPayload level efci (octetsOf p))
 unfolding turnedPayload
 turn-words p level efci m e h =
     let w : ℕ = p .a in

@@ -8,14 +8,15 @@ use lib.Dec.{lit<}
 use lib.ListN.{length, getD, take, length-append, List·getD-append}
 use lib.Seq.{length-take-le, getD-take, getD-at, getD-append-add}
 use Rattle.crc.specs.Checks.{headerCheck, payloadCheck}
+use Rattle.crc.specs.Payload.{payloadOf}
 use Rattle.crc.proofs.Octets.{header-lt}
 use Rattle.crc.proofs.Check.{payload-lt, payload-own}
 use Rattle.cell.specs.Octets.{octet, AreOctets}
 use Rattle.cell.specs.Header.{header, firstFour, vciOf, headerRight}
-use Rattle.cell.specs.Fields.{fieldsOf, sealed, crcRight}
+use Rattle.cell.specs.Fields.{fieldsOf, sealed, crcRight, Checked}
 use Rattle.cell.specs.Reading.{reading, Resource}
 use Rattle.cell.proofs.OctetLists.{octets-nil, octets-cons, octets-append, octets-take}
-use Rattle.cell.proofs.Readings.{takes-rest, takes-fields}
+use Rattle.cell.proofs.Readings.{words-checked, takes-rest, takes-fields}
 
 module _ (p : List ℕ) (n : length p ≡ 48) where
   first : length (take 46 p) ≡ 46
@@ -58,6 +59,9 @@ module _ (p : List ℕ) (n : length p ≡ 48) where
       let high : getD p 46 0 / 4 * 4 + payloadCheck p / 256 < 256 = omega arith in
       let low : payloadCheck p % 256 < 256 = omega arith in
       octets-append (take 46 p) _ (octets-take 46 p a) (octets-cons high (octets-cons low octets-nil))
+
+  pub sealed-checked : AreOctets p → Checked (payloadOf (sealed p))
+  sealed-checked a = words-checked (sealed p) sealed-size (sealed-octets a) sealed-right
 
   module _ (clp vci : ℕ) where
     abbrev pub carried : List ℕ

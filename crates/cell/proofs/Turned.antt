@@ -45,7 +45,7 @@ module _ (level : ℕ) (efci : Bool) (x : ℕ) where
   unfolding turnedMarks
   marks-ni = omega (arith, mark-le (efci || eqb level 2) (x / 32), mark-le (eqb level 1) (x / 16))
 
-  marks-low : turnedMarks level efci x % 16 ≡ x % 16
+  pub marks-low : turnedMarks level efci x % 16 ≡ x % 16
   unfolding turnedMarks
   marks-low = omega (arith, mark-le (efci || eqb level 2) (x / 32), mark-le (eqb level 1) (x / 16))
 

@@ -1,10 +1,13 @@
 -- The fields of an RM cell, in its octets and out of them. (Document 01, "The cell, 53 octets"; the ranges are those of refusal 7.)
 use Prim.Native.Nat.{ℕ, _+_, _*_, _/_, _%_}
+use mathlib.Core.Path.{_≡_}
 use mathlib.Core.Bool.{Bool, _&&_}
 use mathlib.Core.List.{List, [], _∷_, _++_}
 use lib.Dec.{leb, eqb}
 use lib.ListN.{getD, take, replicate}
 use Rattle.crc.specs.Checks.{payloadCheck}
+use Rattle.crc.specs.Payload.{octetsOf}
+use Rattle.crc.specs.declared.payload.Payload.{Payload}
 use Rattle.cell.specs.Octets.{octet, pair, two, payload}
 use Rattle.cell.specs.Header.{vciOf, header}
 pub use Rattle.cell.specs.declared.fields.Fields.{Fields}
@@ -49,3 +52,7 @@ resourceCell clp f = header clp (f .vci) ++ sealed (body f ++ (0 ∷ 0 ∷ []))
 -- whether the ten bits of the CRC-10 are right
 unfoldable pub crcRight : List ℕ → Bool
 crcRight o = eqb (pair 52 o % 1024) (payloadCheck (payload o))
+
+-- the same of a payload's words: the low ten bits of the last are its CRC-10
+pub record Checked (p : Payload) : Type 0 where
+  pub crc : p .f % 1024 ≡ payloadCheck (octetsOf p)

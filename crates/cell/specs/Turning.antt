@@ -13,6 +13,10 @@ use Rattle.cell.specs.Fields.{sealed}
 unfoldable pub turnedMarks : (level : ℕ) (efci : Bool) → ℕ → ℕ
 turnedMarks level efci x = 128 + cond (efci || eqb level 2) 1 (x / 32 % 2) * 32 + cond (eqb level 1) 1 (x / 16 % 2) * 16 + x % 16
 
+-- a payload with no bits set but these four, the high ones of octet 7
+abbrev pub marksAlone : ℕ → Payload
+marksAlone n = record { a = n * 0x10000000000000; b = 0; c = 0; d = 0; e = 0; f = 0 }
+
 -- the payload of 48 octets, received and then turned
 unfoldable pub turnedPayload : (level : ℕ) (efci : Bool) → List ℕ → List ℕ
 turnedPayload level efci p = sealed (getD p 0 0 ∷ turnedMarks level efci (getD p 1 0) ∷ drop 2 p)

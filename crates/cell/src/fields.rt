@@ -2,6 +2,7 @@
 ghost use mathlib.Core.Path.{_≡_};
 ghost use Prim.Native.Nat.{_+_, _*_, _/_, _%_};
 ghost use lib.ListN.{length};
+ghost use Rattle.cell.specs.Header.{vciOf};
 ghost use Rattle.cell.specs.Fields.{fieldsFit, fieldsOf};
 
 pub struct Fields {
@@ -51,11 +52,19 @@ fn long(a: u8, b: u8, c: u8, d: u8) -> u32
     pair(a, b) * 65536 + pair(c, d)
 }
 
-// The VCI, from octets 2 to 4.
-pub fn vci_of(b: u8, c: u8, d: u8) -> u32
+// The 16 bits from the low half of b to the high half of d.
+fn vci(b: u8, c: u8, d: u8) -> u32
     ensures { λ r. ⌜ r ≡ b % 16 * 4096 + c * 16 + d / 16 ⌝ }
 {
     (b % 16) as u32 * 4096 + c as u32 * 16 + (d / 16) as u32
+}
+
+// The VCI, from octets 2 to 4.
+pub fn vci_of(cell: &[u8]) -> u32
+    requires { ⌜ length (now cell) ≡ 53 ⌝ }
+    ensures { λ r. ⌜ r ≡ vciOf (now (cell .entry)) ⌝ }
+{
+    vci(cell[1], cell[2], cell[3])
 }
 
 // What an RM cell carries: of each rate code the 15 low bits.
@@ -65,7 +74,7 @@ pub fn fields_of(cell: &[u8]) -> Fields
 {
     let marks = cell[6] as u32;
     Fields {
-        vci: vci_of(cell[1], cell[2], cell[3]),
+        vci: vci_of(cell),
         dir: marks / 128 % 2,
         bn: marks / 64 % 2,
         ci: marks / 32 % 2,

@@ -1,11 +1,11 @@
 // Reading a cell (document 01, "The cell, 53 octets" and "Refused because of the input").
 ghost use mathlib.Core.Path.{_≡_};
-ghost use lib.Dec.{eqb};
+ghost use Prim.Native.Nat.{_/_, _%_};
+ghost use lib.Dec.{leb, eqb};
 ghost use lib.ListN.{length};
-ghost use Rattle.cell.specs.Octets.{octet};
-ghost use Rattle.cell.specs.Header.{headerRight};
-ghost use Rattle.cell.specs.Fields.{fieldsOf, crcRight};
-ghost use Rattle.cell.specs.Reading.{need, reading, Resource};
+ghost use Rattle.cell.specs.Header.{typeOf, headerRight};
+ghost use Rattle.cell.specs.Fields.{crcRight};
+ghost use Rattle.cell.specs.Reading.{reading, HeaderMeets, RestMeets};
 use crate::fields::Fields;
 use crate::fields::fields_of;
 use crate::fields::vci_of;
@@ -37,42 +37,76 @@ fn crc_right(cell: &[u8]) -> bool
     p.f % 1024 == crc10(p)
 }
 
-// The rest of a cell whose header says that it is an RM cell.
-fn read_resource(cell: &[u8]) -> Reading
+// The refusal that the header meets; 0 if it is that of a data or an RM cell.
+pub fn header_refusal(cell: &[u8]) -> u32
+    ensures { λ n. ⌜ HeaderMeets (now (cell .entry)) n ⌝ }
+{
+    if cell.len() != 53 {
+        return 1;
+    }
+    if !header_right(cell) {
+        return 2;
+    }
+    if cell[0] % 16 * 16 + cell[1] / 16 != 0 {
+        return 3;
+    }
+    let kind = cell[3] / 2 % 8;
+    if kind <= 3 {
+        return 0;
+    }
+    if kind != 6 {
+        return 4;
+    }
+    0
+}
+
+// The payload types 0 to 3 are those of data cells.
+pub fn is_data(cell: &[u8]) -> bool
     requires { ⌜ length (now cell) ≡ 53 ⌝ }
-    ensures { λ r. ⌜ r ≡ need 5 (crcRight (now (cell .entry))) (need 6 (eqb (octet 6 (now (cell .entry))) 1) (Resource (fieldsOf (now (cell .entry))))) ⌝ }
+    ensures { λ r. ⌜ r ≡ leb (typeOf (now (cell .entry))) 3 ⌝ }
+{
+    cell[3] / 2 % 8 <= 3
+}
+
+// A data cell's EFCI is the middle bit of its payload type.
+pub fn efci_of(cell: &[u8]) -> bool
+    requires { ⌜ length (now cell) ≡ 53 ⌝ }
+    ensures { λ r. ⌜ r ≡ eqb (typeOf (now (cell .entry)) / 2 % 2) 1 ⌝ }
+{
+    cell[3] / 2 % 8 / 2 % 2 == 1
+}
+
+// The refusal that the rest of an RM cell meets; 0 if none.
+pub fn resource_refusal(cell: &[u8]) -> u32
+    requires { ⌜ length (now cell) ≡ 53 ⌝ }
+    ensures { λ n. ⌜ RestMeets (now (cell .entry)) n ⌝ }
 {
     if !crc_right(cell) {
-        return Reading::Refused(5);
+        return 5;
     }
     if cell[5] != 1 {
-        return Reading::Refused(6);
+        return 6;
     }
-    Reading::Resource(fields_of(cell))
+    0
 }
 
 // Reads any octets as a cell.
 pub fn read(cell: &[u8]) -> Reading
     ensures { λ r. ⌜ r ≡ reading (now (cell .entry)) ⌝ }
 {
-    if cell.len() != 53 {
-        return Reading::Refused(1);
+    let first = header_refusal(cell);
+    if first != 0 {
+        return Reading::Refused(first);
     }
-    if !header_right(cell) {
-        return Reading::Refused(2);
-    }
-    if cell[0] % 16 * 16 + cell[1] / 16 != 0 {
-        return Reading::Refused(3);
-    }
-    let kind = cell[3] / 2 % 8;
-    if kind <= 3 {
+    if is_data(cell) {
         return Reading::User {
-            vci: vci_of(cell[1], cell[2], cell[3]),
-            efci: kind / 2 % 2 == 1,
+            vci: vci_of(cell),
+            efci: efci_of(cell),
         };
     }
-    if kind != 6 {
-        return Reading::Refused(4);
+    let second = resource_refusal(cell);
+    if second != 0 {
+        return Reading::Refused(second);
     }
-    read_resource(cell)
+    Reading::Resource(fields_of(cell))
 }

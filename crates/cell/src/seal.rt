@@ -1,13 +1,13 @@
 // The CRC-10 of a payload written new (document 01, "The cell, 53 octets").
 ghost use mathlib.Core.Path.{_≡_};
 ghost use Rattle.crc.specs.Payload.{octetsOf, payloadOf};
-ghost use Rattle.cell.specs.Fields.{sealed};
+ghost use Rattle.cell.specs.Fields.{sealed, Checked};
 use crc::crc10::crc10;
 use crc::payload::Payload;
 
 // The CRC-10 takes the low ten bits of the last word.
 pub fn seal(p: Payload) -> Payload
-    ensures { λ r. ⌜ r ≡ payloadOf (sealed (octetsOf p)) ⌝ }
+    ensures { λ r. ⌜ (r ≡ payloadOf (sealed (octetsOf p))) × Checked r ⌝ }
 {
     let check = crc10(p);
     Payload {

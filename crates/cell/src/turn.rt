@@ -4,10 +4,11 @@ ghost use mathlib.Core.Bool.{cond};
 ghost use Prim.Native.Nat.{_≤_, _<_, _%_};
 ghost use lib.ListN.{length};
 ghost use Rattle.crc.specs.Payload.{octetsOf, payloadOf};
-ghost use Rattle.cell.specs.Turning.{turnedMarks, turnedPayload, turnedCell};
+ghost use Rattle.crc.specs.Checks.{payloadCheck};
+ghost use Rattle.cell.specs.Fields.{Checked};
+ghost use Rattle.cell.specs.Turning.{turnedMarks, marksAlone, turnedPayload, turnedCell};
 use crate::put::put_header;
 use crate::put::put_payload;
-use crate::seal::seal;
 use crc::payload::Payload;
 
 // A bit that a mark sets; without the mark, the low bit of x.
@@ -29,22 +30,30 @@ fn turned_marks(level: u32, efci: bool, x: u64) -> u64
     128 + ci * 32 + ni * 16 + x % 16
 }
 
-// The payload to send back, from the received one. Octet 7 is the second of the first word.
+// The CRC-10 of a payload with no bits set but these, the four high ones of octet 7: the remainders of x^375, x^374, x^373 and x^372.
+fn marks_check(n: u64) -> u64
+    requires { ⌜ n < 16 ⌝ }
+    ensures { λ r. ⌜ (r ≡ payloadCheck (octetsOf (marksAlone n))) × (r < 1024) ⌝ }
+{
+    (n / 8 * 0x18b) ^ (n / 4 % 2 * 0x3dc) ^ (n / 2 % 2 * 0x1ee) ^ (n % 2 * 0xf7)
+}
+
+// The payload to send back, from the received one. Octet 7 is the second of the first word. The CRC-10 is linear, so that what changes in octet 7 says what
+// changes in the CRC-10 received, which was found right.
 pub fn turn(p: Payload, level: u32, efci: bool) -> Payload
+    requires { ⌜ Checked p ⌝ }
     ensures { λ r. ⌜ r ≡ payloadOf (turnedPayload level efci (octetsOf p)) ⌝ }
 {
-    let marks = turned_marks(level, efci, p.a / 0x1000000000000 % 256);
-    let marked = Payload {
-        a: p.a / 0x100000000000000 * 0x100000000000000
-            + marks * 0x1000000000000
-            + p.a % 0x1000000000000,
+    let x = p.a / 0x1000000000000 % 256;
+    let changed = (x ^ turned_marks(level, efci, x)) / 16;
+    Payload {
+        a: p.a ^ (changed * 0x10000000000000),
         b: p.b,
         c: p.c,
         d: p.d,
         e: p.e,
-        f: p.f,
-    };
-    seal(marked)
+        f: p.f ^ marks_check(changed),
+    }
 }
 
 // The cell that carries a turned payload.

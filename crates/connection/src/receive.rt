@@ -1,6 +1,7 @@
 // What an offer, or a received cell, makes of its connection (document 01, "Opening", "Four moves of the allowed rate" and "Turning cells round").
 ghost use mathlib.Core.Path.{_≡_};
 ghost use Prim.Native.Nat.{_+_, _≤_};
+ghost use Rattle.cell.specs.Fields.{Checked};
 ghost use Rattle.connection.specs.Parts.{waiting};
 ghost use Rattle.connection.specs.Receiving.{offered, marked, answered, turningWords};
 use crate::obey::obeyed;
@@ -41,8 +42,9 @@ pub fn answered(f: Fields, c: Connection) -> Connection
     if f.bn == 0 { moved.counting(0) } else { moved }
 }
 
-// A forward cell becomes the one waiting cell, from the words of its payload; the saved EFCI is used up.
+// A forward cell, whose CRC-10 was found right, becomes the one waiting cell, from the words of its payload; the saved EFCI is used up.
 pub fn turning(level: u32, p: Payload, c: Connection) -> Connection
+    requires { ⌜ Checked p ⌝ }
     ensures { λ r. ⌜ r ≡ turningWords level p c ⌝ }
 {
     let turned = Waiting::Cell(turn(p, level, c.back.efci));

@@ -1,7 +1,7 @@
 -- Folding: where x ^ a has the remainder of x ^ b + 1, the bits of a number from a on may be added to it at b and at 0.
 use mathlib.Core.Path.{_≡_, sym, ap, ap₂, _∙_}
 use mathlib.Core.List.{List}
-use Prim.Native.Nat.{ℕ, zero, _+_, _*_, _/_, _%_, _^_, _<_, _≤_}
+use Prim.Native.Nat.{ℕ, _+_, _*_, _/_, _%_, _^_, _<_, _≤_}
 use native.Mathlib.Nat.{add-comm, add-zero, le-add-right, le-trans, lt-of-lt-of-le, mod-lt, zero-add, zero-mul}
 use lib.Bits.{bitXor, xor-comm, xor-lt, xor-self, xor-zero-l, xor-zero-r}
 use lib.ListN.{replicate, replicate-append-replicate}

@@ -15,14 +15,15 @@ use Rattle.table.specs.State.{State, Seat, free, taken, find, put, levelled}
 use Rattle.table.specs.Invariant.{Whole}
 use Rattle.table.specs.Layout.{words}
 use Rattle.table.specs.Loading.{connectionAt}
-use Rattle.table.specs.Storing.{updated, cleared}
+use Rattle.table.specs.Storing.{sentBy, cleared}
 use Rattle.table.proofs.Words.{clear-at}
-use Rattle.table.proofs.Found.{Located, found-at}
+use Rattle.table.specs.Finding.{Located}
+use Rattle.table.proofs.Found.{found-at}
 use Rattle.engine.specs.Call.{Answer, Refused, Accepted, Outcome}
 use Rattle.engine.specs.Step.{refuse, accept, require, ofOpen, closeStep, offerStep, levelStep}
 use Rattle.engine.specs.declared.acr.Acr.the-variants.{NotOpen, Rate}
 use Rattle.engine.specs.Queries.{acrOf, seatAcr}
-use Rattle.engine.proofs.Outs.{refused-out, accepted-out, loaded-is, put-at, updated-is}
+use Rattle.engine.proofs.Outs.{refused-out, accepted-out, loaded-is, put-at, front-is}
 
 -- Set level.
 pub level-over : (s : State) (l : ℕ) → 2 < l → levelStep s l ≡ refuse s 9
@@ -43,7 +44,7 @@ unfolding closeStep ofOpen
 close-done s v c e = rw e
 
 pub cleared-is : (s : State) → Whole s → {l m : List ℕ} → l ≡ words s → {v i : ℕ} → i < 64 → Located (s .seats) v i → m ≡ cleared l i → m ≡ words (put v free s)
-cleared-is s w e {v} {i} h p q = q ∙ ap (λ (x : List ℕ). cleared x i) e ∙ clear-at s (w .size) i h ∙ ap words (sym (put-at s v (p .place) free))
+cleared-is s w e {v} {i} h p q = q ∙ ap (λ (x : List ℕ). cleared x i) e ∙ clear-at s (w .size) i h (p .holder) (p .seat) ∙ ap words (sym (put-at s v (p .place) free))
 
 -- Reading an ACR.
 pub acr-missing : (s : State) (v : ℕ) → find v (s .seats) ≡ free → NotOpen ≡ acrOf s v
@@ -72,6 +73,10 @@ offered-same : (n : ℕ) (c : Connection) → Same c (offered n c)
 unfolding offered
 offered-same n c = record { name = refl; opened = refl; trm = refl; params = refl }
 
+offered-back : (n : ℕ) (c : Connection) → offered n c .back ≡ c .back
+unfolding offered
+offered-back n c = refl
+
 -- the seat's connection, as it was loaded
 module _ (s : State) (w : Whole s) {l : List ℕ} (e : l ≡ words s) (v n i : ℕ) (h : i < 64) (p : Located (s .seats) v i) (d : Connection) (q : d ≡ connectionAt l i) where
   is : d ≡ p .holder
@@ -82,10 +87,10 @@ module _ (s : State) (w : Whole s) {l : List ℕ} (e : l ≡ words s) (v n i : �
       refused-out s 15 e (over-step s v n (p .holder) (found-at p) (subst (λ (x : Connection). 65535 < waiting (x .load) + n) is g))
 
   pub offer-done :
-      {m : List ℕ} (x : Connection) → x ≡ offered n d → m ≡ updated l i x → waiting (d .load) + n ≤ 65535
+      {m : List ℕ} (x : Connection) → x ≡ offered n d → m ≡ sentBy l i x → waiting (d .load) + n ≤ 65535
       → (m ≡ words (offerStep s v n .state)) × (Accepted ≡ offerStep s v n .answer)
   offer-done x a b g =
       let y : x ≡ offered n (p .holder) = a ∙ ap (offered n) is in
       accepted-out (put v (taken (offered n (p .holder))) s)
-      (updated-is s w e h p (offered n (p .holder)) (offered-same n (p .holder)) (b ∙ ap (updated l i) y))
+      (front-is s w e h p (offered n (p .holder)) (offered-same n (p .holder)) (offered-back n (p .holder)) (b ∙ ap (sentBy l i) y))
       (done-step s v n (p .holder) (found-at p) (subst (λ (c : Connection). waiting (c .load) + n ≤ 65535) is g))

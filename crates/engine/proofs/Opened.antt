@@ -15,11 +15,11 @@ use Rattle.table.specs.State.{State, Seat, free, taken, find, seated, roomLeft,
 use Rattle.table.specs.Invariant.{Whole}
 use Rattle.table.specs.Layout.{words}
 use Rattle.table.specs.Storing.{stored}
-use Rattle.table.specs.Finding.{Sought, NotBelow}
+use Rattle.table.specs.Finding.{Inside, Vacant, FindsFree}
 use Rattle.table.specs.declared.find.Found.{Found}
 use Rattle.table.specs.declared.find.Found.the-variants.{At, Nothing}
 use Rattle.table.proofs.Words.{store-at}
-use Rattle.table.proofs.Found.{lowest-at, room-at, room-none}
+use Rattle.table.proofs.Seats.{lowest-free}
 use Rattle.engine.specs.Call.{Refused, Accepted}
 use Rattle.engine.specs.Step.{refuse, accept, require, openStep}
 use Rattle.engine.proofs.Outs.{refused-out, accepted-out, time-word, last-word}
@@ -72,20 +72,17 @@ module _ (s : State) {v t : ℕ} {p : Params} (i : Passed v t p) where
     unfolding require isFree
     open-done e h = rest ∙ rw (new, e, le-leb (s .last) t h)
 
--- the lowest free seat, as the scan found it
-pub lowest : (s : State) → Whole s → (l : List ℕ) → l ≡ words s → (r : Found) (i : ℕ) → Sought l 0 r → r ≡ At i → position isFree (s .seats) ≡ i
-lowest s w l e r i h q =
-    let g = subst (λ (x : List ℕ). Sought x 0 (At i)) e (subst (λ (x : Found). Sought l 0 x) q h) in
-    lowest-at s w i (g .0) (g .1) (g .2)
+-- the lowest free seat, as it was found
+module _ {l : List ℕ} {r : Found} (h : FindsFree l r) where
+  pub seat-below : {i : ℕ} → r ≡ At i → i < 64
+  seat-below q = subst Inside q (h .inside)
 
-pub seat-below : (l : List ℕ) (r : Found) (i : ℕ) → Sought l 0 r → r ≡ At i → i < 64
-seat-below l r i h q = subst (λ (x : Found). Sought l 0 x) q h .0
+  module _ (s : State) (w : Whole s) (e : l ≡ words s) where
+    pub lowest : {i : ℕ} → r ≡ At i → position isFree (s .seats) ≡ i
+    lowest q = subst (Vacant s) q (h .is s w e)
 
-pub room : (s : State) → Whole s → (i : ℕ) → i < 64 → position isFree (s .seats) ≡ i → roomLeft s ≡ true
-room s w i h e = room-at s w i h e
-
-pub no-room : (s : State) → Whole s → (l : List ℕ) → l ≡ words s → (r : Found) → Sought l 0 r → r ≡ Nothing → roomLeft s ≡ false
-no-room s w l e r h q = room-none s w (subst (λ (x : List ℕ). Sought x 0 Nothing) e (subst (λ (x : Found). Sought l 0 x) q h))
+    pub no-room : r ≡ Nothing → roomLeft s ≡ false
+    no-room q = subst (Vacant s) q (h .is s w e)
 
 -- the word of the last accepted time
 pub last-at : (s : State) {l : List ℕ} → l ≡ words s → getD l 1 0 ≡ s .last
@@ -98,6 +95,6 @@ pub opened-words :
 unfolding seated
 opened-words s w {l} e t i h q c d a b =
     ap (λ (x : List ℕ). set x 1 t)
-    (b ∙ ap (λ (x : Connection). stored l i x) a ∙ ap (λ (x : List ℕ). stored x i c) e ∙ store-at s (w .size) i h c
+    (b ∙ ap (λ (x : Connection). stored l i x) a ∙ ap (λ (x : List ℕ). stored x i c) e ∙ store-at s (w .size) i h c (ap (λ (k : ℕ). getD (s .seats) k free) (sym q) ∙ lowest-free (s .seats))
     ∙ ap (λ (k : ℕ). words (record { level = s .level; last = s .last; seats = set (s .seats) k (taken c) })) (sym q))
     ∙ time-word (seated c s) t

@@ -7,19 +7,19 @@ use Rattle.rate.specs.Units.{latestTime}
 use Rattle.connection.specs.declared.parts.Connection.{Connection}
 use Rattle.connection.specs.Invariant.{Proper}
 use Rattle.connection.specs.Range.{InRange, HasRoom}
+use Rattle.connection.specs.Ready.{readyInstant}
 use Rattle.connection.proofs.Keeps.{Same}
 use Rattle.table.specs.declared.find.Found.{Found}
 use Rattle.table.specs.declared.find.Found.the-variants.{At, Nothing}
 use Rattle.table.specs.State.{State, Seat, free, taken, find, put, position, holds, timed, levelled}
 use Rattle.table.specs.Invariant.{Whole, OnSeat}
-use Rattle.table.specs.Layout.{words, fixedWords}
+use Rattle.table.specs.Layout.{words, frontWords, fixedWords}
 use Rattle.table.specs.Loading.{connectionAt}
-use Rattle.table.specs.Storing.{updated}
-use Rattle.table.specs.Finding.{Finds}
+use Rattle.table.specs.Storing.{sentBy, heardBy, markedBy, updated}
+use Rattle.table.specs.Finding.{Inside, Located, Names, Finds}
 use Rattle.table.proofs.Seats.{each-get}
 use Rattle.table.proofs.Loaded.{load-ranged, load-room}
-use Rattle.table.proofs.Words.{load-at, update-at}
-use Rattle.table.proofs.Found.{Located, found-at, find-none, find-at}
+use Rattle.table.proofs.Words.{load-at, update-at, front-at, back-at, mark-at}
 use Rattle.engine.specs.Call.{Answer, Refused, Accepted, Outcome}
 use Rattle.engine.specs.Step.{refuse, accept}
 
@@ -51,14 +51,14 @@ level-at s = refl
 
 -- What was found.
 pub below : (l : List ℕ) (v : ℕ) {r : Found} {i : ℕ} → Finds l v r → r ≡ At i → i < 64
-below l v h q = subst (λ (x : Found). Finds l v x) q h .1 .0
+below l v h q = subst Inside q (h .inside)
 
 module _ (s : State) (w : Whole s) {l : List ℕ} (e : l ≡ words s) (v : ℕ) {r : Found} (h : Finds l v r) where
   pub missing : r ≡ Nothing → find v (s .seats) ≡ free
-  missing q = find-none s w v (subst (λ (x : List ℕ). Finds x v Nothing) e (subst (λ (x : Found). Finds l v x) q h))
+  missing q = subst (Names v (s .seats)) q (h .is s w e)
 
   pub standing : {i : ℕ} → r ≡ At i → Located (s .seats) v i
-  standing {i} q = find-at s w v i (subst (λ (x : List ℕ). Finds x v (At i)) e (subst (λ (x : Found). Finds l v x) q h))
+  standing q = subst (Names v (s .seats)) q (h .is s w e)
 
 -- The connection that was loaded is the one that stands in the seat; whatever the words, it lies in range.
 pub ranged : (l : List ℕ) (i : ℕ) {d : Connection} → d ≡ connectionAt l i → InRange d
@@ -83,9 +83,23 @@ put-at s v q x = rw q
 same-fixed : (c d : Connection) → Same c d → fixedWords d ≡ fixedWords c
 same-fixed c d h = rw (h .opened, h .trm, h .params)
 
-pub updated-is :
-    (s : State) → Whole s → {l m : List ℕ} → l ≡ words s → {v i : ℕ} → i < 64 → (p : Located (s .seats) v i) (d : Connection) → Same (p .holder) d
-    → m ≡ updated l i d → m ≡ words (put v (taken d) s)
-updated-is s w e {v} {i} h p d k q =
-    q ∙ ap (λ (x : List ℕ). updated x i d) e ∙ update-at s (w .size) i h (p .holder) d (p .seat) (k .name) (same-fixed (p .holder) d k)
-    ∙ ap words (sym (put-at s v (p .place) (taken d)))
+-- a connection that keeps its seat, with what was stored of it
+kept :
+    (s : State) {v i : ℕ} (p : Located (s .seats) v i) (d : Connection) {m : List ℕ} → m ≡ words (record { level = s .level; last = s .last; seats = set (s .seats) i (taken d) })
+    → m ≡ words (put v (taken d) s)
+kept s {v} p d q = q ∙ ap words (sym (put-at s v (p .place) (taken d)))
+
+module _ (s : State) (w : Whole s) {l : List ℕ} (e : l ≡ words s) {v i : ℕ} (h : i < 64) (p : Located (s .seats) v i) (d : Connection) (k : Same (p .holder) d) where
+  pub updated-is : {m : List ℕ} → m ≡ updated l i d → m ≡ words (put v (taken d) s)
+  updated-is q = kept s p d (q ∙ ap (λ (x : List ℕ). updated x i d) e ∙ update-at s (w .size) i h (p .holder) d (p .seat) (k .name) (same-fixed (p .holder) d k))
+
+  pub front-is : {m : List ℕ} → d .back ≡ p .holder .back → m ≡ sentBy l i d → m ≡ words (put v (taken d) s)
+  front-is b q = kept s p d (q ∙ ap (λ (x : List ℕ). sentBy x i d) e ∙ front-at s (w .size) i h (p .holder) d (p .seat) (k .name) (same-fixed (p .holder) d k) b)
+
+  pub back-is : {m : List ℕ} → frontWords d ≡ frontWords (p .holder) → m ≡ heardBy l i d → m ≡ words (put v (taken d) s)
+  back-is f q = kept s p d (q ∙ ap (λ (x : List ℕ). heardBy x i d) e ∙ back-at s (w .size) i h (p .holder) d (p .seat) (k .name) (same-fixed (p .holder) d k) f)
+
+  pub mark-is :
+      {m : List ℕ} → frontWords d ≡ frontWords (p .holder) → d .back .turned ≡ p .holder .back .turned → readyInstant d ≡ readyInstant (p .holder) → m ≡ markedBy l i (d .back)
+      → m ≡ words (put v (taken d) s)
+  mark-is f t r q = kept s p d (q ∙ ap (λ (x : List ℕ). markedBy x i (d .back)) e ∙ mark-at s (w .size) i h (p .holder) d (p .seat) (k .name) (same-fixed (p .holder) d k) f t r)

@@ -1,6 +1,6 @@
 -- What a received cell makes of a table: the ways out of receiving.
 use Prim.Native.Nat.{ℕ, _%_, _<_}
-use mathlib.Core.Path.{_≡_, refl, ap, _∙_}
+use mathlib.Core.Path.{_≡_, refl, sym, ap, _∙_}
 use mathlib.Core.Bool.{Bool, true, false, cond}
 use mathlib.Core.List.{List, []}
 use native.Mathlib.Omega.{arith}
@@ -13,43 +13,41 @@ use Rattle.cell.specs.declared.fields.Fields.{Fields}
 use Rattle.cell.specs.declared.read.Reading.the-variants.{Refused as Unread, User, Resource}
 use Rattle.cell.specs.Octets.{payload}
 use Rattle.cell.specs.Reading.{reading}
-use Rattle.cell.proofs.Admits.{taken-admitted}
 use Rattle.connection.specs.declared.parts.Connection.{Connection}
+use Rattle.connection.specs.declared.parts.Pace.{Pace}
+use Rattle.connection.specs.declared.parts.Pace.the-variants.{Unsent, Running}
 use Rattle.connection.specs.Receiving.{marked, answered, turning, turningWords, resourceWork}
-use Rattle.connection.specs.Range.{InRange}
+use Rattle.connection.specs.Ready.{anyWaits, lastBefore, readyFrom, readyInstant}
 use Rattle.connection.proofs.Keeps.{Same, work-same}
 use Rattle.connection.proofs.Turnings.{turning-words}
 use Rattle.table.specs.State.{State, free, taken, find, put}
 use Rattle.table.specs.Invariant.{Whole}
-use Rattle.table.specs.Layout.{words}
+use Rattle.table.specs.Layout.{frontWords, words}
 use Rattle.table.specs.Loading.{connectionAt}
-use Rattle.table.specs.Storing.{updated}
-use Rattle.table.proofs.Found.{Located, found-at}
+use Rattle.table.specs.Storing.{sentBy, heardBy, markedBy}
+use Rattle.table.specs.Finding.{Located}
+use Rattle.table.proofs.Found.{found-at}
 use Rattle.engine.specs.Call.{Answer, Accepted, Outcome}
 use Rattle.engine.specs.Step.{refuse, accept, ofOpen, readStep, receiveStep}
 use Rattle.engine.specs.Contract.{Meets}
-use Rattle.engine.proofs.Outs.{accepted-out, level-at, loaded-is, updated-is}
+use Rattle.engine.proofs.Outs.{accepted-out, level-at, loaded-is, front-is, back-is, mark-is}
 
 -- The connection: a backward cell is obeyed, a forward one turned round from the words of its payload.
 module _ (level : ℕ) (o : List ℕ) (f : Fields) (c : Connection) where
-  pub work-answers : {r : Connection} → f .dir ≡ 1 → r ≡ answered f c → r ≡ resourceWork level o f c
+  work-answers : {r : Connection} → f .dir ≡ 1 → r ≡ answered f c → r ≡ resourceWork level o f c
   unfolding resourceWork
   work-answers e q = rw (eq-eqb (f .dir) 1 e) q
 
-  pub work-turns :
+  work-turns :
       {r : Connection} (p : Payload) → length o ≡ 53 → ((i : ℕ) → getD o i 0 < 256) → (f .dir ≡ 1 → ⊥) → p ≡ payloadOf (payload o) → r ≡ turningWords level p c
       → r ≡ resourceWork level o f c
   unfolding resourceWork
   work-turns p n h e a q =
       rw (ne-eqb (f .dir) 1 e) (q ∙ ap (λ (x : Payload). turningWords level x c) a ∙ turning-words level o c n h)
 
-  pub work-ranged : InRange c → InRange (resourceWork level o f c)
-  unfolding resourceWork answered turning
-  work-ranged h = go (eqb (f .dir) 1)
-    where
-      go : (t : Bool) → InRange (cond t (answered f c) (turning level o c))
-      go true = record { opened = h .opened; trm = h .trm; pace = h .pace }
-      go false = record { opened = h .opened; trm = h .trm; pace = h .pace }
+  is-turning : (f .dir ≡ 1 → ⊥) → resourceWork level o f c ≡ turning level o c
+  unfolding resourceWork
+  is-turning e = rw (ne-eqb (f .dir) 1 e)
 
 marked-same : (e : Bool) (c : Connection) → Same c (marked e c)
 unfolding marked
@@ -85,30 +83,62 @@ work-missing s o f q = work-step s o f ∙ missed s (f .vci) (resourceWork (s .l
 level-of : (s : State) → Whole s → {l : List ℕ} → l ≡ words s → getD l 0 0 % 4294967296 ≡ s .level
 level-of s w e = ap (λ (x : List ℕ). getD x 0 0 % 4294967296) e ∙ ap (λ (x : ℕ). x % 4294967296) (level-at s) ∙ omega (arith, w .levels)
 
+-- the step's outcome, where the words are those of the changed connection
+changed : (s : State) {v i : ℕ} (p : Located (s .seats) v i) {m : List ℕ} {o : Outcome} (g : Connection → Connection) → o ≡ changing s v g
+    → m ≡ words (put v (taken (g (p .holder))) s) → (m ≡ words (o .state)) × (Accepted ≡ o .answer)
+changed s {v} p g r q = accepted-out (put v (taken (g (p .holder))) s) q (r ∙ met s v g (p .holder) (found-at p))
+
+-- the saved EFCI moves no ready instant, and nothing else of the connection
+marked-kept : (t : Bool) (c : Connection) → (frontWords (marked t c) ≡ frontWords c) × (marked t c .back .turned ≡ c .back .turned)
+unfolding marked
+marked-kept t c = (refl, refl)
+
+marked-from : (t : Bool) (c : Connection) (p : Pace) → readyFrom (marked t c) p ≡ readyFrom c p
+unfolding marked readyFrom anyWaits lastBefore
+marked-from t c Unsent = refl
+marked-from t c (Running sent forward k turned) = refl
+
+marked-ready : (t : Bool) (c : Connection) → readyInstant (marked t c) ≡ readyInstant c
+unfolding marked readyInstant
+marked-ready t c = marked-from t c (c .pace)
+
+answered-back : (f : Fields) (c : Connection) → answered f c .back ≡ c .back
+unfolding answered
+answered-back f c = refl
+
+turning-front : (level : ℕ) (o : List ℕ) (c : Connection) → frontWords (turning level o c) ≡ frontWords c
+unfolding turning
+turning-front level o c = refl
+
 -- the seat's connection, as it was loaded
-module _ (s : State) (w : Whole s) {l : List ℕ} (e : l ≡ words s) {v : ℕ} (i : ℕ) (h : i < 64) (p : Located (s .seats) v i) (d : Connection) (q : d ≡ connectionAt l i) {m : List ℕ} (x : Connection) (b : m ≡ updated l i x) where
-  changed : {o : Outcome} (g : Connection → Connection) → Same (p .holder) (g (p .holder)) → x ≡ g d → o ≡ changing s v g
-      → (m ≡ words (o .state)) × (Accepted ≡ o .answer)
-  changed g k a r =
-      accepted-out (put v (taken (g (p .holder))) s)
-      (updated-is s w e h p (g (p .holder)) k (b ∙ ap (updated l i) (a ∙ ap g (loaded-is s w p e h q))))
-      (r ∙ met s v g (p .holder) (found-at p))
+module _ (s : State) (w : Whole s) {l : List ℕ} (e : l ≡ words s) {v : ℕ} (i : ℕ) (h : i < 64) (p : Located (s .seats) v i) (d : Connection) (q : d ≡ connectionAt l i) (x : Connection) where
+  pub data-done : {m : List ℕ} → m ≡ markedBy l i (x .back) → (t : Bool) → x ≡ marked t d → (m ≡ words (readStep s [] (User v t) .state)) × (Accepted ≡ readStep s [] (User v t) .answer)
+  data-done b t a =
+      let k = marked-kept t (p .holder) in
+      changed s p (marked t) (data-step s v t)
+      (mark-is s w e h p (marked t (p .holder)) (marked-same t (p .holder)) (k .0) (k .1) (marked-ready t (p .holder)) (b ∙ ap (λ (y : Connection). markedBy l i (y .back)) (a ∙ ap (marked t) (loaded-is s w p e h q))))
 
-  pub data-done : (t : Bool) → x ≡ marked t d → (m ≡ words (readStep s [] (User v t) .state)) × (Accepted ≡ readStep s [] (User v t) .answer)
-  data-done t a = changed (marked t) (marked-same t (p .holder)) a (data-step s v t)
+module _ (s : State) (w : Whole s) {l : List ℕ} (e : l ≡ words s) (o : List ℕ) (f : Fields) (i : ℕ) (h : i < 64) (p : Located (s .seats) (f .vci) i) (d : Connection) (q : d ≡ connectionAt l i) (x : Connection) where
+  pub answer-done : {m : List ℕ} → f .dir ≡ 1 → x ≡ answered f d → m ≡ sentBy l i x → (m ≡ words (readStep s o (Resource f) .state)) × (Accepted ≡ readStep s o (Resource f) .answer)
+  answer-done c a b =
+      let work : Connection = resourceWork (s .level) o f (p .holder) in
+      let y : x ≡ work = work-answers (s .level) o f (p .holder) c (a ∙ ap (answered f) (loaded-is s w p e h q)) in
+      changed s p (resourceWork (s .level) o f) (work-step s o f)
+      (front-is s w e h p work (work-same (s .level) o f (p .holder)) (ap (λ (z : Connection). z .back) (sym (work-answers (s .level) o f (p .holder) c refl)) ∙ answered-back f (p .holder)) (b ∙ ap (sentBy l i) y))
 
-pub work-done :
-    (s : State) (w : Whole s) {l : List ℕ} → l ≡ words s → (o : List ℕ) (f : Fields) (i : ℕ) → i < 64 → Located (s .seats) (f .vci) i
-    → (d : Connection) → d ≡ connectionAt l i → {m : List ℕ} (x : Connection) → m ≡ updated l i x → x ≡ resourceWork (getD l 0 0 % 4294967296) o f d
-    → (m ≡ words (readStep s o (Resource f) .state)) × (Accepted ≡ readStep s o (Resource f) .answer)
-work-done s w e o f i h p d q x b a =
-    changed s w e i h p d q x b (resourceWork (s .level) o f) (work-same (s .level) o f (p .holder)) (a ∙ ap (λ (n : ℕ). resourceWork n o f d) (level-of s w e))
-    (work-step s o f)
+  pub turn-done :
+      {m : List ℕ} → (f .dir ≡ 1 → ⊥) → length o ≡ 53 → ((k : ℕ) → getD o k 0 < 256) → (g : Payload) → g ≡ payloadOf (payload o) → x ≡ turningWords (getD l 0 0 % 4294967296) g d → m ≡ heardBy l i x
+      → (m ≡ words (readStep s o (Resource f) .state)) × (Accepted ≡ readStep s o (Resource f) .answer)
+  turn-done c n z g r a b =
+      let work : Connection = resourceWork (s .level) o f (p .holder) in
+      let y : x ≡ work =
+      work-turns (s .level) o f (p .holder) g n z c r
+      (a ∙ ap (λ (u : ℕ). turningWords u g d) (level-of s w e) ∙ ap (turningWords (s .level) g) (loaded-is s w p e h q)) in
+      let t : work ≡ turning (s .level) o (p .holder) = is-turning (s .level) o f (p .holder) c in
+      changed s p (resourceWork (s .level) o f) (work-step s o f)
+      (back-is s w e h p work (work-same (s .level) o f (p .holder)) (ap frontWords t ∙ turning-front (s .level) o (p .holder)) (b ∙ ap (heardBy l i) y))
 
 -- What was read: a refusal, or a cell of 53 octets whose step is the rest.
-pub resource-size : (o : List ℕ) (f : Fields) → reading o ≡ Resource f → length o ≡ 53
-resource-size o f e = taken-admitted o (λ n r. let z : _≡_ {A = ℕ} 0 1 = cc in omega arith) .size
-
 pub unread : (s : State) (o : List ℕ) (n : ℕ) → reading o ≡ Unread n → receiveStep s o ≡ refuse s n
 unfolding receiveStep readStep
 unread s o n e = rw e

@@ -13,7 +13,7 @@ use Rattle.connection.specs.declared.kind.Kind.the-variants.{Forward, Turned, D
 use Rattle.connection.specs.Invariant.{Proper}
 use Rattle.connection.specs.Ready.{waits}
 use Rattle.connection.specs.Kind.{kindAt}
-use Rattle.connection.specs.Sending.{after, bufferAfter, waitingCell}
+use Rattle.connection.specs.Sending.{after, sentForward, sentData, bufferAfter, waitingCell}
 use Rattle.connection.proofs.Keeps.{after-same, after-proper}
 use Rattle.connection.proofs.Reached.{acr-is-rate}
 use Rattle.connection.proofs.InHand.{turned-waits}
@@ -21,13 +21,12 @@ use Rattle.table.specs.State.{State, free, taken, position, holds, put}
 use Rattle.table.specs.Invariant.{Whole}
 use Rattle.table.specs.Layout.{words}
 use Rattle.table.specs.Loading.{connectionAt}
-use Rattle.table.specs.Storing.{updated}
-use Rattle.table.proofs.Found.{Located}
+use Rattle.table.specs.Finding.{Located}
 use Rattle.engine.specs.Call.{Answer, Sent}
 use Rattle.engine.specs.Step.{sendStep}
 use Rattle.engine.specs.Contract.{held}
-use Rattle.engine.specs.Slots.{waitingOr, Carried}
-use Rattle.engine.proofs.Outs.{proper-in, loaded-is, updated-is}
+use Rattle.engine.specs.Slots.{waitingOr, Carried, storedSent}
+use Rattle.engine.proofs.Outs.{proper-in, loaded-is, updated-is, front-is}
 
 -- a turned cell that waits is the one in the buffer
 waiting-is : (v : ℕ) (w : Waiting) (old : List ℕ) → waits w ≡ true → waitingOr v w old ≡ waitingCell v w
@@ -43,11 +42,20 @@ carried-is t c Forward old new e p h = h .is (acr-is-rate (after Forward t c .ra
 carried-is t c Turned old new e p h = h ∙ waiting-is (c .name) (c .back .turned) old (turned-waits t c e)
 carried-is t c Data old new e p h = h
 
+-- the words of the connection after a cell of kind k
+sent-words :
+    (s : State) (w : Whole s) {l m : List ℕ} → l ≡ words s → {v i : ℕ} → i < 64 → (p : Located (s .seats) v i) (k : Kind) (t : ℕ)
+    → m ≡ storedSent l i k (after k t (p .holder)) → m ≡ words (put v (taken (after k t (p .holder))) s)
+unfolding after sentForward sentData
+sent-words s w e h p Forward t q = front-is s w e h p (after Forward t (p .holder)) (after-same Forward t (p .holder)) refl q
+sent-words s w e h p Turned t q = updated-is s w e h p (after Turned t (p .holder)) (after-same Turned t (p .holder)) q
+sent-words s w e h p Data t q = front-is s w e h p (after Data t (p .holder)) (after-same Data t (p .holder)) refl q
+
 -- the connection that was loaded, its kind, and what comes after it
 pub sent-out :
     (s : State) → Whole s → (t : ℕ) → s .last ≡ t → (l m old new : List ℕ) → l ≡ words s → (i : ℕ) → i < 64 → (c : Connection) → getD (s .seats) i free ≡ taken c
     → position (holds (c .name)) (s .seats) ≡ i → (d : Connection) → d ≡ connectionAt l i → (k : Kind) → k ≡ kindAt t d → (n : Connection) → n ≡ after k t d
-    → Carried k d n old new → m ≡ updated l i n
+    → Carried k d n old new → m ≡ storedSent l i k n
     → (m ≡ words (sendStep s t (c .name) c (kindAt t c) .state)) × (Sent (d .name) k (n .rate .acr) ≡ sendStep s t (c .name) c (kindAt t c) .answer)
     × (new ≡ held (sendStep s t (c .name) c (kindAt t c) .buffer) old)
 unfolding sendStep
@@ -60,7 +68,7 @@ sent-out s w t last l m old new e i h c seat place d q k a n b g u =
     let r : Carried (kindAt t c) c (after (kindAt t c) t c) old new =
     subst (λ (z : Connection). Carried (kindAt t c) c z old new) y
     (subst (λ (z : Connection). Carried (kindAt t c) z n old new) is (subst (λ (z : Kind). Carried z d n old new) x g)) in (
-      updated-is s w e h p (after (kindAt t c) t c) (after-same (kindAt t c) t c) (u ∙ ap (updated l i) y),
+      sent-words s w e h p (kindAt t c) t (u ∙ ap (λ (z : Kind). storedSent l i z n) x ∙ ap (storedSent l i (kindAt t c)) y),
       ap (λ (z : Connection). Sent (z .name) k (n .rate .acr)) is ∙ ap (λ (z : Kind). Sent (c .name) z (n .rate .acr)) x
           ∙ ap (λ (z : Connection). Sent (c .name) (kindAt t c) (z .rate .acr)) y,
       carried-is t c (kindAt t c) old new refl good r,

@@ -7,7 +7,7 @@ use table::find::Found;
 use table::find::find;
 use table::layout::WORDS;
 use table::load::load;
-use table::store::update;
+use table::store::update_front;
 
 // Refusals 11, 15. The sum is never formed before it is known to fit.
 pub fn offer(t: &mut [u64; WORDS], name: u32, cells: u64) -> Answer
@@ -24,6 +24,6 @@ pub fn offer(t: &mut [u64; WORDS], name: u32, cells: u64) -> Answer
     if 65535 - waiting < cells {
         return Answer::Refused(15);
     }
-    update(t, i, offered(cells as u32, c));
+    update_front(t, i, offered(cells as u32, c));
     Answer::Accepted
 }

@@ -6,7 +6,7 @@ use connection::parts::Connection;
 use rate::params::Params;
 use table::find::Found;
 use table::find::find;
-use table::find::seek;
+use table::find::find_free;
 use table::layout::WORDS;
 use table::store::store;
 
@@ -29,7 +29,7 @@ pub fn open(t: &mut [u64; WORDS], name: u32, time: u64, params: Params) -> Answe
     let Found::Nothing = find(t, name) else {
         return Answer::Refused(12);
     };
-    let Found::At(i) = seek(t, 0) else {
+    let Found::At(i) = find_free(t) else {
         return Answer::Refused(13);
     };
     if time < t[1] {

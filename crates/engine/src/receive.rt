@@ -2,15 +2,20 @@
 ghost use mathlib.Core.Path.{_≡_};
 ghost use mathlib.Core.List.{[]};
 ghost use lib.ListN.{length};
+ghost use Rattle.crc.specs.Payload.{payloadOf};
+ghost use Rattle.cell.specs.Fields.{Checked};
+ghost use Rattle.cell.specs.Octets.{payload};
 ghost use Rattle.cell.specs.declared.read.Reading.the-variants.{User, Resource};
-ghost use Rattle.connection.specs.Receiving.{resourceWork};
 ghost use Rattle.engine.specs.Step.{readStep, receiveStep};
 ghost use Rattle.engine.specs.Contract.{Meets};
 use crate::answer::Answer;
 use cell::fields::Fields;
-use cell::read::Reading;
-use cell::read::read;
-use connection::parts::Connection;
+use cell::fields::fields_of;
+use cell::fields::vci_of;
+use cell::read::efci_of;
+use cell::read::header_refusal;
+use cell::read::is_data;
+use cell::read::resource_refusal;
 use connection::receive::answered;
 use connection::receive::marked;
 use connection::receive::turning;
@@ -19,7 +24,9 @@ use table::find::Found;
 use table::find::find;
 use table::layout::WORDS;
 use table::load::load;
-use table::store::update;
+use table::store::update_back;
+use table::store::update_front;
+use table::store::update_mark;
 
 // A data cell, whose octets no longer count: refusal 11.
 fn receive_data(t: &mut [u64; WORDS], vci: u32, efci: bool) -> Answer
@@ -29,33 +36,29 @@ fn receive_data(t: &mut [u64; WORDS], vci: u32, efci: bool) -> Answer
         return Answer::Refused(11);
     };
     let c = load(t, i);
-    update(t, i, marked(efci, c));
+    let next = marked(efci, c);
+    let back = next.back;
+    update_mark(t, i, back);
     Answer::Accepted
 }
 
-// What an RM cell makes of its connection: a backward cell is obeyed, a forward one turned round.
-fn worked(level: u32, cell: &[u8], f: Fields, c: Connection) -> Connection
-    requires { ⌜ length (now cell) ≡ 53 ⌝ }
-    ensures { λ r. ⌜ r ≡ resourceWork level (now (cell .entry)) f c ⌝ }
-{
-    if f.dir == 1 {
-        return answered(f, c);
-    }
-    turning(level, payload_at(cell), c)
-}
-
-// An RM cell of these fields: refusal 11.
+// An RM cell of these fields: a backward cell is obeyed, a forward one turned round. Refusal 11.
 fn receive_resource(t: &mut [u64; WORDS], cell: &[u8], f: Fields) -> Answer
-    requires { ⌜ length (now cell) ≡ 53 ⌝ }
+    requires { ⌜ (length (now cell) ≡ 53) × Checked (payloadOf (payload (now cell))) ⌝ }
     ensures { λ r. ⌜ Meets (λ s. readStep s (now (cell .entry)) (Resource f)) (now (t .entry)) (now (t .exit)) r ⌝ }
 {
     let Found::At(i) = find(t, f.vci) else {
         return Answer::Refused(11);
     };
     let c = load(t, i);
+    if f.dir == 1 {
+        let next = answered(f, c);
+        update_front(t, i, next);
+        return Answer::Accepted;
+    }
     let level = (t[0] % 4294967296) as u32;
-    let next = worked(level, cell, f, c);
-    update(t, i, next);
+    let next = turning(level, payload_at(cell), c);
+    update_back(t, i, next);
     Answer::Accepted
 }
 
@@ -63,10 +66,16 @@ fn receive_resource(t: &mut [u64; WORDS], cell: &[u8], f: Fields) -> Answer
 pub fn receive(t: &mut [u64; WORDS], cell: &[u8]) -> Answer
     ensures { λ r. ⌜ Meets (λ s. receiveStep s (now (cell .entry))) (now (t .entry)) (now (t .exit)) r ⌝ }
 {
-    let content = read(cell);
-    match content {
-        Reading::Refused(n) => Answer::Refused(n),
-        Reading::User { vci, efci } => receive_data(t, vci, efci),
-        Reading::Resource(f) => receive_resource(t, cell, f),
+    let first = header_refusal(cell);
+    if first != 0 {
+        return Answer::Refused(first);
     }
+    if is_data(cell) {
+        return receive_data(t, vci_of(cell), efci_of(cell));
+    }
+    let second = resource_refusal(cell);
+    if second != 0 {
+        return Answer::Refused(second);
+    }
+    receive_resource(t, cell, fields_of(cell))
 }

@@ -3,7 +3,8 @@ ghost use mathlib.Core.Path.{_≡_};
 ghost use Prim.Native.Nat.{_≤_, _<_};
 ghost use lib.ListN.{length};
 ghost use Rattle.rate.specs.Units.{latestTime};
-ghost use Rattle.engine.specs.Slots.{waitingOr, ForwardIn, Carried, Sends};
+ghost use Rattle.connection.specs.Range.{InRange};
+ghost use Rattle.engine.specs.Slots.{waitingOr, ForwardIn, Carried, storedSent, Sends};
 use crate::answer::Answer;
 use cell::turn::put_turned;
 use cell::write::put_resource;
@@ -17,6 +18,7 @@ use rate::moves::Rate;
 use table::layout::WORDS;
 use table::load::load;
 use table::store::update;
+use table::store::update_front;
 
 fn put_waiting(cell: &mut [u8], name: u32, w: Waiting)
     requires { ⌜ length (now cell) ≡ 53 ⌝ }
@@ -54,6 +56,18 @@ fn put_cell(cell: &mut [u8], kind: Kind, c: Connection, next: Connection)
     }
 }
 
+// Only a turned cell changes the receiving side: the cell that waited is gone.
+fn store_sent(t: &mut [u64; WORDS], i: usize, kind: Kind, next: Connection)
+    requires { ⌜ (i < 64) × InRange next ⌝ }
+    ensures { λ _. ⌜ now (t .exit) ≡ storedSent (now (t .entry)) i kind next ⌝ }
+{
+    match kind {
+        Kind::Forward => update_front(t, i, next),
+        Kind::Turned => update(t, i, next),
+        Kind::Data => update_front(t, i, next),
+    }
+}
+
 pub fn send(t: &mut [u64; WORDS], time: u64, i: usize, cell: &mut [u8]) -> Answer
     requires { ⌜ (i < 64) × ((time ≤ latestTime) × (length (now cell) ≡ 53)) ⌝ }
     ensures { λ r. ⌜ Sends time i (now (t .entry)) (now (t .exit)) r (now (cell .entry)) (now (cell .exit)) ⌝ }
@@ -62,7 +76,7 @@ pub fn send(t: &mut [u64; WORDS], time: u64, i: usize, cell: &mut [u8]) -> Answe
     let kind = kind_at(time, c);
     let next = after(kind, time, c);
     put_cell(cell, kind, c, next);
-    update(t, i, next);
+    store_sent(t, i, kind, next);
     Answer::Sent {
         name: c.name,
         kind,

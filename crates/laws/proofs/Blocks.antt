@@ -1,10 +1,10 @@
 -- Laws of blocks and of runs of stores, over any width.
 use mathlib.Core.Path.{_≡_, refl, sym, ap, _∙_}
 use Prim.Native.Nat.{ℕ, zero, suc, _+_, _*_, _≤_, _<_}
-use native.Mathlib.Nat.{zero-mul, suc-mul, add-zero, add-assoc, add-comm, add-suc, not-suc-le-zero, le-of-suc-le-suc, suc-inj}
+use native.Mathlib.Nat.{zero-mul, zero-add, suc-mul, add-zero, add-comm, add-suc, suc-add, not-suc-le-zero, le-of-suc-le-suc, suc-inj}
 use native.Mathlib.Numerals.{add-one}
 use native.Mathlib.Omega.{arith}
-use mathlib.Core.List.{List, [], _∷_, _++_, append-assoc}
+use mathlib.Core.List.{List, [], _∷_, _++_, append-assoc, append-nil}
 use lib.ListN.{length, getD, set, drop, length-append, replicate, replicate-append-replicate}
 use lib.Seq.{sets, set-append-seam, append-snoc, drop-append-add}
 use Rattle.laws.specs.Blocks.{flat, putFrom, put}
@@ -18,6 +18,18 @@ putFrom-sets l b k (v ∷ vs) =
 pub put-sets : (l : List ℕ) (b : ℕ) (vs : List ℕ) → put l b vs ≡ sets l b vs
 put-sets l b [] = refl
 put-sets l b (v ∷ vs) = putFrom-sets (set l b v) b 1 vs ∙ ap (λ (n : ℕ). sets (set l b v) n vs) (add-one b)
+
+-- two runs, the second behind the first
+sets-append : (l : List ℕ) (b : ℕ) (xs ys : List ℕ) → sets l b (xs ++ ys) ≡ sets (sets l b xs) (b + length xs) ys
+sets-append l b [] ys = ap (λ (n : ℕ). sets l n ys) (sym (add-zero b))
+sets-append l b (x ∷ xs) ys =
+    sets-append (set l b x) (suc b) xs ys
+    ∙ ap (λ (n : ℕ). sets (sets (set l b x) (suc b) xs) n ys) (suc-add b (length xs) ∙ sym (add-suc b (length xs)))
+
+pub put-append : (l : List ℕ) (b : ℕ) (xs ys : List ℕ) → put (put l b xs) (b + length xs) ys ≡ put l b (xs ++ ys)
+put-append l b xs ys =
+    put-sets (put l b xs) (b + length xs) ys ∙ ap (λ (m : List ℕ). sets m (b + length xs) ys) (put-sets l b xs)
+    ∙ sym (sets-append l b xs ys) ∙ sym (put-sets l b (xs ++ ys))
 
 -- what stands between p and r is replaced
 pub sets-mid : (p q r v : List ℕ) → length q ≡ length v → sets (p ++ (q ++ r)) (length p) v ≡ p ++ (v ++ r)
@@ -52,25 +64,38 @@ module _ {A : Type 0} (f : A → List ℕ) (w : ℕ) (wide : (a : A) → length 
       ∙ drop-append-add (f a) (flat f xs ++ t) (i * w)
       ∙ drop-flat xs t i d (le-of-suc-le-suc h)
 
-  -- block i replaced
-  pub put-flat : (h : List ℕ) (xs : List A) (t : List ℕ) (i : ℕ) (a : A) → i < length xs
-      → put (h ++ (flat f xs ++ t)) (length h + i * w) (f a) ≡ h ++ (flat f (set xs i a) ++ t)
-  put-flat h [] t i a l = absurd (not-suc-le-zero l)
-  put-flat h (b ∷ xs) t zero a l =
-      ap (λ (n : ℕ). put (h ++ ((f b ++ flat f xs) ++ t)) n (f a)) (ap (λ (n : ℕ). length h + n) (zero-mul w) ∙ add-zero (length h))
-      ∙ ap (λ (m : List ℕ). put (h ++ m) (length h) (f a)) (append-assoc (f b) (flat f xs) t)
-      ∙ put-mid h (f b) (flat f xs ++ t) (f a) (wide b ∙ sym (wide a))
-      ∙ ap (λ (m : List ℕ). h ++ m) (sym (append-assoc (f a) (flat f xs) t))
-  put-flat h (b ∷ xs) t (suc i) a l =
-      ap (λ (n : ℕ). put (h ++ ((f b ++ flat f xs) ++ t)) n (f a))
-      (ap (λ (n : ℕ). length h + n) (suc-mul i w ∙ add-comm (i * w) w ∙ ap (λ (n : ℕ). n + i * w) (sym (wide b)))
-      ∙ sym (add-assoc (length h) (length (f b)) (i * w)) ∙ ap (λ (n : ℕ). n + i * w) (sym (length-append h (f b))))
-      ∙ ap (λ (m : List ℕ). put m (length (h ++ f b) + i * w) (f a)) (regroup h (f b) (flat f xs) t)
-      ∙ put-flat (h ++ f b) xs t i a (le-of-suc-le-suc l)
+  -- a part of block i replaced
+  pub part-flat : (h : List ℕ) (xs : List A) (t : List ℕ) (i : ℕ) (d a : A) (p q v r : List ℕ) → i < length xs
+      → f (getD xs i d) ≡ p ++ (q ++ r) → f a ≡ p ++ (v ++ r) → length q ≡ length v
+      → put (h ++ (flat f xs ++ t)) (length h + (i * w + length p)) v ≡ h ++ (flat f (set xs i a) ++ t)
+  part-flat h [] t i d a p q v r l e g s = absurd (not-suc-le-zero l)
+  part-flat h (b ∷ xs) t zero d a p q v r l e g s =
+      ap (λ (n : ℕ). put (h ++ ((f b ++ flat f xs) ++ t)) n v)
+      (ap (λ (n : ℕ). length h + (n + length p)) (zero-mul w) ∙ ap (λ (n : ℕ). length h + n) (zero-add (length p)) ∙ sym (length-append h p))
+      ∙ ap (λ (m : List ℕ). put m (length (h ++ p)) v) (ap (λ (m : List ℕ). h ++ ((m ++ flat f xs) ++ t)) e ∙ inner h p q r (flat f xs) t)
+      ∙ put-mid (h ++ p) q (r ++ (flat f xs ++ t)) v s
+      ∙ sym (ap (λ (m : List ℕ). h ++ ((m ++ flat f xs) ++ t)) g ∙ inner h p v r (flat f xs) t)
+    where
+      inner : (x y z u k m : List ℕ) → x ++ (((y ++ (z ++ u)) ++ k) ++ m) ≡ (x ++ y) ++ (z ++ (u ++ (k ++ m)))
+      inner x y z u k m = simp append-assoc
+  part-flat h (b ∷ xs) t (suc i) d a p q v r l e g s =
+      ap (λ (n : ℕ). put (h ++ ((f b ++ flat f xs) ++ t)) n v) (shifted (length h) (length p) ∙ ap (λ (n : ℕ). n + (i * w + length p)) (sym (length-append h (f b))))
+      ∙ ap (λ (m : List ℕ). put m (length (h ++ f b) + (i * w + length p)) v) (regroup h (f b) (flat f xs) t)
+      ∙ part-flat (h ++ f b) xs t i d a p q v r (le-of-suc-le-suc l) e g s
       ∙ sym (regroup h (f b) (flat f (set xs i a)) t)
     where
       regroup : (x y z u : List ℕ) → x ++ ((y ++ z) ++ u) ≡ (x ++ y) ++ (z ++ u)
       regroup x y z u = simp append-assoc
+
+      shifted : (m n : ℕ) → m + (suc i * w + n) ≡ m + length (f b) + (i * w + n)
+      shifted m n = omega (arith, suc-mul i w, wide b)
+
+  -- block i replaced
+  pub put-flat : (h : List ℕ) (xs : List A) (t : List ℕ) (i : ℕ) (d a : A) → i < length xs
+      → put (h ++ (flat f xs ++ t)) (length h + i * w) (f a) ≡ h ++ (flat f (set xs i a) ++ t)
+  put-flat h xs t i d a l =
+      ap (λ (n : ℕ). put (h ++ (flat f xs ++ t)) (length h + n) (f a)) (sym (add-zero (i * w)))
+      ∙ part-flat h xs t i d a [] (f (getD xs i d)) (f a) [] l (sym (append-nil (f (getD xs i d)))) (sym (append-nil (f a))) (wide (getD xs i d) ∙ sym (wide a))
 
   -- a block that is already there changes nothing
   pub flat-same : (xs : List A) (i : ℕ) (a d : A) → i < length xs → f a ≡ f (getD xs i d) → flat f (set xs i a) ≡ flat f xs

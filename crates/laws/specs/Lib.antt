@@ -1,2 +1,3 @@
--- Blocks of words, and runs of stores.
+-- Blocks of words, runs of stores, and rows of values.
 pub mod Blocks
+pub mod Rows

@@ -1,127 +1,175 @@
--- What a scan of the column of names finds in the words of a state that calls reach: the seat of a name, and the lowest free one.
-use Prim.Native.Nat.{ℕ, zero, suc, _+_, _≤_, _<_}
-use mathlib.Core.Path.{_≡_, refl, sym, ap, _∙_}
+-- What a search by the index finds in the words of a state that calls reach: the seat of a name, and the lowest free one.
+use Prim.Native.Nat.{ℕ, zero, suc, _+_, _-_, _^_, _≤_, _<_}
+use mathlib.Core.Path.{_≡_, refl, sym, ap, subst, _∙_}
 use mathlib.Core.Logic.{_≢_}
-use mathlib.Core.Bool.{Bool, true, false, cond}
+use mathlib.Core.Bool.{Bool, true, false, cond, true≢false}
 use mathlib.Core.List.{List, [], _∷_}
 use native.Mathlib.Nat.{not-suc-le-zero, le-of-suc-le-suc}
 use native.Mathlib.Omega.{arith}
-use lib.Dec.{ltb, eqb}
-use lib.ListN.{length, getD}
-use borrow.Author.Tests.{lt-ltb, le-ltb, eq-eqb, ne-eqb}
+use lib.Count.{trailingZeros, trailing-of-zero}
+use lib.Dec.{ltb, eqb, lit<}
+use lib.ListN.{length, getD, set, length-set}
+use lib.Seq.{getD-set-same, getD-set-other}
+use borrow.Author.Tests.{lt-ltb, le-ltb, eqb-true, eqb-false, eq-eqb, ne-eqb}
 use Rattle.connection.specs.declared.parts.Connection.{Connection}
-use Rattle.connection.specs.Invariant.{Proper}
 use Rattle.table.specs.State.{State, Seat, free, taken, position, isFree, holds, find, roomLeft}
-use Rattle.table.specs.Invariant.{OnSeat, Whole}
-use Rattle.table.specs.Layout.{words}
-use Rattle.table.specs.Finding.{NotBelow, Sought, Finds}
-use Rattle.table.specs.declared.find.Found.{Found}
+use Rattle.table.specs.Invariant.{Apart, Whole}
+use Rattle.table.specs.Layout.{marks, isTaken, drawer, filed, words}
+use Rattle.table.specs.Finding.{Located, Finds, Vacant, FindsFree}
 use Rattle.table.specs.declared.find.Found.the-variants.{At, Nothing}
-use Rattle.table.proofs.Seats.{each-get, each-map, seat-map, absent-find, Case, same, other, case}
-use Rattle.table.proofs.Words.{number, name-at}
+use Rattle.table.proofs.Seats.{seat-place, Case, same, other, case}
+use Rattle.table.proofs.Marks.{drawer-lt, marks-less, marks-first, marks-top, marks-both}
+use Rattle.table.proofs.Words.{number, name-at, taken-at, drawer-at}
 
--- the first seat at which a test passes, by index
-position-is :
-    (f : Seat → Bool) (ss : List Seat) (i : ℕ) → i < length ss → f (getD ss i free) ≡ true → ((k : ℕ) → k < i → f (getD ss k free) ≡ false)
-    → position f ss ≡ i
+-- the first seat at which a test passes passes it
+position-passes : (f : Seat → Bool) (ss : List Seat) → position f ss < length ss → f (getD ss (position f ss) free) ≡ true
 unfolding position
-position-is f [] i l e n = absurd (not-suc-le-zero l)
-position-is f (x ∷ ss) zero l e n = rw e
-position-is f (x ∷ ss) (suc i) l e n =
-    rw (n 0 (omega arith)) (ap suc (position-is f ss i (le-of-suc-le-suc l) e (λ k m. n (suc k) (omega arith))))
+position-passes f [] l = absurd (not-suc-le-zero l)
+position-passes f (x ∷ ss) l = go (position-passes f ss) (f x) refl l
+  where
+    go : (position f ss < length ss → f (getD ss (position f ss) free) ≡ true) → (b : Bool) → f x ≡ b → cond b 0 (suc (position f ss)) < suc (length ss)
+        → f (getD (x ∷ ss) (cond b 0 (suc (position f ss))) free) ≡ true
+    go rest true e h = e
+    go rest false e h = rest (le-of-suc-le-suc h)
 
 position-none : (f : Seat → Bool) (ss : List Seat) → ((k : ℕ) → k < length ss → f (getD ss k free) ≡ false) → position f ss ≡ length ss
 unfolding position
 position-none f [] n = refl
 position-none f (x ∷ ss) n = rw (n 0 (omega arith)) (ap suc (position-none f ss (λ k m. n (suc k) (omega arith))))
 
--- what the word of a seat in the column of names says of it
-holds-not : (v : ℕ) (x : Seat) → (number x ≡ v → ⊥) → holds v x ≡ false
-unfolding holds
-holds-not v free h = refl
-holds-not v (taken c) h = ne-eqb _ _ h
-
-free-not : (x : Seat) → (number x ≡ 0 → ⊥) → isFree x ≡ false
-unfolding isFree
-free-not free h = absurd (h refl)
-free-not (taken c) h = refl
-
--- the connection of name v stands in seat i
-pub record Located (ss : List Seat) (v i : ℕ) : Type 0 where
-  pub holder : Connection
-  pub seat : getD ss i free ≡ taken holder
-  pub named : holder .name ≡ v
-  pub place : position (holds v) ss ≡ i
-
 pub found-at : {ss : List Seat} {v i : ℕ} → (l : Located ss v i) → find v ss ≡ taken (l .holder)
 unfolding find
 found-at {ss} l = ap (λ (k : ℕ). getD ss k free) (l .place) ∙ l .seat
 
-located :
-    (ss : List Seat) (v i : ℕ) (x : Seat) → getD ss i free ≡ x → v ≢ 0 → number x ≡ v → position (holds v) ss ≡ i → Located ss v i
-located ss v i free e n q p = absurd (n (sym q))
-located ss v i (taken c) e n q p = record { holder = c; seat = e; named = q; place = p }
+-- ---- the search for a name
 
-holds-yes : (v : ℕ) (x : Seat) → v ≢ 0 → number x ≡ v → holds v x ≡ true
+filed-free : (h : ℕ) → filed h free ≡ false
+unfolding filed
+filed-free h = refl
+
+filed-not : (h : ℕ) (x : Seat) → x ≡ free → filed h x ≡ true → ⊥
+filed-not h x e f = true≢false (sym f ∙ ap (filed h) e ∙ filed-free h)
+
+holds-not : (v : ℕ) (c : Connection) → (c .name ≡ v → ⊥) → holds v (taken c) ≡ false
 unfolding holds
-holds-yes v free n q = absurd (n (sym q))
-holds-yes v (taken c) n q = eq-eqb _ _ q
+holds-not v c h = ne-eqb _ _ h
 
--- every open connection has a name from 32 on
-is-free : (x : Seat) → OnSeat (λ c. 32 ≤ c .name) x → number x ≡ 0 → isFree x ≡ true
-unfolding isFree
-is-free free h q = refl
-is-free (taken c) h q = absurd (omega arith)
+-- a name that is not in its drawer is not there
+filed-holds : (v : ℕ) (x : Seat) → filed (drawer v) x ≡ false → holds v x ≡ false
+unfolding filed holds
+filed-holds v free e = refl
+filed-holds v (taken c) e = ne-eqb (c .name) v (λ z. eqb-false (drawer (c .name)) (drawer v) e (ap drawer z))
 
-assigned : (s : State) → Whole s → (i : ℕ) → OnSeat (λ c. 32 ≤ c .name) (getD (s .seats) i free)
-assigned s w i = seat-map (Proper (s .last)) (λ c. 32 ≤ c .name) (λ c h. h .0 .assigned) (getD (s .seats) i free) (each-get (Proper (s .last)) (s .seats) (w .each) i)
+-- a seat as it was, or, of another name, taken from the search
+pub data Kept (v : ℕ) : Seat → Seat → Type 0 where
+  stays : {x : Seat} → Kept v x x
+  tried : {x : Seat} → holds v x ≡ false → Kept v free x
 
-pub finds : (l : List ℕ) (v : ℕ) (r : Found) → (v ≡ 0 → ⊥) → Sought l v r → Finds l v r
-finds l v (At i) n h = (n, h)
-finds l v Nothing n h = λ _. h
+-- the seats of v's drawer that are still to be tried are those of m
+pub record Left (v m : ℕ) (ss : List Seat) : Type 0 where
+  pub rest : List Seat
+  pub size : length rest ≡ 64
+  pub are : m ≡ marks (filed (drawer v)) rest
+  pub each : (k : ℕ) → Kept v (getD rest k free) (getD ss k free)
 
-module _ (s : State) (w : Whole s) where
-  at : (k : ℕ) → k < 64 → getD (words s) (2 + k) 0 ≡ number (getD (s .seats) k free)
-  at k h = name-at s (w .size) k h
+pub left-start : (s : State) → Whole s → (v : ℕ) → Left v (getD (words s) (3 + drawer v) 0) (s .seats)
+left-start s w v = record {
+  rest = s .seats;
+  size = w .size;
+  are = drawer-at s (drawer v) (drawer-lt v);
+  each = λ k. stays;
+}
 
-  pub seek-at : (v i : ℕ) → v ≢ 0 → i < 64 → getD (words s) (2 + i) 0 ≡ v → NotBelow (words s) v i → Located (s .seats) v i
-  seek-at v i n h e none =
-      located (s .seats) v i (getD (s .seats) i free) refl n (sym (at i h) ∙ e)
-      (position-is (holds v) (s .seats) i (omega (arith, w .size)) (holds-yes v _ n (sym (at i h) ∙ e))
-      (λ k l. holds-not v _ (λ q. none k l (at k (omega arith) ∙ q))))
+-- the seat of m's lowest bit, and who holds it
+record Next (v i : ℕ) (rest ss : List Seat) : Type 0 where
+  holder : Connection
+  filing : filed (drawer v) (getD rest i free) ≡ true
+  seat : getD ss i free ≡ taken holder
 
-  pub seek-none : (v : ℕ) → NotBelow (words s) v 64 → find v (s .seats) ≡ free
-  unfolding find
-  seek-none v none =
-      ap (λ (k : ℕ). getD (s .seats) k free)
-      (position-none (holds v) (s .seats) (λ k l. holds-not v _ (λ q. none k (omega (arith, w .size)) (at k (omega (arith, w .size)) ∙ q))))
-      ∙ past (s .seats)
+module _ (v m : ℕ) (ss : List Seat) (l : Left v m ss) (i : ℕ) (e : i ≡ trailingZeros 64 m) (h : i < 64) where
+  first : i ≡ position (filed (drawer v)) (l .rest)
+  first = e ∙ ap (trailingZeros 64) (l .are) ∙ ap (λ (n : ℕ). trailingZeros n (marks (filed (drawer v)) (l .rest))) (sym (l .size)) ∙ marks-first (filed (drawer v)) (l .rest)
+
+  next : Next v i (l .rest) ss
+  next =
+      go (getD (l .rest) i free) (getD ss i free) refl refl (l .each i)
+      (ap (λ (k : ℕ). filed (drawer v) (getD (l .rest) k free)) first ∙ position-passes (filed (drawer v)) (l .rest) (omega (arith, first, l .size)))
     where
-      past : (ss : List Seat) → getD ss (length ss) free ≡ free
-      past [] = refl
-      past (x ∷ ss) = past ss
+      go : (x y : Seat) → getD (l .rest) i free ≡ x → getD ss i free ≡ y → Kept v x y → filed (drawer v) (getD (l .rest) i free) ≡ true → Next v i (l .rest) ss
+      go _ (taken c) a b stays f = record { holder = c; filing = f; seat = b }
+      go _ free a b stays f = absurd (filed-not (drawer v) (getD (l .rest) i free) a f)
+      go _ y a b (tried t) f = absurd (filed-not (drawer v) (getD (l .rest) i free) a f)
 
-  pub find-none : (v : ℕ) → Finds (words s) v Nothing → find v (s .seats) ≡ free
-  find-none v h = go (case v 0)
+  -- its name is v: found
+  pub left-found : (s : State) → Whole s → ss ≡ s .seats → getD (words s) (67 + i) 0 ≡ v → Located ss v i
+  left-found s w q n =
+      let c = next .holder in
+      let name : c .name ≡ v = sym (ap number (next .seat)) ∙ ap (λ (x : List Seat). number (getD x i free)) q ∙ sym (name-at s (w .size) i h) ∙ n in
+      record {
+        holder = c;
+        seat = next .seat;
+        named = name;
+        place = ap (λ (u : ℕ). position (holds u) ss) (sym name) ∙ seat-place ss (subst Apart (sym q) (w .apart)) i c (next .seat);
+      }
+
+  -- its name is another: it is taken from the search
+  pub left-next : (s : State) → Whole s → ss ≡ s .seats → (getD (words s) (67 + i) 0 ≡ v → ⊥) → Left v (m - 2 ^ i) ss
+  left-next s w q n = record {
+    rest = set (l .rest) i free;
+    size = length-set (l .rest) i free ∙ l .size;
+    are = ap (λ (x : ℕ). x - 2 ^ i) (l .are) ∙ marks-less (filed (drawer v)) (l .rest) i free inside (next .filing) (filed-free (drawer v));
+    each = λ k. go k (case k i);
+  }
     where
-      go : Case v 0 → find v (s .seats) ≡ free
-      go (same e) = absent-find v (s .seats) (each-map (Proper (s .last)) (λ c. c .name ≢ v) (λ c p q. omega (arith, p .0 .assigned, q, e)) (s .seats) (w .each))
-      go (other n) = seek-none v (h n)
+      inside : i < length (l .rest)
+      inside = omega (arith, l .size)
 
-  pub find-at : (v i : ℕ) → Finds (words s) v (At i) → Located (s .seats) v i
-  find-at v i h = seek-at v i (h .0) (h .1 .0) (h .1 .1) (h .1 .2)
+      go : (k : ℕ) → Case k i → Kept v (getD (set (l .rest) i free) k free) (getD ss k free)
+      go k (same e) =
+          rw (e, getD-set-same (l .rest) i free free inside)
+          (tried {x = getD ss i free} (rw (next .seat) (holds-not v (next .holder) (λ z. n (name-at s (w .size) i h ∙ ap (λ (x : List Seat). number (getD x i free)) (sym q) ∙ ap number (next .seat) ∙ z)))))
+      go k (other e) = rw (getD-set-other (l .rest) i k free free e) (l .each k)
 
-  pub lowest-at : (i : ℕ) → i < 64 → getD (words s) (2 + i) 0 ≡ 0 → NotBelow (words s) 0 i → position isFree (s .seats) ≡ i
-  lowest-at i h e none =
-      position-is isFree (s .seats) i (omega (arith, w .size)) (is-free _ (assigned s w i) (sym (at i h) ∙ e))
-      (λ k l. free-not _ (λ q. none k l (at k (omega arith) ∙ q)))
+-- none is left: v has no seat
+pub left-none : (v : ℕ) (ss : List Seat) → length ss ≡ 64 → Left v 0 ss → find v ss ≡ free
+unfolding find
+left-none v ss n l =
+    ap (λ (k : ℕ). getD ss k free) (position-none (holds v) ss (λ k h. go k (getD (l .rest) k free) (getD ss k free) refl (l .each k) h)) ∙ past ss
+  where
+    past : (ss : List Seat) → getD ss (length ss) free ≡ free
+    past [] = refl
+    past (x ∷ ss) = past ss
 
-  pub room-at : (i : ℕ) → i < 64 → position isFree (s .seats) ≡ i → roomLeft s ≡ true
+    go : (k : ℕ) (x y : Seat) → getD (l .rest) k free ≡ x → Kept v x y → k < length ss → holds v y ≡ false
+    go k _ y e (tried t) h = t
+    go k _ y e stays h =
+        filed-holds v y (sym (ap (filed (drawer v)) e) ∙ marks-top (filed (drawer v)) (l .rest) 0 k (subst (λ (m : ℕ). m < 2 ^ 0) (l .are) (lit< tt)) (omega arith) (omega (arith, l .size)))
+
+-- ---- the lowest free seat
+
+vacant-is : (s : State) → Whole s → (m : ℕ) → m ≡ 18446744073709551615 - getD (words s) 2 0 → position isFree (s .seats) ≡ trailingZeros 64 m
+vacant-is s w m e =
+    let ss = s .seats in
+    let t : marks isTaken ss + marks isFree ss + 1 ≡ 2 ^ 64 = marks-both ss ∙ ap (λ (n : ℕ). 2 ^ n) (w .size) in
+    let f : marks isFree ss ≡ m = omega (arith, t, e, taken-at s) in
+    sym (marks-first isFree ss) ∙ ap (λ (n : ℕ). trailingZeros n (marks isFree ss)) (w .size) ∙ ap (trailingZeros 64) f
+
+module _ (l : List ℕ) (m : ℕ) (e : m ≡ 18446744073709551615 - getD l 2 0) where
+  vacant-in : (s : State) → Whole s → l ≡ words s → position isFree (s .seats) ≡ trailingZeros 64 m
+  vacant-in s w q = vacant-is s w m (e ∙ ap (λ (x : List ℕ). 18446744073709551615 - getD x 2 0) q)
+
+  pub free-found : (i : ℕ) → i ≡ trailingZeros 64 m → i < 64 → FindsFree l (At i)
+  free-found i q h = record { inside = h; is = λ s w r. vacant-in s w r ∙ sym q }
+
+  pub free-none : m ≡ 0 → FindsFree l Nothing
   unfolding roomLeft
-  room-at i h e = lt-ltb (position isFree (s .seats)) (length (s .seats)) (omega (arith, w .size))
+  free-none z = record {
+    inside = tt;
+    is = λ s w r.
+        le-ltb (position isFree (s .seats)) (length (s .seats))
+        (omega (arith, w .size, vacant-in s w r ∙ ap (trailingZeros 64) z ∙ trailing-of-zero 64));
+  }
 
-  pub room-none : NotBelow (words s) 0 64 → roomLeft s ≡ false
-  unfolding roomLeft
-  room-none none =
-      le-ltb (position isFree (s .seats)) (length (s .seats))
-      (omega (arith, position-none isFree (s .seats) (λ k l. free-not _ (λ q. none k (omega (arith, w .size)) (at k (omega (arith, w .size)) ∙ q)))))
+pub room-at : (s : State) → Whole s → (i : ℕ) → i < 64 → position isFree (s .seats) ≡ i → roomLeft s ≡ true
+unfolding roomLeft
+room-at s w i h e = lt-ltb (position isFree (s .seats)) (length (s .seats)) (omega (arith, w .size))

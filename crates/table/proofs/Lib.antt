@@ -6,6 +6,7 @@ pub mod Keeps
 pub mod Counts
 pub mod Storing
 pub mod Loaded
+pub mod Marks
 pub mod Words
 pub mod Found
 pub mod Choosing

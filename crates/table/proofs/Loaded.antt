@@ -102,12 +102,12 @@ pub load-ranged : (l : List ℕ) (i : ℕ) → InRange (connectionAt l i)
 load-ranged l i = record {
   opened = omega arith;
   trm = omega arith;
-  pace = pace-ranged (getD l (130 + i * 14 + 3) 0) (getD l (130 + i * 14 + 3 + 1) 0) (getD l (130 + i * 14 + 3 + 2) 0) (getD l (130 + i * 14 + 3 + 3) 0) .0;
+  pace = pace-ranged (getD l (195 + i * 14 + 3) 0) (getD l (195 + i * 14 + 3 + 1) 0) (getD l (195 + i * 14 + 3 + 2) 0) (getD l (195 + i * 14 + 3 + 3) 0) .0;
 }
 
 pub load-room : (l : List ℕ) (i : ℕ) → HasRoom (connectionAt l i .pace)
 load-room l i =
-    pace-ranged (getD l (130 + i * 14 + 3) 0) (getD l (130 + i * 14 + 3 + 1) 0) (getD l (130 + i * 14 + 3 + 2) 0) (getD l (130 + i * 14 + 3 + 3) 0) .1
+    pace-ranged (getD l (195 + i * 14 + 3) 0) (getD l (195 + i * 14 + 3 + 1) 0) (getD l (195 + i * 14 + 3 + 2) 0) (getD l (195 + i * 14 + 3 + 3) 0) .1
 
 pub load-named : (l : List ℕ) (i : ℕ) → connectionAt l i .name ≤ 65535
 load-named l i = omega arith

@@ -1,6 +1,6 @@
 -- Seats: the connection that a name finds, what a change of one seat leaves of the others, and that no name has two seats.
 use Prim.Native.Nat.{ℕ, zero, suc, _<_}
-use mathlib.Core.Path.{_≡_, refl, sym, subst, _∙_}
+use mathlib.Core.Path.{_≡_, refl, sym, ap, subst, _∙_}
 use mathlib.Core.Logic.{_≢_}
 use mathlib.Core.Bool.{Bool, true, false}
 use mathlib.Core.List.{List, [], _∷_}
@@ -161,3 +161,14 @@ unfolding position isFree
 lowest-free [] = refl
 lowest-free (free ∷ ss) = refl
 lowest-free (taken c ∷ ss) = lowest-free ss
+
+-- where no name has two seats, a connection's seat is that of its name
+pub seat-place : (ss : List Seat) → Apart ss → (i : ℕ) (c : Connection) → getD ss i free ≡ taken c → position (holds (c .name)) ss ≡ i
+unfolding position holds
+seat-place [] a i c e = absurd (taken≢free (sym e))
+seat-place (free ∷ ss) a zero c e = absurd (taken≢free (sym e))
+seat-place (free ∷ ss) a (suc i) c e = ap suc (seat-place ss (a .1) i c e)
+seat-place (taken d ∷ ss) a zero c e = let h : d .name ≡ c .name = cc in rw (eq-eqb (d .name) (c .name) h)
+seat-place (taken d ∷ ss) a (suc i) c e =
+    rw (ne-eqb (d .name) (c .name) (λ h. subst (OnSeat (λ x. x .name ≢ d .name)) e (each-get _ ss (a .0) i) (sym h)))
+    (ap suc (seat-place ss (a .1) i c e))

@@ -1,5 +1,5 @@
 -- What the choice for a slot says of a table's words. (Document 01, "Slots".)
-use Prim.Native.Nat.{ℕ, zero, suc, _+_, _≤_, _<_}
+use Prim.Native.Nat.{ℕ, zero, suc, _+_, _-_, _^_, _≤_, _<_}
 use mathlib.Core.Path.{_≡_}
 use mathlib.Core.Bool.{cond, _&&_, _||_}
 use mathlib.Core.List.{List}
@@ -18,20 +18,23 @@ use Rattle.table.specs.Choice.{nobody, wins, winner}
 
 -- the columns of ready keys and of names
 abbrev pub keyAt : List ℕ → (seat : ℕ) → ℕ
-keyAt l i = getD l (66 + i) 0
+keyAt l i = getD l (131 + i) 0
 
 abbrev pub nameAt : List ℕ → (seat : ℕ) → ℕ
-nameAt l i = getD l (2 + i) 0
+nameAt l i = getD l (67 + i) 0
 
--- the better of the best so far and seat i: a key of 0 never wins, a lower key does, ties to the lower name
+-- the better of the best so far and seat i: a greater key wins, ties to the lower name
 abbrev pub betterOf : Best → (i key name : ℕ) → Best
-betterOf b i key name =
-    cond (eqb key 0 || (ltb (b .key) key || (eqb key (b .key) && leb (b .name) name))) b (record { at = i; key = key; name = name })
+betterOf b i key name = cond (ltb key (b .key) || (eqb key (b .key) && leb (b .name) name)) b (record { at = i; key = key; name = name })
 
--- the best of the seats below n, of which the keys and names are told; only keys below the limit count
+-- the best of the seats below n, of which the keys and names are told; only keys above the limit count
 unfoldable pub bestBelow : (limit : ℕ) (keys names : ℕ → ℕ) → ℕ → Best
 bestBelow limit keys names zero = record { at = 64; key = limit; name = 0 }
 bestBelow limit keys names (suc n) = betterOf (bestBelow limit keys names n) n (keys n) (names n)
+
+-- at t: a key above it is that of an instant not after t
+abbrev pub limitAt : ℕ → ℕ
+limitAt t = 2 ^ 64 - 2 - t
 
 -- of any table: a seat that it has
 abbrev pub Seated : Choice → Type 0

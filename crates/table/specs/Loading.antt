@@ -55,4 +55,4 @@ connectionFrom name l a m b = record {
 }
 
 abbrev pub connectionAt : List ℕ → (seat : ℕ) → Connection
-connectionAt l i = connectionFrom (getD l (2 + i) 0) l (130 + i * 14) l (1026 + i * 12)
+connectionAt l i = connectionFrom (getD l (67 + i) 0) l (195 + i * 14) l (1091 + i * 12)

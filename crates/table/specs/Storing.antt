@@ -1,24 +1,43 @@
 -- What storing a seat makes of the table's words.
-use Prim.Native.Nat.{ℕ, _+_, _*_}
+use Prim.Native.Nat.{ℕ, _+_, _*_, _^_}
 use mathlib.Core.List.{List, [], _∷_, _++_}
-use Rattle.table.specs.declared.store.Live.{Live}
-use lib.ListN.{set, replicate}
+use lib.Bits.{bitXor}
+use lib.ListN.{getD, set, replicate}
 use Rattle.laws.specs.Blocks.{put}
+use Rattle.connection.specs.declared.parts.Back.{Back}
 use Rattle.connection.specs.declared.parts.Connection.{Connection}
 use Rattle.connection.specs.Ready.{readyInstant}
-use Rattle.table.specs.Layout.{payloadWords, key, liveWords, fixedWords}
+use Rattle.table.specs.Layout.{drawer, backTag, key, frontWords, backWords, liveWords, fixedWords}
 
-abbrev pub listed : Live → List ℕ
-listed w = w .acr ∷ w .unacked ∷ w .cells ∷ w .tag ∷ w .sent ∷ w .forward ∷ w .k ∷ w .back ∷ payloadWords (w .payload)
+-- a connection whose sending side has moved
+abbrev pub sentBy : List ℕ → (seat : ℕ) → Connection → List ℕ
+sentBy l i c = set (put l (195 + i * 14) (frontWords c)) (131 + i) (key (readyInstant c))
 
--- a connection that has moved
+-- a connection whose receiving side has moved
+abbrev pub heardBy : List ℕ → (seat : ℕ) → Connection → List ℕ
+heardBy l i c = set (put l (202 + i * 14) (backWords (c .back))) (131 + i) (key (readyInstant c))
+
+-- a connection whose saved EFCI is all that has moved
+abbrev pub markedBy : List ℕ → (seat : ℕ) → Back → List ℕ
+markedBy l i b = set l (202 + i * 14) (backTag b)
+
+-- both sides
 abbrev pub updated : List ℕ → (seat : ℕ) → Connection → List ℕ
-updated l i c = set (put l (130 + i * 14) (liveWords c)) (66 + i) (key (readyInstant c))
+updated l i c = set (put l (195 + i * 14) (liveWords c)) (131 + i) (key (readyInstant c))
+
+-- seat i enters word p of the header, or leaves it
+abbrev pub flipped : List ℕ → (p seat : ℕ) → List ℕ
+flipped l p i = set l p (bitXor (getD l p 0) (2 ^ i))
+
+-- a seat and its name enter the header, or leave it
+abbrev pub entered : List ℕ → (seat name : ℕ) → List ℕ
+entered l i v = flipped (flipped l 2 i) (3 + drawer v) i
 
 -- a connection that takes the seat
 abbrev pub stored : List ℕ → (seat : ℕ) → Connection → List ℕ
-stored l i c = set (put (updated l i c) (1026 + i * 12) (fixedWords c)) (2 + i) (c .name)
+stored l i c = entered (set (put (updated l i c) (1091 + i * 12) (fixedWords c)) (67 + i) (c .name)) i (c .name)
 
 -- a seat that is freed
 abbrev pub cleared : List ℕ → (seat : ℕ) → List ℕ
-cleared l i = set (set (put (put l (130 + i * 14) (replicate 14 0)) (1026 + i * 12) (replicate 12 0)) (66 + i) 0) (2 + i) 0
+cleared l i =
+    entered (set (set (put (put l (195 + i * 14) (replicate 14 0)) (1091 + i * 12) (replicate 12 0)) (131 + i) 0) (67 + i) 0) i (getD l (67 + i) 0)

@@ -1,4 +1,4 @@
-// Whom a slot goes to: one pass over the ready keys.
+// Whom a slot goes to: one pass over the ready keys, as far as seats are taken.
 ghost use mathlib.Core.Path.{_≡_};
 ghost use Prim.Native.Nat.{_≤_};
 ghost use Rattle.rate.specs.Units.{latestTime};
@@ -17,14 +17,11 @@ struct Best {
     name: u64,
 }
 
-// A key of 0 never wins, a lower key does, and of two equal ones that with the lower name.
+// A greater key is an earlier instant; of two equal ones that with the lower name wins.
 fn better(b: Best, i: usize, key: u64, name: u64) -> Best
     ensures { λ r. ⌜ r ≡ betterOf b i key name ⌝ }
 {
-    if key == 0 {
-        return b;
-    }
-    if b.key < key {
+    if key < b.key {
         return b;
     }
     if key == b.key {
@@ -35,7 +32,7 @@ fn better(b: Best, i: usize, key: u64, name: u64) -> Best
     Best { at: i, key, name }
 }
 
-// A key beats the first limit if its instant is not after the time.
+// A key is above the first limit if its instant is not after the time; the key 0, of a seat that is never ready, is not.
 pub fn choose(t: &[u64; WORDS], time: u64) -> Choice
     requires { ⌜ time ≤ latestTime ⌝ }
     ensures seated { λ r. ⌜ Seated r ⌝ }
@@ -43,12 +40,13 @@ pub fn choose(t: &[u64; WORDS], time: u64) -> Choice
 {
     let mut b = Best {
         at: 64,
-        key: time + 2,
+        key: 18446744073709551614 - time,
         name: 0,
     };
+    let end = 64 - u64::leading_zeros(t[2]) as usize;
     let mut i: usize = 0;
-    while i < 64 {
-        b = better(b, i, t[66 + i], t[2 + i]);
+    while i < end {
+        b = better(b, i, t[131 + i], t[67 + i]);
         i += 1;
     }
     if b.at < 64 {

@@ -1,33 +1,53 @@
-// A name's seat, and the lowest free one: one scan of the column of names.
+// A name's seat, by the index, and the lowest free seat.
 ghost use mathlib.Core.Path.{_≡_};
-ghost use Rattle.table.specs.Finding.{Sought, Finds};
+ghost use Prim.Native.Nat.{_-_, _^_, _≤_, _<_};
+ghost use lib.Count.{trailingZeros};
+ghost use Rattle.table.specs.Finding.{Finds, FindsFree};
 use crate::layout::WORDS;
+use crate::layout::drawer;
 
 pub enum Found {
     At(usize),
     Nothing,
 }
 
-// The first seat whose word in the column of names is v; a free seat has 0.
-pub fn seek(t: &[u64; WORDS], v: u64) -> Found
-    ensures { λ r. ⌜ Sought (now (t .entry)) v r ⌝ }
+// The lowest of some seats, of which each is a bit.
+fn lowest(seats: u64) -> usize
+    requires { ⌜ 0 < seats ⌝ }
+    ensures { λ i. ⌜ (i ≡ trailingZeros 64 seats) × (i < 64) × (2 ^ i ≤ seats) ⌝ }
 {
-    let mut i: usize = 0;
-    while i < 64 {
-        if t[2 + i] == v {
+    u64::trailing_zeros(seats) as usize
+}
+
+// The seats that are not among these.
+fn others(seats: u64) -> u64
+    ensures { λ r. ⌜ r ≡ 18446744073709551615 - seats ⌝ }
+{
+    18446744073709551615 - seats
+}
+
+// The seats whose names share its drawer are tried one by one; most names are alone in theirs.
+pub fn find(t: &[u64; WORDS], name: u32) -> Found
+    ensures { λ r. ⌜ Finds (now (t .entry)) name r ⌝ }
+{
+    let mut left = t[3 + drawer(name as u64)];
+    while left != 0 {
+        let i = lowest(left);
+        if t[67 + i] == name as u64 {
             return Found::At(i);
         }
-        i += 1;
+        left = left - (1u64 << i);
     }
     Found::Nothing
 }
 
-// The seat of an open name. No connection has the name 0.
-pub fn find(t: &[u64; WORDS], name: u32) -> Found
-    ensures { λ r. ⌜ Finds (now (t .entry)) name r ⌝ }
+// The lowest seat that is not taken.
+pub fn find_free(t: &[u64; WORDS]) -> Found
+    ensures { λ r. ⌜ FindsFree (now (t .entry)) r ⌝ }
 {
-    if name == 0 {
+    let vacant = others(t[2]);
+    if vacant == 0 {
         return Found::Nothing;
     }
-    seek(t, name as u64)
+    Found::At(lowest(vacant))
 }

@@ -1,4 +1,4 @@
-// A seat's ready key: 0 if it is never ready, else its ready instant plus 1.
+// A seat's ready key: 0 if it is never ready, else the greater the earlier it is ready.
 ghost use mathlib.Core.Path.{_≡_};
 ghost use Rattle.connection.specs.Range.{InRange};
 ghost use Rattle.connection.specs.Ready.{readyInstant};
@@ -13,6 +13,6 @@ pub fn key_of(c: Connection) -> u64
 {
     match ready_instant(c) {
         Instant::Never => 0,
-        Instant::At(i) => i + 1,
+        Instant::At(i) => 18446744073709551615 - i,
     }
 }

@@ -27,7 +27,7 @@ fn pace_of(tag: u64, sent: u64, forward: u64, k: u64) -> Pace
 }
 
 fn pace_at(t: &[u64; WORDS], b: usize) -> Pace
-    requires { ⌜ b + 4 ≤ 1794 ⌝ }
+    requires { ⌜ b + 4 ≤ 1859 ⌝ }
     ensures { λ p. ⌜ p ≡ paceAt (now (t .entry)) b ⌝ }
 {
     pace_of(t[b], t[b + 1], t[b + 2], t[b + 3])
@@ -44,7 +44,7 @@ fn waiting_of(tag: u64, p: Payload) -> Waiting
 }
 
 fn waiting_at(t: &[u64; WORDS], b: usize) -> Waiting
-    requires { ⌜ b + 7 ≤ 1794 ⌝ }
+    requires { ⌜ b + 7 ≤ 1859 ⌝ }
     ensures { λ w. ⌜ w ≡ waitingAt (now (t .entry)) b ⌝ }
 {
     let p = Payload {
@@ -59,7 +59,7 @@ fn waiting_at(t: &[u64; WORDS], b: usize) -> Waiting
 }
 
 fn params_at(t: &[u64; WORDS], b: usize) -> Params
-    requires { ⌜ b + 10 ≤ 1794 ⌝ }
+    requires { ⌜ b + 10 ≤ 1859 ⌝ }
     ensures { λ p. ⌜ p ≡ paramsAt (now (t .entry)) b ⌝ }
 {
     Params {
@@ -80,13 +80,13 @@ pub fn load(t: &[u64; WORDS], i: usize) -> Connection
     requires { ⌜ i < 64 ⌝ }
     ensures { λ c. ⌜ c ≡ connectionAt (now (t .entry)) i ⌝ }
 {
-    let a = 130 + i * 14;
-    let b = 1026 + i * 12;
+    let a = 195 + i * 14;
+    let b = 1091 + i * 12;
     let params = params_at(t, b + 2);
     let pace = pace_at(t, a + 3);
     let turned = waiting_at(t, a + 7);
     Connection {
-        name: (t[2 + i] % 65536) as u32,
+        name: (t[67 + i] % 65536) as u32,
         opened: t[b] % 9223372036854775808,
         trm: t[b + 1] % 4294967296,
         rate: Rate { acr: t[a], params },

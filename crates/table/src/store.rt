@@ -4,11 +4,13 @@ ghost use mathlib.Core.Bool.{cond};
 ghost use Prim.Native.Nat.{_<_, _+_, _*_, _≤_};
 ghost use lib.ListN.{set, replicate};
 ghost use Rattle.laws.specs.Blocks.{put};
-ghost use Rattle.table.specs.Layout.{paceTag, paceSent, paceForward, paceK, waitTag, waitingPayload, liveWords, fixedWords};
+ghost use Rattle.table.specs.Layout.{paceTag, paceSent, paceForward, paceK, waitTag, backTag, waitingPayload, frontWords, backWords, fixedWords};
 ghost use Rattle.connection.specs.Range.{InRange};
-ghost use Rattle.table.specs.Storing.{listed, updated, stored, cleared};
+ghost use Rattle.table.specs.Storing.{sentBy, heardBy, markedBy, updated, flipped, entered, stored, cleared};
 use crate::key::key_of;
 use crate::layout::WORDS;
+use crate::layout::drawer;
+use connection::parts::Back;
 use connection::parts::Connection;
 use connection::parts::Pace;
 use connection::parts::Waiting;
@@ -82,63 +84,51 @@ fn bit(b: bool) -> u64
     if b { 1 } else { 0 }
 }
 
-// The words that move while the connection is open.
-struct Live {
-    acr: u64,
-    unacked: u64,
-    cells: u64,
-    tag: u64,
-    sent: u64,
-    forward: u64,
-    k: u64,
-    back: u64,
-    payload: Payload,
-}
-
-fn live_of(c: Connection) -> Live
-    ensures { λ w. ⌜ listed w ≡ liveWords c ⌝ }
+// The words of the sending side, from index b on.
+fn put_front(t: &mut [u64; WORDS], b: usize, c: Connection)
+    requires { ⌜ b + 7 ≤ 1859 ⌝ }
+    ensures { λ _. ⌜ now (t .exit) ≡ put (now (t .entry)) b (frontWords c) ⌝ }
 {
     let pace = c.pace;
-    let back = c.back;
-    let turned = back.turned;
     let p = pace_words(pace);
-    let payload = waiting_payload(turned);
-    Live {
-        acr: c.rate.acr,
-        unacked: c.unacked as u64,
-        cells: c.load.cells as u64,
-        tag: p.tag,
-        sent: p.sent,
-        forward: p.forward,
-        k: p.k,
-        back: wait_tag(turned) + bit(back.efci),
-        payload,
-    }
+    let unacked = c.unacked as u64;
+    let cells = c.load.cells as u64;
+    t[b] = c.rate.acr;
+    t[b + 1] = unacked;
+    t[b + 2] = cells;
+    t[b + 3] = p.tag;
+    t[b + 4] = p.sent;
+    t[b + 5] = p.forward;
+    t[b + 6] = p.k;
 }
 
-fn put_live(t: &mut [u64; WORDS], b: usize, w: Live)
-    requires { ⌜ b + 14 ≤ 1794 ⌝ }
-    ensures { λ _. ⌜ now (t .exit) ≡ put (now (t .entry)) b (listed w) ⌝ }
+fn back_tag(back: Back) -> u64
+    ensures { λ r. ⌜ r ≡ backTag back ⌝ }
 {
-    t[b] = w.acr;
-    t[b + 1] = w.unacked;
-    t[b + 2] = w.cells;
-    t[b + 3] = w.tag;
-    t[b + 4] = w.sent;
-    t[b + 5] = w.forward;
-    t[b + 6] = w.k;
-    t[b + 7] = w.back;
-    t[b + 8] = w.payload.a;
-    t[b + 9] = w.payload.b;
-    t[b + 10] = w.payload.c;
-    t[b + 11] = w.payload.d;
-    t[b + 12] = w.payload.e;
-    t[b + 13] = w.payload.f;
+    let turned = back.turned;
+    wait_tag(turned) + bit(back.efci)
+}
+
+// The words of the receiving side, from index b on.
+fn put_back(t: &mut [u64; WORDS], b: usize, back: Back)
+    requires { ⌜ b + 7 ≤ 1859 ⌝ }
+    ensures { λ _. ⌜ now (t .exit) ≡ put (now (t .entry)) b (backWords back) ⌝ }
+{
+    let turned = back.turned;
+    let p = waiting_payload(turned);
+    let tag = back_tag(back);
+    t[b] = tag;
+    t[b + 1] = p.a;
+    t[b + 2] = p.b;
+    t[b + 3] = p.c;
+    t[b + 4] = p.d;
+    t[b + 5] = p.e;
+    t[b + 6] = p.f;
 }
 
 // The words that its open fixed, from index b on.
 fn put_fixed(t: &mut [u64; WORDS], b: usize, c: Connection)
-    requires { ⌜ b + 12 ≤ 1794 ⌝ }
+    requires { ⌜ b + 12 ≤ 1859 ⌝ }
     ensures { λ _. ⌜ now (t .exit) ≡ put (now (t .entry)) b (fixedWords c) ⌝ }
 {
     let p = c.rate.params;
@@ -166,13 +156,59 @@ fn put_fixed(t: &mut [u64; WORDS], b: usize, c: Connection)
     t[b + 11] = trm;
 }
 
-// A seat whose connection has moved: its ready key and its live words.
+// A seat whose connection has moved on its sending side: those words, and the ready key.
+pub fn update_front(t: &mut [u64; WORDS], i: usize, c: Connection)
+    requires { ⌜ (i < 64) × InRange c ⌝ }
+    ensures { λ _. ⌜ now (t .exit) ≡ sentBy (now (t .entry)) i c ⌝ }
+{
+    put_front(t, 195 + i * 14, c);
+    t[131 + i] = key_of(c);
+}
+
+// The same on its receiving side.
+pub fn update_back(t: &mut [u64; WORDS], i: usize, c: Connection)
+    requires { ⌜ (i < 64) × InRange c ⌝ }
+    ensures { λ _. ⌜ now (t .exit) ≡ heardBy (now (t .entry)) i c ⌝ }
+{
+    let back = c.back;
+    put_back(t, 202 + i * 14, back);
+    t[131 + i] = key_of(c);
+}
+
+// A seat of which only the saved EFCI has moved: it moves no ready instant.
+pub fn update_mark(t: &mut [u64; WORDS], i: usize, back: Back)
+    requires { ⌜ i < 64 ⌝ }
+    ensures { λ _. ⌜ now (t .exit) ≡ markedBy (now (t .entry)) i back ⌝ }
+{
+    t[202 + i * 14] = back_tag(back);
+}
+
+// Both sides.
 pub fn update(t: &mut [u64; WORDS], i: usize, c: Connection)
     requires { ⌜ (i < 64) × InRange c ⌝ }
     ensures { λ _. ⌜ now (t .exit) ≡ updated (now (t .entry)) i c ⌝ }
 {
-    put_live(t, 130 + i * 14, live_of(c));
-    t[66 + i] = key_of(c);
+    put_front(t, 195 + i * 14, c);
+    let back = c.back;
+    put_back(t, 202 + i * 14, back);
+    t[131 + i] = key_of(c);
+}
+
+// Seat i enters word p of the header, or leaves it.
+fn flip(t: &mut [u64; WORDS], p: usize, i: usize)
+    requires { ⌜ (p < 1859) × (i < 64) ⌝ }
+    ensures { λ _. ⌜ now (t .exit) ≡ flipped (now (t .entry)) p i ⌝ }
+{
+    t[p] = t[p] ^ (1u64 << i);
+}
+
+// A seat that is taken or freed, and its name in the index.
+fn enter(t: &mut [u64; WORDS], i: usize, name: u64)
+    requires { ⌜ i < 64 ⌝ }
+    ensures { λ _. ⌜ now (t .exit) ≡ entered (now (t .entry)) i name ⌝ }
+{
+    flip(t, 2, i);
+    flip(t, 3 + drawer(name), i);
 }
 
 // A seat that a connection takes.
@@ -181,12 +217,13 @@ pub fn store(t: &mut [u64; WORDS], i: usize, c: Connection)
     ensures { λ _. ⌜ now (t .exit) ≡ stored (now (t .entry)) i c ⌝ }
 {
     update(t, i, c);
-    put_fixed(t, 1026 + i * 12, c);
-    t[2 + i] = c.name as u64;
+    put_fixed(t, 1091 + i * 12, c);
+    t[67 + i] = c.name as u64;
+    enter(t, i, c.name as u64);
 }
 
 fn clear_fixed(t: &mut [u64; WORDS], b: usize)
-    requires { ⌜ b + 12 ≤ 1794 ⌝ }
+    requires { ⌜ b + 12 ≤ 1859 ⌝ }
     ensures { λ _. ⌜ now (t .exit) ≡ put (now (t .entry)) b (replicate 12 0) ⌝ }
 {
     t[b] = 0;
@@ -204,7 +241,7 @@ fn clear_fixed(t: &mut [u64; WORDS], b: usize)
 }
 
 fn clear_live(t: &mut [u64; WORDS], b: usize)
-    requires { ⌜ b + 14 ≤ 1794 ⌝ }
+    requires { ⌜ b + 14 ≤ 1859 ⌝ }
     ensures { λ _. ⌜ now (t .exit) ≡ put (now (t .entry)) b (replicate 14 0) ⌝ }
 {
     clear_fixed(t, b);
@@ -217,8 +254,10 @@ pub fn clear(t: &mut [u64; WORDS], i: usize)
     requires { ⌜ i < 64 ⌝ }
     ensures { λ _. ⌜ now (t .exit) ≡ cleared (now (t .entry)) i ⌝ }
 {
-    clear_live(t, 130 + i * 14);
-    clear_fixed(t, 1026 + i * 12);
-    t[66 + i] = 0;
-    t[2 + i] = 0;
+    let name = t[67 + i];
+    clear_live(t, 195 + i * 14);
+    clear_fixed(t, 1091 + i * 12);
+    t[131 + i] = 0;
+    t[67 + i] = 0;
+    enter(t, i, name);
 }

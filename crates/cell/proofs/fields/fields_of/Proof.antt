@@ -11,15 +11,6 @@ shared-slice-read-marks c = search needs
 cast-marks : tie.Need-cast-marks
 cast-marks c = omega (arith, c .shared-slice-known2 .given 6)
 
-shared-slice-read-vci-of : tie.Need-shared-slice-read-vci-of
-shared-slice-read-vci-of c = search needs
-
-shared-slice-read-vci-of-2 : tie.Need-shared-slice-read-vci-of-2
-shared-slice-read-vci-of-2 c = search needs
-
-shared-slice-read-vci-of-3 : tie.Need-shared-slice-read-vci-of-3
-shared-slice-read-vci-of-3 c = search needs
-
 vci-of-requires : tie.Need-vci-of-requires
 vci-of-requires c κs = search needs
 
@@ -87,7 +78,7 @@ returns c =
     let n = m .before .before .before in
     let e = n .before .before .before in
     let v = e .before .before .before in
-    let s = v .before .before .before .before .before .before in
+    let s = v .before .before .before in
     fields-are (s .args .cell .now) (v .vci-of .ensures) (e .pair .ensures) (n .pair2 .ensures) (m .pair3 .ensures) (l .long .ensures) (c .long2 .ensures)
 
 pub fields-of-spec : {M : Type 1} → statement M
@@ -96,9 +87,6 @@ fields-of-spec =
     (tie.spec
     shared-slice-read-marks
     cast-marks
-    shared-slice-read-vci-of
-    shared-slice-read-vci-of-2
-    shared-slice-read-vci-of-3
     vci-of-requires
     shared-slice-read-pair
     shared-slice-read-pair-2

@@ -1,105 +1,53 @@
 -- The tests that led to each return say which case of the definition holds.
-use borrow.Author.Tests.{not-true, not-false}
-use mathlib.Core.Bool.{true}
-use mathlib.Core.Path.{_≡_, sym, ap, _∙_}
-use Prim.Native.Nat.{ℕ, _/_, _%_}
-use native.Mathlib.Omega.{arith}
-use lib.Dec.{eqb}
-use Rattle.cell.specs.Header.{typeOf, headerRight}
-use Rattle.cell.specs.Reading.{User}
-use Rattle.cell.proofs.Readings.{refused-1, refused-2, refused-3, refused-4, takes-user, takes-rest}
+use mathlib.Core.Path.{_≡_, sym, ap, ap₂, _∙_}
+use lib.ListN.{length}
 use borrow.Author.Needs.{needs}
+use Rattle.cell.specs.Reading.{reading, User, Resource, rest}
 use Rattle.cell.proofs.read.read.Statement.{statement}
 use Rattle.cell.proofs.read.read.Tie as tie
 
--- octet 5 was found right
-right : (c : tie.Else2) → headerRight (c .before .before .before .before .args .cell .now) ≡ true
-right c = sym (c .before .header-right .ensures) ∙ not-false _ (c .if2 .left)
+-- the header was found that of a data or an RM cell
+whole : (c : tie.Else1) → length (c .before .before .before .args .cell .now) ≡ 53
+whole c = c .before .header-refusal .ensures .size (c .if1 .left)
+
+-- of an RM cell
+remains : (c : tie.Else2) → let o = c .before .before .before .before .before .args .cell .now in reading o ≡ rest o
+remains c =
+    let d = c .before in
+    d .before .before .header-refusal .ensures .resource (d .before .if1 .left) (sym (d .is-data .ensures) ∙ c .if2 .left)
 
 returns : tie.Need-returns
-returns c = refused-1 (c .before .before .args .cell .now) (c .if1 .taken)
+returns c = sym (c .before .header-refusal .ensures .refused (c .if1 .taken))
 
-header-right-requires : tie.Need-header-right-requires
-header-right-requires c κs = search needs
+is-data-requires : tie.Need-is-data-requires
+is-data-requires c κs = whole c
+
+vci-of-requires : tie.Need-vci-of-requires
+vci-of-requires c κs = whole (c .before .before)
+
+efci-of-requires : tie.Need-efci-of-requires
+efci-of-requires c κs = whole (c .before .before .before)
 
 returns-2 : tie.Need-returns-2
 returns-2 c =
-    let d = c .before .before in
-    refused-2 (d .before .before .args .cell .now) (d .if1 .left) (sym (c .before .header-right .ensures) ∙ not-true _ (c .if2 .taken))
+    let t = c .before .before in
+    let d = t .before in
+    let h = d .before .before .header-refusal .ensures in
+    ap₂ User (c .before .vci-of .ensures) (c .efci-of .ensures) ∙ sym (h .user (d .before .if1 .left) (sym (d .is-data .ensures) ∙ t .if2 .taken))
 
-shared-slice-read-if3 : tie.Need-shared-slice-read-if3
-shared-slice-read-if3 c = search needs
-
-mul-if3 : tie.Need-mul-if3
-mul-if3 c = search needs
-
-shared-slice-read-if3-2 : tie.Need-shared-slice-read-if3-2
-shared-slice-read-if3-2 c = search needs
-
-add-if3 : tie.Need-add-if3
-add-if3 c = omega (arith, c .shared-slice-known3 .given 1)
+resource-refusal-requires : tie.Need-resource-refusal-requires
+resource-refusal-requires c κs = whole (c .before .before)
 
 returns-3 : tie.Need-returns-3
-returns-3 c =
-    let d = c .before .before .before in refused-3 (d .before .before .before .before .args .cell .now) (d .before .before .if1 .left) (right d) (c .if3 .taken)
+returns-3 c = sym (remains (c .before .before) ∙ c .before .resource-refusal .ensures .refused (c .if3 .taken))
 
-shared-slice-read-kind : tie.Need-shared-slice-read-kind
-shared-slice-read-kind c = search needs
-
-shared-slice-read-vci-of : tie.Need-shared-slice-read-vci-of
-shared-slice-read-vci-of c = search needs
-
-shared-slice-read-vci-of-2 : tie.Need-shared-slice-read-vci-of-2
-shared-slice-read-vci-of-2 c = search needs
-
-shared-slice-read-vci-of-3 : tie.Need-shared-slice-read-vci-of-3
-shared-slice-read-vci-of-3 c = search needs
-
-vci-of-requires : tie.Need-vci-of-requires
-vci-of-requires c κs = search needs
+fields-of-requires : tie.Need-fields-of-requires
+fields-of-requires c κs = whole (c .before .before .before .before)
 
 returns-4 : tie.Need-returns-4
 returns-4 c =
-    let k = c .before .before .before .before in
-    let v = k .before .before in
-    let d = v .before .before .before in
-    let o = d .before .before .before .before .args .cell .now in
-    ap (λ (v : ℕ). User v (eqb (typeOf o / 2 % 2) 1)) (c .vci-of .ensures)
-    ∙ takes-user o (d .before .before .if1 .left) (right d) (v .if3 .left) (k .if4 .taken)
-
-returns-5 : tie.Need-returns-5
-returns-5 c =
-    let v = c .before .before .before in
-    let d = v .before .before .before in
-    refused-4 (d .before .before .before .before .args .cell .now) (d .before .before .if1 .left) (right d) (v .if3 .left) (c .before .if4 .left) (c .if5 .taken)
-
-read-resource-requires : tie.Need-read-resource-requires
-read-resource-requires c κs = search needs
-
-returns-6 : tie.Need-returns-6
-returns-6 c =
-    let v = c .before .before .before .before in
-    let d = v .before .before .before in
-    c .read-resource .ensures ∙ takes-rest (d .before .before .before .before .args .cell .now) (d .before .before .if1 .left) (right d) (v .if3 .left) (c .before .if5 .left)
+    let e = c .before in
+    ap Resource (c .fields-of .ensures) ∙ sym (remains (e .before .before) ∙ e .before .resource-refusal .ensures .taken (e .if3 .left))
 
 pub read-spec : {M : Type 1} → statement M
-read-spec =
-    tie.close
-    (tie.spec
-    returns
-    header-right-requires
-    returns-2
-    shared-slice-read-if3
-    mul-if3
-    shared-slice-read-if3-2
-    add-if3
-    returns-3
-    shared-slice-read-kind
-    shared-slice-read-vci-of
-    shared-slice-read-vci-of-2
-    shared-slice-read-vci-of-3
-    vci-of-requires
-    returns-4
-    returns-5
-    read-resource-requires
-    returns-6)
+read-spec = tie.close (tie.spec (λ c κs. search needs) returns is-data-requires vci-of-requires efci-of-requires returns-2 resource-refusal-requires returns-3 fields-of-requires returns-4)

@@ -1,4 +1,9 @@
--- The last word with its low ten bits written new is that of the sealed octets.
+-- The last word with its low ten bits written new is that of the sealed octets, whose CRC-10 is right.
+use mathlib.Core.Path.{refl, sym, subst}
+use Rattle.crc.specs.Payload.{octetsOf}
+use Rattle.cell.specs.Fields.{Checked}
+use Rattle.cell.proofs.OctetLists.{octets-words}
+use Rattle.cell.proofs.Sealed.{sealed-checked}
 use Rattle.cell.proofs.PayloadWords.{seal-words}
 use borrow.Author.Needs.{needs}
 use Rattle.cell.proofs.seal.seal.Statement.{statement}
@@ -15,9 +20,12 @@ add-t5 c = search needs
 
 returns : tie.Need-returns
 returns c =
+    let p = c .before .before .args .p in
     let g = c .struct-known .given in
-    seal-words (c .before .before .args .p) (g .0 .fits) (g .1 .0 .fits) (g .1 .1 .0 .fits) (g .1 .1 .1 .0 .fits) (g .1 .1 .1 .1 .0 .fits)
-    (g .1 .1 .1 .1 .1 .0 .fits) (c .before .crc10 .ensures .0)
+    let e =
+    seal-words p (g .0 .fits) (g .1 .0 .fits) (g .1 .1 .0 .fits) (g .1 .1 .1 .0 .fits) (g .1 .1 .1 .1 .0 .fits)
+    (g .1 .1 .1 .1 .1 .0 .fits) (c .before .crc10 .ensures .0) in
+    (e, subst Checked (sym e) (sealed-checked (octetsOf p) refl (octets-words p)))
 
 pub seal-spec : {M : Type 1} → statement M
 seal-spec = tie.close (tie.spec crc10-requires mul-t4 add-t5 returns)

@@ -36,7 +36,7 @@ returns c =
     let f = s .args .f in
     cell-put (s .args .clp) (f .vci) (s .args .cell .now) (octetsOf (p .before .seal .result)) (h .put-header .ensures) (p .put-payload .ensures)
     ∙ ap (λ (l : List ℕ). header (s .args .clp) (f .vci) ++ l)
-    (sealed-words f (fit f (s .pre .1 .1)) (p .before .before .bare .ensures) (p .before .seal .ensures))
+    (sealed-words f (fit f (s .pre .1 .1)) (p .before .before .bare .ensures) (p .before .seal .ensures .0))
 
 pub put-resource-spec : {M : Type 1} → statement M
 put-resource-spec =

@@ -49,8 +49,8 @@ returns-3 c =
           (ld .load .result) (ld .load .ensures) (omega (arith, c .if2 .taken, c .before .if1 .left));
     }
 
-update-requires : tie.Need-update-requires
-update-requires c κs =
+update-front-requires : tie.Need-update-front-requires
+update-front-requires c κs =
     let ld = c .before .before .before .before .before in
     let i = ld .before .before .before in
     (seat i, subst InRange (sym (c .offered .ensures)) (offered-ranged (ld .load .result) (ranged (i .before .before .before .before .args .t .now) (i .i .given .0 .0) (ld .load .ensures)) _))
@@ -66,9 +66,9 @@ returns-4 c =
     record {
       meets = λ s w e.
           offer-done s w e (st .args .name) (st .args .cells) (i .i .given .0 .0) (seat i) (standing s w e (st .args .name) (f .find .ensures) (i .i .given .1))
-          (ld .load .result) (ld .load .ensures) (o .offered .result) (o .offered .ensures) (c .update .ensures)
+          (ld .load .result) (ld .load .ensures) (o .offered .result) (o .offered .ensures) (c .update-front .ensures)
           (omega (arith, e2 .if2 .left, e2 .before .if1 .left));
     }
 
 pub offer-spec : {M : Type 1} → statement M
-offer-spec = tie.close (tie.spec (λ c κs. search needs) (λ c. search needs) (λ c. search needs) returns load-requires (λ c. search needs) returns-2 returns-3 (λ c. search needs) (λ c κs. search needs) update-requires returns-4)
+offer-spec = tie.close (tie.spec (λ c κs. search needs) (λ c. search needs) (λ c. search needs) returns load-requires (λ c. search needs) returns-2 returns-3 (λ c. search needs) (λ c κs. search needs) update-front-requires returns-4)

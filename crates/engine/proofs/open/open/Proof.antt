@@ -8,9 +8,9 @@ use Rattle.connection.specs.Range.{InRange}
 use Rattle.connection.specs.Parts.{fresh}
 use Rattle.connection.proofs.Ranged.{fresh-ranged}
 use Rattle.table.specs.State.{timed, seated}
-use Rattle.table.proofs.Found.{found-at}
+use Rattle.table.proofs.Found.{found-at, room-at}
 use Rattle.engine.proofs.Outs.{refused-out, accepted-out, missing, standing}
-use Rattle.engine.proofs.Opened.{open-low, open-wide, open-unfit, open-late, Passed, open-taken, open-full, open-early, open-done, lowest, seat-below, room, no-room, last-at, opened-words}
+use Rattle.engine.proofs.Opened.{open-low, open-wide, open-unfit, open-late, Passed, open-taken, open-full, open-early, open-done, lowest, seat-below, no-room, last-at, opened-words}
 use Rattle.engine.proofs.open.open.Statement.{statement}
 use Rattle.engine.proofs.open.open.Tie as tie
 
@@ -27,7 +27,7 @@ passed c =
     }
 
 seat : (c : tie.After-i) → c .i .given .0 .0 < 64
-seat c = let k = c .before .before in seat-below _ (k .seek .result) (c .i .given .0 .0) (k .seek .ensures) (c .i .given .1)
+seat c = seat-below (c .before .before .find-free .ensures) (c .i .given .1)
 
 returns : tie.Need-returns
 returns c =
@@ -84,7 +84,7 @@ returns-6 c =
       meets = λ s w e.
           refused-out s 13 e
           (open-full s (passed e4) (missing s w e (st .args .name) (fd .find .ensures) (new .enum-told .given .1))
-          (no-room s w (st .args .t .now) e (sk .seek .result) (sk .seek .ensures) (c .enum-told3 .given .1)));
+          (no-room (sk .find-free .ensures) s w e (c .enum-told3 .given .1)));
     }
 
 returns-7 : tie.Need-returns-7
@@ -97,9 +97,9 @@ returns-7 c =
     let st = e4 .before .before .before .before .before in
     record {
       meets = λ s w e.
-          let at = lowest s w (st .args .t .now) e (sk .seek .result) (i .i .given .0 .0) (sk .seek .ensures) (i .i .given .1) in
+          let at = lowest (sk .find-free .ensures) s w e (i .i .given .1) in
           refused-out s 14 e
-          (open-early s (passed e4) (missing s w e (st .args .name) (fd .find .ensures) (new .enum-told .given .1)) (room s w (i .i .given .0 .0) (seat i) at)
+          (open-early s (passed e4) (missing s w e (st .args .name) (fd .find .ensures) (new .enum-told .given .1)) (room-at s w (i .i .given .0 .0) (seat i) at)
           (subst (λ x. st .args .time < x) (last-at s e) (c .if5 .taken)));
     }
 
@@ -122,10 +122,10 @@ returns-8 c =
     let st = e4 .before .before .before .before .before in
     record {
       meets = λ s w e.
-          let at = lowest s w (st .args .t .now) e (sk .seek .result) (i .i .given .0 .0) (sk .seek .ensures) (i .i .given .1) in
+          let at = lowest (sk .find-free .ensures) s w e (i .i .given .1) in
           accepted-out (timed (st .args .time) (seated (fresh (st .args .name) (st .args .time) (st .args .params)) s))
           (opened-words s w e (st .args .time) (i .i .given .0 .0) (seat i) at (fresh (st .args .name) (st .args .time) (st .args .params)) (fr .fresh .result) (fr .fresh .ensures) (c .store .ensures))
-          (open-done s (passed e4) (missing s w e (st .args .name) (fd .find .ensures) (new .enum-told .given .1)) (room s w (i .i .given .0 .0) (seat i) at)
+          (open-done s (passed e4) (missing s w e (st .args .name) (fd .find .ensures) (new .enum-told .given .1)) (room-at s w (i .i .given .0 .0) (seat i) at)
           (subst (λ x. x ≤ st .args .time) (last-at s e) (e5 .if5 .left)));
     }
 

@@ -1,44 +1,84 @@
-use mathlib.Core.Path.{sym, _∙_}
-use borrow.Author.Needs.{needs}
+use Rattle.cell.proofs.Admits.{received-checked}
+use Rattle.cell.specs.Reading.{reading, rest}
+use Rattle.cell.specs.declared.read.Reading.the-variants.{User, Resource}
 use Rattle.engine.proofs.Outs.{refused-out}
-use Rattle.engine.proofs.Received.{resource-size, unread, user-read, resource-read, same-meets}
+use Rattle.engine.proofs.Received.{unread, user-read, resource-read, same-meets}
+use borrow.Author.Needs.{needs}
+use lib.ListN.{length}
+use mathlib.Core.Path.{_≡_, refl, sym, ap, ap₂, _∙_}
 use Rattle.engine.proofs.receive.receive.Statement.{statement}
 use Rattle.engine.proofs.receive.receive.Tie as tie
 
-receive-resource-requires : tie.Need-receive-resource-requires
-receive-resource-requires c κs =
-    let k = c .before .before in
-    let r = k .before .before in
-    resource-size (r .before .before .args .cell .now) (k .content3 .given .0 .0) (sym (r .read .ensures) ∙ k .content3 .given .1)
+-- the header was found that of a data or an RM cell
+whole : (c : tie.Else1) → length (c .before .before .before .args .cell .now) ≡ 53
+whole c = c .before .header-refusal .ensures .size (c .if1 .left)
+
+-- of an RM cell
+remains : (c : tie.Else2) → let o = c .before .before .before .before .before .args .cell .now in reading o ≡ rest o
+remains c =
+    let d = c .before in
+    d .before .before .header-refusal .ensures .resource (d .before .if1 .left) (sym (d .is-data .ensures) ∙ c .if2 .left)
+
+-- with these fields
+fields : (c : tie.After-fields-of) → let o = c .before .before .before .before .before .before .before .before .before .args .cell .now in reading o ≡ Resource (c .fields-of .result)
+fields c =
+    let e3 = c .before .before in
+    remains (e3 .before .before) ∙ e3 .before .resource-refusal .ensures .taken (e3 .if3 .left) ∙ sym (ap Resource (c .fields-of .ensures))
 
 returns : tie.Need-returns
 returns c =
-    let k = c .before in
-    let r = k .before .before in
-    record {
-      meets = λ s w e.
-          refused-out s (k .content .given .0 .0) e
-          (unread s (r .before .before .args .cell .now) (k .content .given .0 .0) (sym (r .read .ensures) ∙ k .content .given .1));
-    }
+    let h = c .before in
+    let o = h .before .before .args .cell .now in
+    record { meets = λ s w e. refused-out s (h .header-refusal .result) e (unread s o (h .header-refusal .result) (h .header-refusal .ensures .refused (c .if1 .taken))) }
+
+is-data-requires : tie.Need-is-data-requires
+is-data-requires c κs = whole c
+
+vci-of-requires : tie.Need-vci-of-requires
+vci-of-requires c κs = whole (c .before .before .before)
+
+efci-of-requires : tie.Need-efci-of-requires
+efci-of-requires c κs = whole (c .before .before .before .before)
 
 returns-2 : tie.Need-returns-2
 returns-2 c =
-    let k = c .before .before .before in
-    let r = k .before .before in
+    let v = c .before .before in
+    let t = v .before .before in
+    let d = t .before in
+    let h = d .before .before in
+    let o = h .before .before .args .cell .now in
     same-meets
-    (user-read (r .before .before .args .cell .now) (k .content2 .given .0 .0) (k .content2 .given .0 .1 .0) (sym (r .read .ensures) ∙ k .content2 .given .1))
+    (user-read o (v .vci-of .result) (c .before .efci-of .result)
+    (h .header-refusal .ensures .user (d .before .if1 .left) (sym (d .is-data .ensures) ∙ t .if2 .taken)
+    ∙ sym (ap₂ User (v .vci-of .ensures) (c .before .efci-of .ensures))))
     (c .receive-data .ensures)
+
+resource-refusal-requires : tie.Need-resource-refusal-requires
+resource-refusal-requires c κs = whole (c .before .before)
 
 returns-3 : tie.Need-returns-3
 returns-3 c =
-    let k = c .before .before .before in
-    let r = k .before .before in
-    same-meets
-    (resource-read (r .before .before .args .cell .now) (k .content3 .given .0 .0) (sym (r .read .ensures) ∙ k .content3 .given .1))
-    (c .receive-resource .ensures)
+    let e2 = c .before .before in
+    let n = c .before .resource-refusal .result in
+    let o = e2 .before .before .before .before .before .args .cell .now in
+    record { meets = λ s w e. refused-out s n e (unread s o n (remains e2 ∙ c .before .resource-refusal .ensures .refused (c .if3 .taken))) }
+
+fields-of-requires : tie.Need-fields-of-requires
+fields-of-requires c κs = whole (c .before .before .before .before .before)
+
+receive-resource-requires : tie.Need-receive-resource-requires
+receive-resource-requires c κs =
+    let e2 = c .before .before .before .before in
+    let d = e2 .before .before in
+    let k = d .before .before in
+    let o = k .before .args .cell .now in
+    (whole d, received-checked o (c .fields-of .result) (fields c) (record { each = λ i. k .shared-slice-known .given i .fits }) refl)
+
+returns-4 : tie.Need-returns-4
+returns-4 c =
+    let f = c .before in
+    let o = f .before .before .before .before .before .before .before .before .before .args .cell .now in
+    same-meets (resource-read o (f .fields-of .result) (fields f)) (c .receive-resource .ensures)
 
 pub receive-spec : {M : Type 1} → statement M
-receive-spec =
-    tie.close
-    (tie.spec (λ c κs. search needs) (λ c. search needs) (λ c. search needs) (λ c κs. search needs) (λ c. search needs) receive-resource-requires
-    returns returns-2 returns-3)
+receive-spec = tie.close (tie.spec (λ c κs. search needs) returns is-data-requires vci-of-requires efci-of-requires (λ c κs. search needs) returns-2 resource-refusal-requires returns-3 fields-of-requires receive-resource-requires returns-4)

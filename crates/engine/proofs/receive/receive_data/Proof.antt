@@ -1,10 +1,7 @@
 use Prim.Native.Nat.{_<_}
-use mathlib.Core.Path.{sym, subst}
-use borrow.Author.Needs.{needs}
-use Rattle.connection.specs.Range.{InRange}
-use Rattle.connection.proofs.Ranged.{marked-ranged}
-use Rattle.engine.proofs.Outs.{refused-out, below, missing, standing, ranged}
+use Rattle.engine.proofs.Outs.{refused-out, below, missing, standing}
 use Rattle.engine.proofs.Received.{data-missing, data-done}
+use borrow.Author.Needs.{needs}
 use Rattle.engine.proofs.receive.receive_data.Statement.{statement}
 use Rattle.engine.proofs.receive.receive_data.Tie as tie
 
@@ -21,30 +18,21 @@ returns c =
 load-requires : tie.Need-load-requires
 load-requires c κs = seat (c .before .before)
 
-update-requires : tie.Need-update-requires
-update-requires c κs =
-    let ld = c .before .before in
-    let i = ld .before .before .before in
-    let a = i .before .before .before .before .args in (
-      seat i,
-      subst InRange (sym (c .marked .ensures))
-          (marked-ranged (ld .load .result) (ranged (a .t .now) (i .i .given .0 .0) (ld .load .ensures)) (a .efci)),
-    )
+update-mark-requires : tie.Need-update-mark-requires
+update-mark-requires c κs = seat (c .before .before .before .before .before .before)
 
 returns-2 : tie.Need-returns-2
 returns-2 c =
-    let o = c .before in
-    let ld = o .before .before in
+    let o = c .before .before .before in
+    let ld = o .before in
     let i = ld .before .before .before in
     let f = i .before .before in
     let a = f .before .before .args in
     record {
       meets = λ s w e.
           data-done s w e (i .i .given .0 .0) (seat i) (standing s w e (a .vci) (f .find .ensures) (i .i .given .1)) (ld .load .result) (ld .load .ensures)
-          (o .marked .result) (c .update .ensures) (a .efci) (o .marked .ensures);
+          (o .marked .result) (c .update-mark .ensures) (a .efci) (o .marked .ensures);
     }
 
 pub receive-data-spec : {M : Type 1} → statement M
-receive-data-spec =
-    tie.close
-    (tie.spec (λ c κs. search needs) (λ c. search needs) (λ c. search needs) returns load-requires (λ c κs. search needs) update-requires returns-2)
+receive-data-spec = tie.close (tie.spec (λ c κs. search needs) (λ c. search needs) (λ c. search needs) returns load-requires (λ c κs. search needs) update-mark-requires returns-2)

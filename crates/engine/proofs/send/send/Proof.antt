@@ -36,8 +36,8 @@ named c =
 put-cell-requires : tie.Need-put-cell-requires
 put-cell-requires c κs = (search needs, named (c .before))
 
-update-requires : tie.Need-update-requires
-update-requires c κs =
+store-sent-requires : tie.Need-store-sent-requires
+store-sent-requires c κs =
     let a = c .before .before .before .before .before in
     let k = a .before in
     let l = k .before in
@@ -56,9 +56,9 @@ returns c =
     let start = l .before .before .before in
     record {
       sends = λ s w last e d seat place.
-          sent-out s w (start .args .time) last (start .args .t .now) (c .update .last .0) (start .args .cell .now) (p .put-cell .last .0) e (start .args .i) (start .pre .0) d seat place
-          (l .load .result) (l .load .ensures) (k .kind-at .result) (k .kind-at .ensures) (a .after .result) (a .after .ensures) (p .put-cell .ensures) (c .update .ensures);
+          sent-out s w (start .args .time) last (start .args .t .now) (c .store-sent .last .0) (start .args .cell .now) (p .put-cell .last .0) e (start .args .i) (start .pre .0) d seat place
+          (l .load .result) (l .load .ensures) (k .kind-at .result) (k .kind-at .ensures) (a .after .result) (a .after .ensures) (p .put-cell .ensures) (c .store-sent .ensures);
     }
 
 pub send-spec : {M : Type 1} → statement M
-send-spec = tie.close (tie.spec (λ c κs. search needs) kind-at-requires after-requires put-cell-requires update-requires (λ c. search needs) returns)
+send-spec = tie.close (tie.spec (λ c κs. search needs) kind-at-requires after-requires put-cell-requires store-sent-requires (λ c. search needs) returns)
