@@ -17,7 +17,7 @@ use Rattle.cell.specs.Fields.{Fields, fieldsOf, crcRight, Checked}
 use Rattle.cell.specs.Reading.{Reading, User, Resource, need, reading}
 use Rattle.cell.specs.Admitted.{Admissible, userCell, rmCell, Admitted, Taken}
 use Rattle.cell.proofs.OctetLists.{octets-drop}
-use Rattle.cell.proofs.Readings.{words-checked, takes-user, takes-rest, takes-fields}
+use Rattle.cell.proofs.Readings.{rest, words-checked, takes-user, takes-rest, takes-fields}
 
 need-test : (n : ℕ) (t : Bool) (r : Reading) → Taken (need n t r) → t ≡ true
 unfolding need
@@ -31,13 +31,13 @@ need-rest n false r h = absurd (h n refl)
 
 module _ (o : List ℕ) where
   resourceRest : Reading
-  resourceRest = need 4 (eqb (typeOf o) 6) (need 5 (crcRight o) (need 6 (eqb (octet 6 o) 1) (Resource (fieldsOf o))))
+  resourceRest = need 4 (eqb (typeOf o) 6) (rest o)
 
   admissible : (t : Bool) → leb (typeOf o) 3 ≡ t → Taken (cond t (User (vciOf o) (eqb (typeOf o / 2 % 2) 1)) resourceRest) → Admissible o
   unfolding crcRight resourceRest
   admissible true e h = userCell (leb-true _ _ e)
   admissible false e h =
-      let h5 : Taken (need 5 (crcRight o) (need 6 (eqb (octet 6 o) 1) (Resource (fieldsOf o)))) = need-rest 4 (eqb (typeOf o) 6) _ h in
+      let h5 : Taken (rest o) = need-rest 4 (eqb (typeOf o) 6) _ h in
       rmCell (eqb-true _ _ (need-test 4 (eqb (typeOf o) 6) _ h)) (eqb-true _ _ (need-test 5 (crcRight o) _ h5))
       (eqb-true _ _ (need-test 6 (eqb (octet 6 o) 1) (Resource (fieldsOf o)) (need-rest 5 (crcRight o) _ h5)))
 

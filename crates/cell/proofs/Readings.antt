@@ -1,11 +1,11 @@
 -- What reading gives, by the tests of the cell that led there.
 use mathlib.Core.Path.{_≡_, refl, sym, ap, ap₂, _∙_}
-use mathlib.Core.Bool.{true, false, true≢false}
+use mathlib.Core.Bool.{Bool, true, false, cond, _||_, true≢false}
 use mathlib.Core.List.{List, [], _∷_}
 use Prim.Native.Nat.{ℕ, suc, _*_, _+_, _/_, _%_, _≤_, _<_}
 use native.Mathlib.Omega.{arith}
-use borrow.Author.Tests.{eq-eqb, ne-eqb, le-leb, lt-leb}
-use lib.Dec.{eqb}
+use borrow.Author.Tests.{eq-eqb, ne-eqb, eqb-true, eqb-false, le-leb, lt-leb, leb-true, leb-false}
+use lib.Dec.{leb, eqb}
 use lib.ListN.{length, getD, take, length-drop}
 use lib.Seq.{getD-drop}
 use Rattle.crc.specs.Checks.{headerCheck, payloadCheck}
@@ -16,7 +16,8 @@ use Rattle.cell.specs.Octets.{octet, pair, payload, AreOctets}
 use Rattle.cell.proofs.OctetLists.{octets-drop}
 use Rattle.cell.specs.Header.{vpiOf, vciOf, typeOf, headerRight}
 use Rattle.cell.specs.Fields.{Fields, fieldsOf, crcRight, Checked}
-use Rattle.cell.specs.Reading.{need, reading, Refused, User, Resource, rest, HeaderMeets, RestMeets}
+use Rattle.cell.specs.Reading.{Reading, need, reading, Refused, User, Resource}
+use Rattle.cell.specs.Refusals.{headerRefusal, restRefusal}
 
 -- the fields, from numbers that are equal to theirs
 pub fields-are : (o : List ℕ) {vci er ccr mcr ql sn : ℕ} → vci ≡ vciOf o → er ≡ pair 8 o → ccr ≡ pair 10 o → mcr ≡ pair 12 o
@@ -72,13 +73,17 @@ crc-test o p r n a e k =
     low : payloadOf (payload o) .f % 1024 ≡ pair 52 o % 1024
     low = last-ten (payload o) ∙ simp getD-drop
 
+-- what is left to test of an RM cell
+abbrev pub rest : List ℕ → Reading
+rest o = need 5 (crcRight o) (need 6 (eqb (octet 6 o) 1) (Resource (fieldsOf o)))
+
 module _ (o : List ℕ) where
-  pub refused-5 : crcRight o ≡ false → Refused 5 ≡ rest o
+  refused-5 : crcRight o ≡ false → Refused 5 ≡ rest o
   unfolding need
   refused-5 w = simp w
 
   module _ (w : crcRight o ≡ true) where
-    pub refused-6 : (octet 6 o ≡ 1 → ⊥) → Refused 6 ≡ rest o
+    refused-6 : (octet 6 o ≡ 1 → ⊥) → Refused 6 ≡ rest o
     unfolding need
     refused-6 p = simp (w, ne-eqb _ _ p)
 
@@ -86,17 +91,17 @@ module _ (o : List ℕ) where
     unfolding need
     takes-fields p = simp (w, eq-eqb _ _ p)
 
-  pub refused-1 : (length o ≡ 53 → ⊥) → Refused 1 ≡ reading o
+  refused-1 : (length o ≡ 53 → ⊥) → Refused 1 ≡ reading o
   unfolding reading need
   refused-1 n = simp (ne-eqb _ _ n)
 
   module _ (n : length o ≡ 53) where
-    pub refused-2 : headerRight o ≡ false → Refused 2 ≡ reading o
+    refused-2 : headerRight o ≡ false → Refused 2 ≡ reading o
     unfolding reading need
     refused-2 h = simp (eq-eqb _ _ n, h)
 
     module _ (h : headerRight o ≡ true) where
-      pub refused-3 : (vpiOf o ≡ 0 → ⊥) → Refused 3 ≡ reading o
+      refused-3 : (vpiOf o ≡ 0 → ⊥) → Refused 3 ≡ reading o
       unfolding reading need
       refused-3 v = simp (eq-eqb _ _ n, h, ne-eqb _ _ v)
 
@@ -105,7 +110,7 @@ module _ (o : List ℕ) where
         unfolding reading need
         takes-user t = simp (eq-eqb _ _ n, h, eq-eqb _ _ v, le-leb _ _ t)
 
-        pub refused-4 : 3 < typeOf o → (typeOf o ≡ 6 → ⊥) → Refused 4 ≡ reading o
+        refused-4 : 3 < typeOf o → (typeOf o ≡ 6 → ⊥) → Refused 4 ≡ reading o
         unfolding reading need
         refused-4 t u = simp (eq-eqb _ _ n, h, eq-eqb _ _ v, lt-leb _ _ t, ne-eqb _ _ u)
 
@@ -115,28 +120,61 @@ module _ (o : List ℕ) where
             let above : 3 < typeOf o = omega arith in
             simp (eq-eqb _ _ n, h, eq-eqb _ _ v, lt-leb _ _ above, eq-eqb _ _ u)
 
--- The refusals as numbers, 0 for none.
-pub header-meets : (o : List ℕ) (n : ℕ) → Refused (suc n) ≡ reading o → HeaderMeets o (suc n)
-header-meets o n e = record { refused = λ _. sym e; size = λ z. absurd (omega (arith, z)); user = λ z. absurd (omega (arith, z)); resource = λ z. absurd (omega (arith, z)) }
+-- What the header's refusal, 0 for none, says of the reading.
+pub record HeaderMeets (o : List ℕ) (n : ℕ) : Type 0 where
+  pub refused : (n ≡ 0 → ⊥) → reading o ≡ Refused n
+  pub size : n ≡ 0 → length o ≡ 53
+  pub user : n ≡ 0 → leb (typeOf o) 3 ≡ true → reading o ≡ User (vciOf o) (eqb (typeOf o / 2 % 2) 1)
+  pub resource : n ≡ 0 → leb (typeOf o) 3 ≡ false → reading o ≡ rest o
 
-pub header-user : (o : List ℕ) → length o ≡ 53 → typeOf o ≤ 3 → User (vciOf o) (eqb (typeOf o / 2 % 2) 1) ≡ reading o → HeaderMeets o 0
-header-user o n t e = record {
-  refused = λ z. absurd (z refl);
-  size = λ _. n;
-  user = λ _ _. sym e;
-  resource = λ _ f. absurd (true≢false (sym (le-leb _ _ t) ∙ f));
+header-refused : (o : List ℕ) (k : ℕ) {n : ℕ} → n ≡ suc k → Refused (suc k) ≡ reading o → HeaderMeets o n
+header-refused o k e q = record {
+  refused = λ _. sym (ap Refused e ∙ q);
+  size = λ z. absurd (omega (arith, e, z));
+  user = λ z. absurd (omega (arith, e, z));
+  resource = λ z. absurd (omega (arith, e, z));
 }
 
-pub header-resource : (o : List ℕ) → length o ≡ 53 → 3 < typeOf o → rest o ≡ reading o → HeaderMeets o 0
-header-resource o n t e = record {
-  refused = λ z. absurd (z refl);
-  size = λ _. n;
-  user = λ _ f. absurd (true≢false (sym f ∙ lt-leb _ _ t));
-  resource = λ _ _. sym e;
-}
+pub header-meets : (o : List ℕ) (n : ℕ) → n ≡ headerRefusal o → HeaderMeets o n
+unfolding headerRefusal
+header-meets o n e = go (eqb (length o) 53) (headerRight o) (eqb (vpiOf o) 0) (leb (typeOf o) 3) (eqb (typeOf o) 6) refl refl refl refl refl e
+  where
+    go : (a b c d f : Bool) → eqb (length o) 53 ≡ a → headerRight o ≡ b → eqb (vpiOf o) 0 ≡ c → leb (typeOf o) 3 ≡ d → eqb (typeOf o) 6 ≡ f
+        → n ≡ cond a (cond b (cond c (cond (d || f) 0 4) 3) 2) 1 → HeaderMeets o n
+    go false b c d f p q r s t e = header-refused o 0 e (refused-1 o (eqb-false _ _ p))
+    go true false c d f p q r s t e = header-refused o 1 e (refused-2 o (eqb-true _ _ p) q)
+    go true true false d f p q r s t e = header-refused o 2 e (refused-3 o (eqb-true _ _ p) q (eqb-false _ _ r))
+    go true true true true f p q r s t e =
+        let m = eqb-true _ _ p in
+        record {
+          refused = λ z. absurd (z e);
+          size = λ _. m;
+          user = λ _ _. sym (takes-user o m q (eqb-true _ _ r) (leb-true _ _ s));
+          resource = λ _ x. absurd (true≢false (sym s ∙ x));
+        }
+    go true true true false true p q r s t e =
+        let m = eqb-true _ _ p in
+        record {
+          refused = λ z. absurd (z e);
+          size = λ _. m;
+          user = λ _ x. absurd (true≢false (sym x ∙ s));
+          resource = λ _ _. sym (takes-rest o m q (eqb-true _ _ r) (eqb-true _ _ t));
+        }
+    go true true true false false p q r s t e = header-refused o 3 e (refused-4 o (eqb-true _ _ p) q (eqb-true _ _ r) (leb-false _ _ s) (eqb-false _ _ t))
 
-pub rest-meets : (o : List ℕ) (n : ℕ) → Refused (suc n) ≡ rest o → RestMeets o (suc n)
-rest-meets o n e = record { refused = λ _. sym e; taken = λ z. absurd (omega (arith, z)) }
+-- The same of the rest of an RM cell.
+pub record RestMeets (o : List ℕ) (n : ℕ) : Type 0 where
+  pub refused : (n ≡ 0 → ⊥) → rest o ≡ Refused n
+  pub taken : n ≡ 0 → rest o ≡ Resource (fieldsOf o)
 
-pub rest-taken : (o : List ℕ) → Resource (fieldsOf o) ≡ rest o → RestMeets o 0
-rest-taken o e = record { refused = λ z. absurd (z refl); taken = λ _. sym e }
+rest-refused : (o : List ℕ) (k : ℕ) {n : ℕ} → n ≡ suc k → Refused (suc k) ≡ rest o → RestMeets o n
+rest-refused o k e q = record { refused = λ _. sym (ap Refused e ∙ q); taken = λ z. absurd (omega (arith, e, z)) }
+
+pub rest-meets : (o : List ℕ) (n : ℕ) → n ≡ restRefusal o → RestMeets o n
+unfolding restRefusal
+rest-meets o n e = go (crcRight o) (eqb (octet 6 o) 1) refl refl e
+  where
+    go : (a b : Bool) → crcRight o ≡ a → eqb (octet 6 o) 1 ≡ b → n ≡ cond a (cond b 0 6) 5 → RestMeets o n
+    go false b p q e = rest-refused o 4 e (refused-5 o p)
+    go true false p q e = rest-refused o 5 e (refused-6 o p (eqb-false _ _ q))
+    go true true p q e = record { refused = λ z. absurd (z e); taken = λ _. sym (takes-fields o p (eqb-true _ _ q)) }

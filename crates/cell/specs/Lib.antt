@@ -5,6 +5,8 @@ pub mod Fields
 pub mod Reading
 pub mod Writing
 pub mod Turning
+-- For the code's own functions:
+pub mod Refusals
 -- What is claimed of them: which cells are taken in, and what a turned cell is read as.
 pub mod Admitted
 pub mod Returned

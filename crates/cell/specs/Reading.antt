@@ -1,6 +1,5 @@
 -- What reading a cell gives. (Document 01, "The cell, 53 octets" and "Refused because of the input"; the orders: "Refused because of the state".)
 use Prim.Native.Nat.{ℕ, _/_, _%_}
-use mathlib.Core.Path.{_≡_}
 use mathlib.Core.Bool.{Bool, true, false, cond}
 use mathlib.Core.List.{List}
 use lib.Dec.{leb, eqb}
@@ -28,17 +27,3 @@ reading o =
     (need 5 (crcRight o)
     (need 6 (eqb (octet 6 o) 1)
     (Resource (fieldsOf o))))))))
-
--- For the code's own functions: what the refusal that a header meets, or 0 for none, says of the reading, and the same of the rest of an RM cell.
-abbrev pub rest : List ℕ → Reading
-rest o = need 5 (crcRight o) (need 6 (eqb (octet 6 o) 1) (Resource (fieldsOf o)))
-
-pub record HeaderMeets (o : List ℕ) (n : ℕ) : Type 0 where
-  pub refused : (n ≡ 0 → ⊥) → reading o ≡ Refused n
-  pub size : n ≡ 0 → length o ≡ 53
-  pub user : n ≡ 0 → leb (typeOf o) 3 ≡ true → reading o ≡ User (vciOf o) (eqb (typeOf o / 2 % 2) 1)
-  pub resource : n ≡ 0 → leb (typeOf o) 3 ≡ false → reading o ≡ rest o
-
-pub record RestMeets (o : List ℕ) (n : ℕ) : Type 0 where
-  pub refused : (n ≡ 0 → ⊥) → rest o ≡ Refused n
-  pub taken : n ≡ 0 → rest o ≡ Resource (fieldsOf o)

@@ -5,7 +5,8 @@ ghost use lib.Dec.{leb, eqb};
 ghost use lib.ListN.{length};
 ghost use Rattle.cell.specs.Header.{typeOf, headerRight};
 ghost use Rattle.cell.specs.Fields.{crcRight};
-ghost use Rattle.cell.specs.Reading.{reading, HeaderMeets, RestMeets};
+ghost use Rattle.cell.specs.Reading.{reading};
+ghost use Rattle.cell.specs.Refusals.{headerRefusal, restRefusal};
 use crate::fields::Fields;
 use crate::fields::fields_of;
 use crate::fields::vci_of;
@@ -39,7 +40,7 @@ fn crc_right(cell: &[u8]) -> bool
 
 // The refusal that the header meets; 0 if it is that of a data or an RM cell.
 pub fn header_refusal(cell: &[u8]) -> u32
-    ensures { λ n. ⌜ HeaderMeets (now (cell .entry)) n ⌝ }
+    ensures { λ n. ⌜ n ≡ headerRefusal (now (cell .entry)) ⌝ }
 {
     if cell.len() != 53 {
         return 1;
@@ -79,7 +80,7 @@ pub fn efci_of(cell: &[u8]) -> bool
 // The refusal that the rest of an RM cell meets; 0 if none.
 pub fn resource_refusal(cell: &[u8]) -> u32
     requires { ⌜ length (now cell) ≡ 53 ⌝ }
-    ensures { λ n. ⌜ RestMeets (now (cell .entry)) n ⌝ }
+    ensures { λ n. ⌜ n ≡ restRefusal (now (cell .entry)) ⌝ }
 {
     if !crc_right(cell) {
         return 5;

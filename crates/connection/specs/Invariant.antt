@@ -1,6 +1,6 @@
 -- What holds of each open connection in every table that the calls make from an empty one.
 -- It is said of the parts, so that it goes over by itself to a connection with the same parts.
-use Prim.Native.Nat.{ℕ, _+_, _≤_, _<_}
+use Prim.Native.Nat.{ℕ, _≤_, _<_}
 use mathlib.Core.Path.{_≡_}
 use mathlib.Core.Bool.{true}
 use Rattle.rate.specs.declared.params.Params.{Params}

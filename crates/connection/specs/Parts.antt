@@ -1,6 +1,6 @@
 -- A connection, its parts, and the same connection with one part changed. (Document 01, "Opening".)
 use Prim.Native.Nat.{ℕ, _+_, _-_}
-use mathlib.Core.Bool.{Bool, true, false}
+use mathlib.Core.Bool.{false}
 use Rattle.rate.specs.declared.params.Params.{Params}
 use Rattle.rate.specs.declared.moves.Rate.{Rate}
 use Rattle.rate.specs.Params.{trmTime}

@@ -25,7 +25,7 @@ abbrev pub HasRoom : Pace → Type 0
 HasRoom Unsent = Unit
 HasRoom (Running sent forward k turned) = k < 65535
 
--- an instant with room for what a caller adds to it
+-- an instant that a word of 64 bits holds, with room to spare
 abbrev pub InstantBelow : Instant → Type 0
 InstantBelow Never = Unit
 InstantBelow (At i) = i < 2 ^ 63 + 2 ^ 40

@@ -10,7 +10,7 @@ use lib.ListN.{replicate}
 use lib.Pow.{pow-pos}
 use Rattle.crc.specs.Remainder.{bring, divide, remainder, bits, octetBits}
 use Rattle.crc.specs.Checks.{headerCheck}
-use Rattle.crc.specs.Folding.{times, foldedOctet}
+use Rattle.crc.specs.Carrying.{times, foldedOctet}
 use Rattle.crc.proofs.Below.{agree}
 use Rattle.crc.proofs.Bits.{bits-binary, octets-binary}
 use Rattle.crc.proofs.Division.{divide-append, divide-low, remainder-lt}

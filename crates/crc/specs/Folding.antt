@@ -1,8 +1,6 @@
--- What the code keeps while it folds a payload down to its CRC-10: its number, and that number's remainder by a factor of the generator. And how it folds a
--- header down to its check, whose generator makes x^8 the same as x^2 + x + 1.
+-- What the code keeps while it folds a payload down to its CRC-10: its number, and that number's remainder by a factor of the generator.
 -- (Document 01, "The cell, 53 octets".)
-use Prim.Native.Nat.{ℕ, _+_, _*_, _/_, _%_, _^_}
-use lib.Bits.{bitXor}
+use Prim.Native.Nat.{ℕ, _+_, _*_, _^_}
 use Rattle.crc.specs.Remainder.{divide, bits}
 use Rattle.crc.specs.declared.payload.Payload.{Payload}
 
@@ -16,11 +14,3 @@ wide p = limbs (p .a) (p .b) (p .c) (p .d) (p .e) (p .f)
 -- the remainder of such a number by x^9 + x^4 + 1
 abbrev pub trinomial : ℕ → ℕ
 trinomial x = divide 9 0x211 0 (bits 384 x)
-
--- a number times x^2 + x + 1
-abbrev pub times : ℕ → ℕ
-times v = bitXor (bitXor v (v * 2)) (v * 4)
-
--- a number whose bits above the octet go down by eight places
-abbrev pub foldedOctet : ℕ → ℕ
-foldedOctet v = bitXor (v % 256) (times (v / 256))

@@ -1,9 +1,10 @@
-// The header check, octet by octet, without a table. (Document 01, "The cell, 53 octets"; document 02, L3.)
+// The header check without a table: each octet is multiplied as it comes, and what is carried is folded down at the end. (Document 01, "The cell, 53 octets";
+// `octet-formula` in proofs/Octets.antt is the formula of document 02, L3.)
 ghost use mathlib.Core.Path.{_≡_};
 ghost use mathlib.Core.List.{[], _∷_};
 ghost use Prim.Native.Nat.{_<_};
 ghost use Rattle.crc.specs.Checks.{headerCheck};
-ghost use Rattle.crc.specs.Folding.{times, foldedOctet};
+ghost use Rattle.crc.specs.Carrying.{times, foldedOctet};
 
 // v times x^2 + x + 1, whose remainder is that of v times x^8.
 fn times(v: u16) -> u16

@@ -1,25 +1,21 @@
 -- One lemma for each way out of a call: what the tests on that way say of the call's step.
-use Prim.Native.Nat.{ℕ, _+_, _-_, _≤_, _<_}
+use Prim.Native.Nat.{ℕ, _+_, _≤_, _<_}
 use mathlib.Core.Path.{_≡_, refl, sym, ap, subst, _∙_}
-use mathlib.Core.Bool.{Bool, true, false, cond, _&&_}
 use mathlib.Core.List.{List}
-use native.Mathlib.Omega.{arith}
-use lib.Dec.{leb, eqb}
-use lib.ListN.{set}
 use borrow.Author.Tests.{le-leb, lt-leb}
 use Rattle.connection.specs.declared.parts.Connection.{Connection}
 use Rattle.connection.specs.Parts.{waiting}
 use Rattle.connection.specs.Receiving.{offered}
 use Rattle.connection.proofs.Keeps.{Same}
-use Rattle.table.specs.State.{State, Seat, free, taken, find, put, levelled}
+use Rattle.table.specs.State.{State, free, taken, find, put, levelled}
 use Rattle.table.specs.Invariant.{Whole}
 use Rattle.table.specs.Layout.{words}
 use Rattle.table.specs.Loading.{connectionAt}
-use Rattle.table.specs.Storing.{sentBy, cleared}
+use Rattle.table.specs.Storing.{frontUpdated, cleared}
 use Rattle.table.proofs.Words.{clear-at}
 use Rattle.table.specs.Finding.{Located}
 use Rattle.table.proofs.Found.{found-at}
-use Rattle.engine.specs.Call.{Answer, Refused, Accepted, Outcome}
+use Rattle.engine.specs.Call.{Refused, Accepted}
 use Rattle.engine.specs.Step.{refuse, accept, require, ofOpen, closeStep, offerStep, levelStep}
 use Rattle.engine.specs.declared.acr.Acr.the-variants.{NotOpen, Rate}
 use Rattle.engine.specs.Queries.{acrOf, seatAcr}
@@ -87,10 +83,10 @@ module _ (s : State) (w : Whole s) {l : List ℕ} (e : l ≡ words s) (v n i : �
       refused-out s 15 e (over-step s v n (p .holder) (found-at p) (subst (λ (x : Connection). 65535 < waiting (x .load) + n) is g))
 
   pub offer-done :
-      {m : List ℕ} (x : Connection) → x ≡ offered n d → m ≡ sentBy l i x → waiting (d .load) + n ≤ 65535
+      {m : List ℕ} (x : Connection) → x ≡ offered n d → m ≡ frontUpdated l i x → waiting (d .load) + n ≤ 65535
       → (m ≡ words (offerStep s v n .state)) × (Accepted ≡ offerStep s v n .answer)
   offer-done x a b g =
       let y : x ≡ offered n (p .holder) = a ∙ ap (offered n) is in
       accepted-out (put v (taken (offered n (p .holder))) s)
-      (front-is s w e h p (offered n (p .holder)) (offered-same n (p .holder)) (offered-back n (p .holder)) (b ∙ ap (sentBy l i) y))
+      (front-is s w e h p (offered n (p .holder)) (offered-same n (p .holder)) (offered-back n (p .holder)) (b ∙ ap (frontUpdated l i) y))
       (done-step s v n (p .holder) (found-at p) (subst (λ (c : Connection). waiting (c .load) + n ≤ 65535) is g))

@@ -1,7 +1,7 @@
 -- One lemma for each way out of an open.
-use Prim.Native.Nat.{ℕ, _+_, _≤_, _<_}
-use mathlib.Core.Path.{_≡_, refl, sym, ap, subst, _∙_}
-use mathlib.Core.Bool.{Bool, true, false, cond, _&&_}
+use Prim.Native.Nat.{ℕ, _≤_, _<_}
+use mathlib.Core.Path.{_≡_, sym, ap, subst, _∙_}
+use mathlib.Core.Bool.{true, false}
 use mathlib.Core.List.{List}
 use lib.Dec.{leb}
 use lib.ListN.{getD, set}
@@ -11,7 +11,7 @@ use Rattle.rate.specs.Units.{latestTime}
 use Rattle.rate.specs.Params.{paramsFit}
 use Rattle.connection.specs.declared.parts.Connection.{Connection}
 use Rattle.connection.specs.Parts.{fresh}
-use Rattle.table.specs.State.{State, Seat, free, taken, find, seated, roomLeft, timed, isFree, position}
+use Rattle.table.specs.State.{State, free, taken, find, seated, roomLeft, timed, isFree, position}
 use Rattle.table.specs.Invariant.{Whole}
 use Rattle.table.specs.Layout.{words}
 use Rattle.table.specs.Storing.{stored}
@@ -20,9 +20,8 @@ use Rattle.table.specs.declared.find.Found.{Found}
 use Rattle.table.specs.declared.find.Found.the-variants.{At, Nothing}
 use Rattle.table.proofs.Words.{store-at}
 use Rattle.table.proofs.Seats.{lowest-free}
-use Rattle.engine.specs.Call.{Refused, Accepted}
 use Rattle.engine.specs.Step.{refuse, accept, require, openStep}
-use Rattle.engine.proofs.Outs.{refused-out, accepted-out, time-word, last-word}
+use Rattle.engine.proofs.Outs.{time-word, last-word}
 
 module _ (s : State) (v t : ℕ) (p : Params) where
   pub open-low : v < 32 → openStep s v t p ≡ refuse s 10

@@ -1,9 +1,8 @@
 -- What a call on the words of a reached state finds and leaves: shared by the calls' proofs.
-use Prim.Native.Nat.{ℕ, _+_, _*_, _≤_, _<_}
+use Prim.Native.Nat.{ℕ, _<_}
 use mathlib.Core.Path.{_≡_, refl, sym, ap, subst, _∙_}
 use mathlib.Core.List.{List}
 use lib.ListN.{getD, set}
-use Rattle.rate.specs.Units.{latestTime}
 use Rattle.connection.specs.declared.parts.Connection.{Connection}
 use Rattle.connection.specs.Invariant.{Proper}
 use Rattle.connection.specs.Range.{InRange, HasRoom}
@@ -15,12 +14,12 @@ use Rattle.table.specs.State.{State, Seat, free, taken, find, put, position, ho
 use Rattle.table.specs.Invariant.{Whole, OnSeat}
 use Rattle.table.specs.Layout.{words, frontWords, fixedWords}
 use Rattle.table.specs.Loading.{connectionAt}
-use Rattle.table.specs.Storing.{sentBy, heardBy, markedBy, updated}
+use Rattle.table.specs.Storing.{frontUpdated, backUpdated, markUpdated, updated}
 use Rattle.table.specs.Finding.{Inside, Located, Names, Finds}
 use Rattle.table.proofs.Seats.{each-get}
 use Rattle.table.proofs.Loaded.{load-ranged, load-room}
 use Rattle.table.proofs.Words.{load-at, update-at, front-at, back-at, mark-at}
-use Rattle.engine.specs.Call.{Answer, Refused, Accepted, Outcome}
+use Rattle.engine.specs.Call.{Refused, Accepted, Outcome}
 use Rattle.engine.specs.Step.{refuse, accept}
 
 -- The two plain ways out.
@@ -32,7 +31,7 @@ pub accepted-out : {l : List ℕ} {o : Outcome} (r : State) → l ≡ words r �
 unfolding accept
 accepted-out r e q = rw q (e, refl)
 
--- The header's two words.
+-- The header's first two words: the level and the last accepted time.
 pub level-word : (s : State) (l : ℕ) → set (words s) 0 l ≡ words (levelled l s)
 unfolding words levelled
 level-word s l = refl
@@ -93,13 +92,13 @@ module _ (s : State) (w : Whole s) {l : List ℕ} (e : l ≡ words s) {v i : ℕ
   pub updated-is : {m : List ℕ} → m ≡ updated l i d → m ≡ words (put v (taken d) s)
   updated-is q = kept s p d (q ∙ ap (λ (x : List ℕ). updated x i d) e ∙ update-at s (w .size) i h (p .holder) d (p .seat) (k .name) (same-fixed (p .holder) d k))
 
-  pub front-is : {m : List ℕ} → d .back ≡ p .holder .back → m ≡ sentBy l i d → m ≡ words (put v (taken d) s)
-  front-is b q = kept s p d (q ∙ ap (λ (x : List ℕ). sentBy x i d) e ∙ front-at s (w .size) i h (p .holder) d (p .seat) (k .name) (same-fixed (p .holder) d k) b)
+  pub front-is : {m : List ℕ} → d .back ≡ p .holder .back → m ≡ frontUpdated l i d → m ≡ words (put v (taken d) s)
+  front-is b q = kept s p d (q ∙ ap (λ (x : List ℕ). frontUpdated x i d) e ∙ front-at s (w .size) i h (p .holder) d (p .seat) (k .name) (same-fixed (p .holder) d k) b)
 
-  pub back-is : {m : List ℕ} → frontWords d ≡ frontWords (p .holder) → m ≡ heardBy l i d → m ≡ words (put v (taken d) s)
-  back-is f q = kept s p d (q ∙ ap (λ (x : List ℕ). heardBy x i d) e ∙ back-at s (w .size) i h (p .holder) d (p .seat) (k .name) (same-fixed (p .holder) d k) f)
+  pub back-is : {m : List ℕ} → frontWords d ≡ frontWords (p .holder) → m ≡ backUpdated l i d → m ≡ words (put v (taken d) s)
+  back-is f q = kept s p d (q ∙ ap (λ (x : List ℕ). backUpdated x i d) e ∙ back-at s (w .size) i h (p .holder) d (p .seat) (k .name) (same-fixed (p .holder) d k) f)
 
   pub mark-is :
-      {m : List ℕ} → frontWords d ≡ frontWords (p .holder) → d .back .turned ≡ p .holder .back .turned → readyInstant d ≡ readyInstant (p .holder) → m ≡ markedBy l i (d .back)
+      {m : List ℕ} → frontWords d ≡ frontWords (p .holder) → d .back .turned ≡ p .holder .back .turned → readyInstant d ≡ readyInstant (p .holder) → m ≡ markUpdated l i (d .back)
       → m ≡ words (put v (taken d) s)
-  mark-is f t r q = kept s p d (q ∙ ap (λ (x : List ℕ). markedBy x i (d .back)) e ∙ mark-at s (w .size) i h (p .holder) d (p .seat) (k .name) (same-fixed (p .holder) d k) f t r)
+  mark-is f t r q = kept s p d (q ∙ ap (λ (x : List ℕ). markUpdated x i (d .back)) e ∙ mark-at s (w .size) i h (p .holder) d (p .seat) (k .name) (same-fixed (p .holder) d k) f t r)

@@ -1,10 +1,9 @@
 -- What a received cell makes of a table: the ways out of receiving.
 use Prim.Native.Nat.{ℕ, _%_, _<_}
 use mathlib.Core.Path.{_≡_, refl, sym, ap, _∙_}
-use mathlib.Core.Bool.{Bool, true, false, cond}
+use mathlib.Core.Bool.{Bool}
 use mathlib.Core.List.{List, []}
 use native.Mathlib.Omega.{arith}
-use lib.Dec.{eqb}
 use lib.ListN.{length, getD}
 use borrow.Author.Tests.{eq-eqb, ne-eqb}
 use Rattle.crc.specs.declared.payload.Payload.{Payload}
@@ -24,7 +23,7 @@ use Rattle.table.specs.State.{State, free, taken, find, put}
 use Rattle.table.specs.Invariant.{Whole}
 use Rattle.table.specs.Layout.{frontWords, words}
 use Rattle.table.specs.Loading.{connectionAt}
-use Rattle.table.specs.Storing.{sentBy, heardBy, markedBy}
+use Rattle.table.specs.Storing.{frontUpdated, backUpdated, markUpdated}
 use Rattle.table.specs.Finding.{Located}
 use Rattle.table.proofs.Found.{found-at}
 use Rattle.engine.specs.Call.{Answer, Accepted, Outcome}
@@ -112,22 +111,22 @@ turning-front level o c = refl
 
 -- the seat's connection, as it was loaded
 module _ (s : State) (w : Whole s) {l : List ℕ} (e : l ≡ words s) {v : ℕ} (i : ℕ) (h : i < 64) (p : Located (s .seats) v i) (d : Connection) (q : d ≡ connectionAt l i) (x : Connection) where
-  pub data-done : {m : List ℕ} → m ≡ markedBy l i (x .back) → (t : Bool) → x ≡ marked t d → (m ≡ words (readStep s [] (User v t) .state)) × (Accepted ≡ readStep s [] (User v t) .answer)
+  pub data-done : {m : List ℕ} → m ≡ markUpdated l i (x .back) → (t : Bool) → x ≡ marked t d → (m ≡ words (readStep s [] (User v t) .state)) × (Accepted ≡ readStep s [] (User v t) .answer)
   data-done b t a =
       let k = marked-kept t (p .holder) in
       changed s p (marked t) (data-step s v t)
-      (mark-is s w e h p (marked t (p .holder)) (marked-same t (p .holder)) (k .0) (k .1) (marked-ready t (p .holder)) (b ∙ ap (λ (y : Connection). markedBy l i (y .back)) (a ∙ ap (marked t) (loaded-is s w p e h q))))
+      (mark-is s w e h p (marked t (p .holder)) (marked-same t (p .holder)) (k .0) (k .1) (marked-ready t (p .holder)) (b ∙ ap (λ (y : Connection). markUpdated l i (y .back)) (a ∙ ap (marked t) (loaded-is s w p e h q))))
 
 module _ (s : State) (w : Whole s) {l : List ℕ} (e : l ≡ words s) (o : List ℕ) (f : Fields) (i : ℕ) (h : i < 64) (p : Located (s .seats) (f .vci) i) (d : Connection) (q : d ≡ connectionAt l i) (x : Connection) where
-  pub answer-done : {m : List ℕ} → f .dir ≡ 1 → x ≡ answered f d → m ≡ sentBy l i x → (m ≡ words (readStep s o (Resource f) .state)) × (Accepted ≡ readStep s o (Resource f) .answer)
+  pub answer-done : {m : List ℕ} → f .dir ≡ 1 → x ≡ answered f d → m ≡ frontUpdated l i x → (m ≡ words (readStep s o (Resource f) .state)) × (Accepted ≡ readStep s o (Resource f) .answer)
   answer-done c a b =
       let work : Connection = resourceWork (s .level) o f (p .holder) in
       let y : x ≡ work = work-answers (s .level) o f (p .holder) c (a ∙ ap (answered f) (loaded-is s w p e h q)) in
       changed s p (resourceWork (s .level) o f) (work-step s o f)
-      (front-is s w e h p work (work-same (s .level) o f (p .holder)) (ap (λ (z : Connection). z .back) (sym (work-answers (s .level) o f (p .holder) c refl)) ∙ answered-back f (p .holder)) (b ∙ ap (sentBy l i) y))
+      (front-is s w e h p work (work-same (s .level) o f (p .holder)) (ap (λ (z : Connection). z .back) (sym (work-answers (s .level) o f (p .holder) c refl)) ∙ answered-back f (p .holder)) (b ∙ ap (frontUpdated l i) y))
 
   pub turn-done :
-      {m : List ℕ} → (f .dir ≡ 1 → ⊥) → length o ≡ 53 → ((k : ℕ) → getD o k 0 < 256) → (g : Payload) → g ≡ payloadOf (payload o) → x ≡ turningWords (getD l 0 0 % 4294967296) g d → m ≡ heardBy l i x
+      {m : List ℕ} → (f .dir ≡ 1 → ⊥) → length o ≡ 53 → ((k : ℕ) → getD o k 0 < 256) → (g : Payload) → g ≡ payloadOf (payload o) → x ≡ turningWords (getD l 0 0 % 4294967296) g d → m ≡ backUpdated l i x
       → (m ≡ words (readStep s o (Resource f) .state)) × (Accepted ≡ readStep s o (Resource f) .answer)
   turn-done c n z g r a b =
       let work : Connection = resourceWork (s .level) o f (p .holder) in
@@ -136,7 +135,7 @@ module _ (s : State) (w : Whole s) {l : List ℕ} (e : l ≡ words s) (o : List 
       (a ∙ ap (λ (u : ℕ). turningWords u g d) (level-of s w e) ∙ ap (turningWords (s .level) g) (loaded-is s w p e h q)) in
       let t : work ≡ turning (s .level) o (p .holder) = is-turning (s .level) o f (p .holder) c in
       changed s p (resourceWork (s .level) o f) (work-step s o f)
-      (back-is s w e h p work (work-same (s .level) o f (p .holder)) (ap frontWords t ∙ turning-front (s .level) o (p .holder)) (b ∙ ap (heardBy l i) y))
+      (back-is s w e h p work (work-same (s .level) o f (p .holder)) (ap frontWords t ∙ turning-front (s .level) o (p .holder)) (b ∙ ap (backUpdated l i) y))
 
 -- What was read: a refusal, or a cell of 53 octets whose step is the rest.
 pub unread : (s : State) (o : List ℕ) (n : ℕ) → reading o ≡ Unread n → receiveStep s o ≡ refuse s n

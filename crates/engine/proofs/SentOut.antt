@@ -1,10 +1,9 @@
 -- What a slot that goes to a seat leaves.
-use Prim.Native.Nat.{ℕ, _≤_, _<_}
-use mathlib.Core.Path.{_≡_, refl, sym, ap, subst, _∙_}
+use Prim.Native.Nat.{ℕ, _<_}
+use mathlib.Core.Path.{_≡_, refl, ap, subst, _∙_}
 use mathlib.Core.Bool.{true}
 use mathlib.Core.List.{List}
 use lib.ListN.{getD}
-use Rattle.rate.specs.Units.{largestRate}
 use Rattle.connection.specs.declared.parts.Connection.{Connection}
 use Rattle.connection.specs.declared.parts.Waiting.{Waiting}
 use Rattle.connection.specs.declared.parts.Waiting.the-variants.{Nothing, Cell}
@@ -22,7 +21,7 @@ use Rattle.table.specs.Invariant.{Whole}
 use Rattle.table.specs.Layout.{words}
 use Rattle.table.specs.Loading.{connectionAt}
 use Rattle.table.specs.Finding.{Located}
-use Rattle.engine.specs.Call.{Answer, Sent}
+use Rattle.engine.specs.Call.{Sent}
 use Rattle.engine.specs.Step.{sendStep}
 use Rattle.engine.specs.Contract.{held}
 use Rattle.engine.specs.Slots.{waitingOr, Carried, storedSent}

@@ -1,9 +1,7 @@
 -- One lemma for each way out of a slot.
 use Prim.Native.Nat.{ℕ, _≤_, _<_}
 use mathlib.Core.Path.{_≡_, refl, sym, ap, subst, _∙_}
-use mathlib.Core.Logic.{_≢_}
 use mathlib.Core.List.{List}
-use lib.Dec.{leb, eqb}
 use lib.ListN.{getD, set}
 use borrow.Author.Tests.{le-leb, lt-leb, eq-eqb, ne-eqb}
 use Rattle.rate.specs.Units.{latestTime}
@@ -15,7 +13,7 @@ use Rattle.table.specs.Layout.{words}
 use Rattle.table.specs.Choice.{Winner, nobody, wins, winner}
 use Rattle.table.specs.declared.choose.Choice.{Choice}
 use Rattle.table.specs.declared.choose.Choice.the-variants.{Seat, Nobody}
-use Rattle.table.specs.Choosing.{Won, Picks, Chooses, Seated}
+use Rattle.table.specs.Choosing.{Picks, Chooses, Seated}
 use Rattle.table.proofs.Keeps.{timed-whole}
 use Rattle.engine.specs.Call.{Answer, Refused, Idle, Outcome}
 use Rattle.engine.specs.Step.{refuse, require, slotStep, serve, serveSeat, sendStep, idleStep}

@@ -1,6 +1,5 @@
 -- The calls of a list, and their outcomes. (Document 01, "The lists of demand 3".)
 use Prim.Native.Nat.{ℕ}
-use mathlib.Core.Bool.{Bool, true, false}
 use mathlib.Core.List.{List}
 use mathlib.Core.Option.{Option, none, some}
 use Rattle.rate.specs.declared.params.Params.{Params}

@@ -17,7 +17,7 @@ use Rattle.connection.specs.Sending.{forwardFields}
 use Rattle.table.specs.State.{State, free, taken, position, holds}
 use Rattle.table.specs.Invariant.{Whole}
 use Rattle.table.specs.Layout.{words}
-use Rattle.table.specs.Storing.{sentBy, updated}
+use Rattle.table.specs.Storing.{frontUpdated, updated}
 use Rattle.engine.specs.Call.{Answer}
 use Rattle.engine.specs.Step.{sendStep}
 use Rattle.engine.specs.Contract.{held}
@@ -39,9 +39,9 @@ Carried Data before now old new = new ≡ old
 
 -- what a cell of this kind leaves of the table's words: only a turned cell changes the receiving side
 abbrev pub storedSent : List ℕ → (seat : ℕ) → Kind → Connection → List ℕ
-storedSent l i Forward c = sentBy l i c
+storedSent l i Forward c = frontUpdated l i c
 storedSent l i Turned c = updated l i c
-storedSent l i Data c = sentBy l i c
+storedSent l i Data c = frontUpdated l i c
 
 -- a slot at t that goes to seat i, in a state whose last accepted time is t
 pub record Sends (t i : ℕ) (before after : List ℕ) (r : Answer) (old new : List ℕ) : Type 0 where

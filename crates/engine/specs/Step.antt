@@ -1,6 +1,6 @@
 -- What each call does to a table, its refusals in document 01's order ("Refused because of the state").
 use Prim.Native.Nat.{ℕ, _+_}
-use mathlib.Core.Bool.{Bool, true, false, cond, _&&_}
+use mathlib.Core.Bool.{Bool, true, false, _&&_}
 use mathlib.Core.List.{List}
 use lib.Dec.{leb, eqb}
 use Rattle.rate.specs.declared.params.Params.{Params}
@@ -17,7 +17,7 @@ use Rattle.connection.specs.Kind.{kindAt}
 use Rattle.connection.specs.Sending.{untouched, after, bufferAfter}
 use Rattle.table.specs.State.{State, Seat, free, taken, find, put, seated, roomLeft, timed, levelled, isFree}
 use Rattle.table.specs.Choice.{Winner, nobody, wins, winner}
-use Rattle.engine.specs.Call.{Call, opening, closing, receiving, offering, levelling, slot, Answer, Refused, Accepted, Idle, Sent, Outcome}
+use Rattle.engine.specs.Call.{Call, opening, closing, receiving, offering, levelling, slot, Refused, Accepted, Idle, Sent, Outcome}
 
 -- a refusal leaves table and buffer
 unfoldable pub refuse : State → ℕ → Outcome

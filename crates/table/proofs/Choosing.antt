@@ -1,16 +1,16 @@
--- The pass over the keys finds the least key with the lowest name, and that is the winner's seat.
+-- The pass over the keys finds the greatest key, of equal ones that with the lowest name, and that is the winner's seat.
 use Prim.Native.Nat.{ℕ, zero, suc, _+_, _-_, _^_, _≤_, _<_}
 use mathlib.Core.Path.{_≡_, refl, sym, ap, subst, _∙_}
-use mathlib.Core.Logic.{_≢_, ⊎-elim}
+use mathlib.Core.Logic.{⊎-elim}
 use mathlib.Core.Bool.{Bool, true, false, cond, _&&_, _||_, true≢false}
-use mathlib.Core.List.{List, [], _∷_}
+use mathlib.Core.List.{List}
 use native.Mathlib.Nat.{not-suc-le-zero, le-of-suc-le-suc, eq-or-lt-of-le}
 use native.Mathlib.Numerals.{add-one}
 use native.Mathlib.Omega.{arith}
 use lib.Count.{leadingZeros, leading-length}
 use lib.Dec.{leb, ltb, eqb}
 use lib.ListN.{length, getD}
-use borrow.Author.Tests.{leb-true, leb-false, ltb-true, ltb-false, eqb-true, eqb-false, eq-eqb, ne-eqb}
+use borrow.Author.Tests.{leb-true, leb-false, ltb-true, ltb-false, eqb-true, eqb-false}
 use Rattle.rate.specs.Units.{latestTime}
 use Rattle.connection.specs.declared.parts.Connection.{Connection}
 use Rattle.connection.specs.declared.ready.Instant.{Instant}
@@ -52,7 +52,7 @@ module _ (limit : ℕ) (f g : ℕ → ℕ) where
     none : From n (record { at = 64; key = limit; name = 0 })
     some : (i : ℕ) → i < n → limit < f i → From n (told f g i)
 
-  record Least (n : ℕ) (b : Best) : Type 0 where
+  record Greatest (n : ℕ) (b : Best) : Type 0 where
     from : From n b
     first : (k : ℕ) → k < n → Over f g b k
 
@@ -64,11 +64,11 @@ module _ (limit : ℕ) (f g : ℕ → ℕ) where
   above n _ none l t = ⊎-elim (λ e. absurd (omega (arith, t (sym e)))) (λ h. h) (eq-or-lt-of-le l)
   above n _ (some i h q) l t = omega arith
 
-  module _ (n : ℕ) (b : Best) (o : Least n b) where
-    stays : Over f g b n → Least (suc n) b
+  module _ (n : ℕ) (b : Best) (o : Greatest n b) where
+    stays : Over f g b n → Greatest (suc n) b
     stays a = record { from = wider n b (o .from); first = more (Over f g b) (o .first) a }
 
-    beats : b .key ≤ f n → (f n ≡ b .key → g n < b .name) → Least (suc n) (told f g n)
+    beats : b .key ≤ f n → (f n ≡ b .key → g n < b .name) → Greatest (suc n) (told f g n)
     beats l t = record {
       from = some n (omega arith) (above n b (o .from) l t);
       first = more (Over f g (told f g n))
@@ -76,19 +76,19 @@ module _ (limit : ℕ) (f g : ℕ → ℕ) where
           (omega arith, λ e. omega arith);
     }
 
-    next : Least (suc n) (betterOf b n (f n) (g n))
+    next : Greatest (suc n) (betterOf b n (f n) (g n))
     next = go (ltb (f n) (b .key)) (eqb (f n) (b .key)) (leb (b .name) (g n)) refl refl refl
       where
-        go : (l e m : Bool) → ltb (f n) (b .key) ≡ l → eqb (f n) (b .key) ≡ e → leb (b .name) (g n) ≡ m → Least (suc n) (cond (l || (e && m)) b (told f g n))
+        go : (l e m : Bool) → ltb (f n) (b .key) ≡ l → eqb (f n) (b .key) ≡ e → leb (b .name) (g n) ≡ m → Greatest (suc n) (cond (l || (e && m)) b (told f g n))
         go true e m q r s = let l = ltb-true (f n) (b .key) q in stays (omega arith, λ e. omega arith)
         go false true true q r s = stays (omega (arith, eqb-true (f n) (b .key) r), λ e. leb-true (b .name) (g n) s)
         go false true false q r s = beats (ltb-false (f n) (b .key) q) (λ e. leb-false (b .name) (g n) s)
         go false false m q r s = beats (ltb-false (f n) (b .key) q) (λ e. absurd (eqb-false (f n) (b .key) r e))
 
-  least : (n : ℕ) → Least n (bestBelow limit f g n)
+  greatest : (n : ℕ) → Greatest n (bestBelow limit f g n)
   unfolding bestBelow
-  least zero = record { from = none; first = λ k h. absurd (not-suc-le-zero h) }
-  least (suc n) = next n (bestBelow limit f g n) (least n)
+  greatest zero = record { from = none; first = λ k h. absurd (not-suc-le-zero h) }
+  greatest (suc n) = next n (bestBelow limit f g n) (greatest n)
 
 -- ---- the winner's seat
 
@@ -126,7 +126,7 @@ module _ (t : ℕ) (timely : t ≤ latestTime) (ss : List Seat) (apart : Apart s
         go false e = absurd (omega (arith, beyond k (ltb-false k n e) h))
 
     module _ (b : Best) (first : (k : ℕ) → k < 64 → 0 < f k → Over f g b k) where
-      -- a seat that is ready by t with the least key and name has the winner
+      -- a seat that is ready by t with the greatest key, and of equal ones the lowest name, has the winner
       against : (i j : ℕ) (c : Connection) → getD ss i free ≡ taken c → readyInstant c ≡ At j → j ≤ t → b .key ≡ 2 ^ 64 - 1 - j → b .name ≡ c .name
           → (w : Winner) → Right t ss w → w ≡ wins j (c .name)
       against i j c e z d x y nobody h =
@@ -141,7 +141,7 @@ module _ (t : ℕ) (timely : t ≤ latestTime) (ss : List Seat) (apart : Apart s
               let n : v ≡ c .name = omega (arith, m .1 (omega arith)) in
               cc
 
-    picks-seat : (b : Best) → Least (limitAt t) f g n b → b .at < 64 → Won t ss (b .at)
+    picks-seat : (b : Best) → Greatest (limitAt t) f g n b → b .at < 64 → Won t ss (b .at)
     picks-seat b o h = go b (o .from) (everywhere b (o .first)) h
       where
         go : (b : Best) → From (limitAt t) f g n b → ((k : ℕ) → k < 64 → 0 < f k → Over f g b k) → b .at < 64 → Won t ss (b .at)
@@ -167,7 +167,7 @@ module _ (t : ℕ) (timely : t ≤ latestTime) (ss : List Seat) (apart : Apart s
             seat free e = absurd (omega (arith, keys i here ∙ ap keyNumber e))
             seat (taken c) e = ready c e (readyInstant c) refl (keys i here ∙ ap keyNumber e)
 
-    picks-nobody : (b : Best) → Least (limitAt t) f g n b → 64 ≤ b .at → winner t ss ≡ nobody
+    picks-nobody : (b : Best) → Greatest (limitAt t) f g n b → 64 ≤ b .at → winner t ss ≡ nobody
     picks-nobody b o h = go b (o .from) (everywhere b (o .first)) h (winner t ss) (winner-best t ss apart)
       where
         go : (b : Best) → From (limitAt t) f g n b → ((k : ℕ) → k < 64 → 0 < f k → Over f g b k) → 64 ≤ b .at
@@ -195,8 +195,8 @@ module _ (s : State) (w : Whole s) (n : ℕ) (e : n ≡ 64 - leadingZeros 64 (ge
       not-taken (getD ss k free) (marks-top isTaken ss (z .0) k (z .2) (omega (arith, z .1, a)) (omega (arith, w .size)))
 
 module _ (l : List ℕ) (t : ℕ) (timely : t ≤ latestTime) (n : ℕ) (a : n ≡ 64 - leadingZeros 64 (getD l 2 0)) (b : Best) (e : b ≡ bestBelow (limitAt t) (keyAt l) (nameAt l) n) where
-  found : Least (limitAt t) (keyAt l) (nameAt l) n b
-  found = rw e (least (limitAt t) (keyAt l) (nameAt l) n)
+  found : Greatest (limitAt t) (keyAt l) (nameAt l) n b
+  found = rw e (greatest (limitAt t) (keyAt l) (nameAt l) n)
 
   module _ (s : State) (w : Whole s) (q : l ≡ words s) where
     keys : (k : ℕ) → k < 64 → keyAt l k ≡ keyNumber (getD (s .seats) k free)

@@ -1,21 +1,20 @@
 -- What a search by the index finds in the words of a state that calls reach: the seat of a name, and the lowest free one.
-use Prim.Native.Nat.{ℕ, zero, suc, _+_, _-_, _^_, _≤_, _<_}
+use Prim.Native.Nat.{ℕ, suc, _+_, _-_, _^_, _<_}
 use mathlib.Core.Path.{_≡_, refl, sym, ap, subst, _∙_}
-use mathlib.Core.Logic.{_≢_}
 use mathlib.Core.Bool.{Bool, true, false, cond, true≢false}
 use mathlib.Core.List.{List, [], _∷_}
 use native.Mathlib.Nat.{not-suc-le-zero, le-of-suc-le-suc}
 use native.Mathlib.Omega.{arith}
 use lib.Count.{trailingZeros, trailing-of-zero}
-use lib.Dec.{ltb, eqb, lit<}
+use lib.Dec.{lit<}
 use lib.ListN.{length, getD, set, length-set}
 use lib.Seq.{getD-set-same, getD-set-other}
-use borrow.Author.Tests.{lt-ltb, le-ltb, eqb-true, eqb-false, eq-eqb, ne-eqb}
+use borrow.Author.Tests.{lt-ltb, le-ltb, eqb-false, ne-eqb}
 use Rattle.connection.specs.declared.parts.Connection.{Connection}
 use Rattle.table.specs.State.{State, Seat, free, taken, position, isFree, holds, find, roomLeft}
 use Rattle.table.specs.Invariant.{Apart, Whole}
 use Rattle.table.specs.Layout.{marks, isTaken, drawer, filed, words}
-use Rattle.table.specs.Finding.{Located, Finds, Vacant, FindsFree}
+use Rattle.table.specs.Finding.{Located, FindsFree}
 use Rattle.table.specs.declared.find.Found.the-variants.{At, Nothing}
 use Rattle.table.proofs.Seats.{seat-place, Case, same, other, case}
 use Rattle.table.proofs.Marks.{drawer-lt, marks-less, marks-first, marks-top, marks-both}
@@ -66,14 +65,14 @@ pub data Kept (v : ℕ) : Seat → Seat → Type 0 where
   tried : {x : Seat} → holds v x ≡ false → Kept v free x
 
 -- the seats of v's drawer that are still to be tried are those of m
-pub record Left (v m : ℕ) (ss : List Seat) : Type 0 where
+pub record Untried (v m : ℕ) (ss : List Seat) : Type 0 where
   pub rest : List Seat
   pub size : length rest ≡ 64
   pub are : m ≡ marks (filed (drawer v)) rest
   pub each : (k : ℕ) → Kept v (getD rest k free) (getD ss k free)
 
-pub left-start : (s : State) → Whole s → (v : ℕ) → Left v (getD (words s) (3 + drawer v) 0) (s .seats)
-left-start s w v = record {
+pub untried-start : (s : State) → Whole s → (v : ℕ) → Untried v (getD (words s) (3 + drawer v) 0) (s .seats)
+untried-start s w v = record {
   rest = s .seats;
   size = w .size;
   are = drawer-at s (drawer v) (drawer-lt v);
@@ -86,7 +85,7 @@ record Next (v i : ℕ) (rest ss : List Seat) : Type 0 where
   filing : filed (drawer v) (getD rest i free) ≡ true
   seat : getD ss i free ≡ taken holder
 
-module _ (v m : ℕ) (ss : List Seat) (l : Left v m ss) (i : ℕ) (e : i ≡ trailingZeros 64 m) (h : i < 64) where
+module _ (v m : ℕ) (ss : List Seat) (l : Untried v m ss) (i : ℕ) (e : i ≡ trailingZeros 64 m) (h : i < 64) where
   first : i ≡ position (filed (drawer v)) (l .rest)
   first = e ∙ ap (trailingZeros 64) (l .are) ∙ ap (λ (n : ℕ). trailingZeros n (marks (filed (drawer v)) (l .rest))) (sym (l .size)) ∙ marks-first (filed (drawer v)) (l .rest)
 
@@ -101,8 +100,8 @@ module _ (v m : ℕ) (ss : List Seat) (l : Left v m ss) (i : ℕ) (e : i ≡ tra
       go _ y a b (tried t) f = absurd (filed-not (drawer v) (getD (l .rest) i free) a f)
 
   -- its name is v: found
-  pub left-found : (s : State) → Whole s → ss ≡ s .seats → getD (words s) (67 + i) 0 ≡ v → Located ss v i
-  left-found s w q n =
+  pub untried-found : (s : State) → Whole s → ss ≡ s .seats → getD (words s) (67 + i) 0 ≡ v → Located ss v i
+  untried-found s w q n =
       let c = next .holder in
       let name : c .name ≡ v = sym (ap number (next .seat)) ∙ ap (λ (x : List Seat). number (getD x i free)) q ∙ sym (name-at s (w .size) i h) ∙ n in
       record {
@@ -113,8 +112,8 @@ module _ (v m : ℕ) (ss : List Seat) (l : Left v m ss) (i : ℕ) (e : i ≡ tra
       }
 
   -- its name is another: it is taken from the search
-  pub left-next : (s : State) → Whole s → ss ≡ s .seats → (getD (words s) (67 + i) 0 ≡ v → ⊥) → Left v (m - 2 ^ i) ss
-  left-next s w q n = record {
+  pub untried-next : (s : State) → Whole s → ss ≡ s .seats → (getD (words s) (67 + i) 0 ≡ v → ⊥) → Untried v (m - 2 ^ i) ss
+  untried-next s w q n = record {
     rest = set (l .rest) i free;
     size = length-set (l .rest) i free ∙ l .size;
     are = ap (λ (x : ℕ). x - 2 ^ i) (l .are) ∙ marks-less (filed (drawer v)) (l .rest) i free inside (next .filing) (filed-free (drawer v));
@@ -131,9 +130,9 @@ module _ (v m : ℕ) (ss : List Seat) (l : Left v m ss) (i : ℕ) (e : i ≡ tra
       go k (other e) = rw (getD-set-other (l .rest) i k free free e) (l .each k)
 
 -- none is left: v has no seat
-pub left-none : (v : ℕ) (ss : List Seat) → length ss ≡ 64 → Left v 0 ss → find v ss ≡ free
+pub untried-none : (v : ℕ) (ss : List Seat) → length ss ≡ 64 → Untried v 0 ss → find v ss ≡ free
 unfolding find
-left-none v ss n l =
+untried-none v ss n l =
     ap (λ (k : ℕ). getD ss k free) (position-none (holds v) ss (λ k h. go k (getD (l .rest) k free) (getD ss k free) refl (l .each k) h)) ∙ past ss
   where
     past : (ss : List Seat) → getD ss (length ss) free ≡ free

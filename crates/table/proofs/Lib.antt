@@ -7,6 +7,8 @@ pub mod Counts
 pub mod Storing
 pub mod Loaded
 pub mod Marks
+pub mod Columns
+pub mod Heading
 pub mod Words
 pub mod Found
 pub mod Choosing

@@ -1,15 +1,14 @@
 -- Loading gives back the connection that stands in the seat: no number of a connection that calls made lies outside the range it is brought into.
 use Prim.Native.Nat.{ℕ, _+_, _*_, _%_, _^_, _≤_, _<_}
-use mathlib.Core.Path.{_≡_, refl, sym, ap, _∙_}
+use mathlib.Core.Path.{_≡_, refl}
 use mathlib.Core.Bool.{Bool, true, false, cond}
-use mathlib.Core.List.{List, [], _∷_, _++_}
+use mathlib.Core.List.{List, _++_}
 use native.Mathlib.Nat.{mod-eq-of-lt, add-assoc, add-zero}
 use native.Mathlib.Omega.{arith}
 use lib.Dec.{eqb}
 use lib.ListN.{getD, drop}
 use lib.Pow.{pow-mono}
 use lib.Seq.{getD-drop}
-use Rattle.rate.specs.declared.params.Params.{Params}
 use Rattle.rate.specs.Units.{latestTime}
 use Rattle.rate.specs.Params.{nrm}
 use Rattle.rate.specs.Bounds.{Fits}
@@ -18,12 +17,11 @@ use Rattle.connection.specs.declared.parts.Pace.{Pace}
 use Rattle.connection.specs.declared.parts.Pace.the-variants.{Unsent, Running}
 use Rattle.connection.specs.declared.parts.Waiting.{Waiting}
 use Rattle.connection.specs.declared.parts.Waiting.the-variants.{Nothing, Cell}
-use Rattle.connection.specs.declared.parts.Back.{Back}
 use Rattle.connection.specs.declared.parts.Connection.{Connection}
 use Rattle.connection.specs.Invariant.{Proper, PaceFits}
 use Rattle.connection.specs.Range.{InRange, PaceInRange, HasRoom}
 use Rattle.connection.proofs.Reached.{in-range}
-use Rattle.table.specs.Layout.{paceTag, paceSent, paceForward, paceK, backTag, waitTag, waitingPayload, payloadWords, liveWords, fixedWords}
+use Rattle.table.specs.Layout.{paceTag, paceSent, paceForward, paceK, waitTag, waitingPayload, liveWords, fixedWords}
 use Rattle.table.specs.Loading.{paceOf, waitingOf, paramsAt, connectionFrom, connectionAt}
 
 -- Each part is what its words stand for.

@@ -1,7 +1,7 @@
 -- Who is served at t: of the connections that are ready by then, the one that was ready first; of several, the lowest name. (Document 01, "Slots".)
 use Prim.Native.Nat.{ℕ, _≤_, _<_}
 use mathlib.Core.Path.{_≡_}
-use mathlib.Core.Bool.{Bool, true, false, cond, _&&_, _||_}
+use mathlib.Core.Bool.{cond, _&&_, _||_}
 use mathlib.Core.List.{List, [], _∷_}
 use lib.Dec.{leb, ltb, eqb}
 use Rattle.connection.specs.declared.parts.Connection.{Connection}

@@ -1,11 +1,11 @@
 -- The words of a table in the lent memory. A state has one list of words; all zero is the empty table.
--- Three words of header; an index of the names, by which one is found without a scan; then four columns with one entry a seat: names, ready
--- keys, which are scanned, the live part of each connection and the part that its open fixed.
-use Prim.Native.Nat.{ℕ, zero, suc, _+_, _-_, _*_, _/_, _%_, _^_}
+-- A header of 67 words: the level, the last time, the taken seats, and an index of the names, by which one is found without a scan; then four columns with
+-- one entry a seat: names, ready keys, which are scanned, the live part of each connection and the part that its open fixed.
+use Prim.Native.Nat.{ℕ, zero, _+_, _-_, _*_, _/_, _%_, _^_}
 use mathlib.Core.Bool.{Bool, true, false, cond}
 use mathlib.Core.List.{List, [], _∷_, _++_}
 use lib.Dec.{eqb}
-use lib.ListN.{getD, replicate}
+use lib.ListN.{replicate}
 use Rattle.laws.specs.Blocks.{flat}
 use Rattle.laws.specs.Rows.{row}
 use Rattle.crc.specs.declared.payload.Payload.{Payload}
@@ -106,7 +106,7 @@ unfoldable pub isTaken : Seat → Bool
 isTaken free = false
 isTaken (taken c) = true
 
--- where a name stands in the index: names in a row, or a power of two up to 64 apart, spread over all of its 64 drawers
+-- where a name stands in the index: 64 names in a row, or a power of two up to 64 apart, fill at least 63 of its 64 drawers, none with more than two
 unfoldable pub drawer : (name : ℕ) → ℕ
 drawer v = (v % 64 + v / 64) % 64
 

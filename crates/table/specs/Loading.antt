@@ -1,7 +1,7 @@
 -- The connection that a seat's words stand for, whatever they are. Each number is brought into the range in which the engine adds without
 -- wrapping; that changes none of a table that calls made.
-use Prim.Native.Nat.{ℕ, _+_, _*_, _/_, _%_, _^_}
-use mathlib.Core.Bool.{Bool, true, false, cond}
+use Prim.Native.Nat.{ℕ, _+_, _*_, _%_, _^_}
+use mathlib.Core.Bool.{cond}
 use mathlib.Core.List.{List}
 use lib.Dec.{ltb, eqb}
 use lib.ListN.{getD}

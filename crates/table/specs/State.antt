@@ -1,5 +1,5 @@
 -- The table: the congestion level, the time of the last accepted open or slot, and 64 seats. (Document 01, first paragraph and "The lists of demand 3".)
-use Prim.Native.Nat.{ℕ, zero, suc, _+_}
+use Prim.Native.Nat.{ℕ, suc}
 use mathlib.Core.Bool.{Bool, true, false, cond}
 use mathlib.Core.List.{List, [], _∷_}
 use lib.Dec.{ltb, eqb}

@@ -3,8 +3,8 @@ ghost use mathlib.Core.Path.{_≡_};
 ghost use Prim.Native.Nat.{_-_, _^_, _≤_, _<_};
 ghost use lib.Count.{trailingZeros};
 ghost use Rattle.table.specs.Finding.{Finds, FindsFree};
+use crate::index::drawer;
 use crate::layout::WORDS;
-use crate::layout::drawer;
 
 pub enum Found {
     At(usize),
@@ -26,17 +26,17 @@ fn others(seats: u64) -> u64
     18446744073709551615 - seats
 }
 
-// The seats whose names share its drawer are tried one by one; most names are alone in theirs.
+// The seats whose names share the name's drawer are tried one by one; most names are alone in theirs.
 pub fn find(t: &[u64; WORDS], name: u32) -> Found
     ensures { λ r. ⌜ Finds (now (t .entry)) name r ⌝ }
 {
-    let mut left = t[3 + drawer(name as u64)];
-    while left != 0 {
-        let i = lowest(left);
+    let mut untried = t[3 + drawer(name as u64)];
+    while untried != 0 {
+        let i = lowest(untried);
         if t[67 + i] == name as u64 {
             return Found::At(i);
         }
-        left = left - (1u64 << i);
+        untried = untried - (1u64 << i);
     }
     Found::Nothing
 }

@@ -6,10 +6,10 @@ ghost use lib.ListN.{set, replicate};
 ghost use Rattle.laws.specs.Blocks.{put};
 ghost use Rattle.table.specs.Layout.{paceTag, paceSent, paceForward, paceK, waitTag, backTag, waitingPayload, frontWords, backWords, fixedWords};
 ghost use Rattle.connection.specs.Range.{InRange};
-ghost use Rattle.table.specs.Storing.{sentBy, heardBy, markedBy, updated, flipped, entered, stored, cleared};
+ghost use Rattle.table.specs.Storing.{frontUpdated, backUpdated, markUpdated, updated, stored, cleared};
+use crate::index::flip_seat;
 use crate::key::key_of;
 use crate::layout::WORDS;
-use crate::layout::drawer;
 use connection::parts::Back;
 use connection::parts::Connection;
 use connection::parts::Pace;
@@ -159,7 +159,7 @@ fn put_fixed(t: &mut [u64; WORDS], b: usize, c: Connection)
 // A seat whose connection has moved on its sending side: those words, and the ready key.
 pub fn update_front(t: &mut [u64; WORDS], i: usize, c: Connection)
     requires { ⌜ (i < 64) × InRange c ⌝ }
-    ensures { λ _. ⌜ now (t .exit) ≡ sentBy (now (t .entry)) i c ⌝ }
+    ensures { λ _. ⌜ now (t .exit) ≡ frontUpdated (now (t .entry)) i c ⌝ }
 {
     put_front(t, 195 + i * 14, c);
     t[131 + i] = key_of(c);
@@ -168,7 +168,7 @@ pub fn update_front(t: &mut [u64; WORDS], i: usize, c: Connection)
 // The same on its receiving side.
 pub fn update_back(t: &mut [u64; WORDS], i: usize, c: Connection)
     requires { ⌜ (i < 64) × InRange c ⌝ }
-    ensures { λ _. ⌜ now (t .exit) ≡ heardBy (now (t .entry)) i c ⌝ }
+    ensures { λ _. ⌜ now (t .exit) ≡ backUpdated (now (t .entry)) i c ⌝ }
 {
     let back = c.back;
     put_back(t, 202 + i * 14, back);
@@ -178,7 +178,7 @@ pub fn update_back(t: &mut [u64; WORDS], i: usize, c: Connection)
 // A seat of which only the saved EFCI has moved: it moves no ready instant.
 pub fn update_mark(t: &mut [u64; WORDS], i: usize, back: Back)
     requires { ⌜ i < 64 ⌝ }
-    ensures { λ _. ⌜ now (t .exit) ≡ markedBy (now (t .entry)) i back ⌝ }
+    ensures { λ _. ⌜ now (t .exit) ≡ markUpdated (now (t .entry)) i back ⌝ }
 {
     t[202 + i * 14] = back_tag(back);
 }
@@ -194,23 +194,6 @@ pub fn update(t: &mut [u64; WORDS], i: usize, c: Connection)
     t[131 + i] = key_of(c);
 }
 
-// Seat i enters word p of the header, or leaves it.
-fn flip(t: &mut [u64; WORDS], p: usize, i: usize)
-    requires { ⌜ (p < 1859) × (i < 64) ⌝ }
-    ensures { λ _. ⌜ now (t .exit) ≡ flipped (now (t .entry)) p i ⌝ }
-{
-    t[p] = t[p] ^ (1u64 << i);
-}
-
-// A seat that is taken or freed, and its name in the index.
-fn enter(t: &mut [u64; WORDS], i: usize, name: u64)
-    requires { ⌜ i < 64 ⌝ }
-    ensures { λ _. ⌜ now (t .exit) ≡ entered (now (t .entry)) i name ⌝ }
-{
-    flip(t, 2, i);
-    flip(t, 3 + drawer(name), i);
-}
-
 // A seat that a connection takes.
 pub fn store(t: &mut [u64; WORDS], i: usize, c: Connection)
     requires { ⌜ (i < 64) × InRange c ⌝ }
@@ -219,7 +202,7 @@ pub fn store(t: &mut [u64; WORDS], i: usize, c: Connection)
     update(t, i, c);
     put_fixed(t, 1091 + i * 12, c);
     t[67 + i] = c.name as u64;
-    enter(t, i, c.name as u64);
+    flip_seat(t, i, c.name as u64);
 }
 
 fn clear_fixed(t: &mut [u64; WORDS], b: usize)
@@ -259,5 +242,5 @@ pub fn clear(t: &mut [u64; WORDS], i: usize)
     clear_fixed(t, 1091 + i * 12);
     t[131 + i] = 0;
     t[67 + i] = 0;
-    enter(t, i, name);
+    flip_seat(t, i, name);
 }

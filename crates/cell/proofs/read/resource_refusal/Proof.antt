@@ -1,9 +1,10 @@
-use Rattle.cell.proofs.Readings.{refused-5, refused-6, takes-fields, rest-meets, rest-taken}
-use Rattle.cell.specs.Fields.{crcRight}
-use borrow.Author.Needs.{needs}
-use borrow.Author.Tests.{not-true, not-false}
+-- The tests that led to each return say which case of the definition holds.
 use mathlib.Core.Bool.{true}
 use mathlib.Core.Path.{_≡_, sym, _∙_}
+use borrow.Author.Needs.{needs}
+use borrow.Author.Tests.{not-true, not-false, eq-eqb, ne-eqb}
+use Rattle.cell.specs.Fields.{crcRight}
+use Rattle.cell.specs.Refusals.{restRefusal}
 use Rattle.cell.proofs.read.resource_refusal.Statement.{statement}
 use Rattle.cell.proofs.read.resource_refusal.Tie as tie
 
@@ -12,20 +13,16 @@ right : (c : tie.Else1) → crcRight (c .before .before .before .args .cell .now
 right c = sym (c .before .crc-right .ensures) ∙ not-false _ (c .if1 .left)
 
 returns : tie.Need-returns
-returns c =
-    let o = c .before .before .before .args .cell .now in rest-meets o 4 (refused-5 o (sym (c .before .crc-right .ensures) ∙ not-true _ (c .if1 .taken)))
+unfolding restRefusal
+returns c = simp (sym (c .before .crc-right .ensures) ∙ not-true _ (c .if1 .taken))
 
 returns-2 : tie.Need-returns-2
-returns-2 c =
-    let d = c .before .before in
-    let o = d .before .before .before .args .cell .now in
-    rest-meets o 5 (refused-6 o (right d) (c .if2 .taken))
+unfolding restRefusal
+returns-2 c = simp (right (c .before .before), ne-eqb _ _ (c .if2 .taken))
 
 returns-3 : tie.Need-returns-3
-returns-3 c =
-    let d = c .before .before in
-    let o = d .before .before .before .args .cell .now in
-    rest-taken o (takes-fields o (right d) (c .if2 .left))
+unfolding restRefusal
+returns-3 c = simp (right (c .before .before), eq-eqb _ _ (c .if2 .left))
 
 pub resource-refusal-spec : {M : Type 1} → statement M
 resource-refusal-spec = tie.close (tie.spec (λ c κs. search needs) returns (λ c. search needs) returns-2 returns-3)

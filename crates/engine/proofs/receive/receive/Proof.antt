@@ -1,5 +1,6 @@
 use Rattle.cell.proofs.Admits.{received-checked}
-use Rattle.cell.specs.Reading.{reading, rest}
+use Rattle.cell.specs.Reading.{reading}
+use Rattle.cell.proofs.Readings.{rest, HeaderMeets, header-meets, rest-meets}
 use Rattle.cell.specs.declared.read.Reading.the-variants.{User, Resource}
 use Rattle.engine.proofs.Outs.{refused-out}
 use Rattle.engine.proofs.Received.{unread, user-read, resource-read, same-meets}
@@ -9,27 +10,31 @@ use mathlib.Core.Path.{_≡_, refl, sym, ap, ap₂, _∙_}
 use Rattle.engine.proofs.receive.receive.Statement.{statement}
 use Rattle.engine.proofs.receive.receive.Tie as tie
 
+-- what the header's refusal says
+meets : (c : tie.After-header-refusal) → HeaderMeets (c .before .before .args .cell .now) (c .header-refusal .result)
+meets c = header-meets (c .before .before .args .cell .now) (c .header-refusal .result) (c .header-refusal .ensures)
+
 -- the header was found that of a data or an RM cell
 whole : (c : tie.Else1) → length (c .before .before .before .args .cell .now) ≡ 53
-whole c = c .before .header-refusal .ensures .size (c .if1 .left)
+whole c = meets (c .before) .size (c .if1 .left)
 
 -- of an RM cell
 remains : (c : tie.Else2) → let o = c .before .before .before .before .before .args .cell .now in reading o ≡ rest o
 remains c =
     let d = c .before in
-    d .before .before .header-refusal .ensures .resource (d .before .if1 .left) (sym (d .is-data .ensures) ∙ c .if2 .left)
+    meets (d .before .before) .resource (d .before .if1 .left) (sym (d .is-data .ensures) ∙ c .if2 .left)
 
 -- with these fields
 fields : (c : tie.After-fields-of) → let o = c .before .before .before .before .before .before .before .before .before .args .cell .now in reading o ≡ Resource (c .fields-of .result)
 fields c =
     let e3 = c .before .before in
-    remains (e3 .before .before) ∙ e3 .before .resource-refusal .ensures .taken (e3 .if3 .left) ∙ sym (ap Resource (c .fields-of .ensures))
+    remains (e3 .before .before) ∙ rest-meets _ _ (e3 .before .resource-refusal .ensures) .taken (e3 .if3 .left) ∙ sym (ap Resource (c .fields-of .ensures))
 
 returns : tie.Need-returns
 returns c =
     let h = c .before in
     let o = h .before .before .args .cell .now in
-    record { meets = λ s w e. refused-out s (h .header-refusal .result) e (unread s o (h .header-refusal .result) (h .header-refusal .ensures .refused (c .if1 .taken))) }
+    record { meets = λ s w e. refused-out s (h .header-refusal .result) e (unread s o (h .header-refusal .result) (meets h .refused (c .if1 .taken))) }
 
 is-data-requires : tie.Need-is-data-requires
 is-data-requires c κs = whole c
@@ -49,7 +54,7 @@ returns-2 c =
     let o = h .before .before .args .cell .now in
     same-meets
     (user-read o (v .vci-of .result) (c .before .efci-of .result)
-    (h .header-refusal .ensures .user (d .before .if1 .left) (sym (d .is-data .ensures) ∙ t .if2 .taken)
+    (meets h .user (d .before .if1 .left) (sym (d .is-data .ensures) ∙ t .if2 .taken)
     ∙ sym (ap₂ User (v .vci-of .ensures) (c .before .efci-of .ensures))))
     (c .receive-data .ensures)
 
@@ -61,7 +66,7 @@ returns-3 c =
     let e2 = c .before .before in
     let n = c .before .resource-refusal .result in
     let o = e2 .before .before .before .before .before .args .cell .now in
-    record { meets = λ s w e. refused-out s n e (unread s o n (remains e2 ∙ c .before .resource-refusal .ensures .refused (c .if3 .taken))) }
+    record { meets = λ s w e. refused-out s n e (unread s o n (remains e2 ∙ rest-meets o n (c .before .resource-refusal .ensures) .refused (c .if3 .taken))) }
 
 fields-of-requires : tie.Need-fields-of-requires
 fields-of-requires c κs = whole (c .before .before .before .before .before)

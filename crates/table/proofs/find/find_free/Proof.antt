@@ -1,6 +1,5 @@
 use Rattle.table.proofs.Found.{free-found, free-none}
 use borrow.Author.Needs.{needs}
-use mathlib.Core.Path.{refl}
 use Rattle.table.proofs.find.find_free.Statement.{statement}
 use Rattle.table.proofs.find.find_free.Tie as tie
 

@@ -1,5 +1,4 @@
-use Prim.Native.Nat.{ℕ, _<_, _+_, _^_}
-use mathlib.Core.Path.{_≡_, sym, ap, subst, _∙_}
+use mathlib.Core.Path.{sym, ap, subst, _∙_}
 use native.Mathlib.Omega.{arith}
 use borrow.Author.Needs.{needs}
 use Rattle.connection.specs.Range.{InstantBelow}

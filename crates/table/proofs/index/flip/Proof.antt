@@ -5,8 +5,8 @@ use lib.Bits.{bitXor}
 use lib.ListN.{getD, set}
 use Rattle.table.proofs.Marks.{one-bit}
 use borrow.Author.Needs.{needs}
-use Rattle.table.proofs.store.flip.Statement.{statement}
-use Rattle.table.proofs.store.flip.Tie as tie
+use Rattle.table.proofs.index.flip.Statement.{statement}
+use Rattle.table.proofs.index.flip.Tie as tie
 
 returns : tie.Need-returns
 returns c =

@@ -2,8 +2,8 @@ use mathlib.Core.Path.{refl}
 use borrow.Author.Needs.{needs}
 use Rattle.table.specs.Layout.{drawer}
 use Rattle.table.proofs.Marks.{drawer-lt}
-use Rattle.table.proofs.layout.drawer.Statement.{statement}
-use Rattle.table.proofs.layout.drawer.Tie as tie
+use Rattle.table.proofs.index.drawer.Statement.{statement}
+use Rattle.table.proofs.index.drawer.Tie as tie
 
 returns : tie.Need-returns
 unfolding drawer

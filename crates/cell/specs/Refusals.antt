@@ -1,0 +1,16 @@
+-- For the code's own functions: the refusal that a cell's header meets, the one that the rest of an RM cell meets, and 0 for none.
+use Prim.Native.Nat.{ℕ}
+use mathlib.Core.Bool.{cond, _||_}
+use mathlib.Core.List.{List}
+use lib.Dec.{leb, eqb}
+use lib.ListN.{length}
+use Rattle.cell.specs.Octets.{octet}
+use Rattle.cell.specs.Header.{vpiOf, typeOf, headerRight}
+use Rattle.cell.specs.Fields.{crcRight}
+
+unfoldable pub headerRefusal : List ℕ → ℕ
+headerRefusal o =
+    cond (eqb (length o) 53) (cond (headerRight o) (cond (eqb (vpiOf o) 0) (cond (leb (typeOf o) 3 || eqb (typeOf o) 6) 0 4) 3) 2) 1
+
+unfoldable pub restRefusal : List ℕ → ℕ
+restRefusal o = cond (crcRight o) (cond (eqb (octet 6 o) 1) 0 6) 5
