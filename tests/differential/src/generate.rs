@@ -186,7 +186,7 @@ impl Generator {
     }
 
     /// Parameters within their ranges, the small ones preferred.
-    fn params(&mut self) -> abr_params {
+    pub fn params(&mut self) -> abr_params {
         let least = 0x4000 | self.profile.exponent << 9;
         let mut codes = [0; 3].map(|_| self.rng.within(least, 0x7FFF));
         codes.sort_unstable();

@@ -26,25 +26,48 @@ pub fn profile_of(seed: u64) -> Profile {
     PROFILES[(seed % PROFILES.len() as u64) as usize]
 }
 
+/// A list on both sides, as far as it has run.
+#[derive(Default)]
+pub struct List {
+    /// Both sides.
+    pub both: Both,
+    /// What the list knows.
+    pub watch: Watch,
+}
+
+impl List {
+    /// Makes a call on both sides and takes it in.
+    pub fn step(&mut self, call: &Call, coverage: &mut Coverage) -> Result<Outcome, Difference> {
+        let outcome = self.both.call(call)?;
+        let acr = touched(call, &outcome).and_then(|vci| self.both.acr(vci));
+        self.watch.learn(call, &outcome, acr.unwrap_or(0), coverage);
+        Ok(outcome)
+    }
+
+    /// Compares the allowed rates of all open connections, and those of VCIs
+    /// that were closed.
+    fn same_rates(&self) -> Result<(), Difference> {
+        let mut vcis = self.watch.seats.keys().chain(&self.watch.closed);
+        vcis.try_for_each(|vci| self.both.same_acr(*vci))
+    }
+}
+
 /// Runs the list of a seed, and says where the two sides part.
 pub fn run(seed: u64, profile: Profile, coverage: &mut Coverage) -> Result<(), Difference> {
     let mut generator = Generator::new(seed, profile);
-    let mut both = Both::default();
-    let mut watch = Watch::default();
+    let mut list = List::default();
     for index in 0..LIST {
-        let call = generator.next(&watch);
+        let call = generator.next(&list.watch);
         let report = |difference: Difference| {
             let name = profile.name;
             format!("list {seed} ({name}), call {index}, {call:x?}: {difference}")
         };
-        let outcome = both.call(&call).map_err(report)?;
-        let acr = touched(&call, &outcome).and_then(|vci| both.acr(vci));
-        watch.learn(&call, &outcome, acr.unwrap_or(0), coverage);
+        let outcome = list.step(&call, coverage).map_err(report)?;
         if let (Some(octet), Err(_)) = (generator.damaged, outcome) {
             coverage.damaged[octet] += 1;
         }
         if index % ALL_RATES == 0 || index == LIST - 1 {
-            same_rates(&both, &watch).map_err(report)?;
+            list.same_rates().map_err(report)?;
         }
     }
     Ok(())
@@ -56,11 +79,4 @@ pub fn touched(call: &Call, outcome: &Outcome) -> Option<u32> {
         Ok(Answer::Sent(sent)) => Some(sent.vci as u32),
         _ => call.vci(),
     }
-}
-
-/// Compares the allowed rates of all open connections, and those of VCIs that
-/// were closed.
-fn same_rates(both: &Both, watch: &Watch) -> Result<(), Difference> {
-    let mut vcis = watch.seats.keys().chain(&watch.closed);
-    vcis.try_for_each(|vci| both.same_acr(*vci))
 }

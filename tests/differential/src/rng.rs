@@ -59,6 +59,13 @@ impl Rng {
         unreachable!("the weights sum to more than the number drawn")
     }
 
+    /// Puts things into any order.
+    pub fn shuffle<T>(&mut self, things: &mut [T]) {
+        for place in (1..things.len()).rev() {
+            things.swap(place, self.below(place as u64 + 1) as usize);
+        }
+    }
+
     /// Fills octets.
     pub fn fill(&mut self, octets: &mut [u8]) {
         for octet in octets {
