@@ -177,3 +177,39 @@ fn a_turned_cell_is_octet_for_octet_the_backward_one() {
     let sent = station.slot(5 * MS).expect("a cell waits");
     assert_eq!(sent.cell, written(&backward(marked(false, true))));
 }
+
+#[test]
+fn what_comes_in_between_leaves_the_waiting_cell() {
+    // A turned cell went since the last forward cell: data goes before the
+    // next, which waits marked by EFCI and by level 1.
+    let mut station = Station::open(&paper());
+    station.receive_forward(marked(false, false));
+    turned(&mut station);
+    station.set_level(1);
+    station.receive_data(true);
+    let sn = 10;
+    let second = |ci, ni| Rm {
+        sn,
+        ..marked(ci, ni)
+    };
+    station.receive_forward(second(false, false));
+    station.set_level(0);
+    for (time, efci) in [(10, true), (15, false), (20, true)] {
+        station.receive_data(efci);
+        station.offer(1);
+        station.receive_backward(marked(false, true)); // NI and ER 300 hold 200
+        assert_eq!(station.kind(time * MS), Some(Kind::Data));
+    }
+    let sent = station.slot(25 * MS).expect("a cell waits");
+    assert_eq!(sent.cell, written(&backward(second(true, true))));
+    // It is gone, also after more cells; the EFCI saved at 20 ms stands for the
+    // third. Trm comes at 100 ms.
+    assert_eq!(station.slot(30 * MS), None);
+    station.receive_forward(marked(false, false));
+    let sent = station.slot(35 * MS).expect("a cell waits");
+    assert_eq!(sent.cell, written(&backward(marked(true, false))));
+    station.receive_data(true);
+    station.offer(1);
+    assert_eq!(station.kind(40 * MS), Some(Kind::Data));
+    assert_eq!(station.slot(45 * MS), None);
+}
