@@ -68,31 +68,70 @@ static uint64_t odd_word(void)
     }
 }
 
-/* A table that calls made: some open connections, data, cells sent. */
+/* A table that calls made: some open connections, perhaps with free seats between, data, cells sent. */
 static void honest_table(abr_table *table)
 {
     uint8_t cell[ABR_CELL_OCTETS];
     abr_sent sent;
     abr_params params;
-    uint32_t count = (uint32_t)(next() % 70);
+    uint32_t count = (uint32_t)(next() % 70), holes = (uint32_t)next() & 1;
     memset(table, 0, sizeof *table);
     abr_house(0x7FFF, 0x4000, 0x53E8 + (uint32_t)(next() & 0xFF), &params);
     for (uint32_t i = 0; i < count; i++) {
         abr_open(table, 32 + i, i, &params);
         abr_offer(table, 32 + i, next() & 0xFF);
         abr_slot(table, i, cell, sizeof cell, &sent);
+        if (holes && next() % 4 == 0) {
+            abr_close(table, 32 + (uint32_t)(next() % count));
+        }
     }
 }
 
-/* All random, all of one word, mostly zero, or honest with some words spoilt. */
+/*
+ * A word with a bit for each of some seats, made wrong: all, none, the others,
+ * more, those of another word; or as it was.
+ */
+static uint64_t wrong_seats(uint64_t how, uint64_t seats, uint64_t another)
+{
+    switch (how % 6) {
+    case 0: return ~0ULL;
+    case 1: return 0;
+    case 2: return ~seats;
+    case 3: return seats | next();
+    case 4: return another;
+    default: return seats;
+    }
+}
+
+/*
+ * Honest, but with wrong words where seats are looked up: word 2 has those that
+ * are taken, the 64 words behind it have them by name.
+ */
+static void wrong_index(abr_table *table)
+{
+    uint64_t how = next(), how_taken = next(), any = next(), old[64];
+    unsigned away = 1 + (unsigned)(next() % 63);
+    honest_table(table);
+    memcpy(old, table->words + 3, sizeof old);
+    table->words[2] = wrong_seats(how_taken, table->words[2], any);
+    for (unsigned i = 0; i < 64; i++) {
+        table->words[3 + i] = wrong_seats(how, old[i], old[(i + away) % 64]);
+    }
+}
+
+/* All random, all of one word, mostly zero, honest with words spoilt or with a wrong index. */
 static void garbage_table(abr_table *table)
 {
-    uint64_t kind = next() % 6, one = odd_word();
+    uint64_t kind = next() % 8, one = odd_word();
     uint64_t spoilt = 1 + next() % (kind == 5 ? 400 : 20);
     if (kind < 3) {
         for (int i = 0; i < ABR_TABLE_WORDS; i++) {
             table->words[i] = kind == 0 ? next() : kind == 1 ? odd_word() : one;
         }
+        return;
+    }
+    if (kind > 5) {
+        wrong_index(table);
         return;
     }
     if (kind == 3) {
