@@ -22,7 +22,7 @@ use Rattle.table.specs.State.{State, Seat, free, taken, position, holds,
 use Rattle.table.specs.Invariant.{OnSeat, Apart, Whole}
 use Rattle.table.specs.Layout.{key, marks, isTaken, words}
 use Rattle.table.specs.Choice.{Winner, nobody, wins, winner, Ahead, sooner, tied, Chosen, Best as Right}
-use Rattle.table.specs.Choosing.{keyAt, nameAt, betterOf, bestBelow, limitAt, Won, Chooses}
+use Rattle.table.specs.Choosing.{keyAt, nameAt, betterOf, fourBelow, bestOfFour, bestBelow, limitAt, Won, Chooses}
 use Rattle.table.proofs.Seats.{each-get, find-name, taken-in, seat-place}
 use Rattle.table.proofs.Winners.{winner-best}
 use Rattle.table.proofs.Marks.{marks-lt, marks-top}
@@ -33,6 +33,41 @@ use Rattle.table.proofs.Words.{number, keyNumber, name-at, key-at, take
 pub best-more : (limit : ℕ) (f g : ℕ → ℕ) (i : ℕ) {b r : Best} → b ≡ bestBelow limit f g i → r ≡ betterOf b i (f i) (g i) → r ≡ bestBelow limit f g (i + 1)
 unfolding bestBelow
 best-more limit f g i h e = e ∙ ap (λ (x : Best). betterOf x i (f i) (g i)) h ∙ sym (ap (λ (n : ℕ). bestBelow limit f g n) (add-one i))
+
+both : (a b : Bool) → (a && b) ≡ true → (a ≡ true) × (b ≡ true)
+both true true e = (refl, refl)
+both true false e = absurd (true≢false (sym e))
+both false b e = absurd (true≢false (sym e))
+
+-- four seats more
+module _ (limit : ℕ) (f g : ℕ → ℕ) where
+  one-more : (n m : ℕ) {b : Best} → n + 1 ≡ m → b ≡ bestBelow limit f g n → betterOf b n (f n) (g n) ≡ bestBelow limit f g m
+  one-more n m q h = best-more limit f g n h refl ∙ ap (bestBelow limit f g) q
+
+  pub four-more : (i : ℕ) {b r : Best} → b ≡ bestBelow limit f g i → r ≡ bestOfFour f g i b → r ≡ bestBelow limit f g (i + 4)
+  four-more i h e =
+      e ∙ one-more (i + 3) (i + 4) (omega arith) (one-more (i + 2) (i + 3) (omega arith) (one-more (i + 1) (i + 2) (omega arith) (one-more i (i + 1) refl h)))
+
+-- one after the other
+pub four-better :
+    (f g : ℕ → ℕ) (i : ℕ) (b : Best) {x y z r : Best} → x ≡ betterOf b i (f i) (g i) → y ≡ betterOf x (i + 1) (f (i + 1)) (g (i + 1)) → z ≡ betterOf y (i + 2) (f (i + 2)) (g (i + 2))
+    → r ≡ betterOf z (i + 3) (f (i + 3)) (g (i + 3)) → r ≡ bestOfFour f g i b
+four-better f g i b p q s e =
+    e ∙ ap (at (i + 3)) (s ∙ ap (at (i + 2)) (q ∙ ap (at (i + 1)) p))
+  where
+    at : ℕ → Best → Best
+    at n w = betterOf w n (f n) (g n)
+
+passed : (f g : ℕ → ℕ) (b : Best) (n : ℕ) → ltb (f n) (b .key) ≡ true → betterOf b n (f n) (g n) ≡ b
+passed f g b n e = rw e
+
+-- none of them is better
+pub four-passed : (f g : ℕ → ℕ) (i : ℕ) (b : Best) → fourBelow f i (b .key) ≡ true → b ≡ bestOfFour f g i b
+four-passed f g i b e =
+    let x = both _ _ e in
+    let y = both _ _ (x .0) in
+    let z = both _ _ (y .0) in
+    sym (rw (passed f g b i (z .0), passed f g b (i + 1) (z .1), passed f g b (i + 2) (y .1), passed f g b (i + 3) (x .1)))
 
 -- what holds below n, and at n, holds below n + 1
 more : {n : ℕ} (Q : ℕ → Type 0) → ((k : ℕ) → k < n → Q k) → Q n → (k : ℕ) → k < suc n → Q k
@@ -185,7 +220,7 @@ not-taken free h = refl
 not-taken (taken c) h = absurd (true≢false h)
 
 -- Above the highest of the taken seats none is taken.
-module _ (s : State) (w : Whole s) (n : ℕ) (e : n ≡ 64 - leadingZeros 64 (getD (words s) 2 0)) where
+module _ (s : State) (w : Whole s) (n : ℕ) (e : 64 - leadingZeros 64 (getD (words s) 2 0) ≤ n) where
   untaken : (k : ℕ) → n ≤ k → k < 64 → getD (s .seats) k free ≡ free
   untaken k l h =
       let ss = s .seats in
@@ -194,7 +229,7 @@ module _ (s : State) (w : Whole s) (n : ℕ) (e : n ≡ 64 - leadingZeros 64 (ge
       let a : leadingZeros 64 (marks isTaken ss) ≡ leadingZeros 64 (getD (words s) 2 0) = ap (leadingZeros 64) (sym (taken-at s)) in
       not-taken (getD ss k free) (marks-top isTaken ss (z .0) k (z .2) (omega (arith, z .1, a)) (omega (arith, w .size)))
 
-module _ (l : List ℕ) (t : ℕ) (timely : t ≤ latestTime) (n : ℕ) (a : n ≡ 64 - leadingZeros 64 (getD l 2 0)) (b : Best) (e : b ≡ bestBelow (limitAt t) (keyAt l) (nameAt l) n) where
+module _ (l : List ℕ) (t : ℕ) (timely : t ≤ latestTime) (n : ℕ) (below : n ≤ 64) (a : 64 - leadingZeros 64 (getD l 2 0) ≤ n) (b : Best) (e : b ≡ bestBelow (limitAt t) (keyAt l) (nameAt l) n) where
   found : Greatest (limitAt t) (keyAt l) (nameAt l) n b
   found = rw e (greatest (limitAt t) (keyAt l) (nameAt l) n)
 
@@ -206,10 +241,7 @@ module _ (l : List ℕ) (t : ℕ) (timely : t ≤ latestTime) (n : ℕ) (a : n �
     names k h = ap (λ (m : List ℕ). nameAt m k) q ∙ name-at s (w .size) k h
 
     beyond : (k : ℕ) → n ≤ k → k < 64 → keyAt l k ≡ 0
-    beyond k g h = keys k h ∙ ap keyNumber (untaken s w n (a ∙ ap (λ (m : List ℕ). 64 - leadingZeros 64 (getD m 2 0)) q) k g h)
-
-  below : n ≤ 64
-  below = omega (arith, a)
+    beyond k g h = keys k h ∙ ap keyNumber (untaken s w n (subst (λ (m : List ℕ). 64 - leadingZeros 64 (getD m 2 0) ≤ n) q a) k g h)
 
   pub chooses-seat : b .at < 64 → Chooses l t (InSeat (b .at))
   chooses-seat h = record { is = λ s w q. picks-seat t timely (s .seats) (w .apart) (w .size) _ _ (keys s w q) (names s w q) n below (beyond s w q) b found h }

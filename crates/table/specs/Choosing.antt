@@ -1,7 +1,7 @@
 -- What the choice for a slot says of a table's words. (Document 01, "Slots".)
 use Prim.Native.Nat.{ℕ, zero, suc, _+_, _-_, _^_, _≤_, _<_}
 use mathlib.Core.Path.{_≡_}
-use mathlib.Core.Bool.{cond, _&&_, _||_}
+use mathlib.Core.Bool.{Bool, cond, _&&_, _||_}
 use mathlib.Core.List.{List}
 use lib.Dec.{leb, ltb, eqb}
 use lib.ListN.{getD}
@@ -26,6 +26,14 @@ nameAt l i = getD l (67 + i) 0
 -- the better of the best so far and seat i: a greater key wins, ties to the lower name
 abbrev pub betterOf : Best → (i key name : ℕ) → Best
 betterOf b i key name = cond (ltb key (b .key) || (eqb key (b .key) && leb (b .name) name)) b (record { at = i; key = key; name = name })
+
+-- four seats from i on: whether their keys are all lower, and the better of them and the best so far
+abbrev pub fourBelow : (keys : ℕ → ℕ) (i key : ℕ) → Bool
+fourBelow f i k = ((ltb (f i) k && ltb (f (i + 1)) k) && ltb (f (i + 2)) k) && ltb (f (i + 3)) k
+
+abbrev pub bestOfFour : (keys names : ℕ → ℕ) → (i : ℕ) → Best → Best
+bestOfFour f g i b =
+    betterOf (betterOf (betterOf (betterOf b i (f i) (g i)) (i + 1) (f (i + 1)) (g (i + 1))) (i + 2) (f (i + 2)) (g (i + 2))) (i + 3) (f (i + 3)) (g (i + 3))
 
 -- the best of the seats below n, of which the keys and names are told; only keys above the limit count
 unfoldable pub bestBelow : (limit : ℕ) (keys names : ℕ → ℕ) → ℕ → Best
