@@ -5,7 +5,7 @@
 #   make test               the gate: proofs, then every test
 #   make install PREFIX=    library, header and abr.pc
 #   make dist               the tarball that is sold
-#   make bench              the cost of each call, beside the plain reference
+#   make bench              the cost of each call, library and reference
 #   make soak [SEED=n]      random lists without end
 #
 # ABR_LIB names another archive than the proved one, which then is not built.

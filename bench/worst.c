@@ -1,15 +1,15 @@
 /*
- * One call in the scene that costs it most, for an instruction count: 64 connections are open whose VCIs share one
- * drawer of the table's index, the one concerned sits in the last seat and so is tried last, and in a slot every seat
- * is ready before the ones in front of it. The call stands in measured().
+ * One call in its costliest known case, for an instruction count: 64 connections are open whose VCIs share one bucket
+ * of the table's index, the one concerned has the last entry and so is compared last, and in a slot the ready instants
+ * fall from the first entry to the last. The call is in measured().
  */
 #include <stdio.h>
 #include <string.h>
 
 #include "abr.h"
 
-/* The VCI of a seat; v % 64 + v / 64 leaves 40 by 64 for each. */
-#define VCI(seat) (64 * (seat) + (104 - (seat)) % 64)
+/* The VCI of an entry v; (v % 64 + v / 64) % 64 is 40 for each. */
+#define VCI(entry) (64 * (entry) + (104 - (entry)) % 64)
 #define LAST VCI(63)
 
 static abr_table table;
@@ -28,7 +28,7 @@ enum call { SLOT, RECEIVE, OPEN, CLOSE, OFFER, LEVEL, ACR, WRITE, READ, CODE, RA
 static const struct {
     const char *name;
     enum call call;
-} scenes[] = {
+} cases[] = {
     {"slot, forward cell", SLOT},         {"slot, turned cell", SLOT},
     {"slot, data", SLOT},                 {"receive, forward cell", RECEIVE},
     {"receive, backward cell", RECEIVE},  {"receive, data", RECEIVE},
@@ -57,14 +57,14 @@ __attribute__((noinline, noclone)) uint32_t measured(enum call call)
     return 0;
 }
 
-/* Seats 0 to 63, each with a higher rate than the one before it, so that it is due earlier after a cell at one time. */
+/* Entries 0 to 63, each with a higher rate than the one before it, so that it is due earlier after a cell at one time. */
 static void fill(uint32_t n)
 {
-    for (uint32_t seat = 0; seat < 64; seat++) {
-        abr_house(0x7FFF, 0x4000, 0x5000 + 64 * seat, &params);
+    for (uint32_t entry = 0; entry < 64; entry++) {
+        abr_house(0x7FFF, 0x4000, 0x5000 + 64 * entry, &params);
         params.n = n;
-        abr_open(&table, VCI(seat), 0, &params);
-        abr_offer(&table, VCI(seat), 100);
+        abr_open(&table, VCI(entry), 0, &params);
+        abr_offer(&table, VCI(entry), 100);
     }
 }
 
@@ -76,14 +76,14 @@ static void round_at(uint64_t time)
     }
 }
 
-static void cell_in(uint32_t dir)
+static void make_rm_cell(uint32_t dir)
 {
     rm.dir = dir;
     abr_write_rm(&rm, cell, sizeof cell);
 }
 
-/* A data cell for the last seat, its octet 5 found by trying. */
-static void data_in(void)
+/* A data cell for the last entry, its octet 5 found by trying all. */
+static void make_data_cell(void)
 {
     cell[0] = 0;
     cell[1] = LAST >> 12;
@@ -97,30 +97,30 @@ static void data_in(void)
     }
 }
 
-static void set_scene(const char *name)
+static void prepare(const char *name)
 {
     fill(strcmp(name, "slot, forward cell") == 0 ? 1 : 5);
     round_at(0);
     round_at(SECOND);
-    cell_in(strcmp(name, "receive, backward cell") == 0);
+    make_rm_cell(strcmp(name, "receive, backward cell") == 0);
     if (strcmp(name, "slot, turned cell") == 0) {
         abr_receive(&table, cell, sizeof cell);
     } else if (strcmp(name, "receive, data") == 0) {
-        data_in();
+        make_data_cell();
     } else if (strcmp(name, "open") == 0) {
         abr_close(&table, LAST);
     }
 }
 
-/* With no word: the names of the scenes. With one: that scene. */
+/* Without an argument: the names of the cases. With a name: that case. */
 int main(int argc, char **argv)
 {
-    for (size_t scene = 0; scene < sizeof scenes / sizeof scenes[0]; scene++) {
+    for (size_t i = 0; i < sizeof cases / sizeof cases[0]; i++) {
         if (argc < 2) {
-            puts(scenes[scene].name);
-        } else if (strcmp(argv[1], scenes[scene].name) == 0) {
-            set_scene(argv[1]);
-            return measured(scenes[scene].call) != ABR_OK;
+            puts(cases[i].name);
+        } else if (strcmp(argv[1], cases[i].name) == 0) {
+            prepare(argv[1]);
+            return measured(cases[i].call) != ABR_OK;
         }
     }
     return argc > 1;

@@ -1,7 +1,7 @@
 /*
- * Two connections share a link of 4,000 cells per second. Both have data, and
- * both are allowed 2,000. At 3 ms the network tells VCI 32 to keep to 500; from
- * 8 ms on it lets it rise again.
+ * Two connections on a link of 4,000 cells per second. Both have data, and both
+ * are allowed 2,000. At 3 ms a backward cell gives VCI 32 an explicit rate of
+ * 500; from 8 ms on backward cells give it 2,000 again.
  */
 #include <stdio.h>
 
@@ -19,14 +19,14 @@ static uint32_t code(uint64_t cells)
     return code;
 }
 
-/* A backward cell comes in from the network. */
+/* A backward cell is received from the network. */
 static void feedback(uint32_t vci, uint64_t explicit_rate)
 {
     uint8_t cell[ABR_CELL_OCTETS];
     abr_rm rm = {vci, 1, 0, 0, 0, 0, code(explicit_rate), 0, 0, 0, 0};
     abr_write_rm(&rm, cell, sizeof cell);
     uint32_t refusal = abr_receive(&table, cell, sizeof cell);
-    printf("          VCI %u hears: at most %u (%s)\n", (unsigned)vci, (unsigned)explicit_rate,
+    printf("          VCI %u receives ER %u (%s)\n", (unsigned)vci, (unsigned)explicit_rate,
            abr_refusal_text(refusal));
 }
 

@@ -1,26 +1,26 @@
 /*
- * abr.h: the ABR end-system rate engine, a library without memory of its own.
+ * abr.h: the ABR end-system rate engine.
  *
  * A transmitter asks once per cell slot which of up to 64 connections of one
  * link sends, what kind of cell, and what rate it is allowed afterwards. The
  * sections named below are those of document 01, "The ABR end-system rate
- * engine", which decides what every call does.
+ * engine", which says what every call does.
  *
  * Memory. The library has no heap, no globals and no start-up call. All state
  * is in an abr_table that the caller lends. A table of zeros is the empty one,
  * so `static abr_table table;` is ready for use. Only these calls may write a
- * table that is in use. One table belongs to one thread at a time; different
- * tables have nothing to do with each other. A table may be moved or copied
- * as a whole, octet by octet, between calls.
+ * table that is in use. One table is used by one thread at a time; different
+ * tables are independent of each other. A table may be moved or copied as a
+ * whole, octet by octet, between calls.
  *
  * Answers. Every call that can refuse answers ABR_OK (0) or the number of the
  * refusal, and the first refusal in the order given at the call decides. A
  * refused call has written nothing: table, buffer and out-parameters are as
  * they were.
  *
- * Pointers. None may be null. A pointer to octets goes with the length that
- * really stands behind it. The memory behind two pointers of one call must
- * not overlap. Octets need no alignment; everything else is aligned as C
+ * Pointers. None may be null. The length given with a pointer to octets is that
+ * of the memory there. The memory of two pointers of one call must not
+ * overlap. Octets need no alignment; everything else is aligned as C
  * aligns its type.
  *
  * Rates are whole numbers of 1/512 cell per second, times are nanoseconds
@@ -71,16 +71,16 @@ extern "C" {
 
 /* ---- Parameters of an open (section "Opening") -------------------------- */
 
-/* The value of c that stands for a CDF of zero. */
+/* The value of c that means a CDF of zero. */
 #define ABR_CDF_ZERO 7
 
-/* The largest CRM, where the count of unanswered cells stops too. */
+/* The largest CRM, and the largest count of unanswered cells. */
 #define ABR_CRM_MAX 8388608
 
 /* The largest ADTF, in steps of 10 ms. */
 #define ABR_ADTF_MAX 1023
 
-/* The house set: what abr_house puts beside the three rates. */
+/* The house set: what abr_house adds to the three rates. */
 #define ABR_HOUSE_N 5
 #define ABR_HOUSE_R 4
 #define ABR_HOUSE_D 4
@@ -227,11 +227,11 @@ uint32_t abr_acr(const abr_table *table, uint32_t vci, uint64_t *acr);
 /* ---- The receive path --------------------------------------------------- */
 
 /*
- * Takes a received cell in (sections "Four moves of the allowed rate" and
- * "Turning cells round"). A backward RM cell moves the allowed rate of its
- * connection; a forward RM cell is turned round and waits to be sent back, in
- * place of any that waited; a data cell leaves its congestion mark, its
- * payload being the caller's business.
+ * Receives a cell (sections "Four moves of the allowed rate" and "Turning cells
+ * round"). A backward RM cell moves the allowed rate of its connection; a
+ * forward RM cell is turned round and waits to be sent back, in place of any
+ * that waited; of a data cell the congestion mark is saved and the payload not
+ * used.
  * Refusals in order:
  *    1  len is not 53
  *    2  octet 5 is wrong
@@ -254,8 +254,8 @@ uint32_t abr_set_level(abr_table *table, uint32_t level);
 /* ---- The slot ----------------------------------------------------------- */
 
 /*
- * Gives the slot at a time to the connection whose turn it is (section
- * "Slots"), and says in *sent which, what kind of cell it sends, and its
+ * Gives the slot at a time to the connection with the earliest ready instant
+ * (section "Slots"), and says in *sent which, what kind of cell it sends, and its
  * allowed rate afterwards. The 53 octets of a forward or a turned cell are
  * written to the buffer. For data the buffer is unchanged and the caller sends
  * a data cell of that VCI. If no connection is ready, *sent is all 0 and the
@@ -301,14 +301,14 @@ uint32_t abr_code(uint64_t rate, uint32_t *code);
 uint32_t abr_rate(uint32_t code, uint64_t *rate);
 
 /*
- * Fills in the house set around three rate codes (section "Opening"). Nothing
- * is refused here: an open judges the result.
+ * Gives the house set with three rate codes (section "Opening"). Nothing is
+ * refused here: an open checks the result.
  */
 void abr_house(uint32_t pcr, uint32_t mcr, uint32_t icr, abr_params *params);
 
-/* ---- Words for a refusal ------------------------------------------------ */
+/* ---- The text of a refusal ---------------------------------------------- */
 
-/* Names an answer in words; never null. */
+/* The text of an answer; never null. */
 static inline const char *abr_refusal_text(uint32_t refusal)
 {
     switch (refusal) {
@@ -332,30 +332,30 @@ static inline const char *abr_refusal_text(uint32_t refusal)
     }
 }
 
-/* ---- Layout, held at compile time --------------------------------------- */
+/* ---- Layout, checked at compile time ------------------------------------ */
 
 #if defined(__cplusplus) && __cplusplus >= 201103L
-#define ABR_HOLD(name, claim) static_assert(claim, #name)
+#define ABR_LAYOUT(name, condition) static_assert(condition, #name)
 #elif !defined(__cplusplus) && defined(__STDC_VERSION__) && __STDC_VERSION__ >= 201112L
-#define ABR_HOLD(name, claim) _Static_assert(claim, #name)
+#define ABR_LAYOUT(name, condition) _Static_assert(condition, #name)
 #else
-#define ABR_HOLD(name, claim) typedef char abr_hold_##name[(claim) ? 1 : -1]
+#define ABR_LAYOUT(name, condition) typedef char abr_layout_##name[(condition) ? 1 : -1]
 #endif
 
-ABR_HOLD(table_size, sizeof(abr_table) == 8 * ABR_TABLE_WORDS);
-ABR_HOLD(params_size, sizeof(abr_params) == 40);
-ABR_HOLD(params_trm, offsetof(abr_params, trm) == 36);
-ABR_HOLD(sent_size, sizeof(abr_sent) == 24);
-ABR_HOLD(sent_kind, offsetof(abr_sent, kind) == 8);
-ABR_HOLD(sent_acr, offsetof(abr_sent, acr) == 16);
-ABR_HOLD(rm_size, sizeof(abr_rm) == 44);
-ABR_HOLD(rm_er, offsetof(abr_rm, er) == 24);
-ABR_HOLD(rm_sn, offsetof(abr_rm, sn) == 40);
-ABR_HOLD(cell_size, sizeof(abr_cell) == 52);
-ABR_HOLD(cell_dir, offsetof(abr_cell, dir) == 12);
-ABR_HOLD(cell_sn, offsetof(abr_cell, sn) == 48);
+ABR_LAYOUT(table_size, sizeof(abr_table) == 8 * ABR_TABLE_WORDS);
+ABR_LAYOUT(params_size, sizeof(abr_params) == 40);
+ABR_LAYOUT(params_trm, offsetof(abr_params, trm) == 36);
+ABR_LAYOUT(sent_size, sizeof(abr_sent) == 24);
+ABR_LAYOUT(sent_kind, offsetof(abr_sent, kind) == 8);
+ABR_LAYOUT(sent_acr, offsetof(abr_sent, acr) == 16);
+ABR_LAYOUT(rm_size, sizeof(abr_rm) == 44);
+ABR_LAYOUT(rm_er, offsetof(abr_rm, er) == 24);
+ABR_LAYOUT(rm_sn, offsetof(abr_rm, sn) == 40);
+ABR_LAYOUT(cell_size, sizeof(abr_cell) == 52);
+ABR_LAYOUT(cell_dir, offsetof(abr_cell, dir) == 12);
+ABR_LAYOUT(cell_sn, offsetof(abr_cell, sn) == 48);
 
-#undef ABR_HOLD
+#undef ABR_LAYOUT
 
 #ifdef __cplusplus
 }

@@ -19,7 +19,7 @@ struct Scale {
 }
 
 impl Scale {
-    /// A round scale of at most eight steps.
+    /// A scale of round numbers with at most eight steps.
     fn for_most(most: f64) -> Self {
         let steps = [5.0, 10.0, 20.0, 50.0, 100.0, 200.0, 500.0, 1_000.0, 2_000.0];
         let step = steps
@@ -67,7 +67,7 @@ pub fn svg(points: &[(u32, f64, f64)]) -> String {
 
 /// Writing to a string cannot fail.
 fn put(out: &mut String, words: std::fmt::Arguments<'_>) {
-    out.write_fmt(words).expect("a string takes all");
+    out.write_fmt(words).expect("a string accepts all");
 }
 
 /// Both axes with their grid and names.

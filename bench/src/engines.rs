@@ -1,5 +1,5 @@
-//! Library and reference under one set of names, each as directly as it goes:
-//! what a caller holds in memory anyway is made before.
+//! Library and reference behind one trait, each called as directly as possible:
+//! what a caller has in memory anyway is made before the measured loop.
 
 use std::hint::black_box;
 use std::mem::MaybeUninit;
@@ -10,7 +10,7 @@ use reference::{Params, Rm};
 /// The octets of a cell.
 pub type Octets = [u8; abr::CELL_OCTETS];
 
-/// What both sides can do. Answers go to the black box.
+/// The calls of both sides. Answers go to the black box.
 pub trait Engine {
     /// The parameters of an open, as this side takes them.
     type Params;
@@ -38,7 +38,7 @@ pub trait Engine {
     fn house(code: u32);
 }
 
-/// The sealed library over its C interface.
+/// The library over its C interface.
 pub struct Library {
     pub table: Box<ffi::abr_table>,
 }
@@ -104,7 +104,7 @@ impl Engine for Library {
 
     fn slot(&mut self, time: u64, buffer: &mut Octets) {
         let (at, len) = (buffer.as_mut_ptr(), buffer.len());
-        told(|sent| unsafe { ffi::abr_slot(&mut *self.table, time, at, len, sent) });
+        with_output(|sent| unsafe { ffi::abr_slot(&mut *self.table, time, at, len, sent) });
     }
 
     fn set_level(&mut self, level: u32) {
@@ -112,7 +112,7 @@ impl Engine for Library {
     }
 
     fn acr(&self, vci: u32) {
-        told(|acr| unsafe { ffi::abr_acr(&*self.table, vci, acr) });
+        with_output(|acr| unsafe { ffi::abr_acr(&*self.table, vci, acr) });
     }
 
     fn write_rm(rm: &ffi::abr_rm, buffer: &mut Octets) {
@@ -120,37 +120,37 @@ impl Engine for Library {
     }
 
     fn read(cell: &Octets) {
-        told(|read| unsafe { ffi::abr_read(cell.as_ptr(), cell.len(), read) });
+        with_output(|read| unsafe { ffi::abr_read(cell.as_ptr(), cell.len(), read) });
     }
 
     fn code(rate: u64) {
-        told(|code| unsafe { ffi::abr_code(rate, code) });
+        with_output(|code| unsafe { ffi::abr_code(rate, code) });
     }
 
     fn rate(code: u32) {
-        told(|rate| unsafe { ffi::abr_rate(code, rate) });
+        with_output(|rate| unsafe { ffi::abr_rate(code, rate) });
     }
 
     fn house(code: u32) {
-        told(|params| unsafe { ffi::abr_house(code, code, code, params) });
+        with_output(|params| unsafe { ffi::abr_house(code, code, code, params) });
     }
 }
 
-/// A call with a place for what it tells, which is not cleared before.
+/// A call with an out-parameter, which is not cleared before.
 #[inline(always)]
-fn told<T, A>(call: impl FnOnce(*mut T) -> A) {
-    let mut place = MaybeUninit::<T>::uninit();
-    black_box(call(place.as_mut_ptr()));
-    black_box(&place);
+fn with_output<T, A>(call: impl FnOnce(*mut T) -> A) {
+    let mut output = MaybeUninit::<T>::uninit();
+    black_box(call(output.as_mut_ptr()));
+    black_box(&output);
 }
 
-/// The plain reference. None of its calls is inlined into the loop that measures
-/// it, since a call of the sealed library cannot be.
-pub struct Plain {
+/// The reference. None of its calls is inlined into the loop that measures it,
+/// since a call of the library cannot be.
+pub struct Reference {
     pub engine: reference::Engine,
 }
 
-impl Engine for Plain {
+impl Engine for Reference {
     type Params = Params;
     type Rm = Rm;
 
@@ -163,7 +163,7 @@ impl Engine for Plain {
     }
 
     fn empty() -> Self {
-        Plain {
+        Reference {
             engine: reference::Engine::new(),
         }
     }

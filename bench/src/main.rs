@@ -1,30 +1,30 @@
-//! The cost of each call, beside the plain reference.
+//! The cost of each call, library and reference.
 //!
 //! * `bench`: nanoseconds of library and reference and their ratio;
-//! * `bench names`: the works that can be counted;
+//! * `bench names`: the workloads by name;
 //! * `bench times`: the same numbers in columns, for a script;
-//! * `bench count NAME library|reference [CALLS]`: one work many times in a
-//!   function `bench_region`, for callgrind;
+//! * `bench count NAME library|reference [CALLS]`: one workload in the function
+//!   `bench_region`, for callgrind;
 //! * `bench picture FILE`: slot cost over the number of connections, an SVG.
 
 mod draw;
 mod engines;
+mod fixture;
 mod measure;
-mod scene;
-mod work;
+mod workload;
 
 use std::process::ExitCode;
 
-use engines::{Library, Plain};
-use scene::Scene;
-use work::WORKS;
+use engines::{Library, Reference};
+use fixture::Fixture;
+use workload::ROWS;
 
 fn main() -> ExitCode {
     let words: Vec<String> = std::env::args().skip(1).collect();
     let words: Vec<&str> = words.iter().map(String::as_str).collect();
     match words[..] {
         [] => measure::table(),
-        ["names"] => WORKS.iter().for_each(|row| println!("{}", row.name)),
+        ["names"] => ROWS.iter().for_each(|row| println!("{}", row.name)),
         ["times"] => measure::columns(),
         ["picture", path] => return picture(path),
         ["count", name, side] => return count(name, side, 1_000),
@@ -42,14 +42,14 @@ fn usage() -> ExitCode {
     ExitCode::from(2)
 }
 
-/// Runs one work in the function that callgrind looks at.
+/// Runs one workload in the function whose instructions callgrind counts.
 fn count(name: &str, side: &str, calls: u64) -> ExitCode {
-    let Some(row) = WORKS.iter().find(|row| row.name == name) else {
+    let Some(row) = ROWS.iter().find(|row| row.name == name) else {
         return usage();
     };
     match side {
-        "library" => Scene::<Library>::new(row.connections, row.work).counted(calls),
-        "reference" => Scene::<Plain>::new(row.connections, row.work).counted(calls),
+        "library" => Fixture::<Library>::new(row.connections, row.workload).counted(calls),
+        "reference" => Fixture::<Reference>::new(row.connections, row.workload).counted(calls),
         _ => return usage(),
     }
     ExitCode::SUCCESS

@@ -1,32 +1,32 @@
-//! Times, library and reference in turn, the best of many rounds.
+//! Times of library and reference, measured alternately, the best of many rounds.
 
 use std::time::Instant;
 
-use crate::engines::{Engine, Library, Plain};
-use crate::scene::Scene;
-use crate::work::{Row, Work, WORKS};
+use crate::engines::{Engine, Library, Reference};
+use crate::fixture::Fixture;
+use crate::workload::{Row, Workload, ROWS};
 
-/// Passes over all that is measured, so that a slow time of the machine meets
-/// all of it alike.
+/// Passes over all rows, so that a slow period of the machine affects all rows
+/// equally.
 const PASSES: u32 = 30;
-/// Rounds of each side in a pass. They are short, so that some of them fall
-/// into the machine's best time.
+/// Rounds of each side in a pass. They are short, so that some of them are not
+/// interrupted.
 const ROUNDS: u32 = 100;
 /// Calls in a round.
 const CALLS: u64 = 256;
 
-/// A work on both sides, with the best nanoseconds of each.
+/// A workload on both sides, with the best nanoseconds of each.
 struct Pair {
-    library: Scene<Library>,
-    plain: Scene<Plain>,
+    library: Fixture<Library>,
+    reference: Fixture<Reference>,
     best: (f64, f64),
 }
 
 impl Pair {
-    fn new(connections: u32, work: Work) -> Self {
+    fn new(connections: u32, workload: Workload) -> Self {
         Pair {
-            library: Scene::new(connections, work),
-            plain: Scene::new(connections, work),
+            library: Fixture::new(connections, workload),
+            reference: Fixture::new(connections, workload),
             best: (f64::MAX, f64::MAX),
         }
     }
@@ -34,22 +34,22 @@ impl Pair {
     fn pass(&mut self) {
         for _ in 0..ROUNDS {
             self.best.0 = self.best.0.min(round(&mut self.library));
-            self.best.1 = self.best.1.min(round(&mut self.plain));
+            self.best.1 = self.best.1.min(round(&mut self.reference));
         }
     }
 }
 
 /// Nanoseconds of one call in one round.
-fn round<E: Engine>(scene: &mut Scene<E>) -> f64 {
-    scene.refill(CALLS);
+fn round<E: Engine>(fixture: &mut Fixture<E>) -> f64 {
+    fixture.refill(CALLS);
     let start = Instant::now();
-    scene.run(CALLS);
+    fixture.run(CALLS);
     start.elapsed().as_nanos() as f64 / CALLS as f64
 }
 
-/// The best nanoseconds of library and reference, for each work.
-fn best(works: impl Iterator<Item = (u32, Work)>) -> Vec<(f64, f64)> {
-    let mut pairs: Vec<Pair> = works.map(|(n, work)| Pair::new(n, work)).collect();
+/// The best nanoseconds of library and reference, for each workload.
+fn best(workloads: impl Iterator<Item = (u32, Workload)>) -> Vec<(f64, f64)> {
+    let mut pairs: Vec<Pair> = workloads.map(|(n, load)| Pair::new(n, load)).collect();
     for _ in 0..PASSES {
         pairs.iter_mut().for_each(Pair::pass);
     }
@@ -58,35 +58,35 @@ fn best(works: impl Iterator<Item = (u32, Work)>) -> Vec<(f64, f64)> {
 
 /// Each row with the best nanoseconds of library and reference.
 fn rows() -> Vec<(&'static Row, (f64, f64))> {
-    let times = best(WORKS.iter().map(|row| (row.connections, row.work)));
-    WORKS.iter().zip(times).collect()
+    let times = best(ROWS.iter().map(|row| (row.connections, row.workload)));
+    ROWS.iter().zip(times).collect()
 }
 
-/// A table for a reader.
+/// A table to read.
 pub fn table() {
     println!(
         "{:<58} {:>10} {:>10} {:>7}",
         "", "library", "reference", "ratio"
     );
-    for (row, (library, plain)) in rows() {
-        let (words, ratio) = (row.words, plain / library);
-        println!("{words:<58} {library:>7.1} ns {plain:>7.1} ns {ratio:>6.2}x");
+    for (row, (library, reference)) in rows() {
+        let (text, ratio) = (row.text, reference / library);
+        println!("{text:<58} {library:>7.1} ns {reference:>7.1} ns {ratio:>6.2}x");
     }
 }
 
-/// Name, words and both times, with tabs between.
+/// Name, text and both times of each row, with tabs between.
 pub fn columns() {
-    for (row, (library, plain)) in rows() {
-        println!("{}\t{}\t{library:.1}\t{plain:.1}", row.name, row.words);
+    for (row, (library, reference)) in rows() {
+        println!("{}\t{}\t{library:.1}\t{reference:.1}", row.name, row.text);
     }
 }
 
 /// Slots by the number of busy connections: the number, library, reference.
 pub fn by_connections() -> Vec<(u32, f64, f64)> {
     let numbers = [1, 2, 4, 8, 12, 16, 24, 32, 40, 48, 56, 64];
-    let times = best(numbers.into_iter().map(|n| (n, Work::Turns { n: 5 })));
+    let times = best(numbers.into_iter().map(|n| (n, Workload::Turns { n: 5 })));
     let points = numbers.into_iter().zip(times);
     points
-        .map(|(n, (library, plain))| (n, library, plain))
+        .map(|(n, (library, reference))| (n, library, reference))
         .collect()
 }

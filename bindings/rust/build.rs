@@ -1,4 +1,4 @@
-//! Links the sealed archive: the file that ABR_LIB names, else
+//! Links the archive: the file that ABR_LIB names, else
 //! target/staticlib/libabr.a under the root of the repository, else, beside an
 //! unpacked delivery, its lib/libabr.a.
 

@@ -19,9 +19,9 @@ const PAYLOAD_TYPE_RM: u32 = 6;
 const PROTOCOL_ABR: u8 = 1;
 const FILLER: u8 = 0x6A;
 
-/// Where the header ends and its check stands.
+/// The octet after the header's four, its check.
 const HEADER_CHECK: usize = 4;
-/// Where the payload starts, with the protocol octet.
+/// The first octet of the payload, the protocol.
 const PROTOCOL: usize = 5;
 const BITS: usize = 6;
 const ER: usize = 7;
@@ -153,7 +153,7 @@ fn carried_crc(cell: &Octets) -> u16 {
     u16::from(cell[CRC_HIGH] & 3) << 8 | u16::from(cell[CRC_LOW])
 }
 
-/// Gives a cell the CRC-10 that belongs in it; the reserved bits stay.
+/// Gives a cell the CRC-10 that belongs in it; the reserved bits are unchanged.
 fn put_crc(cell: &mut Octets) {
     let crc = payload_crc(cell);
     cell[CRC_HIGH] = (cell[CRC_HIGH] & 0xFC) | (crc >> 8) as u8;
@@ -256,8 +256,8 @@ fn double_word(cell: &Octets, at: usize) -> u32 {
 }
 
 /// The backward cell made of a forward RM cell: DIR set, BN cleared, CI and NI
-/// set if asked and otherwise as received, a new header and a new CRC. All
-/// other bits of the payload stay, the reserved ones too.
+/// set if `ci` and `ni` say so and else as received, new header and CRC. All
+/// other bits of the payload are unchanged, the reserved ones too.
 pub fn turn(forward: &Octets, vci: u32, ci: bool, ni: bool) -> Octets {
     let mut cell = *forward;
     cell[BITS] = (cell[BITS] | DIR_BIT) & !BN_BIT;

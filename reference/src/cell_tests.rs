@@ -110,12 +110,12 @@ fn crc_by_long_division() {
         assert_eq!(payload_crc(&cell), divided(&cell));
         put_crc(&mut cell);
         assert_eq!(carried_crc(&cell), divided(&cell));
-        assert_eq!(crc10(&cell[5..]), 0); // a whole payload leaves nothing over
+        assert_eq!(crc10(&cell[5..]), 0); // the remainder of a whole payload is 0
     }
 }
 
 #[test]
-fn where_each_field_stands() {
+fn the_place_of_each_field() {
     let mut cell = [0; LENGTH];
     assert_eq!(write_rm(&sample(), &mut cell), Ok(()));
     assert_eq!(cell[..4], [0x00, 0x01, 0x23, 0x4C]);
@@ -174,7 +174,7 @@ fn what_is_written_is_read() {
 }
 
 #[test]
-fn fields_too_large_to_write_meet_7() {
+fn fields_too_large_to_write_are_refused_with_7() {
     let cases: [(Setter, u32); 9] = [
         (|rm, v| rm.vci = v, 65_535),
         (|rm, v| rm.dir = v, 1),
@@ -232,7 +232,7 @@ fn data_cells_and_other_payload_types() {
                 vci: 77,
                 efci: true,
             }),
-            6 => Err(6), // CRC right, since all is 0, but the protocol isn't
+            6 => Err(6), // CRC right, since all is 0, but the protocol is not 1
             _ => Err(4),
         };
         assert_eq!(read(&header(0, 0, 77, payload_type, 0)), expected);
@@ -241,7 +241,7 @@ fn data_cells_and_other_payload_types() {
 }
 
 #[test]
-fn the_payload_of_data_is_not_looked_at() {
+fn the_payload_of_data_is_not_checked() {
     let mut cell = header(0, 0, 32, 2, 0);
     cell[5..].fill(0xEE);
     assert_eq!(
@@ -277,9 +277,8 @@ fn bit_15_is_dropped_when_read() {
 
 #[test]
 fn the_order_of_refusals_when_reading() {
-    let good = rm_octets(&sample());
-    let mut cell = good;
-    cell[5] = 2; // 6, and 5 as the CRC is left
+    let mut cell = rm_octets(&sample());
+    cell[5] = 2; // 6, and 5 as the CRC is unchanged
     assert_eq!(read(&cell), Err(5));
     put_crc(&mut cell);
     assert_eq!(read(&cell), Err(6));
@@ -299,10 +298,9 @@ fn the_order_of_refusals_when_reading() {
 }
 
 #[test]
-fn one_wrong_bit_is_always_seen() {
-    let good = rm_octets(&sample());
+fn every_single_wrong_bit_is_refused() {
     for bit in 0..LENGTH * 8 {
-        let mut cell = good;
+        let mut cell = rm_octets(&sample());
         cell[bit / 8] ^= 0x80 >> (bit % 8);
         let expected = if bit < 40 { 2 } else { 5 };
         assert_eq!(read(&cell), Err(expected));

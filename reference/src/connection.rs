@@ -56,8 +56,8 @@ impl RateRecord {
         self.at(self.acr.min(self.contract.icr))
     }
 
-    /// Rule 5, `passed` nanoseconds after the last forward cell: the rate is
-    /// stale once more than ADTF has passed.
+    /// Rule 5, `passed` nanoseconds after the last forward cell: once more than
+    /// ADTF has passed the rate is not above the initial one.
     pub fn idle(self, passed: u64) -> Self {
         if passed > self.contract.adtf {
             self.at(self.acr.min(self.contract.icr))
@@ -66,7 +66,7 @@ impl RateRecord {
         }
     }
 
-    /// Rule 6, after rule 5, with `unanswered` forward cells out.
+    /// Rule 6, after rule 5, with so many unanswered forward cells.
     pub fn unanswered(self, unanswered: u32) -> Self {
         let Contract { crm, c, mcr, .. } = self.contract;
         if unanswered >= crm && c != CDF_ZERO {
@@ -102,7 +102,7 @@ fn cut(rate: u64, exponent: u32) -> u64 {
     (rate * ((1 << exponent) - 1)) >> exponent
 }
 
-/// What a connection remembers of its sending, from its first cell on.
+/// What a connection has sent, from its first cell on.
 #[derive(Debug, Clone, Copy, PartialEq, Eq)]
 struct History {
     /// When it last sent a cell.
@@ -167,8 +167,8 @@ impl Connection {
         self.efci = efci;
     }
 
-    /// A forward cell arrived: it is turned at once, under today's congestion
-    /// level, and replaces the one that waited. The saved mark is used up.
+    /// A forward cell arrived: it is turned at once, under the present congestion
+    /// level, and replaces the one that waited. The saved mark becomes 0.
     pub fn receive_forward(&mut self, cell: &Octets, level: u32) {
         let ci = self.efci || level == 2;
         let ni = level == 1;
@@ -176,8 +176,8 @@ impl Connection {
         self.efci = false;
     }
 
-    /// A backward cell arrived: it moves the rate, and is an answer unless
-    /// some other than a source made it.
+    /// A backward cell arrived: it moves the rate, and with BN 0 it answers all
+    /// unanswered cells.
     pub fn receive_backward(&mut self, rm: &Rm) {
         self.rate = self.rate.feedback(rm.ci == 1, rm.ni == 1, rate_of(rm.er));
         if rm.bn == 0 {
@@ -185,7 +185,7 @@ impl Connection {
         }
     }
 
-    /// From when on a slot may go to this connection; nothing for never.
+    /// The ready instant; nothing for never.
     pub fn ready(&self) -> Option<u64> {
         let waiting = self.data > 0 || self.turned.is_some();
         let Some(history) = self.history else {
@@ -229,7 +229,7 @@ impl Connection {
             }
             Kind::Data => self.data -= 1,
         }
-        self.remember(kind, time);
+        self.record(kind, time);
         Sent {
             vci: self.vci,
             kind,
@@ -257,8 +257,8 @@ impl Connection {
         })
     }
 
-    /// Brings the history up to date after a cell of this kind.
-    fn remember(&mut self, kind: Kind, time: u64) {
+    /// Updates the history after a cell of this kind.
+    fn record(&mut self, kind: Kind, time: u64) {
         self.history = match (kind, self.history) {
             (Kind::Forward, _) | (_, None) => Some(History {
                 last_send: time,

@@ -33,7 +33,7 @@ fn feedback_by_its_marks() {
 }
 
 #[test]
-fn feedback_obeys_er_whatever_the_marks() {
+fn feedback_applies_er_whatever_the_marks() {
     for (ci, ni) in [(false, false), (false, true), (true, false), (true, true)] {
         assert_eq!(at(100_000).feedback(ci, ni, 2_000).acr, 2_000);
         assert_eq!(at(100_000).feedback(ci, ni, 0).acr, 512);
@@ -139,7 +139,7 @@ fn the_unanswered_count_stops() {
 }
 
 #[test]
-fn only_a_source_made_cell_is_an_answer() {
+fn only_bn_0_is_an_answer() {
     let mut connection = Connection::new(32, 0, contract());
     connection.unanswered = 9;
     let made = Rm {
@@ -150,7 +150,7 @@ fn only_a_source_made_cell_is_an_answer() {
         ..Rm::default()
     };
     connection.receive_backward(&made);
-    assert_eq!(connection.acr(), 960); // the rate moves all the same
+    assert_eq!(connection.acr(), 960); // the rate moves with BN 1 too
     assert_eq!(connection.unanswered, 9);
     connection.receive_backward(&Rm { bn: 0, ..made });
     assert_eq!(connection.acr(), 900);
@@ -158,7 +158,7 @@ fn only_a_source_made_cell_is_an_answer() {
 }
 
 #[test]
-fn the_saved_mark_is_replaced_and_used_up() {
+fn the_saved_mark_is_replaced_and_then_cleared() {
     let mut connection = Connection::new(32, 0, contract());
     let cell = cell::rm_octets(&Rm {
         vci: 32,

@@ -94,9 +94,9 @@ impl Engine {
         Ok(())
     }
 
-    /// Gives a slot to the connection whose turn it is; nothing when the slot
-    /// stays idle. A forward or turned cell goes into the buffer, which is
-    /// untouched otherwise. Refusals: 1, 8, 14.
+    /// Gives a slot to a connection; nothing when the slot is idle. A forward or
+    /// turned cell is written to the buffer, which is unchanged otherwise.
+    /// Refusals: 1, 8, 14.
     pub fn slot(&mut self, time: u64, buffer: &mut [u8]) -> Result<Option<Sent>, Refusal> {
         let buffer: &mut Octets = buffer.try_into().map_err(|_| refusal::LENGTH)?;
         check_range(time)?;
@@ -120,7 +120,7 @@ impl Engine {
         self.table.get_mut(&vci).ok_or(refusal::NOT_OPEN)
     }
 
-    /// Moves the time of the last accepted open or slot on. Refusal: 14.
+    /// Sets the time of the last accepted open or slot. Refusal: 14.
     fn advance(&mut self, time: u64) -> Result<(), Refusal> {
         if time < self.last {
             return Err(refusal::TIME_BACKWARD);
@@ -141,7 +141,7 @@ impl Engine {
     }
 }
 
-/// Refuses a time that is too late to be one with 8.
+/// Refuses a time over 2^62 with 8.
 fn check_range(time: u64) -> Result<(), Refusal> {
     if time > TIME_MAX {
         return Err(refusal::TIME);

@@ -13,7 +13,8 @@ const THOUSAND: u32 = 0x53E8;
 /// A rate of 1,000 cells per second.
 const RATE: u64 = 512_000;
 
-/// A steady thousand cells per second at first, room up and down.
+/// An initial rate of 1,000 cells per second, between the least minimum and the
+/// largest peak.
 fn params() -> Params {
     Params::house(0x7FFF, 0x4000, THOUSAND)
 }
@@ -32,7 +33,7 @@ fn octets(rm: &Rm) -> [u8; LENGTH] {
     cell
 }
 
-/// A backward cell that asks for nothing.
+/// A backward cell that leaves the rate as it is.
 fn backward(vci: u32) -> Rm {
     Rm {
         vci,
@@ -64,7 +65,7 @@ fn data(vci: u32, efci: bool) -> [u8; LENGTH] {
 }
 
 /// The cell with a right CRC-10, the six reserved bits being 0.
-fn sealed(mut cell: [u8; LENGTH]) -> [u8; LENGTH] {
+fn with_crc(mut cell: [u8; LENGTH]) -> [u8; LENGTH] {
     let crc = (0..6).fold(crc10(&cell[5..51]), |crc, _| {
         let next = crc << 1;
         if next & 0x400 == 0 {
@@ -236,7 +237,7 @@ fn trm_needs_two_cells() {
 }
 
 #[test]
-fn trm_does_not_hurry_a_cell() {
+fn trm_does_not_shorten_the_gap() {
     let mut engine = engine_with(&Params::house(0x4000, 0x4000, 0x4000));
     engine.offer(32, 2).unwrap();
     for time in [0, 1_000, 2_000] {
@@ -268,7 +269,7 @@ fn rate_after_pause(time: u64) -> u64 {
 }
 
 #[test]
-fn the_rate_stands_at_exactly_adtf() {
+fn at_exactly_adtf_the_rate_is_unchanged() {
     assert_eq!(rate_after_pause(500 * MS), 2_196_875_771_904);
     assert_eq!(rate_after_pause(500 * MS + 1), RATE);
 }
@@ -351,13 +352,13 @@ fn rate_after_answer(bn: u32) -> u64 {
 }
 
 #[test]
-fn bn_1_is_no_answer() {
+fn bn_1_is_not_an_answer() {
     assert_eq!(rate_after_answer(0), 512_000);
     assert_eq!(rate_after_answer(1), 480_000);
 }
 
 #[test]
-fn feedback_reaches_its_own_connection_only() {
+fn feedback_moves_its_own_connection_only() {
     let mut engine = engine_with(&params());
     engine.open(33, 0, &params()).unwrap();
     let cut = Rm {
@@ -378,12 +379,12 @@ fn bit_15_of_er_is_ignored() {
         ..backward(32)
     });
     cell[7] |= 0x80;
-    engine.receive(&sealed(cell)).unwrap();
+    engine.receive(&with_crc(cell)).unwrap();
     assert_eq!(engine.acr(32), Ok(1_024));
 }
 
 #[test]
-fn the_gap_follows_todays_rate() {
+fn the_gap_is_that_of_the_present_rate() {
     let mut engine = engine_with(&params());
     engine.offer(32, 9).unwrap();
     assert_eq!(kind(&mut engine, 0), Some(Kind::Forward));
@@ -404,7 +405,7 @@ fn the_gap_follows_todays_rate() {
 }
 
 #[test]
-fn a_turned_cell_alone_starts_a_connection() {
+fn a_turned_cell_alone_makes_a_connection_ready() {
     let mut engine = engine_with(&params());
     engine.receive(&octets(&forward(32))).unwrap();
     assert_eq!(kind(&mut engine, 0), Some(Kind::Forward));
@@ -441,7 +442,7 @@ fn one_turned_cell_and_then_data() {
 }
 
 #[test]
-fn a_new_forward_cell_lets_a_turned_one_go_first_again() {
+fn after_a_forward_cell_a_turned_one_is_first_again() {
     let mut engine = engine_with(&Params { n: 2, ..params() });
     engine.offer(32, 9).unwrap();
     let mut kinds = Vec::new();
@@ -486,7 +487,7 @@ fn a_later_forward_cell_replaces_the_waiting_one() {
 }
 
 #[test]
-fn a_mark_goes_with_the_cell_that_was_replaced() {
+fn the_mark_of_a_replaced_cell_is_lost() {
     let mut engine = engine_with(&params());
     engine.receive(&data(32, true)).unwrap();
     engine.receive(&octets(&forward(32))).unwrap();
@@ -496,7 +497,7 @@ fn a_mark_goes_with_the_cell_that_was_replaced() {
 }
 
 #[test]
-fn the_level_at_receipt_counts() {
+fn the_level_at_receipt_marks_the_cell() {
     let mut engine = engine_with(&params());
     engine.set_level(2).unwrap();
     engine.receive(&octets(&forward(32))).unwrap();
@@ -522,7 +523,7 @@ fn the_level_holds_for_all_connections() {
 }
 
 #[test]
-fn data_and_idle_slots_leave_the_buffer() {
+fn data_and_idle_slots_do_not_write_the_buffer() {
     let mut engine = engine_with(&params());
     let mut buffer = [0xA5; LENGTH];
     assert_eq!(engine.slot(0, &mut buffer), Ok(None));
@@ -554,7 +555,7 @@ fn the_earliest_goes_first_and_ties_to_the_lower_vci() {
 }
 
 #[test]
-fn an_old_ready_instant_wins_over_a_newer_one() {
+fn the_earlier_ready_instant_is_first() {
     let mut engine = engine_with(&params());
     engine.open(40, 0, &params()).unwrap();
     engine.offer(32, 2).unwrap();
@@ -565,7 +566,7 @@ fn an_old_ready_instant_wins_over_a_newer_one() {
 }
 
 #[test]
-fn opening_again_starts_afresh() {
+fn a_vci_opened_again_starts_anew() {
     let mut engine = engine_with(&params());
     engine.offer(32, 9).unwrap();
     engine.receive(&data(32, true)).unwrap();
@@ -598,7 +599,7 @@ fn offers_up_to_65_535() {
 }
 
 #[test]
-fn calls_on_what_is_not_open_meet_11() {
+fn calls_on_what_is_not_open_are_refused_with_11() {
     let engine = engine_with(&params());
     for vci in [0, 31, 33, 65_535, 65_536, 65_568, u32::MAX] {
         refused(&engine, 11, |engine| engine.close(vci));
@@ -611,7 +612,7 @@ fn calls_on_what_is_not_open_meet_11() {
 }
 
 #[test]
-fn levels_over_2_meet_9() {
+fn levels_over_2_are_refused_with_9() {
     let mut engine = engine_with(&params());
     for level in 0..3 {
         assert_eq!(engine.set_level(level), Ok(()));
@@ -706,7 +707,7 @@ fn the_order_of_refusals_when_receiving() {
     refused(&engine, 11, |engine| engine.receive(&cell));
     cell[5] = 0;
     refused(&engine, 5, |engine| engine.receive(&cell));
-    refused(&engine, 6, |engine| engine.receive(&sealed(cell)));
+    refused(&engine, 6, |engine| engine.receive(&with_crc(cell)));
     cell[3] ^= 0x0A; // payload type 3 without the CLP touched
     cell[4] = header_check(&cell[..4]);
     refused(&engine, 11, |engine| engine.receive(&cell));
@@ -733,7 +734,7 @@ fn an_idle_slots_time_counts_and_a_refused_ones_does_not() {
 }
 
 #[test]
-fn closing_does_not_turn_time_back() {
+fn closing_does_not_reset_the_last_time() {
     let mut engine = Engine::new();
     engine.open(32, 10, &params()).unwrap();
     engine.close(32).unwrap();

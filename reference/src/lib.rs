@@ -1,7 +1,8 @@
-//! A plain reference version of the ABR end-system rate engine of document 01.
+//! A reference version of the ABR end-system rate engine, written from document
+//! 01 alone.
 //!
-//! It favours being easy to compare with the document over speed: nothing is
-//! cached, every slot works out every ready instant again and scans them all.
+//! It follows the document's text before speed: nothing is cached, every slot
+//! computes every ready instant again and compares them all.
 //!
 //! * [`rate`]: rate codes and the gap between cells;
 //! * [`params`]: the parameters of an open, their ranges, the house set;

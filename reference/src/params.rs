@@ -21,7 +21,7 @@ pub const TRM_TIMES: [u64; 8] = [
 pub const ADTF_STEP: u64 = 10_000_000;
 
 /// The cells that must have gone since the last forward cell before the time
-/// Trm alone makes another one due.
+/// Trm makes another one due.
 pub const MRM: u32 = 2;
 
 /// The largest CRM, and the number at which the unanswered count stops.
@@ -49,7 +49,7 @@ pub struct Params {
     pub c: u32,
     /// Unanswered forward cells at which the rate begins to fall.
     pub crm: u32,
-    /// Steps of 10 ms after which a rate above ICR is no longer trusted.
+    /// ADTF in steps of 10 ms.
     pub adtf: u32,
     /// Trm number.
     pub trm: u32,
@@ -87,7 +87,8 @@ impl Params {
         }
     }
 
-    /// Checks every range and translates the set; anything outside meets 7.
+    /// Checks every range and gives the set as rates, times and counts. Refusal:
+    /// 7.
     pub fn contract(&self) -> Result<Contract, Refusal> {
         let (pcr, mcr, icr) = self.rates()?;
         within(self.n, 1..=8)?;
@@ -142,7 +143,7 @@ pub struct Contract {
     pub mcr: u64,
     /// Initial rate.
     pub icr: u64,
-    /// A forward cell and the cells that may follow it number at most this.
+    /// Nrm: a forward cell and the cells after it up to the next, at most.
     pub nrm: u32,
     /// Exponent of RIF.
     pub r: u32,
@@ -187,7 +188,7 @@ mod tests {
     }
 
     #[test]
-    fn the_house_set_translated() {
+    fn the_contract_of_the_house_set() {
         let contract = good().contract().unwrap();
         assert_eq!(contract.pcr, 512_000);
         assert_eq!(contract.mcr, 512);
@@ -198,7 +199,7 @@ mod tests {
     }
 
     #[test]
-    fn each_trm_doubles_the_one_before() {
+    fn each_trm_is_twice_the_one_before() {
         for trm in 0..8 {
             let contract = Params { trm, ..good() }.contract().unwrap();
             assert_eq!(contract.trm, 781_250 << trm);

@@ -21,7 +21,7 @@ const NZ: u32 = 1 << 14;
 /// A second, in nanoseconds times the 512 units of one cell per second.
 const UNITS_BY_NANOSECONDS: u64 = 512_000_000_000;
 
-/// The rate of a code. Bit 15, and anything above it, plays no part.
+/// The rate of a code. Bit 15 and those above it are ignored.
 pub fn rate_of(code: u32) -> u64 {
     if code & NZ == 0 {
         return 0;
@@ -31,7 +31,7 @@ pub fn rate_of(code: u32) -> u64 {
     (512 + mantissa) << exponent
 }
 
-/// The rate of a code handed in by a caller: one of over 16 bits meets 7.
+/// The rate of a caller's code. Refusal: 7 over 16 bits.
 pub fn rate(code: u32) -> Result<u64, Refusal> {
     if code > MAX_CODE {
         return Err(refusal::RANGE);
@@ -39,7 +39,7 @@ pub fn rate(code: u32) -> Result<u64, Refusal> {
     Ok(rate_of(code))
 }
 
-/// The code of a rate, rounded down; a rate above the largest meets 9.
+/// The code of a rate, rounded down. Refusal: 9 above the largest rate.
 pub fn code_of(rate: u64) -> Result<u32, Refusal> {
     if rate > LARGEST {
         return Err(refusal::TOO_LARGE);
@@ -99,7 +99,7 @@ mod tests {
     }
 
     #[test]
-    fn every_code_comes_back() {
+    fn every_code_codes_its_rate() {
         for code in 0..=MAX_CODE {
             let clear = code & MAX_CLEAR_CODE;
             let expected = if clear & NZ == 0 { 0 } else { clear };
@@ -122,14 +122,14 @@ mod tests {
     }
 
     #[test]
-    fn rates_above_the_largest_meet_9() {
+    fn rates_above_the_largest_are_refused_with_9() {
         assert_eq!(code_of(LARGEST), Ok(0x7FFF));
         assert_eq!(code_of(LARGEST + 1), Err(9));
         assert_eq!(code_of(u64::MAX), Err(9));
     }
 
     #[test]
-    fn codes_over_16_bits_meet_7() {
+    fn codes_over_16_bits_are_refused_with_7() {
         assert_eq!(rate(0xFFFF), Ok(LARGEST));
         assert_eq!(rate(0xBFFF), Ok(0));
         assert_eq!(rate(0x1_0000), Err(7));

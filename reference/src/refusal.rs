@@ -1,7 +1,7 @@
 //! The refusals of document 01 by number ("Refused because of the input" and
 //! "Refused because of the state").
 
-/// A refusal is nothing but its number.
+/// A refusal is its number.
 pub type Refusal = u32;
 
 /// A cell or a slot's buffer that isn't 53 octets long.
@@ -30,7 +30,7 @@ pub const NOT_OPEN: Refusal = 11;
 pub const ALREADY_OPEN: Refusal = 12;
 /// The table is full.
 pub const FULL: Refusal = 13;
-/// The time lies before the last accepted open or slot.
+/// The time is before the last accepted open or slot.
 pub const TIME_BACKWARD: Refusal = 14;
-/// More data would wait than a connection may hold.
+/// More than 65,535 data cells would wait.
 pub const TOO_MUCH_DATA: Refusal = 15;

@@ -1,8 +1,7 @@
-//! The lines of the program `vectors`, computed by the reference alone, and
-//! held against the file that the proved program's output is held against.
+//! The lines of the program `vectors`, computed by the reference alone, compared
+//! with the file that the proved program's output is compared with.
 //!
-//! Nothing here comes from the proved crates: the words say what is computed,
-//! and every number is the reference's.
+//! No number here comes from the proved crates: each is the reference's.
 
 use reference::cell::{self, Cell, Octets, Rm};
 use reference::connection::RateRecord;
@@ -42,7 +41,7 @@ fn rates() -> Lines {
     lines
 }
 
-/// The numbers of an open beside its three rates, and whether it is taken.
+/// The numbers of an open beside its three rates, and whether they fit.
 fn numbers(p: &Params) -> String {
     let Params {
         n,
@@ -396,8 +395,8 @@ fn damage() -> Lines {
     ]
 }
 
-/// A forward cell as received, with these bits in octet 7 and others that are
-/// to stay: bit 15 of the rates, a reserved octet, the six reserved bits.
+/// A forward cell as received, with these bits in octet 7 and others that
+/// turning keeps: bit 15 of the rates, a reserved octet, the six reserved bits.
 fn received(marks: u8) -> Octets {
     let mut cell = [0x6A; 53];
     cell[..5].copy_from_slice(&written()[..5]);

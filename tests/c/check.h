@@ -1,16 +1,16 @@
-/* What the C and C++ tests share: a claim that counts and names what fails. */
+/* The C and C++ tests' check: what fails is counted and printed. */
 #ifndef CHECK_H
 #define CHECK_H
 
 #include <stdio.h>
 
-static int claims_failed;
+static int checks_failed;
 
-#define CHECK(claim)                                                        \
+#define CHECK(condition)                                                    \
     do {                                                                    \
-        if (!(claim)) {                                                     \
-            printf("%s:%d: not so: %s\n", __FILE__, __LINE__, #claim);      \
-            claims_failed++;                                                \
+        if (!(condition)) {                                                 \
+            printf("%s:%d: false: %s\n", __FILE__, __LINE__, #condition);   \
+            checks_failed++;                                                \
         }                                                                   \
     } while (0)
 

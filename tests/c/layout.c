@@ -1,7 +1,6 @@
 /*
- * The layouts that the header promises, each field in the place where the
- * library looks for it: offsets are compared with the order of the fields, and
- * the library is made to read and write every field of every struct.
+ * The layouts of the header's structs: offsets are compared with the order of the
+ * fields, and the library reads and writes every field of every struct.
  */
 #include <string.h>
 
@@ -47,7 +46,7 @@ static void offsets_of_rm_and_cell(void)
     CHECK(sizeof(abr_rm) == 44 && sizeof(abr_cell) == 52);
 }
 
-/* Each field of an RM cell comes back in its own place. */
+/* Each field of an RM cell is written from and read to its own place. */
 static void every_rm_field(void)
 {
     static const uint32_t values[11] = {4660, 1, 1, 1, 1, 1, 0x4001, 0x5002, 0x6003, 0x89ABCDEF, 0xFEDCBA98};
@@ -67,7 +66,7 @@ static void every_rm_field(void)
     }
 }
 
-/* Each parameter is judged by its own range. */
+/* Each parameter is checked by its own range. */
 static void every_parameter(void)
 {
     static const uint32_t good[10] = {0x7FFF, 0x4000, 0x53E8, 8, 15, 15, 7, 8388608, 1023, 7};
@@ -111,7 +110,7 @@ static void the_whole_table(void)
     }
 }
 
-/* Octets may stand at any address. */
+/* Octets may be at any address. */
 static void any_alignment(void)
 {
     static uint64_t space[16];
@@ -133,8 +132,8 @@ static void any_alignment(void)
     }
 }
 
-/* A table may be copied as a whole: the copy goes on where the first was. */
-static void a_copy_goes_on(void)
+/* A table may be copied as a whole: the copy answers as the first one does. */
+static void a_copy_answers_the_same(void)
 {
     static abr_table first;
     static uint64_t space[ABR_TABLE_WORDS + 1];
@@ -160,12 +159,12 @@ static void a_copy_goes_on(void)
 int main(void)
 {
     any_alignment();
-    a_copy_goes_on();
+    a_copy_answers_the_same();
     offsets_of_params_and_sent();
     offsets_of_rm_and_cell();
     every_rm_field();
     every_parameter();
     the_whole_table();
-    printf("layout: %s\n", claims_failed ? "FAILED" : "ok");
-    return claims_failed != 0;
+    printf("layout: %s\n", checks_failed ? "FAILED" : "ok");
+    return checks_failed != 0;
 }

@@ -1,6 +1,6 @@
 /*
- * Buffers of 53 octets and more, really there, up to 2^32 and beyond: a length
- * that is 53 only in its low bits is refused like any other.
+ * Buffers of 53 octets up to more than 2^32, mapped in full: a length that is 53
+ * only in its low bits is refused like any other.
  */
 #define _DEFAULT_SOURCE
 #include <string.h>
@@ -11,7 +11,7 @@
 
 static abr_table table;
 
-/* Puts a good cell for VCI 32 at the start of the octets. */
+/* Writes a cell for VCI 32 to the start of the octets. */
 static void put_cell(uint8_t *octets)
 {
     abr_rm rm = {32, 1, 0, 0, 0, 0, 0x7FFF, 0, 0, 0, 0};
@@ -57,6 +57,6 @@ int main(void)
         refused(octets, ((size_t)1 << widths[i]) + ABR_CELL_OCTETS);
     }
     CHECK(abr_receive(&table, octets, ABR_CELL_OCTETS) == ABR_OK);
-    printf("lengths: %s\n", claims_failed ? "FAILED" : "ok");
-    return claims_failed != 0;
+    printf("lengths: %s\n", checks_failed ? "FAILED" : "ok");
+    return checks_failed != 0;
 }

@@ -52,11 +52,11 @@ static void make_objects(void)
     }
 }
 
-/* A word that some reading of a table may take for something. */
-static uint64_t odd_word(void)
+/* A random word, often at the edge of some field's range. */
+static uint64_t edge_word(void)
 {
-    static const uint64_t odd[] = {0, 1, 2, 31, 32, 53, 63, 64, 65, 255, 256, 65535, 65536,
-                                   1858, 1859, 1ULL << 32, 1ULL << 62, 1ULL << 63};
+    static const uint64_t edges[] = {0, 1, 2, 31, 32, 53, 63, 64, 65, 255, 256, 65535, 65536,
+                                     1858, 1859, 1ULL << 32, 1ULL << 62, 1ULL << 63};
     uint64_t word = next();
     switch (word & 7) {
     case 0: return ~0ULL - (next() & 63);
@@ -64,69 +64,70 @@ static uint64_t odd_word(void)
     case 2: return next() & 0xFF;
     case 3: return next() >> (next() & 63);
     case 4: return next();
-    default: return odd[next() % (sizeof odd / sizeof odd[0])];
+    default: return edges[next() % (sizeof edges / sizeof edges[0])];
     }
 }
 
-/* A table that calls made: some open connections, perhaps with free seats between, data, cells sent. */
-static void honest_table(abr_table *table)
+/* A table that calls made: some open connections, perhaps with free entries between, data, cells sent. */
+static void reached_table(abr_table *table)
 {
     uint8_t cell[ABR_CELL_OCTETS];
     abr_sent sent;
     abr_params params;
-    uint32_t count = (uint32_t)(next() % 70), holes = (uint32_t)next() & 1;
+    uint32_t count = (uint32_t)(next() % 70), closes = (uint32_t)next() & 1;
     memset(table, 0, sizeof *table);
     abr_house(0x7FFF, 0x4000, 0x53E8 + (uint32_t)(next() & 0xFF), &params);
     for (uint32_t i = 0; i < count; i++) {
         abr_open(table, 32 + i, i, &params);
         abr_offer(table, 32 + i, next() & 0xFF);
         abr_slot(table, i, cell, sizeof cell, &sent);
-        if (holes && next() % 4 == 0) {
+        if (closes && next() % 4 == 0) {
             abr_close(table, 32 + (uint32_t)(next() % count));
         }
     }
 }
 
 /*
- * A word with a bit for each of some seats, made wrong: all, none, the others,
+ * A word with a bit for each of some entries, made wrong: all, none, the others,
  * more, those of another word; or as it was.
  */
-static uint64_t wrong_seats(uint64_t how, uint64_t seats, uint64_t another)
+static uint64_t wrong_entries(uint64_t how, uint64_t entries, uint64_t another)
 {
     switch (how % 6) {
     case 0: return ~0ULL;
     case 1: return 0;
-    case 2: return ~seats;
-    case 3: return seats | next();
+    case 2: return ~entries;
+    case 3: return entries | next();
     case 4: return another;
-    default: return seats;
+    default: return entries;
     }
 }
 
 /*
- * Honest, but with wrong words where seats are looked up: word 2 has those that
- * are taken, the 64 words behind it have them by name.
+ * A table that calls made, then with wrong words where entries are looked up:
+ * word 2 has a bit for each entry in use, the 64 words after it are the buckets
+ * of the index.
  */
 static void wrong_index(abr_table *table)
 {
-    uint64_t how = next(), how_taken = next(), any = next(), old[64];
+    uint64_t how = next(), how_used = next(), any = next(), old[64];
     unsigned away = 1 + (unsigned)(next() % 63);
-    honest_table(table);
+    reached_table(table);
     memcpy(old, table->words + 3, sizeof old);
-    table->words[2] = wrong_seats(how_taken, table->words[2], any);
+    table->words[2] = wrong_entries(how_used, table->words[2], any);
     for (unsigned i = 0; i < 64; i++) {
-        table->words[3 + i] = wrong_seats(how, old[i], old[(i + away) % 64]);
+        table->words[3 + i] = wrong_entries(how, old[i], old[(i + away) % 64]);
     }
 }
 
-/* All random, all of one word, mostly zero, honest with words spoilt or with a wrong index. */
-static void garbage_table(abr_table *table)
+/* All random, all of one word, mostly zero, or made by calls and then with some words or the index wrong. */
+static void arbitrary_table(abr_table *table)
 {
-    uint64_t kind = next() % 8, one = odd_word();
-    uint64_t spoilt = 1 + next() % (kind == 5 ? 400 : 20);
+    uint64_t kind = next() % 8, one = edge_word();
+    uint64_t wrong = 1 + next() % (kind == 5 ? 400 : 20);
     if (kind < 3) {
         for (int i = 0; i < ABR_TABLE_WORDS; i++) {
-            table->words[i] = kind == 0 ? next() : kind == 1 ? odd_word() : one;
+            table->words[i] = kind == 0 ? next() : kind == 1 ? edge_word() : one;
         }
         return;
     }
@@ -137,25 +138,25 @@ static void garbage_table(abr_table *table)
     if (kind == 3) {
         memset(table, 0, sizeof *table);
     } else {
-        honest_table(table);
+        reached_table(table);
     }
-    while (spoilt--) {
+    while (wrong--) {
         uint64_t place = next() % 3 ? next() % ABR_TABLE_WORDS : next() % 200;
-        table->words[place] = next() % 3 ? odd_word() : table->words[place] ^ 1ULL << (next() & 63);
+        table->words[place] = next() % 3 ? edge_word() : table->words[place] ^ 1ULL << (next() & 63);
     }
 }
 
 static uint32_t any_vci(void)
 {
-    return next() % 4 ? 32 + (uint32_t)(next() % 70) : (uint32_t)odd_word();
+    return next() % 4 ? 32 + (uint32_t)(next() % 70) : (uint32_t)edge_word();
 }
 
 static uint64_t any_time(void)
 {
-    return next() % 3 ? next() >> 2 : odd_word();
+    return next() % 3 ? next() >> 2 : edge_word();
 }
 
-/* A cell with right checks, or octets. */
+/* A cell with right checks, or random octets. */
 static void any_cell(void)
 {
     abr_rm rm = {any_vci() & 0xFFFF, (uint32_t)next() & 1, (uint32_t)next() & 1, (uint32_t)next() & 1,
@@ -174,7 +175,7 @@ static void any_words(int which)
 {
     uint32_t *words = at(which);
     for (size_t i = 0; i < sizes[which] / 4; i++) {
-        words[i] = next() % 2 ? (uint32_t)next() & 1 : (uint32_t)odd_word();
+        words[i] = next() % 2 ? (uint32_t)next() & 1 : (uint32_t)edge_word();
     }
     if (which == PARAMS && next() % 4) {
         abr_house(0x7FFF, 0x4000, 0x53E8, at(PARAMS));
@@ -198,20 +199,20 @@ static uint32_t one_call(unsigned which, unsigned *may_write)
     case 0: return abr_open(at(TABLE), any_vci(), any_time(), at(PARAMS));
     case 1: return abr_close(at(TABLE), any_vci());
     case 2: return abr_receive(at(TABLE), at(CELL), any_length());
-    case 3: return abr_offer(at(TABLE), any_vci(), odd_word());
+    case 3: return abr_offer(at(TABLE), any_vci(), edge_word());
     case 4: return abr_set_level(at(TABLE), (uint32_t)(next() % 4));
     case 5: return abr_slot(at(TABLE), any_time(), at(CELL), any_length(), at(SENT));
     case 6: return abr_acr(at(TABLE), any_vci(), at(ACR));
     case 7: return abr_write_rm(at(RM), at(CELL), any_length());
     case 8: return abr_read(at(CELL), any_length(), at(READ));
-    case 9: return abr_code(odd_word(), at(CODE));
-    case 10: return abr_rate((uint32_t)odd_word(), at(ACR));
+    case 9: return abr_code(edge_word(), at(CODE));
+    case 10: return abr_rate((uint32_t)edge_word(), at(ACR));
     default: abr_house((uint32_t)next(), (uint32_t)next(), (uint32_t)next(), at(PARAMS)); return 0;
     }
 }
 
-/* Everything that the call had no leave to write must be as it was. */
-static int stands(unsigned may_write)
+/* Everything that the call may not write must be unchanged. */
+static int unchanged(unsigned may_write)
 {
     for (int i = 0; i < OBJECTS; i++) {
         const object *o = &objects[i];
@@ -220,7 +221,7 @@ static int stands(unsigned may_write)
         int outside = memcmp(o->block, o->copy, guard) == 0 &&
                       memcmp(o->block + back, o->copy + back, guard) == 0;
         if (!(may_write >> i & 1 ? outside : whole)) {
-            printf("object %d was written outside\n", i);
+            printf("object %d: octets changed that the call may not write\n", i);
             return 0;
         }
     }
@@ -229,7 +230,7 @@ static int stands(unsigned may_write)
 
 static int round_of_calls(unsigned long round)
 {
-    garbage_table(at(TABLE));
+    arbitrary_table(at(TABLE));
     for (int call = 0; call < 24; call++) {
         unsigned which = (unsigned)(next() % 12), may_write;
         any_cell();
@@ -241,8 +242,8 @@ static int round_of_calls(unsigned long round)
         alarm(20);
         uint32_t answer = one_call(which, &may_write);
         alarm(0);
-        /* What a table that no call made gives is free; without a table it isn't. */
-        if (!stands(answer && which >= 7 ? 0 : may_write)) {
+        /* On a table that no call made a refusal may write it; a refusal without a table writes nothing. */
+        if (!unchanged(answer && which >= 7 ? 0 : may_write)) {
             printf("round %lu, call %d, number %u: answer %u\n", round, call, which, (unsigned)answer);
             return 1;
         }

@@ -1,7 +1,7 @@
 /*
  * The stack that each call uses, measured: stack [MOST]. A call runs on a
- * stack of its own that was painted before; the deepest octet that changed
- * tells. Fails if a call needs more than MOST octets (default 1,024).
+ * stack of its own, filled with a pattern before; the lowest octet that changed
+ * gives the depth. Fails if a call uses more than MOST octets (default 1,024).
  */
 #define _XOPEN_SOURCE 700
 #include <stdio.h>
@@ -11,7 +11,7 @@
 
 #include "abr.h"
 
-enum { SIZE = 1 << 16, PAINT = 0xC3, BUSY = 64 };
+enum { SIZE = 1 << 16, PATTERN = 0xC3, BUSY = 64 };
 
 static uint8_t stack[SIZE] __attribute__((aligned(64)));
 static ucontext_t here, there;
@@ -66,7 +66,7 @@ static void run(void)
 static size_t depth(void (*call)(void))
 {
     size_t untouched = 0;
-    memset(stack, PAINT, SIZE);
+    memset(stack, PATTERN, SIZE);
     getcontext(&there);
     there.uc_stack.ss_sp = stack;
     there.uc_stack.ss_size = SIZE;
@@ -74,13 +74,13 @@ static size_t depth(void (*call)(void))
     chosen = call;
     makecontext(&there, run, 0);
     swapcontext(&here, &there);
-    while (untouched < SIZE && stack[untouched] == PAINT) {
+    while (untouched < SIZE && stack[untouched] == PATTERN) {
         untouched++;
     }
     return (size_t)(top - stack) - untouched;
 }
 
-/* Sends the table on, so that its slots send other kinds than the first. */
+/* Every connection sends its first cell, so that the next slot sends another kind. */
 static void send_first_cells(void)
 {
     for (int i = 0; i < BUSY; i++) {

@@ -1,5 +1,5 @@
-//! The C interface as it stands in `include/abr.h`, for callers that want no
-//! layer between. Every call is `unsafe` for its pointers alone.
+//! The C interface as `include/abr.h` declares it. Every call is `unsafe` only
+//! because of its pointers.
 
 #![allow(non_camel_case_types, missing_docs)]
 

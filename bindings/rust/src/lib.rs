@@ -1,4 +1,4 @@
-//! Safe Rust over the sealed ABR end-system rate engine.
+//! Safe Rust binding of the ABR end-system rate engine.
 //!
 //! A transmitter asks once per cell slot which of up to 64 connections of one
 //! link sends, what kind of cell, and what rate it is allowed afterwards. All

@@ -2,8 +2,8 @@
 
 use crate::ffi;
 
-/// What an open gives beside VCI and time (document 01, "Opening"). The ranges
-/// are judged by [`crate::Table::open`].
+/// What an open gives beside VCI and time (document 01, "Opening").
+/// [`crate::Table::open`] checks the ranges.
 #[derive(Debug, Clone, Copy, PartialEq, Eq, Hash)]
 pub struct Params {
     /// Code of the peak rate.

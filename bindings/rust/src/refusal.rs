@@ -74,7 +74,7 @@ impl Refusal {
         self as u32
     }
 
-    /// It in words, the same as `abr_refusal_text` of the C header.
+    /// Its text, the same as that of `abr_refusal_text` in the C header.
     pub const fn text(self) -> &'static str {
         match self {
             Refusal::Length => "cell or buffer is not 53 octets",
@@ -95,7 +95,7 @@ impl Refusal {
         }
     }
 
-    /// The outcome that an answer of the C interface stands for.
+    /// The outcome that an answer of the C interface means.
     pub(crate) fn outcome(answer: u32) -> Result<(), Refusal> {
         match Refusal::try_from(answer) {
             Ok(refusal) => Err(refusal),

@@ -25,7 +25,7 @@ pub enum Kind {
     Forward,
     /// A received forward RM cell, turned round; its octets are in the buffer.
     Turned,
-    /// Data, which the caller holds; the buffer is unchanged.
+    /// Data, which the caller sends; the buffer is unchanged.
     Data,
 }
 
@@ -94,9 +94,9 @@ impl Table {
         Refusal::outcome(unsafe { ffi::abr_close(&mut *self.raw, vci) })
     }
 
-    /// Takes a received cell in: a backward RM cell moves the rate of its
-    /// connection, a forward one is turned and waits, a data cell leaves its
-    /// congestion mark.
+    /// Receives a cell: a backward RM cell moves the rate of its connection, a
+    /// forward one is turned and waits, the congestion mark of a data cell is
+    /// saved.
     ///
     /// # Errors
     /// In this order: [`Refusal::Length`], [`Refusal::HeaderCheck`],
@@ -153,8 +153,9 @@ impl Table {
         Refusal::outcome(unsafe { ffi::abr_set_level(&mut *self.raw, level) })
     }
 
-    /// Gives the slot at a time to the connection whose turn it is, if any is
-    /// ready. A forward or turned cell is written to the buffer.
+    /// Gives the slot at a time to the connection with the earliest ready
+    /// instant, if one is ready. A forward or turned cell is written to the
+    /// buffer.
     ///
     /// # Errors
     /// In this order: [`Refusal::Length`], [`Refusal::Time`],

@@ -1,4 +1,4 @@
-//! Holds the binding to the C header: numbers, layouts and words.
+//! The binding compared with the C header: numbers, layouts and texts.
 
 use std::mem::{align_of, offset_of, size_of};
 

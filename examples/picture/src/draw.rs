@@ -2,7 +2,7 @@
 
 use std::fmt::Write;
 
-use crate::scene::{Track, END, MS, SPELLS};
+use crate::scenario::{Track, END, MS, PHASES};
 
 const WIDTH: f64 = 960.0;
 const HEIGHT: f64 = 480.0;
@@ -14,12 +14,12 @@ const BOTTOM: f64 = 64.0;
 const MOST: f64 = 9_000.0;
 const COLOURS: [&str; 2] = ["#1f5fa8", "#c4511a"];
 
-/// Where an instant stands.
+/// The horizontal place of an instant.
 fn x(time: u64) -> f64 {
     LEFT + (WIDTH - LEFT - RIGHT) * time as f64 / END as f64
 }
 
-/// Where a rate in cells per second stands.
+/// The vertical place of a rate in cells per second.
 fn y(cells: f64) -> f64 {
     HEIGHT - BOTTOM - (HEIGHT - TOP - BOTTOM) * cells / MOST
 }
@@ -35,9 +35,9 @@ pub fn svg(tracks: &[Track]) -> String {
         &mut out,
         (LEFT, 28.0),
         "start\" font-size=\"17\" font-weight=\"bold",
-        "Allowed rates of two connections as congestion comes and goes",
+        "Allowed rates of two connections under changing congestion",
     );
-    spells(&mut out);
+    phases(&mut out);
     axes(&mut out);
     for (track, colour) in tracks.iter().zip(COLOURS) {
         line(&mut out, track, colour);
@@ -56,16 +56,16 @@ fn text(out: &mut String, (x, y): (f64, f64), anchor: &str, words: &str) {
 
 /// Writing to a string cannot fail.
 fn put(out: &mut String, words: std::fmt::Arguments<'_>) {
-    out.write_fmt(words).expect("a string takes all");
+    out.write_fmt(words).expect("a string accepts all");
 }
 
-/// Bands for what the network does, named above.
-fn spells(out: &mut String) {
-    for spell in &SPELLS {
-        let (from, to) = (x(spell.span.0), x(spell.span.1));
+/// A band for each phase, with its name above.
+fn phases(out: &mut String) {
+    for phase in &PHASES {
+        let (from, to) = (x(phase.span.0), x(phase.span.1));
         let (width, height) = (to - from, HEIGHT - TOP - BOTTOM);
         put(out, format_args!("<rect x=\"{from:.1}\" y=\"{TOP}\" width=\"{width:.1}\" height=\"{height}\" fill=\"#eee3d0\"/>\n"));
-        for (row, words) in spell.name.iter().enumerate() {
+        for (row, words) in phase.name.iter().enumerate() {
             let at = ((from + to) / 2.0, TOP - 24.0 + 17.0 * row as f64);
             text(out, at, "middle", words);
         }

@@ -1,13 +1,13 @@
-//! Draws the allowed rates of two connections over time as congestion comes
-//! and goes: `picture [FILE]`, an SVG, to standard output without a file.
+//! Draws the allowed rates of two connections over time, with and without
+//! congestion: `picture [FILE]`, an SVG, to standard output without a file.
 
 mod draw;
-mod scene;
+mod scenario;
 
 use std::process::ExitCode;
 
 fn main() -> ExitCode {
-    let svg = match scene::play() {
+    let svg = match scenario::run() {
         Ok(tracks) => draw::svg(&tracks),
         Err(refusal) => {
             eprintln!("refused: {refusal}");

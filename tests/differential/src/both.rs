@@ -1,11 +1,11 @@
-//! One call made on both sides, and everything that it may touch compared.
+//! One call made on both sides; answer, octets, allowed rate and table compared.
 
 use reference::Engine;
 
 use crate::call::{Answer, Call, Outcome};
+use crate::expected;
 use crate::library::{Difference, Library};
 use crate::octets::Buffer;
-use crate::plain;
 
 /// Both engines, and a copy of the library's table as the last accepted call
 /// left it.
@@ -14,17 +14,18 @@ pub struct Both {
     library: Library,
     before: Library,
     engine: Engine,
-    stale: u8,
+    /// What fills the next buffers.
+    fill: u8,
 }
 
 impl Both {
-    /// Makes the call on both sides. After a refusal, and after a call that
-    /// has no business with the table, every word of the table must stand.
+    /// Makes the call on both sides. A refusal, and a call that does not write
+    /// the table, must leave every word of it.
     pub fn call(&mut self, call: &Call) -> Result<Outcome, Difference> {
-        self.stale = self.stale.wrapping_add(37);
-        let (mut ours, mut theirs) = (Buffer::new(self.stale), Buffer::new(self.stale));
+        self.fill = self.fill.wrapping_add(37);
+        let (mut ours, mut theirs) = (Buffer::new(self.fill), Buffer::new(self.fill));
         let outcome = self.library.call(call, &mut ours)?;
-        let expected = plain::call(&mut self.engine, call, &mut theirs);
+        let expected = expected::call(&mut self.engine, call, &mut theirs);
         if outcome != expected {
             return Err(format!("library {outcome:x?}, reference {expected:x?}"));
         }
@@ -33,7 +34,7 @@ impl Both {
                 "library wrote {ours:02x?}, reference {theirs:02x?}"
             ));
         }
-        self.table_stands(call, &outcome)?;
+        self.table_unchanged(call, &outcome)?;
         if let Some(vci) = call.vci() {
             self.same_acr(vci)?;
         }
@@ -44,7 +45,7 @@ impl Both {
     }
 
     /// Compares the table with the copy, or makes a new copy of it.
-    fn table_stands(&mut self, call: &Call, outcome: &Outcome) -> Result<(), Difference> {
+    fn table_unchanged(&mut self, call: &Call, outcome: &Outcome) -> Result<(), Difference> {
         if outcome.is_ok() && call.may_change_table() {
             self.before.clone_from(&self.library);
             return Ok(());

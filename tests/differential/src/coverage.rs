@@ -1,10 +1,10 @@
-//! What the lists reached.
+//! Counts of what the lists reached.
 
 use crate::call::{Call, Outcome, SORTS};
 
 macro_rules! events {
     ($($(#[$doc:meta])* $name:ident,)*) => {
-        /// Something worth reaching.
+        /// An edge or a move that the lists must reach.
         #[derive(Debug, Clone, Copy, PartialEq, Eq)]
         pub enum Event { $($(#[$doc])* $name,)* }
 
@@ -34,17 +34,17 @@ events! {
     IdleAndUnanswered,
     /// Feedback raised the rate.
     FeedbackUp,
-    /// NI alone held the rate.
-    FeedbackHold,
+    /// NI alone left the rate as it was.
+    FeedbackUnchanged,
     /// CI cut the rate.
     FeedbackCut,
-    /// ER bound the rate.
+    /// ER limited the rate.
     FeedbackEr,
-    /// ER bound it although CI was 1.
+    /// ER limited it although CI was 1.
     FeedbackErUnderCi,
-    /// The minimum bound the rate.
+    /// The minimum limited the rate.
     FeedbackMcr,
-    /// The peak bound the rate.
+    /// The peak limited the rate.
     FeedbackPcr,
     /// A backward cell with BN 1 left unanswered cells.
     BnLeaves,
@@ -52,11 +52,11 @@ events! {
     BnAnswers,
     /// A forward cell because of Nrm, within Trm.
     NrmForward,
-    /// Another cell with one less than Nrm - 1 sent, within Trm.
+    /// No forward cell at k = Nrm - 2, within Trm.
     NrmLessOne,
     /// A forward cell at exactly Trm.
     TrmExact,
-    /// Another cell one nanosecond before Trm.
+    /// No forward cell one nanosecond before Trm.
     TrmLessOne,
     /// A forward cell because of Trm with nothing waiting.
     TrmAlone,
@@ -64,15 +64,15 @@ events! {
     TieFirst,
     /// Two later cells were ready at the same instant.
     TieLater,
-    /// A slot at the very ready instant.
+    /// A slot at exactly the earliest ready instant.
     ReadyExact,
     /// An idle slot a nanosecond before the earliest ready instant.
     ReadyLessOne,
-    /// A turned cell went before waiting data.
+    /// A turned cell was sent before waiting data.
     TurnedFirst,
-    /// Data went while a second turned cell waited.
+    /// Data was sent while a second turned cell waited.
     TurnedSecond,
-    /// A second turned cell went, no data waiting.
+    /// A second turned cell was sent, no data waiting.
     TurnedAlone,
     /// A waiting turned cell was replaced.
     TurnedReplaced,
@@ -82,7 +82,7 @@ events! {
     MarkLevelOne,
     /// A forward cell was turned under level 2.
     MarkLevelTwo,
-    /// A forward cell came marked, and nothing else marked it.
+    /// A forward cell was received with a mark and turned without a new one.
     MarkKept,
     /// A data cell cleared a saved EFCI.
     EfciCleared,
@@ -163,7 +163,7 @@ impl Coverage {
         self.events[event as usize]
     }
 
-    /// Takes the counts of another run in.
+    /// Adds the counts of another run.
     pub fn add(&mut self, other: &Coverage) {
         let add = |to: &mut [u64], from: &[u64]| {
             to.iter_mut().zip(from).for_each(|(to, from)| *to += from);
@@ -180,31 +180,31 @@ impl Coverage {
     /// What was reached fewer than `least` times, by name.
     pub fn missing(&self, least: u64) -> Vec<String> {
         let mut missing = Vec::new();
-        let mut demand = |count: u64, name: String| {
+        let mut require = |count: u64, name: String| {
             if count < least {
                 missing.push(format!("{name}: {count}"));
             }
         };
         for (sort, refusals) in REFUSALS.iter().enumerate() {
-            demand(self.outcomes[sort][0], format!("{} accepted", SORTS[sort]));
+            require(self.outcomes[sort][0], format!("{} accepted", SORTS[sort]));
             for number in *refusals {
                 let name = format!("{} refused {number}", SORTS[sort]);
-                demand(self.outcomes[sort][*number], name);
+                require(self.outcomes[sort][*number], name);
             }
         }
         for (kind, count) in self.kinds.iter().enumerate() {
-            demand(*count, format!("slot of kind {kind}"));
+            require(*count, format!("slot of kind {kind}"));
         }
         for (octet, count) in self.damaged.iter().enumerate() {
-            demand(*count, format!("damaged octet {}", octet + 1));
+            require(*count, format!("damaged octet {}", octet + 1));
         }
         for event in EVENTS {
-            demand(self.reached(*event), format!("{event:?}"));
+            require(self.reached(*event), format!("{event:?}"));
         }
         missing
     }
 
-    /// The events with their counts, for a reader.
+    /// The events with their counts, in one line.
     pub fn summary(&self) -> String {
         let events: Vec<String> = EVENTS
             .iter()

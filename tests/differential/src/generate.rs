@@ -1,15 +1,16 @@
-//! Lists of calls that look for the edges: times just before, at and after
-//! what a connection waits for, marks, full tables, ranges and damage.
+//! Lists of calls at the edges: times just before, at and after those at which
+//! a connection changes, marks, full tables, numbers in and out of range and
+//! damaged cells.
 
 use abr::ffi::{abr_params, abr_rm};
 use abr::{CELL_OCTETS, RATE_MAX, TIME_MAX, WAITING_MAX};
 
 use crate::call::Call;
+use crate::observation::{Connection, Observation};
 use crate::octets::{put_crc, put_header, Header, Octets, LONGEST};
 use crate::rng::Rng;
-use crate::watch::{Seat, Watch};
 
-/// A way of making lists.
+/// What the lists of one sort are like.
 #[derive(Debug, Clone, Copy)]
 pub struct Profile {
     /// Its name.
@@ -20,10 +21,10 @@ pub struct Profile {
     pub exponent: u32,
     /// How long before 2^62 the list starts, if it does.
     pub before_end: Option<u64>,
-    /// One argument in so many is out of order.
+    /// One argument in so many is out of its range or unknown.
     pub fault: u64,
-    /// Slots come so far apart that every connection is due again.
-    pub patient: bool,
+    /// Slots are so far apart that every connection is due again.
+    pub spaced: bool,
     /// How often each sort of call is made, in the order of the sorts.
     pub weights: [u64; 12],
 }
@@ -36,7 +37,7 @@ pub const PROFILES: [Profile; 7] = [
     Profile::usual("few", 3, 12),
     Profile {
         weights: [12, 3, 24, 14, 2, 40, 1, 1, 1, 1, 1, 1],
-        ..Profile::usual("crowd", 80, 16)
+        ..Profile::usual("many", 80, 16)
     },
     Profile {
         weights: [20, 1, 10, 20, 1, 30, 1, 1, 1, 1, 1, 1],
@@ -50,15 +51,16 @@ pub const PROFILES: [Profile; 7] = [
     Profile {
         fault: 3,
         weights: [10, 2, 30, 10, 4, 30, 4, 12, 12, 4, 4, 1],
-        ..Profile::usual("noisy", 4, 10)
+        ..Profile::usual("faulty", 4, 10)
     },
 ];
 
-/// The profile of the pairs: slots that go to the same connection for long.
-pub const PATIENT: Profile = Profile {
-    patient: true,
+/// The profile of the pairs: both lists' slots go to the same connections for
+/// long, since all are due in every slot.
+pub const SPACED: Profile = Profile {
+    spaced: true,
     weights: [2, 0, 40, 10, 2, 46, 0, 0, 0, 0, 0, 0],
-    ..Profile::usual("patient", 3, 20)
+    ..Profile::usual("spaced", 3, 20)
 };
 
 impl Profile {
@@ -69,7 +71,7 @@ impl Profile {
             exponent,
             before_end: None,
             fault: 40,
-            patient: false,
+            spaced: false,
             weights: USUAL,
         }
     }
@@ -98,30 +100,30 @@ impl Generator {
     }
 
     /// The next call, given what the calls before it did.
-    pub fn next(&mut self, watch: &Watch) -> Call {
+    pub fn next(&mut self, seen: &Observation) -> Call {
         self.damaged = None;
         match self.rng.weighted(&self.profile.weights) {
-            0 => self.open(watch),
+            0 => self.open(seen),
             1 => Call::Close {
-                vci: self.vci(watch),
+                vci: self.vci(seen),
             },
             2 => Call::Receive {
-                cell: self.cell(watch),
+                cell: self.cell(seen),
             },
-            3 => self.offer(watch),
+            3 => self.offer(seen),
             4 => Call::SetLevel {
                 level: self.level(),
             },
             5 => Call::Slot {
-                time: self.time(watch),
+                time: self.time(seen),
                 len: self.length(),
             },
             6 => Call::Acr {
-                vci: self.vci(watch),
+                vci: self.vci(seen),
             },
-            7 => self.write_rm(watch),
+            7 => self.write_rm(seen),
             8 => Call::Read {
-                cell: self.cell(watch),
+                cell: self.cell(seen),
             },
             9 => Call::Code { rate: self.rate() },
             10 => Call::Rate {
@@ -140,22 +142,22 @@ impl Generator {
     }
 
     /// A VCI, mostly an open one.
-    fn vci(&mut self, watch: &Watch) -> u32 {
-        if self.fault() || watch.seats.is_empty() {
+    fn vci(&mut self, seen: &Observation) -> u32 {
+        if self.fault() || seen.connections.is_empty() {
             let any = self.rng.next() as u32;
             return self
                 .rng
                 .pick(&[0, 31, 32, 65_535, 65_536, 65_568, any & 0xFFFF, any]);
         }
-        let place = self.rng.below(watch.seats.len() as u64) as usize;
-        *watch
-            .seats
+        let place = self.rng.below(seen.connections.len() as u64) as usize;
+        *seen
+            .connections
             .keys()
             .nth(place)
             .expect("a place below the count")
     }
 
-    fn open(&mut self, watch: &Watch) -> Call {
+    fn open(&mut self, seen: &Observation) -> Call {
         let vci = if self.fault() {
             let any = self.rng.next() as u32;
             self.rng
@@ -163,16 +165,16 @@ impl Generator {
         } else {
             self.base + self.rng.below(self.profile.vcis.into()) as u32
         };
-        let time = if watch.seats.is_empty() && watch.last == 0 {
+        let time = if seen.connections.is_empty() && seen.last == 0 {
             self.start()
         } else if self.fault() {
-            self.time(watch)
+            self.time(seen)
         } else {
-            watch.last
+            seen.last
         };
         let mut params = self.params();
         if self.fault() {
-            self.spoil(&mut params);
+            self.put_out_of_range(&mut params);
         }
         Call::Open { vci, time, params }
     }
@@ -210,7 +212,7 @@ impl Generator {
     }
 
     /// Puts one parameter out of its range.
-    fn spoil(&mut self, params: &mut abr_params) {
+    fn put_out_of_range(&mut self, params: &mut abr_params) {
         let any = self.rng.next() as u32;
         match self.rng.below(12) {
             0 => params.pcr = self.rng.pick(&[0, 0x3FFF, 0x1_7FFF, any | 0x1_0000]),
@@ -228,13 +230,16 @@ impl Generator {
         }
     }
 
-    fn offer(&mut self, watch: &Watch) -> Call {
-        let vci = self.vci(watch);
-        let waiting = watch.seats.get(&vci).map_or(0, |seat| seat.data);
+    fn offer(&mut self, seen: &Observation) -> Call {
+        let vci = self.vci(seen);
+        let waiting = seen
+            .connections
+            .get(&vci)
+            .map_or(0, |connection| connection.data);
         let room = WAITING_MAX - waiting;
         let few = self.rng.below(9);
         let any = self.rng.next();
-        let huge = [
+        let edges = [
             0,
             room,
             room,
@@ -248,7 +253,7 @@ impl Generator {
             any,
         ];
         let cells = match self.rng.once_in(12) {
-            true => self.rng.pick(&huge),
+            true => self.rng.pick(&edges),
             false => few,
         };
         Call::Offer { vci, cells }
@@ -262,7 +267,7 @@ impl Generator {
         self.rng.within(0, 2)
     }
 
-    /// 53, or not.
+    /// A cell's length, sometimes a wrong one.
     fn length(&mut self) -> usize {
         if self.fault() {
             let any = self.rng.below(LONGEST as u64 + 1) as usize;
@@ -272,48 +277,52 @@ impl Generator {
     }
 
     /// The time of a slot: mostly on or beside an edge of some connection.
-    fn time(&mut self, watch: &Watch) -> u64 {
+    fn time(&mut self, seen: &Observation) -> u64 {
         if self.fault() {
             let any = self.rng.next() >> 2;
             let over = TIME_MAX + 1;
-            let before = watch.last.saturating_sub(1);
+            let before = seen.last.saturating_sub(1);
             return self
                 .rng
-                .pick(&[before, before, 0, any % (watch.last + 1), over, u64::MAX]);
+                .pick(&[before, before, 0, any % (seen.last + 1), over, u64::MAX]);
         }
-        if self.profile.patient {
-            return self.patient_time(watch);
+        if self.profile.spaced {
+            return self.spaced_time(seen);
         }
-        let edge = self.edge(watch).max(watch.last);
+        let edge = self.edge(seen).max(seen.last);
         match self.profile.before_end {
             Some(_) if self.rng.once_in(200) => TIME_MAX,
-            _ if edge > TIME_MAX => watch.last,
+            _ if edge > TIME_MAX => seen.last,
             _ => edge,
         }
     }
 
     /// Long enough after the last slot that a gap makes no difference.
-    fn patient_time(&mut self, watch: &Watch) -> u64 {
+    fn spaced_time(&mut self, seen: &Observation) -> u64 {
         let far = 1 + self.rng.below(40_000_000);
         let near = 3_000 + self.rng.below(20_000);
-        watch.last + self.rng.pick(&[near, near, near, near.max(far)])
+        seen.last + self.rng.pick(&[near, near, near, near.max(far)])
     }
 
-    /// An instant that matters to a connection.
-    fn edge(&mut self, watch: &Watch) -> u64 {
-        let last = watch.last;
-        let place = self.rng.below(watch.seats.len().max(1) as u64) as usize;
+    /// An instant at which a connection changes, or one beside it.
+    fn edge(&mut self, seen: &Observation) -> u64 {
+        let last = seen.last;
+        let place = self.rng.below(seen.connections.len().max(1) as u64) as usize;
         let step = 1 + self.rng.below(20);
-        let Some(seat) = watch.seats.values().nth(place) else {
+        let Some(connection) = seen.connections.values().nth(place) else {
             return last + step;
         };
-        let earliest = watch.seats.values().filter_map(Seat::ready).min();
+        let earliest = seen
+            .connections
+            .values()
+            .filter_map(Connection::ready)
+            .min();
         let earliest = earliest.unwrap_or(last);
-        let Some(sends) = seat.sends else {
+        let Some(sends) = connection.sends else {
             return self.rng.pick(&[last, last + step, earliest]);
         };
-        let gap = reference::gap(seat.acr);
-        let (due, trm, adtf) = (seat.due(&sends), seat.trm(), seat.adtf());
+        let gap = reference::gap(connection.acr);
+        let (due, trm, adtf) = (connection.due(&sends), connection.trm(), connection.adtf());
         let random = last + self.rng.below(2 * gap + 1);
         let edges = [
             (30, earliest),
@@ -359,8 +368,8 @@ impl Generator {
         any & 0xFFFF
     }
 
-    fn write_rm(&mut self, watch: &Watch) -> Call {
-        let mut rm = self.rm(watch);
+    fn write_rm(&mut self, seen: &Observation) -> Call {
+        let mut rm = self.rm(seen);
         if self.fault() {
             let any = self.rng.next() as u32;
             let bit = self.rng.pick(&[2, 3, 256, 1 << 31, any | 2]);
@@ -384,9 +393,9 @@ impl Generator {
     }
 
     /// Fields of an RM cell, all in range.
-    fn rm(&mut self, watch: &Watch) -> abr_rm {
+    fn rm(&mut self, seen: &Observation) -> abr_rm {
         let bits = self.rng.next() as u32;
-        let vci = self.vci(watch) & 0xFFFF;
+        let vci = self.vci(seen) & 0xFFFF;
         let code = |rng: &mut Rng| rng.next() as u32 & 0x7FFF;
         abr_rm {
             vci,
@@ -395,7 +404,7 @@ impl Generator {
             ci: bits >> 1 & bits >> 2 & 1,
             ni: bits >> 3 & bits >> 4 & 1,
             ra: bits >> 5 & 1,
-            er: self.explicit(watch, vci),
+            er: self.explicit(seen, vci),
             ccr: code(&mut self.rng),
             mcr: code(&mut self.rng),
             ql: self.rng.next() as u32,
@@ -403,13 +412,13 @@ impl Generator {
         }
     }
 
-    /// The code of an explicit rate, often one that binds.
-    fn explicit(&mut self, watch: &Watch, vci: u32) -> u32 {
+    /// The code of an explicit rate, often one that limits the allowed rate.
+    fn explicit(&mut self, seen: &Observation, vci: u32) -> u32 {
         let any = self.rng.next() as u32 & 0x7FFF;
-        let Some(seat) = watch.seats.get(&vci) else {
+        let Some(connection) = seen.connections.get(&vci) else {
             return any;
         };
-        let acr = reference::code_of(seat.acr).unwrap_or(any);
+        let acr = reference::code_of(connection.acr).unwrap_or(any);
         let below = acr.saturating_sub(self.rng.within(0, 400));
         self.rng.pick(&[
             0x7FFF,
@@ -417,15 +426,15 @@ impl Generator {
             0x7FFF,
             acr,
             below,
-            seat.params.mcr & 0x7FFF,
+            connection.params.mcr & 0x7FFF,
             0,
             any,
         ])
     }
 
     /// A cell to be received or read, sometimes damaged.
-    fn cell(&mut self, watch: &Watch) -> Octets {
-        let rm = self.rm(watch);
+    fn cell(&mut self, seen: &Observation) -> Octets {
+        let rm = self.rm(seen);
         let mut cell = [0; CELL_OCTETS];
         let mut header = self.header(rm.vci);
         if header.pt == 6 {
@@ -455,31 +464,31 @@ impl Generator {
     }
 
     fn header(&mut self, vci: u32) -> Header {
-        let noise = self.rng.next() as u32;
+        let random = self.rng.next() as u32;
         Header {
-            gfc: if noise & 3 == 0 { noise >> 8 & 15 } else { 0 },
+            gfc: if random & 3 == 0 { random >> 8 & 15 } else { 0 },
             vpi: 0,
             vci,
             pt: self.rng.pick(&[6, 6, 6, 6, 6, 6, 0, 1, 2, 3]),
-            clp: noise >> 4 & 1,
+            clp: random >> 4 & 1,
         }
     }
 
     /// The payload of an RM cell; the reserved octets and bits and bit 15 of
-    /// the codes are often not as they should be.
+    /// the codes are often not those that a write gives.
     fn payload(&mut self, cell: &mut [u8; CELL_OCTETS], rm: &abr_rm) {
-        let odd = self.rng.once_in(2);
+        let other = self.rng.once_in(2);
         cell[21..51].fill(0x6A);
-        if odd {
+        if other {
             self.rng.fill(&mut cell[21..52]);
         }
-        let noise = if odd { self.rng.next() as u32 } else { 0 };
+        let random = if other { self.rng.next() as u32 } else { 0 };
         cell[5] = 1;
         let bits = rm.dir << 7 | rm.bn << 6 | rm.ci << 5 | rm.ni << 4 | rm.ra << 3;
-        cell[6] = (bits | noise & 7) as u8;
+        cell[6] = (bits | random & 7) as u8;
         let codes = [rm.er, rm.ccr, rm.mcr];
         for (place, code) in codes.into_iter().enumerate() {
-            let code = code | noise << (12 - place) & 0x8000;
+            let code = code | random << (12 - place) & 0x8000;
             cell[7 + 2 * place..9 + 2 * place].copy_from_slice(&(code as u16).to_be_bytes());
         }
         cell[13..17].copy_from_slice(&rm.ql.to_be_bytes());

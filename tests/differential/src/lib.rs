@@ -1,24 +1,25 @@
-//! The library held against the plain reference, call by call.
+//! The library compared with the reference, call by call.
 //!
 //! * [`rng`]: a small generator of random numbers from a printed seed;
-//! * [`octets`]: cells made by hand, with checks worked out bit by bit;
+//! * [`octets`]: cells made octet by octet, with checks computed bit by bit;
 //! * [`call`]: a call with its arguments;
-//! * [`library`], [`plain`]: a call made on either side;
+//! * [`library`], [`expected`]: a call made on the library, and on the
+//!   reference, whose outcome is the expected one;
 //! * [`both`]: one call made on both sides and everything compared;
-//! * [`watch`]: what a list knows about its own connections;
-//! * [`generate`]: lists of calls that look for the edges;
+//! * [`observation`]: what is known of a list's connections from its calls;
+//! * [`generate`]: lists of calls at the edges;
 //! * [`coverage`]: what the lists reached;
-//! * [`lists`]: whole lists run, with a report that can be repeated;
+//! * [`lists`]: whole lists, each repeatable by its number;
 //! * [`pairs`]: two lists, the second at least as congested.
 
 pub mod both;
 pub mod call;
 pub mod coverage;
+pub mod expected;
 pub mod generate;
 pub mod library;
 pub mod lists;
+pub mod observation;
 pub mod octets;
 pub mod pairs;
-pub mod plain;
 pub mod rng;
-pub mod watch;

@@ -1,4 +1,4 @@
-//! The library's side: a call over the C interface.
+//! A call of the library, over the C interface.
 
 use abr::ffi::{self, abr_cell, abr_params, abr_sent, abr_table};
 
@@ -6,8 +6,8 @@ use crate::call::{Answer, Call, Outcome};
 use crate::octets::{Buffer, Octets};
 
 /// What fills an out-parameter before the call.
-const STALE: u64 = 0xDEAD_BEEF_0BAD_F00D;
-const STALE_HALF: u32 = STALE as u32;
+const FILL: u64 = 0xA5A5_A5A5_5A5A_5A5A;
+const FILL_32: u32 = FILL as u32;
 
 /// What is wrong, in words.
 pub type Difference = String;
@@ -28,7 +28,7 @@ impl Default for Library {
 }
 
 impl Library {
-    /// Makes a call. Wrong is at once: an out-parameter written by a refusal.
+    /// Makes a call. An out-parameter that a refusal wrote is a difference.
     pub fn call(&mut self, call: &Call, buffer: &mut Buffer) -> Result<Outcome, Difference> {
         let table: *mut abr_table = &mut *self.table;
         // SAFETY: every pointer is to live memory of the length given with it.
@@ -57,24 +57,24 @@ impl Library {
     }
 
     fn slot(&mut self, time: u64, octets: &mut [u8]) -> Result<Outcome, Difference> {
-        let stale = abr_sent {
-            vci: STALE,
-            kind: STALE,
-            acr: STALE,
+        let before = abr_sent {
+            vci: FILL,
+            kind: FILL,
+            acr: FILL,
         };
-        let mut sent = stale;
+        let mut sent = before;
         let (at, len) = (octets.as_mut_ptr(), octets.len());
         // SAFETY: the pointers are live and the length is the buffer's own.
         let refusal = unsafe { ffi::abr_slot(&mut *self.table, time, at, len, &mut sent) };
-        filled(refusal, sent, stale, Answer::Sent)
+        filled(refusal, sent, before, Answer::Sent)
     }
 
     /// The allowed rate of a VCI, open or not.
     pub fn acr(&self, vci: u32) -> Result<Outcome, Difference> {
-        let mut acr = STALE;
+        let mut acr = FILL;
         // SAFETY: both pointers are live.
         let refusal = unsafe { ffi::abr_acr(&*self.table, vci, &mut acr) };
-        filled(refusal, acr, STALE, Answer::Number)
+        filled(refusal, acr, FILL, Answer::Number)
     }
 }
 
@@ -90,55 +90,55 @@ fn done(refusal: u32) -> Outcome {
 fn filled<T: PartialEq + std::fmt::Debug>(
     refusal: u32,
     value: T,
-    stale: T,
+    before: T,
     answer: fn(T) -> Answer,
 ) -> Result<Outcome, Difference> {
     match refusal {
         0 => Ok(Ok(answer(value))),
-        number if value == stale => Ok(Err(number)),
+        number if value == before => Ok(Err(number)),
         number => Err(format!("refused {number}, but wrote {value:x?}")),
     }
 }
 
 fn read(cell: &Octets) -> Result<Outcome, Difference> {
     let octets = cell.as_slice();
-    let stale = stale_cell();
-    let mut out = stale;
+    let before = filled_cell();
+    let mut out = before;
     // SAFETY: both pointers are live.
     let refusal = unsafe { ffi::abr_read(octets.as_ptr(), octets.len(), &mut out) };
-    filled(refusal, out, stale, Answer::Cell)
+    filled(refusal, out, before, Answer::Cell)
 }
 
-fn stale_cell() -> abr_cell {
+fn filled_cell() -> abr_cell {
     abr_cell {
-        kind: STALE_HALF,
-        vci: STALE_HALF,
-        efci: STALE_HALF,
-        dir: STALE_HALF,
-        bn: STALE_HALF,
-        ci: STALE_HALF,
-        ni: STALE_HALF,
-        ra: STALE_HALF,
-        er: STALE_HALF,
-        ccr: STALE_HALF,
-        mcr: STALE_HALF,
-        ql: STALE_HALF,
-        sn: STALE_HALF,
+        kind: FILL_32,
+        vci: FILL_32,
+        efci: FILL_32,
+        dir: FILL_32,
+        bn: FILL_32,
+        ci: FILL_32,
+        ni: FILL_32,
+        ra: FILL_32,
+        er: FILL_32,
+        ccr: FILL_32,
+        mcr: FILL_32,
+        ql: FILL_32,
+        sn: FILL_32,
     }
 }
 
 fn code(rate: u64) -> Result<Outcome, Difference> {
-    let mut out = STALE_HALF;
+    let mut out = FILL_32;
     // SAFETY: the pointer is live.
     let refusal = unsafe { ffi::abr_code(rate, &mut out) };
-    filled(refusal, out, STALE_HALF, |code| Answer::Number(code.into()))
+    filled(refusal, out, FILL_32, |code| Answer::Number(code.into()))
 }
 
 fn rate(code: u32) -> Result<Outcome, Difference> {
-    let mut out = STALE;
+    let mut out = FILL;
     // SAFETY: the pointer is live.
     let refusal = unsafe { ffi::abr_rate(code, &mut out) };
-    filled(refusal, out, STALE, Answer::Number)
+    filled(refusal, out, FILL, Answer::Number)
 }
 
 fn house(pcr: u32, mcr: u32, icr: u32) -> Outcome {

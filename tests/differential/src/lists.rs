@@ -5,7 +5,7 @@ use crate::call::{Answer, Call, Outcome};
 use crate::coverage::Coverage;
 use crate::generate::{Generator, Profile, PROFILES};
 use crate::library::Difference;
-use crate::watch::Watch;
+use crate::observation::Observation;
 
 /// The calls of one list.
 pub const LIST: u64 = 2_000;
@@ -21,7 +21,7 @@ pub fn seed() -> u64 {
     }
 }
 
-/// The profile that a seed stands for, when a run goes through all.
+/// The profile of a seed's list, in a run that takes all profiles in turn.
 pub fn profile_of(seed: u64) -> Profile {
     PROFILES[(seed % PROFILES.len() as u64) as usize]
 }
@@ -31,33 +31,33 @@ pub fn profile_of(seed: u64) -> Profile {
 pub struct List {
     /// Both sides.
     pub both: Both,
-    /// What the list knows.
-    pub watch: Watch,
+    /// What is known of its connections.
+    pub seen: Observation,
 }
 
 impl List {
-    /// Makes a call on both sides and takes it in.
+    /// Makes a call on both sides and adds it to what is known.
     pub fn step(&mut self, call: &Call, coverage: &mut Coverage) -> Result<Outcome, Difference> {
         let outcome = self.both.call(call)?;
-        let acr = touched(call, &outcome).and_then(|vci| self.both.acr(vci));
-        self.watch.learn(call, &outcome, acr.unwrap_or(0), coverage);
+        let acr = concerned(call, &outcome).and_then(|vci| self.both.acr(vci));
+        self.seen.add(call, &outcome, acr.unwrap_or(0), coverage);
         Ok(outcome)
     }
 
     /// Compares the allowed rates of all open connections, and those of VCIs
     /// that were closed.
     fn same_rates(&self) -> Result<(), Difference> {
-        let mut vcis = self.watch.seats.keys().chain(&self.watch.closed);
+        let mut vcis = self.seen.connections.keys().chain(&self.seen.closed);
         vcis.try_for_each(|vci| self.both.same_acr(*vci))
     }
 }
 
-/// Runs the list of a seed, and says where the two sides part.
+/// Runs the list of a seed, and says where the two sides differ.
 pub fn run(seed: u64, profile: Profile, coverage: &mut Coverage) -> Result<(), Difference> {
     let mut generator = Generator::new(seed, profile);
     let mut list = List::default();
     for index in 0..LIST {
-        let call = generator.next(&list.watch);
+        let call = generator.next(&list.seen);
         let report = |difference: Difference| {
             let name = profile.name;
             format!("list {seed} ({name}), call {index}, {call:x?}: {difference}")
@@ -73,8 +73,8 @@ pub fn run(seed: u64, profile: Profile, coverage: &mut Coverage) -> Result<(), D
     Ok(())
 }
 
-/// The connection that a call touched.
-pub fn touched(call: &Call, outcome: &Outcome) -> Option<u32> {
+/// The connection that a call concerns.
+pub fn concerned(call: &Call, outcome: &Outcome) -> Option<u32> {
     match outcome {
         Ok(Answer::Sent(sent)) => Some(sent.vci as u32),
         _ => call.vci(),

@@ -1,9 +1,9 @@
-//! Cells made by hand. The checks are worked out by long division, bit by bit,
-//! and share nothing with the reference or the library.
+//! Cells made octet by octet. The checks are computed by long division, bit by
+//! bit, and share no code with the reference or the library.
 
 use abr::CELL_OCTETS;
 
-/// The longest buffer that a list hands over.
+/// The longest buffer of a list's calls.
 pub const LONGEST: usize = 64;
 
 /// Up to 64 octets.
@@ -45,20 +45,20 @@ impl Octets {
     }
 }
 
-/// The octets before and after a buffer, which nobody may write.
+/// The octets before and after a buffer, which no call may write.
 const GUARD: usize = 16;
 
-/// A buffer to be written, full of stale octets, with a guard on both sides.
+/// A buffer to be written, filled with one octet, with a guard on both sides.
 #[derive(Debug, Clone, Copy, PartialEq, Eq)]
 pub struct Buffer {
     bytes: [u8; LONGEST + 2 * GUARD],
 }
 
 impl Buffer {
-    /// A buffer with one octet all through.
-    pub fn new(stale: u8) -> Self {
+    /// A buffer filled with an octet.
+    pub fn new(fill: u8) -> Self {
         Buffer {
-            bytes: [stale; LONGEST + 2 * GUARD],
+            bytes: [fill; LONGEST + 2 * GUARD],
         }
     }
 

@@ -10,10 +10,10 @@ use crate::call::{Answer, Call, Outcome};
 use crate::coverage::Coverage;
 use crate::generate::{Generator, Profile};
 use crate::library::{Difference, Library};
-use crate::lists::touched;
+use crate::lists::concerned;
+use crate::observation::Observation;
 use crate::octets::{put_crc, Buffer, Octets};
 use crate::rng::Rng;
-use crate::watch::Watch;
 
 /// The calls of one list of a pair.
 const LIST: u64 = 1_000;
@@ -27,7 +27,7 @@ pub struct Tally {
     pub cut_off: u64,
     /// Pairs of allowed rates compared.
     pub compared: u64,
-    /// Those of which the second was really lower.
+    /// Those of which the second was lower.
     pub lower: u64,
     /// Backward cells made more congested by CI or NI.
     pub raised: u64,
@@ -40,17 +40,17 @@ pub struct Tally {
 struct Pair {
     first: Library,
     second: Library,
-    watch: Watch,
+    seen: Observation,
 }
 
-/// Runs the pair of a seed, and says where the claim breaks.
+/// Runs the pair of a seed, and says where the claim is wrong.
 pub fn run(seed: u64, profile: Profile, tally: &mut Tally) -> Result<(), Difference> {
     let mut generator = Generator::new(seed, profile);
     let mut rng = Rng::new(!seed);
     let mut pair = Pair::default();
     tally.pairs += 1;
     for index in 0..LIST {
-        let call = generator.next(&pair.watch);
+        let call = generator.next(&pair.seen);
         let worse = congested(&call, &mut rng, tally);
         let goes_on = pair.step(&call, &worse, tally).map_err(|difference| {
             let name = profile.name;
@@ -76,25 +76,24 @@ impl Pair {
         if kind(&first) != kind(&second) {
             return Err(format!("{first:?} and {second:?}"));
         }
-        let vci = touched(call, &first).unwrap_or(0);
+        let vci = concerned(call, &first).unwrap_or(0);
         let acr = number(&self.first.acr(vci)?).unwrap_or(0);
-        self.watch
-            .learn(call, &first, acr, &mut Coverage::default());
+        self.seen.add(call, &first, acr, &mut Coverage::default());
         self.compare(tally)?;
         Ok(true)
     }
 
-    /// Holds all allowed rates of both lists to the claim.
+    /// Checks the claim for all allowed rates of both lists.
     fn compare(&self, tally: &mut Tally) -> Result<(), Difference> {
-        for (vci, seat) in &self.watch.seats {
+        for (vci, connection) in &self.seen.connections {
             let first = self.first.acr(*vci)?;
             let second = self.second.acr(*vci)?;
             let (Some(one), Some(two)) = (number(&first), number(&second)) else {
                 return Err(format!("ACR of {vci}: {first:?} and {second:?}"));
             };
-            let ordered = seat.mcr <= two && two <= one && one <= seat.pcr;
+            let ordered = connection.mcr <= two && two <= one && one <= connection.pcr;
             if !ordered {
-                let (mcr, pcr) = (seat.mcr, seat.pcr);
+                let (mcr, pcr) = (connection.mcr, connection.pcr);
                 return Err(format!(
                     "ACR of {vci}: {one} and {two}, from {mcr} to {pcr}"
                 ));
@@ -122,7 +121,7 @@ fn goes_to(outcome: &Outcome) -> Option<u64> {
     }
 }
 
-/// What two calls of a pair must share beside the connection.
+/// What two calls of a pair must have in common beside the connection.
 fn kind(outcome: &Outcome) -> Result<u64, u32> {
     match outcome {
         Ok(Answer::Sent(sent)) => Ok(sent.kind),
@@ -173,10 +172,10 @@ fn raise_level(bits: &mut u8, rng: &mut Rng) {
     };
 }
 
-/// Gives a cell an explicit rate that is not higher; bit 15 as it comes.
+/// Gives a cell an explicit rate that is not higher, with any bit 15.
 fn lower_er(octets: &mut [u8; CELL_OCTETS], code: u32, rng: &mut Rng) {
     let less = rng.below(u64::from(code) + 1) as u32;
-    let little = code.saturating_sub(rng.within(0, 300));
-    let lower = rng.pick(&[less, little, little]) | rng.pick(&[0, 0x8000]);
+    let near = code.saturating_sub(rng.within(0, 300));
+    let lower = rng.pick(&[less, near, near]) | rng.pick(&[0, 0x8000]);
     octets[7..9].copy_from_slice(&(lower as u16).to_be_bytes());
 }

@@ -42,12 +42,12 @@ impl Rng {
         self.below(n) == 0
     }
 
-    /// One of several things.
+    /// One of several values.
     pub fn pick<T: Copy>(&mut self, from: &[T]) -> T {
         from[self.below(from.len() as u64) as usize]
     }
 
-    /// The place of a weight, each chosen as often as it weighs.
+    /// The place of a weight, each as often as its weight says.
     pub fn weighted(&mut self, weights: &[u64]) -> usize {
         let mut rest = self.below(weights.iter().sum());
         for (place, weight) in weights.iter().enumerate() {
@@ -59,10 +59,10 @@ impl Rng {
         unreachable!("the weights sum to more than the number drawn")
     }
 
-    /// Puts things into any order.
-    pub fn shuffle<T>(&mut self, things: &mut [T]) {
-        for place in (1..things.len()).rev() {
-            things.swap(place, self.below(place as u64 + 1) as usize);
+    /// Puts values into a random order.
+    pub fn shuffle<T>(&mut self, values: &mut [T]) {
+        for place in (1..values.len()).rev() {
+            values.swap(place, self.below(place as u64 + 1) as usize);
         }
     }
 

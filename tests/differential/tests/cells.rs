@@ -1,4 +1,5 @@
-//! Cells written, read, damaged and turned, and all rate codes.
+//! Cells written, read and damaged, all rate codes, all parameters at the ends of
+//! their ranges.
 
 use abr::ffi::{abr_cell, abr_params, abr_rm};
 use abr::{CELL_OCTETS, RATE_MAX};
@@ -9,7 +10,7 @@ use differential::lists;
 use differential::octets::{put_crc, put_header, Buffer, Header, Octets};
 use differential::rng::Rng;
 
-/// Makes a call on both sides and gives what they agree on.
+/// Makes a call on both sides and gives their common outcome.
 fn agree(both: &mut Both, call: &Call) -> Result<Answer, u32> {
     match both.call(call) {
         Ok(outcome) => outcome,
@@ -95,7 +96,7 @@ fn what_is_written_is_read_back() {
 }
 
 #[test]
-fn written_cells_have_the_octets_of_both_other_opinions() {
+fn both_sides_write_the_same_octets() {
     let mut rng = Rng::new(lists::seed() + 1);
     let mut both = Both::default();
     for _ in 0..100_000 {
@@ -109,7 +110,7 @@ fn written_cells_have_the_octets_of_both_other_opinions() {
 }
 
 #[test]
-fn random_octets_are_read_alike() {
+fn both_sides_read_random_octets_the_same() {
     let mut rng = Rng::new(lists::seed() + 2);
     let mut both = with_connection();
     for _ in 0..200_000 {

@@ -9,7 +9,7 @@ use differential::lists;
 /// How many lists of each profile.
 const LISTS: u64 = 400;
 
-/// Each thing worth reaching must be reached so often.
+/// Each event, refusal and kind must be reached so often.
 const LEAST: u64 = 20;
 
 /// Runs the lists of one profile.

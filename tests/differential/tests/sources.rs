@@ -1,13 +1,13 @@
 //! The test cases and state machines of the source papers, on the library and
 //! on the reference beside it. Both must agree, and both must give the value
-//! that the paper or, where it departs from the paper, document 01 sets out.
-//! Every expected number was worked out by hand; a comment says how.
+//! that the paper or, where it departs from the paper, document 01 gives.
+//! Every expected number was computed by hand; a comment says how.
 //!
 //! # Source document 000: seven test cases (`cases`)
 //!
 //! Huang, "Estelle Verification of ATM Available Bit Rate (ABR) Control
 //! Protocol", chapter 4. Two stations in a loop, data always ready at both, a
-//! step of time of 0.02 s. Its constants, section 4.8, and what stands here:
+//! step of time of 0.02 s. Its constants, section 4.8, and those used here:
 //!
 //! | constant | paper | here | why |
 //! |---|---|---|---|
@@ -30,13 +30,13 @@
 //! 3. *Forward cells*: after two cells once Trm has passed, or after 15. The
 //!    paper saw the first at 0.24 s for Trm 0.2 s, here 0.12 s for 0.1 s. For
 //!    the second it lengthens Trm to 2 s, which no Trm number gives; here 15
-//!    cells at 200 cells/s take 75 ms and are within Trm as it is.
+//!    cells at 200 cells/s take 75 ms and are within Trm 0.1 s.
 //! 4. *Idle*: 300 becomes 200 at 0.24 s, past ADTF 0.18 s. All as in the
-//!    paper; an ER of 300 holds the rise by 125 to the paper's 300.
+//!    paper; an ER of 300 limits the rise by 125 to the paper's 300.
 //! 5. *Unanswered*: right after case 4, with Y 5, a cut by CDF. The paper
 //!    writes Y by hand; here five forward cells stay unanswered, and cells
 //!    with BN 1 bring the rate back to 300 without clearing Y. Departure: the
-//!    paper's machine tests Y only after an idle fall; document 01 tests it
+//!    paper's machine tests Y only after an idle move; document 01 tests it
 //!    before every later forward cell. Both are checked. The paper's table
 //!    says Y > 3, its machine and document 01 say Y >= CRM.
 //! 6. *Increase*: a cell without marks raises 200 by PCR x RIF: 325.
@@ -58,15 +58,15 @@
 //! `destination_machine`, with T8 to T12 of the source machine:
 //! * T1: the saved EFCI. T2, T3, T5, T6, T8: turning under the saved EFCI and
 //!   the congestion level. Departure: the paper clears CI and NI where it sets
-//!   no mark; document 01 keeps the marks of the way. Where the paper chooses
-//!   between T5 and T6, the level decides.
+//!   no mark; document 01 keeps the marks that the cell was received with.
+//!   Where the paper chooses between T5 and T6, the level decides.
 //! * T4, T7 are left out by document 01: ER is never reduced on turning.
 //! * T9, T10, T13, and T12 of the source, are left out: the engine makes no
 //!   backward cell of its own (BN 1); congestion alone sends nothing.
 //! * T12, T14, and T8, T9, T10 of the source, are one step: a forward cell
 //!   becomes the one waiting cell, replacing any other. T11 of both, which
-//!   rewrites the waiting cells and keeps them, is left out. The paper's two
-//!   queues are one place here.
+//!   rewrites the waiting cells and keeps them, is left out. In place of the
+//!   paper's two queues one cell waits.
 //!
 //! `scheduler_machine`:
 //! * T1: counts from 0. T2: forward cells by time and by count, CCR = ACR.

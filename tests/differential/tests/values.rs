@@ -1,5 +1,5 @@
-//! The checked values of document 01, through the safe binding, and the edges
-//! that need many cells.
+//! The checked values of document 01, through the safe binding, and the count
+//! of unanswered cells at the largest CRM.
 
 use abr::{Kind, Params, Refusal, Rm, Table, CELL_OCTETS, TIME_MAX};
 
@@ -10,7 +10,7 @@ const RATE: u64 = 512_000;
 
 fn slot(table: &mut Table, time: u64) -> Option<(Kind, u64)> {
     let mut cell = [0; CELL_OCTETS];
-    let sent = table.slot(time, &mut cell).expect("a good slot");
+    let sent = table.slot(time, &mut cell).expect("a slot in range");
     sent.map(|sent| (sent.kind, sent.acr))
 }
 
@@ -26,13 +26,13 @@ fn backward(table: &mut Table, rm: Rm) {
         ..rm
     };
     abr::write_rm(&rm, &mut cell).expect("fields in range");
-    table.receive(&cell).expect("a good cell");
+    table.receive(&cell).expect("a cell in order");
 }
 
 /// VCI 32, opened at time 0.
 fn opened(params: &Params) -> Table {
     let mut table = Table::new();
-    table.open(32, 0, params).expect("good parameters");
+    table.open(32, 0, params).expect("parameters in range");
     table
 }
 
@@ -88,7 +88,7 @@ fn feedback_values() {
 }
 
 #[test]
-fn the_gap_is_kept_to_the_nanosecond() {
+fn the_gap_to_the_nanosecond() {
     for (code, gap) in [(THOUSAND, MS), (abr::code(1_536).unwrap(), 333_333_334)] {
         let mut table = opened(&Params::house(code, 0x4000, code));
         table.offer(32, 2).unwrap();

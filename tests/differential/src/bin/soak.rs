@@ -6,7 +6,7 @@ use std::process::ExitCode;
 use std::time::{Duration, Instant};
 
 use differential::coverage::Coverage;
-use differential::generate::PATIENT;
+use differential::generate::SPACED;
 use differential::lists;
 use differential::pairs::{self, Tally};
 
@@ -35,7 +35,7 @@ fn soak(first: u64) -> Result<std::convert::Infallible, String> {
     let (start, mut shown) = (Instant::now(), Instant::now());
     for seed in first.. {
         lists::run(seed, lists::profile_of(seed), &mut coverage)?;
-        pairs::run(seed, PATIENT, &mut tally)?;
+        pairs::run(seed, SPACED, &mut tally)?;
         if shown.elapsed() >= PROGRESS {
             shown = Instant::now();
             progress(seed, start.elapsed(), &coverage, &tally);
@@ -46,7 +46,7 @@ fn soak(first: u64) -> Result<std::convert::Infallible, String> {
 
 fn progress(seed: u64, passed: Duration, coverage: &Coverage, tally: &Tally) {
     println!(
-        "{} s: list {seed}, {} calls alike; {} pairs, {} rates ordered",
+        "{} s: list {seed}, {} calls equal; {} pairs, {} rates in order",
         passed.as_secs(),
         coverage.calls,
         tally.pairs,

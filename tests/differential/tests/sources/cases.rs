@@ -57,7 +57,7 @@ impl Loop {
     }
 }
 
-/// Hands a cell over; data carries EFCI 0, as the paper's always does.
+/// Delivers a cell; data carries EFCI 0, as the paper's always does.
 fn deliver(sent: Option<Sent>, to: &mut Station) {
     match sent {
         Some(sent) if sent.kind == Kind::Data => to.receive_data(false),
@@ -86,36 +86,36 @@ const UP_AGAIN: [u64; 9] = [
 
 #[test]
 fn tc1_without_congestion_the_rate_rises_to_pcr() {
-    let mut ends = Loop::new();
-    assert_eq!(ends.rates(50), UP);
-    assert_eq!(ends.rates(50), [PEAK]);
-    assert_eq!(ends.b.acr(), PEAK);
+    let mut stations = Loop::new();
+    assert_eq!(stations.rates(50), UP);
+    assert_eq!(stations.rates(50), [PEAK]);
+    assert_eq!(stations.b.acr(), PEAK);
 }
 
 #[test]
 fn tc2_under_congestion_the_rate_falls_to_mcr() {
-    let mut ends = Loop::new();
-    ends.rates(50);
-    ends.b.set_level(2);
-    assert_eq!(ends.rates(100), DOWN);
-    assert_eq!(ends.rates(50), [MINIMUM]);
+    let mut stations = Loop::new();
+    stations.rates(50);
+    stations.b.set_level(2);
+    assert_eq!(stations.rates(100), DOWN);
+    assert_eq!(stations.rates(50), [MINIMUM]);
     // B alone is congested: what A turns for B carries no mark.
-    assert_eq!(ends.b.acr(), PEAK);
+    assert_eq!(stations.b.acr(), PEAK);
 }
 
 #[test]
-fn tc1_and_tc2_combined_turn_the_rate_round() {
-    let mut ends = Loop::new();
-    ends.rates(50);
-    ends.b.set_level(2);
-    ends.rates(100);
-    ends.b.set_level(0);
-    assert_eq!(ends.rates(50), UP_AGAIN);
-    // Level 1, no increase, in between: the rate stands where it is.
-    ends.b.set_level(2);
-    ends.feedback();
-    ends.b.set_level(1);
-    assert_eq!(ends.rates(50), [448_000]);
+fn tc1_and_tc2_combined_lower_the_rate_and_raise_it_again() {
+    let mut stations = Loop::new();
+    stations.rates(50);
+    stations.b.set_level(2);
+    stations.rates(100);
+    stations.b.set_level(0);
+    assert_eq!(stations.rates(50), UP_AGAIN);
+    // Level 1, no increase, in between: the rate is unchanged.
+    stations.b.set_level(2);
+    stations.feedback();
+    stations.b.set_level(1);
+    assert_eq!(stations.rates(50), [448_000]);
 }
 
 #[test]
@@ -125,7 +125,7 @@ fn tc3_two_cells_and_trm_make_a_forward_cell() {
     // Nothing waits, k is 2: ready at Trm, 100 ms, and not before.
     assert_eq!(station.slot(100 * MS - 1), None);
     assert_eq!(station.clone().kind(100 * MS), Some(Kind::Forward));
-    // The paper's own sighting, t2 = 0.24 s for Trm 0.2 s, is 0.12 s here.
+    // The paper's observation, t2 = 0.24 s for Trm 0.2 s, is 0.12 s here.
     assert_eq!(station.kind(120 * MS), Some(Kind::Forward));
 }
 
@@ -146,7 +146,7 @@ fn tc3_fifteen_cells_make_a_forward_cell_within_trm() {
     let mut station = Station::open(&paper());
     station.offer(100);
     station.forward(0);
-    // 200 cells/s: one each 5 ms. The 15th goes at 75 ms, the next at 80 ms.
+    // 200 cells/s: one each 5 ms. The 15th is sent at 75 ms, the next at 80 ms.
     for i in 1..=15 {
         assert_eq!(station.kind(i * 5 * MS), Some(Kind::Data), "cell {i}");
     }
@@ -165,13 +165,13 @@ fn up_to_three_hundred() -> Rm {
 fn tc4_an_idle_source_falls_back_to_icr() {
     let mut station = Station::open(&short_adtf());
     station.round(0);
-    // 102,400 + 64,000 = 166,400, held to ER 153,600: the paper's 300.
+    // 102,400 + 64,000 = 166,400, limited to ER 153,600: the paper's 300.
     station.receive_backward(up_to_three_hundred());
     assert_eq!(station.acr(), THREE_HUNDRED);
-    // At exactly ADTF the rate stands; one nanosecond later it falls.
+    // At exactly ADTF the rate is unchanged; one nanosecond later it falls.
     assert_eq!(station.clone().forward(180 * MS), THREE_HUNDRED);
     assert_eq!(station.clone().forward(180 * MS + 1), INITIAL);
-    // The paper's own sighting: t2 = 0.24 s, 300 becomes 200.
+    // The paper's observation: t2 = 0.24 s, 300 becomes 200.
     let sent = station.slot(240 * MS).expect("a forward cell");
     assert_eq!((sent.kind, sent.acr), (Kind::Forward, INITIAL));
     assert_eq!(read(&sent.cell).ccr, INITIAL_CODE);
@@ -186,7 +186,7 @@ fn tc5_unanswered_after_idle_both_in_one_cell() {
         bn: true,
         ..up_to_three_hundred()
     };
-    // 78,400 + 64,000 = 142,400; + 64,000 again, held to ER 153,600.
+    // 78,400 + 64,000 = 142,400; + 64,000 again, limited to ER 153,600.
     station.receive_backward(not_an_answer);
     assert_eq!(station.acr(), 142_400);
     station.receive_backward(not_an_answer);
@@ -209,21 +209,21 @@ fn tc5_unanswered_without_idle() {
 
 #[test]
 fn tc6_a_cell_without_marks_raises_by_pcr_times_rif() {
-    let mut ends = Loop::new();
-    let cell = ends.feedback();
+    let mut stations = Loop::new();
+    let cell = stations.feedback();
     assert_eq!((cell.ci, cell.ni), (false, false));
     assert_eq!((cell.er, cell.ccr), (PEAK_CODE, INITIAL_CODE));
     // 102,400 + 512,000 / 8.
-    assert_eq!(ends.a.acr(), 166_400);
+    assert_eq!(stations.a.acr(), 166_400);
 }
 
 #[test]
 fn tc7_a_cell_with_ci_lowers_by_acr_times_rdf() {
-    let mut ends = Loop::new();
-    ends.feedback();
-    ends.b.set_level(2);
-    let cell = ends.feedback();
+    let mut stations = Loop::new();
+    stations.feedback();
+    stations.b.set_level(2);
+    let cell = stations.feedback();
     assert_eq!((cell.ci, cell.ni), (true, false));
     // 166,400 - 166,400 / 8.
-    assert_eq!(ends.a.acr(), 145_600);
+    assert_eq!(stations.a.acr(), 145_600);
 }

@@ -39,8 +39,8 @@ fn turned(station: &mut Station) -> Rm {
     read(&sent.cell)
 }
 
-/// How a forward cell comes back: under a congestion level, after data cells
-/// with these congestion marks.
+/// A forward cell after it was turned: under a congestion level, after data
+/// cells with these congestion marks.
 fn turn(level: u32, efci: &[bool], forward: Rm) -> Rm {
     let mut station = Station::open(&paper());
     station.set_level(level);
@@ -49,7 +49,7 @@ fn turn(level: u32, efci: &[bool], forward: Rm) -> Rm {
     turned(&mut station)
 }
 
-/// CI and NI of a cell that came without marks, after it was turned.
+/// CI and NI of a cell that was received without marks, after it was turned.
 fn marks(level: u32, efci: &[bool]) -> (bool, bool) {
     let cell = turn(level, efci, marked(false, false));
     (cell.ci, cell.ni)
@@ -63,7 +63,7 @@ fn t1_the_last_data_cell_counts() {
 }
 
 #[test]
-fn t2_turns_without_marks_and_keeps_those_of_the_way() {
+fn t2_turns_without_marks_and_keeps_those_received() {
     for (ci, ni) in [(false, false), (false, true), (true, false), (true, true)] {
         // All fields as received but DIR; the paper would clear CI and NI.
         let forward = marked(ci, ni);
@@ -75,8 +75,8 @@ fn t2_turns_without_marks_and_keeps_those_of_the_way() {
 fn t2_clears_bn() {
     let forward = marked(false, false);
     let bn = true;
-    let came_with_bn = Rm { bn, ..forward };
-    assert_eq!(turn(0, &[], came_with_bn), backward(forward));
+    let with_bn = Rm { bn, ..forward };
+    assert_eq!(turn(0, &[], with_bn), backward(forward));
 }
 
 #[test]
@@ -153,8 +153,8 @@ fn t14_an_empty_queue_takes_the_cell() {
 
 #[test]
 fn t12_a_new_cell_drops_the_waiting_one() {
-    // The waiting cell was marked by EFCI; the new one comes without, and
-    // neither its marks nor its number are those of the first.
+    // The waiting cell was marked by EFCI; the new one is received without, and
+    // neither its marks nor its SN are those of the first.
     let mut station = Station::open(&paper());
     station.receive_data(true);
     station.receive_forward(marked(false, false));
@@ -180,8 +180,8 @@ fn a_turned_cell_is_octet_for_octet_the_backward_one() {
 
 #[test]
 fn what_comes_in_between_leaves_the_waiting_cell() {
-    // A turned cell went since the last forward cell: data goes before the
-    // next, which waits marked by EFCI and by level 1.
+    // A turned cell was sent since the last forward cell: data is sent before
+    // the next, which waits marked by EFCI and by level 1.
     let mut station = Station::open(&paper());
     station.receive_forward(marked(false, false));
     turned(&mut station);
@@ -197,13 +197,13 @@ fn what_comes_in_between_leaves_the_waiting_cell() {
     for (time, efci) in [(10, true), (15, false), (20, true)] {
         station.receive_data(efci);
         station.offer(1);
-        station.receive_backward(marked(false, true)); // NI and ER 300 hold 200
+        station.receive_backward(marked(false, true)); // NI, and ER 300: 200 as before
         assert_eq!(station.kind(time * MS), Some(Kind::Data));
     }
     let sent = station.slot(25 * MS).expect("a cell waits");
     assert_eq!(sent.cell, written(&backward(second(true, true))));
-    // It is gone, also after more cells; the EFCI saved at 20 ms stands for the
-    // third. Trm comes at 100 ms.
+    // It no longer waits, also after more cells; the EFCI saved at 20 ms marks
+    // the third. Trm ends at 100 ms.
     assert_eq!(station.slot(30 * MS), None);
     station.receive_forward(marked(false, false));
     let sent = station.slot(35 * MS).expect("a cell waits");

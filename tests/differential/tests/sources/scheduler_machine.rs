@@ -106,7 +106,7 @@ fn t3_and_t5_idle_with_y_at_crm() {
         ..short_adtf()
     };
     assert_eq!(idle_after(3, &params), 180 * 512);
-    // CDF zero, which the paper does not know: no cut.
+    // CDF zero, which the paper does not have: no cut.
     let c = 7;
     let params = Params { c, ..short_adtf() };
     assert_eq!(idle_after(3, &params), INITIAL);
@@ -162,7 +162,7 @@ fn t6_and_t7_one_turned_cell_before_data_the_next_after() {
     station.offer(3);
     station.receive_forward(Rm::default());
     station.forward(0);
-    assert_eq!(station.slot(5 * MS - 1), None); // the gap holds for T6
+    assert_eq!(station.slot(5 * MS - 1), None); // the gap applies to T6
     assert_eq!(station.kind(5 * MS), Some(Kind::Turned));
     station.receive_forward(Rm::default());
     // X1 is 1 and data waits: data first, then the turned cell.
@@ -173,7 +173,7 @@ fn t6_and_t7_one_turned_cell_before_data_the_next_after() {
 }
 
 #[test]
-fn t6_a_turned_cell_goes_first_again_after_a_forward_cell() {
+fn t6_a_turned_cell_is_first_again_after_a_forward_cell() {
     let mut station = Station::open(&paper());
     station.offer(100);
     station.receive_forward(Rm::default());
@@ -186,7 +186,7 @@ fn t6_a_turned_cell_goes_first_again_after_a_forward_cell() {
 }
 
 #[test]
-fn t6_gives_way_to_a_forward_cell_that_is_due() {
+fn t6_comes_after_a_forward_cell_that_is_due() {
     // By time: k is 2 and Trm has passed.
     let mut station = Station::open(&paper());
     station.round(0);

@@ -8,7 +8,7 @@ use crate::station::{
 };
 
 /// The allowed rate after one backward cell, from the initial rate.
-fn fed(ci: bool, ni: bool, er: u32) -> u64 {
+fn rate_after(ci: bool, ni: bool, er: u32) -> u64 {
     let mut station = Station::open(&paper());
     station.receive_backward(feedback(ci, ni, er));
     station.acr()
@@ -92,12 +92,12 @@ fn t2_and_t3_move_the_rate_alike() {
 fn t4_ci_lowers_and_er_lowers_further() {
     for ni in [false, true] {
         // 102,400 x 7 / 8, below ER.
-        assert_eq!(fed(true, ni, PEAK_CODE), 89_600);
+        assert_eq!(rate_after(true, ni, PEAK_CODE), 89_600);
         // ER 76,800 is below 89,600.
-        assert_eq!(fed(true, ni, BELOW_INITIAL_CODE), BELOW_INITIAL);
+        assert_eq!(rate_after(true, ni, BELOW_INITIAL_CODE), BELOW_INITIAL);
         // ER 25,600, and ER 0, are below MCR.
-        assert_eq!(fed(true, ni, BELOW_MINIMUM_CODE), MINIMUM);
-        assert_eq!(fed(true, ni, 0), MINIMUM);
+        assert_eq!(rate_after(true, ni, BELOW_MINIMUM_CODE), MINIMUM);
+        assert_eq!(rate_after(true, ni, 0), MINIMUM);
     }
 }
 
@@ -114,9 +114,9 @@ fn t4_rounds_down_and_stops_at_mcr() {
 
 #[test]
 fn t5_no_marks_raise_up_to_er_and_pcr() {
-    // 102,400 + 64,000; held to ER 153,600.
-    assert_eq!(fed(false, false, PEAK_CODE), 166_400);
-    assert_eq!(fed(false, false, THREE_HUNDRED_CODE), THREE_HUNDRED);
+    // 102,400 + 64,000; limited to ER 153,600.
+    assert_eq!(rate_after(false, false, PEAK_CODE), 166_400);
+    assert_eq!(rate_after(false, false, THREE_HUNDRED_CODE), THREE_HUNDRED);
     // Six steps give 486,400; the seventh would give 550,400, above PCR,
     // though ER is the largest.
     let mut station = Station::open(&paper());
@@ -130,17 +130,17 @@ fn t5_no_marks_raise_up_to_er_and_pcr() {
 
 #[test]
 fn t6_ni_leaves_a_rate_below_er() {
-    assert_eq!(fed(false, true, PEAK_CODE), INITIAL);
-    assert_eq!(fed(false, true, THREE_HUNDRED_CODE), INITIAL);
+    assert_eq!(rate_after(false, true, PEAK_CODE), INITIAL);
+    assert_eq!(rate_after(false, true, THREE_HUNDRED_CODE), INITIAL);
 }
 
 #[test]
 fn t7_er_at_or_below_the_rate_is_taken() {
     for ni in [false, true] {
-        assert_eq!(fed(false, ni, INITIAL_CODE), INITIAL);
-        assert_eq!(fed(false, ni, BELOW_INITIAL_CODE), BELOW_INITIAL);
+        assert_eq!(rate_after(false, ni, INITIAL_CODE), INITIAL);
+        assert_eq!(rate_after(false, ni, BELOW_INITIAL_CODE), BELOW_INITIAL);
         // ER 25,600, and ER 0, are below MCR.
-        assert_eq!(fed(false, ni, BELOW_MINIMUM_CODE), MINIMUM);
-        assert_eq!(fed(false, ni, 0), MINIMUM);
+        assert_eq!(rate_after(false, ni, BELOW_MINIMUM_CODE), MINIMUM);
+        assert_eq!(rate_after(false, ni, 0), MINIMUM);
     }
 }

@@ -1,5 +1,5 @@
-//! One end system with one connection: the library and the reference side by
-//! side. Each call is made on both, and they must agree on all that comes out.
+//! One end system with one connection, on the library and on the reference.
+//! Each call is made on both, and they must agree on every answer and octet.
 
 use abr::{Cell, Kind, Params, Rm, Table, CELL_OCTETS};
 use differential::octets::{put_header, Header};
@@ -169,7 +169,7 @@ impl Station {
         acr
     }
 
-    /// Rounds at 0, 100 ms, 200 ms, ... whose forward cells nobody answers.
+    /// Rounds at 0, 100 ms, 200 ms, ... whose forward cells stay unanswered.
     pub fn unanswered(&mut self, rounds: u64) -> Vec<u64> {
         (0..rounds).map(|i| self.round(i * 100 * MS)).collect()
     }

@@ -1,11 +1,11 @@
-//! The scene of a work, on one side: connections open, cells made, time at hand.
+//! What a workload needs on one side: open connections, cells, times.
 
 use std::hint::black_box;
 
 use reference::{Params, Rm};
 
 use crate::engines::{Engine, Octets};
-use crate::work::{Sort, Work};
+use crate::workload::{Sort, Workload};
 
 /// The first VCI.
 const FIRST: u32 = 32;
@@ -14,9 +14,9 @@ const CODE: u32 = 0x6121;
 /// The rate code of one cell per second.
 const SLOW: u32 = 0x4000;
 
-/// A work made ready on one side.
-pub struct Scene<E: Engine> {
-    work: Work,
+/// A workload prepared on one side.
+pub struct Fixture<E: Engine> {
+    workload: Workload,
     engine: E,
     connections: u32,
     params: E::Params,
@@ -28,29 +28,30 @@ pub struct Scene<E: Engine> {
     cells: [Octets; 2],
 }
 
-impl<E: Engine> Scene<E> {
+impl<E: Engine> Fixture<E> {
     /// Opens the connections and makes the cells.
-    pub fn new(connections: u32, work: Work) -> Self {
+    pub fn new(connections: u32, workload: Workload) -> Self {
         let last = FIRST + connections.max(1) - 1;
-        let rms = rms(last, work);
-        let mut scene = Scene {
-            work,
+        let rms = rms(last, workload);
+        let mut fixture = Fixture {
+            workload,
             engine: E::empty(),
             connections,
             params: E::params(&steady(CODE)),
             last,
             time: 1,
-            step: step(connections, work),
+            step: step(connections, workload),
             rm: E::rm(&rms[0]),
-            cells: rms.map(|rm| cell_of(&rm, work)),
+            cells: rms.map(|rm| cell_of(&rm, workload)),
         };
-        for vci in order(connections, work) {
-            scene.engine.open(vci, 0, &E::params(&params_of(vci, work)));
+        for vci in order(connections, workload) {
+            let params = E::params(&params_of(vci, workload));
+            fixture.engine.open(vci, 0, &params);
         }
-        if work.sort() == Some(Sort::Moving) {
-            scene.first_cells();
+        if workload.sort() == Some(Sort::Moving) {
+            fixture.first_cells();
         }
-        scene
+        fixture
     }
 
     /// Every connection has data and sends its first cell.
@@ -65,49 +66,49 @@ impl<E: Engine> Scene<E> {
     /// Offers data on every connection. Beyond what may wait an offer is
     /// refused, and enough waits.
     fn offer_all(&mut self, cells: u64) {
-        for vci in order(self.connections, self.work) {
+        for vci in order(self.connections, self.workload) {
             self.engine.offer(vci, cells);
         }
     }
 
     /// Gives every connection data for so many slots.
     pub fn refill(&mut self, slots: u64) {
-        if self.work.sends() {
+        if self.workload.sends() {
             self.offer_all(slots);
         }
     }
 
-    /// Does it so many times.
+    /// Runs the workload so many times.
     pub fn run(&mut self, times: u64) {
         let mut buffer = [0; abr::CELL_OCTETS];
-        match self.work {
-            Work::Turns { .. } | Work::Mixed | Work::LastFirst | Work::Idle => {
+        match self.workload {
+            Workload::Turns { .. } | Workload::Mixed | Workload::LastFirst | Workload::Idle => {
                 repeat(times, |_| {
                     self.time += self.step;
                     self.engine.slot(self.time, &mut buffer);
                 })
             }
-            Work::Receive(_) | Work::Unknown(_) => repeat(times, |i| {
+            Workload::Receive(_) | Workload::Unknown(_) => repeat(times, |i| {
                 self.engine.receive(black_box(&self.cells[i % 2]));
             }),
-            Work::Read(_) => repeat(times, |i| E::read(black_box(&self.cells[i % 2]))),
-            Work::Write => repeat(times, |_| E::write_rm(black_box(&self.rm), &mut buffer)),
-            Work::Offer => repeat(times, |_| self.engine.offer(black_box(self.last), 0)),
-            Work::OpenClose => repeat(times, |_| {
+            Workload::Read(_) => repeat(times, |i| E::read(black_box(&self.cells[i % 2]))),
+            Workload::Write => repeat(times, |_| E::write_rm(black_box(&self.rm), &mut buffer)),
+            Workload::Offer => repeat(times, |_| self.engine.offer(black_box(self.last), 0)),
+            Workload::OpenClose => repeat(times, |_| {
                 let vci = black_box(self.last + 1);
                 self.engine.open(vci, self.time, &self.params);
                 self.engine.close(vci);
             }),
-            Work::Acr => repeat(times, |_| self.engine.acr(black_box(self.last))),
-            Work::Level => repeat(times, |_| self.engine.set_level(black_box(1))),
-            Work::Code => repeat(times, |_| E::code(black_box(512_000))),
-            Work::Rate => repeat(times, |_| E::rate(black_box(CODE))),
-            Work::House => repeat(times, |_| E::house(black_box(CODE))),
+            Workload::Acr => repeat(times, |_| self.engine.acr(black_box(self.last))),
+            Workload::Level => repeat(times, |_| self.engine.set_level(black_box(1))),
+            Workload::Code => repeat(times, |_| E::code(black_box(512_000))),
+            Workload::Rate => repeat(times, |_| E::rate(black_box(CODE))),
+            Workload::House => repeat(times, |_| E::house(black_box(CODE))),
         }
         black_box(buffer);
     }
 
-    /// Does it so many times where callgrind looks.
+    /// Runs it so many times in the function whose instructions are counted.
     pub fn counted(&mut self, times: u64) {
         self.refill(times);
         self.run(1);
@@ -125,12 +126,12 @@ fn repeat(times: u64, mut call: impl FnMut(usize)) {
 /// What callgrind collects: `--toggle-collect=bench_region`.
 #[no_mangle]
 #[inline(never)]
-pub fn bench_region(work: &mut dyn FnMut()) {
-    work();
+pub fn bench_region(workload: &mut dyn FnMut()) {
+    workload();
     black_box(());
 }
 
-/// Parameters under which the rate stays, whatever happens.
+/// Parameters under which no call changes the rate.
 fn steady(code: u32) -> Params {
     Params {
         c: 7,
@@ -140,60 +141,60 @@ fn steady(code: u32) -> Params {
 
 /// The VCIs in the order in which they are opened. Of those that are due at one
 /// time the lowest sends first.
-fn order(connections: u32, work: Work) -> Vec<u32> {
+fn order(connections: u32, workload: Workload) -> Vec<u32> {
     let mut order: Vec<u32> = (FIRST..FIRST + connections).collect();
-    if work == Work::LastFirst {
+    if workload == Workload::LastFirst {
         order.reverse();
     }
     order
 }
 
 /// The parameters of a connection.
-fn params_of(vci: u32, work: Work) -> Params {
-    match work {
-        Work::Turns { n } => Params { n, ..steady(CODE) },
+fn params_of(vci: u32, workload: Workload) -> Params {
+    match workload {
+        Workload::Turns { n } => Params { n, ..steady(CODE) },
         // Rates between a quarter of one and the whole of it.
-        Work::Mixed => steady(CODE - vci * 37 % 64 * 16),
+        Workload::Mixed => steady(CODE - vci * 37 % 64 * 16),
         // One cell lowers the rate by a sixteenth, the next raises it to its peak.
-        Work::Receive(Sort::Moving) => Params::house(CODE, SLOW, CODE),
+        Workload::Receive(Sort::Moving) => Params::house(CODE, SLOW, CODE),
         _ => steady(CODE),
     }
 }
 
-/// The time from one slot to the next, which all the rates together fill.
-fn step(connections: u32, work: Work) -> u64 {
-    let codes = order(connections, work)
+/// The time from one slot to the next: the gap at the sum of all rates.
+fn step(connections: u32, workload: Workload) -> u64 {
+    let codes = order(connections, workload)
         .into_iter()
-        .map(|vci| params_of(vci, work).icr);
+        .map(|vci| params_of(vci, workload).icr);
     let total: u64 = codes.map(reference::rate_of).sum();
     let step = reference::gap(total.max(512)) + 1;
-    match work {
-        Work::Mixed => 2 * step,
+    match workload {
+        Workload::Mixed => 2 * step,
         // As long as the gap of one: all others are due.
-        Work::LastFirst => u64::from(connections) * step,
+        Workload::LastFirst => u64::from(connections) * step,
         _ => step,
     }
 }
 
 /// The fields of the RM cells, in turn.
-fn rms(last: u32, work: Work) -> [Rm; 2] {
+fn rms(last: u32, workload: Workload) -> [Rm; 2] {
     let rm = Rm {
-        vci: last + u32::from(matches!(work, Work::Unknown(_))),
-        dir: u32::from(work.sort() != Some(Sort::Forward)),
+        vci: last + u32::from(matches!(workload, Workload::Unknown(_))),
+        dir: u32::from(workload.sort() != Some(Sort::Forward)),
         er: 0x7FFF,
         ccr: CODE,
         mcr: CODE,
         ..Rm::default()
     };
-    let ci = u32::from(work.sort() == Some(Sort::Moving));
+    let ci = u32::from(workload.sort() == Some(Sort::Moving));
     [Rm { ci, ..rm }, rm]
 }
 
 /// The cell with these fields, or the data cell with this VCI.
-fn cell_of(rm: &Rm, work: Work) -> Octets {
+fn cell_of(rm: &Rm, workload: Workload) -> Octets {
     let mut cell = [0; abr::CELL_OCTETS];
     reference::write_rm(rm, &mut cell).expect("fields in range");
-    match work.sort() {
+    match workload.sort() {
         Some(Sort::Data) => {
             let header = (rm.vci << 4 | 2 << 1).to_be_bytes();
             cell[..4].copy_from_slice(&header);
@@ -206,5 +207,5 @@ fn cell_of(rm: &Rm, work: Work) -> Octets {
 }
 
 #[cfg(test)]
-#[path = "scene_tests.rs"]
+#[path = "fixture_tests.rs"]
 mod tests;

@@ -1,4 +1,4 @@
-//! What is measured, by name.
+//! The workloads that are measured, by name.
 
 /// A cell that is received or read.
 #[derive(Debug, Clone, Copy, PartialEq, Eq)]
@@ -15,10 +15,10 @@ pub enum Sort {
     Damaged,
 }
 
-/// Something to do many times.
+/// A call, or two, made many times.
 #[derive(Debug, Clone, Copy, PartialEq, Eq)]
-pub enum Work {
-    /// A slot; all are busy at one rate, so that they take turns; Nrm is 2^n.
+pub enum Workload {
+    /// A slot; all are busy at one rate, so that they send in turn; Nrm is 2^n.
     Turns { n: u32 },
     /// A slot; all are busy, each at a rate of its own, in no order.
     Mixed,
@@ -50,151 +50,165 @@ pub enum Work {
     House,
 }
 
-impl Work {
+impl Workload {
     /// The cell that it receives or reads.
     pub fn sort(self) -> Option<Sort> {
         match self {
-            Work::Receive(sort) | Work::Unknown(sort) | Work::Read(sort) => Some(sort),
+            Workload::Receive(sort) | Workload::Unknown(sort) | Workload::Read(sort) => Some(sort),
             _ => None,
         }
     }
 
     /// Whether it is a slot in which a connection sends.
     pub fn sends(self) -> bool {
-        matches!(self, Work::Turns { .. } | Work::Mixed | Work::LastFirst)
+        matches!(
+            self,
+            Workload::Turns { .. } | Workload::Mixed | Workload::LastFirst
+        )
     }
 }
 
-/// A work by name, with words for a table and the connections that are open.
+/// A workload by name, with the text of its row in a table and the number of
+/// open connections.
 pub struct Row {
     pub name: &'static str,
-    pub words: &'static str,
+    pub text: &'static str,
     pub connections: u32,
-    pub work: Work,
+    pub workload: Workload,
 }
 
-const fn row(name: &'static str, words: &'static str, connections: u32, work: Work) -> Row {
+const fn row(name: &'static str, text: &'static str, connections: u32, workload: Workload) -> Row {
     Row {
         name,
-        words,
+        text,
         connections,
-        work,
+        workload,
     }
 }
 
-/// All of them.
-pub static WORKS: [Row; 28] = [
-    row("slot-1", "slot, 1 busy connection", 1, Work::Turns { n: 5 }),
+/// All rows.
+pub static ROWS: [Row; 28] = [
+    row(
+        "slot-1",
+        "slot, 1 busy connection",
+        1,
+        Workload::Turns { n: 5 },
+    ),
     row(
         "slot-8",
         "slot, 8 busy connections",
         8,
-        Work::Turns { n: 5 },
+        Workload::Turns { n: 5 },
     ),
     row(
         "slot-64",
         "slot, 64 busy connections",
         64,
-        Work::Turns { n: 5 },
+        Workload::Turns { n: 5 },
     ),
     row(
         "slot-64-rm",
         "slot, 64 busy, every second cell forward",
         64,
-        Work::Turns { n: 1 },
+        Workload::Turns { n: 1 },
     ),
     row(
         "slot-64-mixed",
         "slot, 64 busy, each at a rate of its own",
         64,
-        Work::Mixed,
+        Workload::Mixed,
     ),
     row(
         "slot-64-last",
         "slot, 64 busy, due from last to first",
         64,
-        Work::LastFirst,
+        Workload::LastFirst,
     ),
-    row("slot-idle-1", "slot, 1 open, nothing waits", 1, Work::Idle),
+    row(
+        "slot-idle-1",
+        "slot, 1 open, nothing waits",
+        1,
+        Workload::Idle,
+    ),
     row(
         "slot-idle-64",
         "slot, 64 open, nothing waits",
         64,
-        Work::Idle,
+        Workload::Idle,
     ),
     row(
         "backward-1",
         "receive backward RM cell, 1 open",
         1,
-        Work::Receive(Sort::Backward),
+        Workload::Receive(Sort::Backward),
     ),
     row(
         "backward-64",
         "receive backward RM cell, last of 64",
         64,
-        Work::Receive(Sort::Backward),
+        Workload::Receive(Sort::Backward),
     ),
     row(
         "moving-64",
         "receive backward RM cells that move the rate, last of 64",
         64,
-        Work::Receive(Sort::Moving),
+        Workload::Receive(Sort::Moving),
     ),
     row(
         "forward-1",
         "receive forward RM cell, 1 open",
         1,
-        Work::Receive(Sort::Forward),
+        Workload::Receive(Sort::Forward),
     ),
     row(
         "forward-64",
         "receive forward RM cell, last of 64",
         64,
-        Work::Receive(Sort::Forward),
+        Workload::Receive(Sort::Forward),
     ),
     row(
         "data-1",
         "receive data cell, 1 open",
         1,
-        Work::Receive(Sort::Data),
+        Workload::Receive(Sort::Data),
     ),
     row(
         "data-64",
         "receive data cell, last of 64",
         64,
-        Work::Receive(Sort::Data),
+        Workload::Receive(Sort::Data),
     ),
     row(
         "crc-64",
         "receive RM cell with a wrong CRC-10, 64 open",
         64,
-        Work::Receive(Sort::Damaged),
+        Workload::Receive(Sort::Damaged),
     ),
     row(
         "unknown-rm-64",
         "receive backward RM cell, none of 64",
         64,
-        Work::Unknown(Sort::Backward),
+        Workload::Unknown(Sort::Backward),
     ),
     row(
         "unknown-data-64",
         "receive data cell, none of 64",
         64,
-        Work::Unknown(Sort::Data),
+        Workload::Unknown(Sort::Data),
     ),
-    row("write", "write RM cell", 0, Work::Write),
-    row("read", "read RM cell", 0, Work::Read(Sort::Backward)),
-    row("read-data", "read data cell", 0, Work::Read(Sort::Data)),
-    row("offer", "offer, last of 64", 64, Work::Offer),
+    row("write", "write RM cell", 0, Workload::Write),
+    row("read", "read RM cell", 0, Workload::Read(Sort::Backward)),
+    row("read-data", "read data cell", 0, Workload::Read(Sort::Data)),
+    row("offer", "offer, last of 64", 64, Workload::Offer),
     row(
         "open-close",
         "open and close, 63 others open",
         63,
-        Work::OpenClose,
+        Workload::OpenClose,
     ),
-    row("acr", "ask for the rate, last of 64", 64, Work::Acr),
-    row("level", "set the congestion level", 64, Work::Level),
-    row("code", "code of a rate", 0, Work::Code),
-    row("rate", "rate of a code", 0, Work::Rate),
-    row("house", "house set of parameters", 0, Work::House),
+    row("acr", "ask for the rate, last of 64", 64, Workload::Acr),
+    row("level", "set the congestion level", 64, Workload::Level),
+    row("code", "code of a rate", 0, Workload::Code),
+    row("rate", "rate of a code", 0, Workload::Rate),
+    row("house", "house set of parameters", 0, Workload::House),
 ];

@@ -1,10 +1,10 @@
 /*
- * Two connections share a link, VCI 32 and VCI 33, at 1,000 cells per second
- * each. The first is congested once, the second gets an explicit rate. The
- * numbers follow from document 01 by hand. Plain C that is C++ too.
+ * A scenario: two connections on one link, VCI 32 and VCI 33, at 1,000 cells per
+ * second each. The first receives CI once, the second an explicit rate. The
+ * numbers were computed by hand from document 01. Valid as C and as C++.
  */
-#ifndef SCENE_H
-#define SCENE_H
+#ifndef SCENARIO_H
+#define SCENARIO_H
 
 #include <string.h>
 
@@ -26,7 +26,7 @@ static int slot_is(uint64_t time, uint64_t vci, uint64_t kind, uint64_t acr)
     return answer == ABR_OK && sent.vci == vci && sent.kind == kind && sent.acr == acr;
 }
 
-/* A backward cell for vci comes in. */
+/* A backward cell for vci is received. */
 static uint32_t feedback(uint32_t vci, uint32_t ci, uint32_t er)
 {
     abr_rm rm = {0, 0, 0, 0, 0, 0, 0, 0, 0, 0, 0};
@@ -47,7 +47,7 @@ static uint64_t acr_of(uint32_t vci)
     return abr_acr(&table, vci, &acr) == ABR_OK ? acr : 0;
 }
 
-static void scene_opens(void)
+static void opens(void)
 {
     abr_params params;
     abr_house(THOUSAND, SLOWEST, THOUSAND, &params);
@@ -64,7 +64,7 @@ static void scene_opens(void)
     CHECK(abr_offer(&table, 33, ABR_WAITING_MAX) == ABR_REFUSED_TOO_MUCH_DATA);
 }
 
-static void scene_shares(void)
+static void both_send(void)
 {
     abr_cell read;
     CHECK(slot_is(0, 32, ABR_SENT_FORWARD, 512000));
@@ -77,7 +77,7 @@ static void scene_shares(void)
     CHECK(slot_is(1 * MS + 1, 33, ABR_SENT_DATA, 512000));
 }
 
-static void scene_is_congested(void)
+static void feedback_moves_the_rates(void)
 {
     CHECK(feedback(32, 1, ABR_CODE_MAX) == ABR_OK);
     CHECK(acr_of(32) == 480000 && acr_of(33) == 512000);
@@ -91,7 +91,7 @@ static void scene_is_congested(void)
     CHECK(acr_of(32) == 512000);
 }
 
-static void scene_turns_a_cell(void)
+static void a_cell_is_turned(void)
 {
     abr_rm rm = {32, 0, 0, 0, 0, 0, THOUSAND, THOUSAND, SLOWEST, 0, 0};
     uint8_t octets[ABR_CELL_OCTETS];
@@ -106,7 +106,7 @@ static void scene_turns_a_cell(void)
     CHECK(read.er == THOUSAND && read.ccr == THOUSAND && read.mcr == SLOWEST);
 }
 
-static void scene_closes(void)
+static void closes(void)
 {
     CHECK(abr_close(&table, 32) == ABR_OK);
     CHECK(abr_close(&table, 32) == ABR_REFUSED_NOT_OPEN);
@@ -116,15 +116,15 @@ static void scene_closes(void)
     CHECK(strcmp(abr_refusal_text(15), abr_refusal_text(16)) != 0);
 }
 
-static int scene(const char *name)
+static int scenario(const char *name)
 {
-    scene_opens();
-    scene_shares();
-    scene_is_congested();
-    scene_turns_a_cell();
-    scene_closes();
-    printf("%s: %s\n", name, claims_failed ? "FAILED" : "ok");
-    return claims_failed != 0;
+    opens();
+    both_send();
+    feedback_moves_the_rates();
+    a_cell_is_turned();
+    closes();
+    printf("%s: %s\n", name, checks_failed ? "FAILED" : "ok");
+    return checks_failed != 0;
 }
 
 #endif

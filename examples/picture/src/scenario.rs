@@ -6,7 +6,7 @@ use abr::{Cell, Kind, Params, Refusal, Rm, Table, CELL_OCTETS, RATE_ONE};
 
 /// One millisecond.
 pub const MS: u64 = 1_000_000;
-/// How long the scene lasts.
+/// How long the scenario lasts.
 pub const END: u64 = 1_600 * MS;
 /// The link carries 20,000 cells per second.
 const SLOT: u64 = 50_000;
@@ -16,23 +16,23 @@ const ROUND_TRIP: u64 = 20 * MS;
 /// The two connections.
 pub const VCIS: [u32; 2] = [32, 33];
 
-/// What the network does to whom, and when.
-pub struct Spell {
+/// A span of time in which the network marks backward cells.
+pub struct Phase {
     /// From and to, in nanoseconds.
     pub span: (u64, u64),
-    /// What it is, for the reader.
+    /// Its name, in two lines.
     pub name: [&'static str; 2],
-    /// Whom it touches.
+    /// The connections concerned.
     vcis: &'static [u32],
     ci: bool,
     ni: bool,
-    /// The most cells per second that it lets through.
+    /// The explicit rate, in cells per second.
     cells: u64,
 }
 
-/// The spells of the scene.
-pub const SPELLS: [Spell; 3] = [
-    Spell {
+/// The phases of the scenario.
+pub const PHASES: [Phase; 3] = [
+    Phase {
         span: (300 * MS, 420 * MS),
         name: ["congestion (CI)", "on both paths"],
         vcis: &VCIS,
@@ -40,7 +40,7 @@ pub const SPELLS: [Spell; 3] = [
         ni: false,
         cells: 1_000_000,
     },
-    Spell {
+    Phase {
         span: (800 * MS, 1_050 * MS),
         name: ["explicit rate (ER)", "1,500 for VCI 33"],
         vcis: &[33],
@@ -48,7 +48,7 @@ pub const SPELLS: [Spell; 3] = [
         ni: false,
         cells: 1_500,
     },
-    Spell {
+    Phase {
         span: (1_200 * MS, 1_350 * MS),
         name: ["congestion (CI)", "for VCI 32"],
         vcis: &[32],
@@ -66,8 +66,8 @@ pub struct Track {
     pub points: Vec<(u64, f64)>,
 }
 
-/// Plays the scene.
-pub fn play() -> Result<Vec<Track>, Refusal> {
+/// Runs the scenario.
+pub fn run() -> Result<Vec<Track>, Refusal> {
     let mut table = Table::new();
     table.open(32, 0, &contract(8_000, 1_000, 6)?)?;
     table.open(33, 0, &contract(5_000, 500, 5)?)?;
@@ -82,7 +82,7 @@ pub fn play() -> Result<Vec<Track>, Refusal> {
             table.receive(&cell)?;
         }
         for vci in VCIS {
-            table.offer(vci, 1).or_else(full_is_fine)?;
+            table.offer(vci, 1).or_else(no_room)?;
         }
         let mut cell = [0; CELL_OCTETS];
         if let Some(sent) = table.slot(time, &mut cell)? {
@@ -91,7 +91,7 @@ pub fn play() -> Result<Vec<Track>, Refusal> {
             }
         }
         for track in &mut tracks {
-            track.note(time, table.acr(track.vci)?);
+            track.add(time, table.acr(track.vci)?);
         }
     }
     Ok(tracks.into())
@@ -105,25 +105,25 @@ fn contract(peak: u64, initial: u64, r: u32) -> Result<Params, Refusal> {
     Ok(params)
 }
 
-/// Data that has no room waits outside.
-fn full_is_fine(refusal: Refusal) -> Result<(), Refusal> {
+/// A connection with no room for more data needs none.
+fn no_room(refusal: Refusal) -> Result<(), Refusal> {
     match refusal {
         Refusal::TooMuchData => Ok(()),
         other => Err(other),
     }
 }
 
-/// The far end turns a forward cell round, and the network at this time has
-/// its say.
+/// The backward cell that answers a forward cell: turned by the destination,
+/// marked by the network as at this time.
 fn answer(forward: &[u8], time: u64) -> Result<[u8; CELL_OCTETS], Refusal> {
     let Cell::Rm(mut rm) = abr::read(forward)? else {
         return Err(Refusal::PayloadType);
     };
     rm.backward = true;
-    for spell in &SPELLS {
-        let (from, to) = spell.span;
-        if (from..to).contains(&time) && spell.vcis.contains(&rm.vci) {
-            mark(&mut rm, spell)?;
+    for phase in &PHASES {
+        let (from, to) = phase.span;
+        if (from..to).contains(&time) && phase.vcis.contains(&rm.vci) {
+            mark(&mut rm, phase)?;
         }
     }
     let mut cell = [0; CELL_OCTETS];
@@ -131,17 +131,17 @@ fn answer(forward: &[u8], time: u64) -> Result<[u8; CELL_OCTETS], Refusal> {
     Ok(cell)
 }
 
-/// Puts the marks of a spell on a cell.
-fn mark(rm: &mut Rm, spell: &Spell) -> Result<(), Refusal> {
-    rm.ci |= spell.ci;
-    rm.ni |= spell.ni;
-    rm.er = rm.er.min(abr::code(spell.cells * RATE_ONE)?);
+/// Marks a cell as the phase does.
+fn mark(rm: &mut Rm, phase: &Phase) -> Result<(), Refusal> {
+    rm.ci |= phase.ci;
+    rm.ni |= phase.ni;
+    rm.er = rm.er.min(abr::code(phase.cells * RATE_ONE)?);
     Ok(())
 }
 
 impl Track {
-    /// Notes the rate if it is another.
-    fn note(&mut self, time: u64, acr: u64) {
+    /// Adds a point if the rate has changed.
+    fn add(&mut self, time: u64, acr: u64) {
         let cells = acr as f64 / RATE_ONE as f64;
         if self.points.last().is_none_or(|(_, last)| *last != cells) || time == END {
             self.points.push((time, cells));

@@ -1,4 +1,4 @@
-//! The reference's side: a call on the plain engine.
+//! The expected outcome of a call: the reference's.
 
 use abr::ffi::{abr_cell, abr_params, abr_rm, abr_sent};
 use reference::{Cell, Engine, Kind, Params, Rm};

@@ -1,6 +1,6 @@
-//! What a list knows about its own connections, learnt from calls and agreed
-//! answers. It steers the generator towards edges and says which were reached;
-//! it decides nothing.
+//! What is known of a list's connections from its calls and their agreed
+//! answers. The generator uses it to choose calls at edges, and the coverage
+//! counts come from it; no comparison of the two sides depends on it.
 
 use std::collections::{BTreeMap, BTreeSet};
 
@@ -10,7 +10,7 @@ use abr::{CONNECTIONS_MAX, TIME_MAX, WAITING_MAX};
 use crate::call::{Answer, Call, Outcome};
 use crate::coverage::{Coverage, Event};
 
-/// What a connection has sent.
+/// What a connection has sent, from its first cell on.
 #[derive(Debug, Clone, Copy)]
 pub struct Sends {
     pub last: u64,
@@ -21,7 +21,7 @@ pub struct Sends {
 
 /// An open connection.
 #[derive(Debug, Clone)]
-pub struct Seat {
+pub struct Connection {
     pub params: abr_params,
     pub pcr: u64,
     pub mcr: u64,
@@ -35,10 +35,10 @@ pub struct Seat {
     pub unanswered: u32,
 }
 
-impl Seat {
+impl Connection {
     fn new(params: abr_params, time: u64, acr: u64) -> Self {
         let rate = |code: u32| reference::rate_of(code);
-        Seat {
+        Connection {
             params,
             pcr: rate(params.pcr),
             mcr: rate(params.mcr),
@@ -96,18 +96,19 @@ impl Seat {
 
 /// All connections of a list.
 #[derive(Debug, Clone, Default)]
-pub struct Watch {
-    pub seats: BTreeMap<u32, Seat>,
+pub struct Observation {
+    pub connections: BTreeMap<u32, Connection>,
     pub closed: BTreeSet<u32>,
+    /// Closed with data, a turned cell or unanswered cells on them.
     loaded: BTreeSet<u32>,
     pub last: u64,
     pub level: u32,
 }
 
-impl Watch {
-    /// Takes in a call, its agreed outcome, and the allowed rate afterwards of
-    /// the connection that it touched.
-    pub fn learn(&mut self, call: &Call, outcome: &Outcome, acr: u64, coverage: &mut Coverage) {
+impl Observation {
+    /// Adds a call with its agreed outcome and the allowed rate afterwards of
+    /// the connection that it concerns.
+    pub fn add(&mut self, call: &Call, outcome: &Outcome, acr: u64, coverage: &mut Coverage) {
         coverage.count(call, outcome);
         let Ok(answer) = outcome else { return };
         match (*call, *answer) {
@@ -132,19 +133,20 @@ impl Watch {
         coverage: &mut Coverage,
     ) {
         self.last = time;
-        self.seats.insert(vci, Seat::new(params, time, acr));
+        self.connections
+            .insert(vci, Connection::new(params, time, acr));
         coverage.reach(Event::Reopened, self.closed.contains(&vci));
         coverage.reach(Event::ReopenedLoaded, self.loaded.contains(&vci));
-        coverage.reach(Event::Full, self.seats.len() == CONNECTIONS_MAX);
+        coverage.reach(Event::Full, self.connections.len() == CONNECTIONS_MAX);
         coverage.reach(Event::TimeMax, time == TIME_MAX);
     }
 
     fn close(&mut self, vci: u32) {
         self.closed.insert(vci);
-        let Some(seat) = self.seats.remove(&vci) else {
+        let Some(connection) = self.connections.remove(&vci) else {
             return;
         };
-        if seat.waits() || seat.unanswered > 0 {
+        if connection.waits() || connection.unanswered > 0 {
             self.loaded.insert(vci);
         } else {
             self.loaded.remove(&vci);
@@ -152,32 +154,32 @@ impl Watch {
     }
 
     fn offered(&mut self, vci: u32, cells: u64, coverage: &mut Coverage) {
-        let Some(seat) = self.seats.get_mut(&vci) else {
+        let Some(connection) = self.connections.get_mut(&vci) else {
             return;
         };
-        let full = seat.data == WAITING_MAX;
-        seat.data += cells;
+        let full = connection.data == WAITING_MAX;
+        connection.data += cells;
         coverage.reach(Event::OfferNothing, full && cells == 0);
-        coverage.reach(Event::OfferFills, !full && seat.data == WAITING_MAX);
+        coverage.reach(Event::OfferFills, !full && connection.data == WAITING_MAX);
     }
 
     fn received(&mut self, cell: &[u8], acr: u64, coverage: &mut Coverage) {
         let header = u32::from_be_bytes([cell[0], cell[1], cell[2], cell[3]]);
         let level = self.level;
-        let Some(seat) = self.seats.get_mut(&((header >> 4) & 0xFFFF)) else {
+        let Some(connection) = self.connections.get_mut(&((header >> 4) & 0xFFFF)) else {
             return;
         };
         let bits = cell[6];
         if header >> 1 & 7 != 6 {
             let efci = header >> 2 & 1 == 1;
-            coverage.reach(Event::EfciCleared, seat.efci && !efci);
-            seat.efci = efci;
+            coverage.reach(Event::EfciCleared, connection.efci && !efci);
+            connection.efci = efci;
         } else if bits & 0x80 == 0 {
-            forward_received(seat, bits, level, coverage);
+            forward_received(connection, bits, level, coverage);
         } else {
             let er = reference::rate_of(u32::from(cell[7]) << 8 | u32::from(cell[8]));
-            backward_received(seat, bits, er, coverage);
-            seat.acr = acr;
+            backward_received(connection, bits, er, coverage);
+            connection.acr = acr;
         }
     }
 
@@ -186,13 +188,17 @@ impl Watch {
         coverage.kinds[sent.kind as usize] += 1;
         coverage.reach(Event::TimeMax, time == TIME_MAX);
         coverage.reach(Event::SentAtTimeMax, time == TIME_MAX && sent.kind != 0);
-        let earliest = self.seats.values().filter_map(Seat::ready).min();
+        let earliest = self
+            .connections
+            .values()
+            .filter_map(Connection::ready)
+            .min();
         coverage.reach(Event::ReadyExact, earliest == Some(time));
         coverage.reach(Event::ReadyLessOne, earliest == Some(time + 1));
         self.ties(time, earliest, coverage);
-        if let Some(seat) = self.seats.get_mut(&(sent.vci as u32)) {
-            kind_sent(seat, time, sent.kind, coverage);
-            seat.acr = sent.acr;
+        if let Some(connection) = self.connections.get_mut(&(sent.vci as u32)) {
+            kind_sent(connection, time, sent.kind, coverage);
+            connection.acr = sent.acr;
         }
     }
 
@@ -200,10 +206,10 @@ impl Watch {
         let Some(earliest) = earliest.filter(|ready| *ready <= time) else {
             return;
         };
-        let tied = |seat: &&Seat| seat.ready() == Some(earliest);
+        let tied = |connection: &&Connection| connection.ready() == Some(earliest);
         let (mut first, mut later) = (0, 0);
-        for seat in self.seats.values().filter(tied) {
-            match seat.sends {
+        for connection in self.connections.values().filter(tied) {
+            match connection.sends {
                 None => first += 1,
                 Some(_) => later += 1,
             }
@@ -214,49 +220,61 @@ impl Watch {
 }
 
 /// A forward cell came in.
-fn forward_received(seat: &mut Seat, bits: u8, level: u32, coverage: &mut Coverage) {
+fn forward_received(connection: &mut Connection, bits: u8, level: u32, coverage: &mut Coverage) {
     let marked = bits & 0x30 != 0;
-    coverage.reach(Event::TurnedReplaced, seat.turned);
-    coverage.reach(Event::MarkEfci, seat.efci && level != 2);
+    coverage.reach(Event::TurnedReplaced, connection.turned);
+    coverage.reach(Event::MarkEfci, connection.efci && level != 2);
     coverage.reach(Event::MarkLevelOne, level == 1);
-    coverage.reach(Event::MarkLevelTwo, level == 2 && !seat.efci);
-    coverage.reach(Event::MarkKept, marked && level == 0 && !seat.efci);
-    seat.turned = true;
-    seat.efci = false;
+    coverage.reach(Event::MarkLevelTwo, level == 2 && !connection.efci);
+    coverage.reach(Event::MarkKept, marked && level == 0 && !connection.efci);
+    connection.turned = true;
+    connection.efci = false;
 }
 
-/// A backward cell came in, with the rate before it still in the seat.
-fn backward_received(seat: &mut Seat, bits: u8, er: u64, coverage: &mut Coverage) {
+/// A backward cell came in; `acr` is still the rate before it.
+fn backward_received(connection: &mut Connection, bits: u8, er: u64, coverage: &mut Coverage) {
     let (ci, ni, bn) = (bits & 0x20 != 0, bits & 0x10 != 0, bits & 0x40 != 0);
-    let step = seat.pcr >> seat.params.r;
+    let step = connection.pcr >> connection.params.r;
     let up = !ci && !ni;
-    let cut = seat.acr - seat.acr.div_ceil(1 << seat.params.d);
-    coverage.reach(Event::FeedbackUp, up && seat.acr + step < seat.pcr.min(er));
+    let cut = connection.acr - connection.acr.div_ceil(1 << connection.params.d);
+    coverage.reach(
+        Event::FeedbackUp,
+        up && connection.acr + step < connection.pcr.min(er),
+    );
     coverage.reach(
         Event::FeedbackPcr,
-        up && seat.acr + step > seat.pcr && er >= seat.pcr,
+        up && connection.acr + step > connection.pcr && er >= connection.pcr,
     );
-    coverage.reach(Event::FeedbackHold, ni && !ci && er > seat.acr);
-    coverage.reach(Event::FeedbackCut, ci && cut > seat.mcr && er > cut);
-    coverage.reach(Event::FeedbackEr, up && er < seat.acr && er > seat.mcr);
-    coverage.reach(Event::FeedbackErUnderCi, ci && er < cut && er > seat.mcr);
-    coverage.reach(Event::FeedbackMcr, er < seat.mcr && seat.acr > seat.mcr);
-    coverage.reach(Event::BnLeaves, bn && seat.unanswered > 0);
-    coverage.reach(Event::BnAnswers, !bn && seat.unanswered > 0);
+    coverage.reach(Event::FeedbackUnchanged, ni && !ci && er > connection.acr);
+    coverage.reach(Event::FeedbackCut, ci && cut > connection.mcr && er > cut);
+    coverage.reach(
+        Event::FeedbackEr,
+        up && er < connection.acr && er > connection.mcr,
+    );
+    coverage.reach(
+        Event::FeedbackErUnderCi,
+        ci && er < cut && er > connection.mcr,
+    );
+    coverage.reach(
+        Event::FeedbackMcr,
+        er < connection.mcr && connection.acr > connection.mcr,
+    );
+    coverage.reach(Event::BnLeaves, bn && connection.unanswered > 0);
+    coverage.reach(Event::BnAnswers, !bn && connection.unanswered > 0);
     if !bn {
-        seat.unanswered = 0;
+        connection.unanswered = 0;
     }
 }
 
-/// A cell of this kind went, with the rate before it still in the seat.
-fn kind_sent(seat: &mut Seat, time: u64, kind: u64, coverage: &mut Coverage) {
+/// A cell of this kind was sent; `acr` is still the rate before it.
+fn kind_sent(connection: &mut Connection, time: u64, kind: u64, coverage: &mut Coverage) {
     if kind == 1 {
-        forward_sent(seat, time, coverage);
+        forward_sent(connection, time, coverage);
         return;
     }
-    let (nrm, trm) = (seat.nrm(), seat.trm());
-    let (data, waiting) = (seat.data, seat.turned);
-    if let Some(sends) = &mut seat.sends {
+    let (nrm, trm) = (connection.nrm(), connection.trm());
+    let (data, waiting) = (connection.data, connection.turned);
+    if let Some(sends) = &mut connection.sends {
         let passed = time - sends.forward;
         coverage.reach(Event::NrmLessOne, sends.k + 2 == nrm && passed < trm);
         coverage.reach(Event::TrmLessOne, sends.k >= 2 && passed + 1 == trm);
@@ -268,20 +286,20 @@ fn kind_sent(seat: &mut Seat, time: u64, kind: u64, coverage: &mut Coverage) {
         sends.last = time;
     }
     if kind == 2 {
-        seat.turned = false;
+        connection.turned = false;
     } else {
-        seat.data -= 1;
+        connection.data -= 1;
     }
 }
 
-/// A forward cell went.
-fn forward_sent(seat: &mut Seat, time: u64, coverage: &mut Coverage) {
-    match seat.sends {
-        None => coverage.reach(Event::FirstMove, seat.acr > seat.icr),
-        Some(sends) => later_forward(seat, &sends, time, coverage),
+/// A forward cell was sent.
+fn forward_sent(connection: &mut Connection, time: u64, coverage: &mut Coverage) {
+    match connection.sends {
+        None => coverage.reach(Event::FirstMove, connection.acr > connection.icr),
+        Some(sends) => later_forward(connection, &sends, time, coverage),
     }
-    seat.unanswered += 1;
-    seat.sends = Some(Sends {
+    connection.unanswered += 1;
+    connection.sends = Some(Sends {
         last: time,
         forward: time,
         k: 0,
@@ -289,24 +307,27 @@ fn forward_sent(seat: &mut Seat, time: u64, coverage: &mut Coverage) {
     });
 }
 
-/// The edges that a forward cell after the first may stand on.
-fn later_forward(seat: &Seat, sends: &Sends, time: u64, coverage: &mut Coverage) {
+/// The edges at which a forward cell after the first may be sent.
+fn later_forward(connection: &Connection, sends: &Sends, time: u64, coverage: &mut Coverage) {
     let passed = time - sends.forward;
-    let by_count = sends.k == seat.nrm() - 1;
-    coverage.reach(Event::NrmForward, by_count && passed < seat.trm());
-    coverage.reach(Event::TrmExact, !by_count && passed == seat.trm());
-    coverage.reach(Event::TrmAlone, !by_count && !seat.waits());
-    let above = seat.acr > seat.icr;
-    let idle = above && passed > seat.adtf();
-    coverage.reach(Event::AdtfExact, above && passed == seat.adtf());
-    coverage.reach(Event::AdtfPassed, above && passed == seat.adtf() + 1);
+    let by_count = sends.k == connection.nrm() - 1;
+    coverage.reach(Event::NrmForward, by_count && passed < connection.trm());
+    coverage.reach(Event::TrmExact, !by_count && passed == connection.trm());
+    coverage.reach(Event::TrmAlone, !by_count && !connection.waits());
+    let above = connection.acr > connection.icr;
+    let idle = above && passed > connection.adtf();
+    coverage.reach(Event::AdtfExact, above && passed == connection.adtf());
+    coverage.reach(Event::AdtfPassed, above && passed == connection.adtf() + 1);
     coverage.reach(Event::IdleMove, idle);
-    let (y, crm) = (seat.unanswered, seat.params.crm);
-    let zero = seat.params.c == 7;
-    let rate = if idle { seat.icr } else { seat.acr };
-    let cuts = y >= crm && !zero && rate > seat.mcr;
-    coverage.reach(Event::CrmExact, y == crm && !zero && rate > seat.mcr);
-    coverage.reach(Event::CrmLessOne, y + 1 == crm && !zero && rate > seat.mcr);
+    let (y, crm) = (connection.unanswered, connection.params.crm);
+    let zero = connection.params.c == 7;
+    let rate = if idle { connection.icr } else { connection.acr };
+    let cuts = y >= crm && !zero && rate > connection.mcr;
+    coverage.reach(Event::CrmExact, y == crm && !zero && rate > connection.mcr);
+    coverage.reach(
+        Event::CrmLessOne,
+        y + 1 == crm && !zero && rate > connection.mcr,
+    );
     coverage.reach(Event::CdfZero, y >= crm && zero);
     coverage.reach(Event::UnansweredMove, cuts);
     coverage.reach(Event::IdleAndUnanswered, idle && cuts);

@@ -1,0 +1,108 @@
+use abr::ffi;
+use reference::refusal::{CRC, NOT_OPEN};
+use reference::Kind;
+
+use super::*;
+use crate::engines::{Library, Reference};
+use crate::workload::ROWS;
+
+/// The slots that a test makes.
+const SLOTS: u64 = 4_096;
+
+/// What the slots of a workload send, on the reference.
+fn sent(connections: u32, workload: Workload) -> Vec<Option<reference::Sent>> {
+    let mut fixture = Fixture::<Reference>::new(connections, workload);
+    fixture.refill(SLOTS);
+    let mut buffer = [0; abr::CELL_OCTETS];
+    let slots = (1..=SLOTS).map(|i| {
+        let time = fixture.time + i * fixture.step;
+        fixture.engine.engine.slot(time, &mut buffer).unwrap()
+    });
+    slots.collect()
+}
+
+/// Every measured slot of busy connections sends, and one in Nrm sends a
+/// forward cell.
+#[test]
+fn busy_slots_are_not_idle() {
+    for row in ROWS.iter().filter(|row| row.workload.sends()) {
+        let sent = sent(row.connections, row.workload);
+        let kinds = sent.iter().map(|sent| sent.expect("a busy slot").kind);
+        let forward = kinds.filter(|kind| *kind == Kind::Forward).count();
+        let n = match row.workload {
+            Workload::Turns { n } => n,
+            _ => Params::HOUSE_N,
+        };
+        let expected = SLOTS as usize >> n;
+        let all = expected..=expected + 64;
+        assert!(all.contains(&forward), "{}: {forward}", row.name);
+    }
+}
+
+/// Where nothing waits, every slot is idle.
+#[test]
+fn idle_slots_are_idle() {
+    for row in ROWS.iter().filter(|row| row.workload == Workload::Idle) {
+        assert!(sent(row.connections, row.workload)
+            .iter()
+            .all(Option::is_none));
+    }
+}
+
+/// The connections send in turn from the one that was opened last to the first.
+#[test]
+fn the_last_opened_sends_first() {
+    let order = order(64, Workload::LastFirst);
+    let sent = sent(64, Workload::LastFirst);
+    let turns = order.iter().rev().cycle();
+    assert!(sent
+        .iter()
+        .zip(turns)
+        .all(|(sent, vci)| sent.unwrap().vci == *vci));
+}
+
+/// Both sides give a measured cell the answer of its sort.
+#[test]
+fn both_sides_answer_the_same() {
+    for row in &ROWS {
+        let expected = match row.workload {
+            Workload::Receive(Sort::Damaged) => CRC,
+            Workload::Receive(_) => 0,
+            Workload::Unknown(_) => NOT_OPEN,
+            _ => continue,
+        };
+        let mut library = Fixture::<Library>::new(row.connections, row.workload);
+        let mut reference = Fixture::<Reference>::new(row.connections, row.workload);
+        assert_eq!(library.cells, reference.cells, "{}", row.name);
+        for cell in reference.cells {
+            let table = &mut *library.engine.table;
+            // SAFETY: both pointers are live and the length is the cell's own.
+            let answer = unsafe { ffi::abr_receive(table, cell.as_ptr(), cell.len()) };
+            assert_eq!(answer, expected, "{}", row.name);
+            let answer = reference.engine.engine.receive(&cell).err().unwrap_or(0);
+            assert_eq!(answer, expected, "{}", row.name);
+        }
+    }
+}
+
+/// Each of the cells in turn moves the rate.
+#[test]
+fn moving_cells_move_the_rate() {
+    let mut fixture = Fixture::<Reference>::new(64, Workload::Receive(Sort::Moving));
+    for round in 0..1_000 {
+        let before = fixture.engine.engine.acr(fixture.last);
+        let cell = fixture.cells[round % 2];
+        fixture.engine.engine.receive(&cell).unwrap();
+        assert_ne!(fixture.engine.engine.acr(fixture.last), before);
+    }
+}
+
+/// The measured opens and closes are accepted.
+#[test]
+fn opens_are_accepted() {
+    let mut fixture = Fixture::<Reference>::new(63, Workload::OpenClose);
+    let (vci, time) = (fixture.last + 1, fixture.time);
+    let engine = &mut fixture.engine.engine;
+    assert_eq!(engine.open(vci, time, &fixture.params), Ok(()));
+    assert_eq!(engine.close(vci), Ok(()));
+}

@@ -1,0 +1,7 @@
+/* The scenario in C99. */
+#include "scenario.h"
+
+int main(void)
+{
+    return scenario("scenario in C");
+}

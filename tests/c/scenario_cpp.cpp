@@ -1,0 +1,7 @@
+/* The scenario in C++. */
+#include "scenario.h"
+
+int main()
+{
+    return scenario("scenario in C++");
+}
