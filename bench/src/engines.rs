@@ -48,34 +48,11 @@ impl Engine for Library {
     type Rm = ffi::abr_rm;
 
     fn params(params: &Params) -> ffi::abr_params {
-        ffi::abr_params {
-            pcr: params.pcr,
-            mcr: params.mcr,
-            icr: params.icr,
-            n: params.n,
-            r: params.r,
-            d: params.d,
-            c: params.c,
-            crm: params.crm,
-            adtf: params.adtf,
-            trm: params.trm,
-        }
+        convert::library_params(params)
     }
 
     fn rm(rm: &Rm) -> ffi::abr_rm {
-        ffi::abr_rm {
-            vci: rm.vci,
-            dir: rm.dir,
-            bn: rm.bn,
-            ci: rm.ci,
-            ni: rm.ni,
-            ra: rm.ra,
-            er: rm.er,
-            ccr: rm.ccr,
-            mcr: rm.mcr,
-            ql: rm.ql,
-            sn: rm.sn,
-        }
+        convert::library_rm(rm)
     }
 
     fn empty() -> Self {

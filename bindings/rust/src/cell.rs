@@ -66,9 +66,9 @@ pub enum Cell {
 /// # Ok::<(), Refusal>(())
 /// ```
 pub fn write_rm(rm: &Rm, cell: &mut [u8]) -> Result<(), Refusal> {
-    let raw = rm.raw();
+    let rm = ffi::abr_rm::from(*rm);
     // SAFETY: both pointers are live and the length is the buffer's own.
-    Refusal::outcome(unsafe { ffi::abr_write_rm(&raw, cell.as_mut_ptr(), cell.len()) })
+    Refusal::outcome(unsafe { ffi::abr_write_rm(&rm, cell.as_mut_ptr(), cell.len()) })
 }
 
 /// Reads a cell.
@@ -89,29 +89,29 @@ pub fn read(cell: &[u8]) -> Result<Cell, Refusal> {
     let mut raw = ffi::abr_cell::default();
     // SAFETY: both pointers are live and the length is the cell's own.
     Refusal::outcome(unsafe { ffi::abr_read(cell.as_ptr(), cell.len(), &mut raw) })?;
-    Ok(Cell::from_raw(&raw))
+    Ok(raw.into())
 }
 
-impl Rm {
-    fn raw(&self) -> ffi::abr_rm {
+impl From<Rm> for ffi::abr_rm {
+    fn from(rm: Rm) -> Self {
         ffi::abr_rm {
-            vci: self.vci,
-            dir: self.backward.into(),
-            bn: self.bn.into(),
-            ci: self.ci.into(),
-            ni: self.ni.into(),
-            ra: self.ra.into(),
-            er: self.er,
-            ccr: self.ccr,
-            mcr: self.mcr,
-            ql: self.ql,
-            sn: self.sn,
+            vci: rm.vci,
+            dir: rm.backward.into(),
+            bn: rm.bn.into(),
+            ci: rm.ci.into(),
+            ni: rm.ni.into(),
+            ra: rm.ra.into(),
+            er: rm.er,
+            ccr: rm.ccr,
+            mcr: rm.mcr,
+            ql: rm.ql,
+            sn: rm.sn,
         }
     }
 }
 
-impl Cell {
-    fn from_raw(raw: &ffi::abr_cell) -> Self {
+impl From<ffi::abr_cell> for Cell {
+    fn from(raw: ffi::abr_cell) -> Self {
         if raw.kind == 1 {
             return Cell::Data {
                 vci: raw.vci,

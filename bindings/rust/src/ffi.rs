@@ -14,20 +14,7 @@ pub struct abr_table {
 }
 
 /// The parameters of an open.
-#[repr(C)]
-#[derive(Debug, Clone, Copy, PartialEq, Eq, Default)]
-pub struct abr_params {
-    pub pcr: u32,
-    pub mcr: u32,
-    pub icr: u32,
-    pub n: u32,
-    pub r: u32,
-    pub d: u32,
-    pub c: u32,
-    pub crm: u32,
-    pub adtf: u32,
-    pub trm: u32,
-}
+pub use crate::Params as abr_params;
 
 /// The answer of a slot.
 #[repr(C)]

@@ -2,9 +2,10 @@
 
 use crate::ffi;
 
-/// What an open gives beside VCI and time (document 01, "Opening").
-/// [`crate::Table::open`] checks the ranges.
-#[derive(Debug, Clone, Copy, PartialEq, Eq, Hash)]
+/// What an open gives beside VCI and time (document 01, "Opening"), with the
+/// layout of the C struct. [`crate::Table::open`] checks the ranges.
+#[repr(C)]
+#[derive(Debug, Clone, Copy, PartialEq, Eq, Hash, Default)]
 pub struct Params {
     /// Code of the peak rate.
     pub pcr: u32,
@@ -29,7 +30,7 @@ pub struct Params {
 }
 
 impl Params {
-    /// The house set around three rate codes.
+    /// The house set with three rate codes.
     ///
     /// ```
     /// let params = abr::Params::house(0x53E8, 0x4000, 0x4200);
@@ -38,39 +39,9 @@ impl Params {
     /// assert_eq!((params.crm, params.adtf, params.trm), (524_288, 50, 7));
     /// ```
     pub fn house(pcr: u32, mcr: u32, icr: u32) -> Self {
-        let mut raw = ffi::abr_params::default();
-        // SAFETY: the pointer is to a live abr_params.
-        unsafe { ffi::abr_house(pcr, mcr, icr, &mut raw) };
-        Params::from_raw(&raw)
-    }
-
-    fn from_raw(raw: &ffi::abr_params) -> Self {
-        Params {
-            pcr: raw.pcr,
-            mcr: raw.mcr,
-            icr: raw.icr,
-            n: raw.n,
-            r: raw.r,
-            d: raw.d,
-            c: raw.c,
-            crm: raw.crm,
-            adtf: raw.adtf,
-            trm: raw.trm,
-        }
-    }
-
-    pub(crate) fn raw(&self) -> ffi::abr_params {
-        ffi::abr_params {
-            pcr: self.pcr,
-            mcr: self.mcr,
-            icr: self.icr,
-            n: self.n,
-            r: self.r,
-            d: self.d,
-            c: self.c,
-            crm: self.crm,
-            adtf: self.adtf,
-            trm: self.trm,
-        }
+        let mut params = Params::default();
+        // SAFETY: the pointer is to live memory.
+        unsafe { ffi::abr_house(pcr, mcr, icr, &mut params) };
+        params
     }
 }

@@ -72,9 +72,8 @@ impl Table {
     /// assert_eq!(table.acr(32), Ok(512_000));
     /// ```
     pub fn open(&mut self, vci: u32, time: u64, params: &Params) -> Result<(), Refusal> {
-        let params = params.raw();
         // SAFETY: both pointers are live for the call.
-        Refusal::outcome(unsafe { ffi::abr_open(&mut *self.raw, vci, time, &params) })
+        Refusal::outcome(unsafe { ffi::abr_open(&mut *self.raw, vci, time, params) })
     }
 
     /// Closes a connection and drops all that waits on it.
@@ -181,7 +180,7 @@ impl Table {
                 &mut sent,
             )
         })?;
-        Ok(Sent::from_raw(&sent))
+        Ok(sent.into())
     }
 
     /// The allowed rate of a connection.
@@ -212,10 +211,10 @@ impl fmt::Debug for Table {
     }
 }
 
-impl Sent {
+impl From<ffi::abr_sent> for Option<Sent> {
     /// Nothing for an idle slot.
-    fn from_raw(raw: &ffi::abr_sent) -> Option<Self> {
-        let kind = match raw.kind {
+    fn from(sent: ffi::abr_sent) -> Self {
+        let kind = match sent.kind {
             0 => return None,
             1 => Kind::Forward,
             2 => Kind::Turned,
@@ -223,9 +222,9 @@ impl Sent {
             other => unreachable!("the library answered kind {other}"),
         };
         Some(Sent {
-            vci: raw.vci as u32,
+            vci: sent.vci as u32,
             kind,
-            acr: raw.acr,
+            acr: sent.acr,
         })
     }
 }

@@ -3,6 +3,7 @@
 
 use abr::ffi::{abr_cell, abr_params, abr_rm};
 use abr::{CELL_OCTETS, RATE_MAX};
+use convert::{library_cell, library_params, reference_rm};
 use differential::both::Both;
 use differential::call::{Answer, Call};
 use differential::library::Library;
@@ -61,21 +62,7 @@ fn random_rm(rng: &mut Rng) -> abr_rm {
 
 /// What reading must give of a cell that was written.
 fn as_read(rm: &abr_rm) -> abr_cell {
-    abr_cell {
-        kind: 2,
-        vci: rm.vci,
-        efci: 0,
-        dir: rm.dir,
-        bn: rm.bn,
-        ci: rm.ci,
-        ni: rm.ni,
-        ra: rm.ra,
-        er: rm.er,
-        ccr: rm.ccr,
-        mcr: rm.mcr,
-        ql: rm.ql,
-        sn: rm.sn,
-    }
+    library_cell(&reference::Cell::Rm(reference_rm(rm)))
 }
 
 #[test]
@@ -247,11 +234,8 @@ fn every_parameter_at_and_past_its_ends() {
     ];
     for (set, low, high) in ranges {
         for value in [0, 1, low, high, high + 1, high + 256, 1 << 31, u32::MAX] {
-            let mut params = abr_params::default();
             let house = reference::Params::house(0x7FFF, 0x4000, 0x53E8);
-            (params.pcr, params.mcr, params.icr) = (house.pcr, house.mcr, house.icr);
-            (params.n, params.r, params.d, params.c) = (house.n, house.r, house.d, house.c);
-            (params.crm, params.adtf, params.trm) = (house.crm, house.adtf, house.trm);
+            let mut params = library_params(&house);
             set(&mut params, value);
             let open = Call::Open {
                 vci: 32,

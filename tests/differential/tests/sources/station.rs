@@ -2,6 +2,7 @@
 //! Each call is made on both, and they must agree on every answer and octet.
 
 use abr::{Cell, Kind, Params, Rm, Table, CELL_OCTETS};
+use convert::{library_sent, reference_params, reference_rm};
 use differential::octets::{put_header, Header};
 use reference::Engine;
 
@@ -81,8 +82,8 @@ impl Station {
     pub fn open(params: &Params) -> Self {
         let (mut library, mut reference) = (Table::new(), Engine::new());
         library.open(VCI, 0, params).expect("library");
-        let plain = plain(params);
-        reference.open(VCI, 0, &plain).expect("reference");
+        let same = reference_params(params);
+        reference.open(VCI, 0, &same).expect("reference");
         Station { library, reference }
     }
 
@@ -134,8 +135,8 @@ impl Station {
         let ours = self.library.slot(time, &mut cell).expect("library");
         let theirs = self.reference.slot(time, &mut other).expect("reference");
         assert_eq!(
-            ours.map(|sent| (sent.vci, sent.kind, sent.acr)),
-            theirs.map(|sent| (sent.vci, kind(sent.kind), sent.acr)),
+            ours,
+            library_sent(theirs).into(),
             "library and reference at {time}"
         );
         assert_eq!(cell, other, "library and reference at {time}");
@@ -187,10 +188,8 @@ pub fn read(cell: &Octets) -> Rm {
     let Ok(Cell::Rm(rm)) = abr::read(cell) else {
         panic!("not an RM cell: {cell:02x?}");
     };
-    assert_eq!(
-        reference::read(cell),
-        Ok(reference::Cell::Rm(plain_rm(&rm)))
-    );
+    let same = reference_rm(&rm.into());
+    assert_eq!(reference::read(cell), Ok(reference::Cell::Rm(same)));
     rm
 }
 
@@ -199,48 +198,9 @@ pub fn written(rm: &Rm) -> Octets {
     let rm = Rm { vci: VCI, ..*rm };
     let (mut cell, mut other) = ([0; CELL_OCTETS], [0; CELL_OCTETS]);
     abr::write_rm(&rm, &mut cell).expect("library");
-    reference::write_rm(&plain_rm(&rm), &mut other).expect("reference");
+    reference::write_rm(&reference_rm(&rm.into()), &mut other).expect("reference");
     assert_eq!(cell, other, "library and reference: {rm:?}");
     cell
-}
-
-fn kind(kind: reference::Kind) -> Kind {
-    match kind {
-        reference::Kind::Forward => Kind::Forward,
-        reference::Kind::Turned => Kind::Turned,
-        reference::Kind::Data => Kind::Data,
-    }
-}
-
-fn plain_rm(rm: &Rm) -> reference::Rm {
-    reference::Rm {
-        vci: rm.vci,
-        dir: rm.backward.into(),
-        bn: rm.bn.into(),
-        ci: rm.ci.into(),
-        ni: rm.ni.into(),
-        ra: rm.ra.into(),
-        er: rm.er,
-        ccr: rm.ccr,
-        mcr: rm.mcr,
-        ql: rm.ql,
-        sn: rm.sn,
-    }
-}
-
-fn plain(p: &Params) -> reference::Params {
-    reference::Params {
-        pcr: p.pcr,
-        mcr: p.mcr,
-        icr: p.icr,
-        n: p.n,
-        r: p.r,
-        d: p.d,
-        c: p.c,
-        crm: p.crm,
-        adtf: p.adtf,
-        trm: p.trm,
-    }
 }
 
 #[test]
