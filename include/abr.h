@@ -6,6 +6,8 @@
  * sections named below are those of document 01, "The ABR end-system rate
  * engine", which says what every call does.
  *
+ * Language. C99 or later, C++11 or later, or C++98 with <stdint.h>.
+ *
  * Memory. The library has no heap, no globals and no start-up call. All state
  * is in an abr_table that the caller lends. A table of zeros is the empty one,
  * so `static abr_table table;` is ready for use. Only these calls may write a
@@ -13,15 +15,16 @@
  * tables are independent of each other. A table may be moved or copied as a
  * whole, octet by octet, between calls.
  *
- * Answers. Every call that can refuse answers ABR_OK (0) or the number of the
- * refusal, and the first refusal in the order given at the call decides. A
- * refused call has written nothing: table, buffer and out-parameters are as
- * they were.
+ * Pointers. The only ones are to tables and to octets. None may be null. The
+ * length given with a pointer to octets is that of the memory there. The
+ * memory of two pointers of one call must not overlap. Octets need no
+ * alignment; a table is aligned as C aligns uint64_t.
  *
- * Pointers. None may be null. The length given with a pointer to octets is that
- * of the memory there. The memory of two pointers of one call must not
- * overlap. Octets need no alignment; everything else is aligned as C
- * aligns its type.
+ * Answers. Parameters and fields are passed by value, and so is every answer: a
+ * number, or a struct whose first field is the refusal. The refusal is ABR_OK
+ * (0) or the first one that applies in the order given at the call. A refused
+ * call has written nothing, and every other field of its answer is 0. An answer
+ * with a refusal must not be ignored; compilers that can warn of it do.
  *
  * Rates are whole numbers of 1/512 cell per second, times are nanoseconds
  * (section "Units and the 16-bit rate code").
@@ -29,104 +32,126 @@
 #ifndef ABR_H
 #define ABR_H
 
+#if defined(__cplusplus) && __cplusplus < 201103L && !defined(__STDC_CONSTANT_MACROS)
+#define __STDC_CONSTANT_MACROS /* C++98 asks for it to define UINT64_C */
+#endif
+
 #include <stddef.h>
 #include <stdint.h>
+
+#if !defined(__cplusplus) && !(defined(__STDC_VERSION__) && __STDC_VERSION__ >= 199901L)
+#error "abr.h needs C99 or later"
+#endif
+#ifndef UINT64_C
+#error "abr.h needs UINT64_C: define __STDC_CONSTANT_MACROS before the first <stdint.h>"
+#endif
+
+#ifdef __GNUC__
+#define ABR_MUST_USE __attribute__((warn_unused_result))
+#else
+#define ABR_MUST_USE
+#endif
 
 #ifdef __cplusplus
 extern "C" {
 #endif
 
-/* ---- Limits ------------------------------------------------------------ */
+/* ---- Version ------------------------------------------------------------ */
+
+/* 0.2.0: major, minor and patch number, eight bits each. */
+#define ABR_VERSION 0x000200u
 
 /* The words of a table. */
-#define ABR_TABLE_WORDS 1859
+#define ABR_TABLE_WORDS 1859u
+
+/* ---- Limits ------------------------------------------------------------- */
 
 /* The octets of a cell, the only length that any buffer may have. */
-#define ABR_CELL_OCTETS 53
+#define ABR_CELL_OCTETS 53u
 
 /* The connections that may be open at once. */
-#define ABR_CONNECTIONS_MAX 64
+#define ABR_CONNECTIONS_MAX 64u
 
 /* The least and the greatest VCI that can be opened. */
-#define ABR_VCI_MIN 32
-#define ABR_VCI_MAX 65535
+#define ABR_VCI_MIN 32u
+#define ABR_VCI_MAX 65535u
 
 /* The latest time, 2^62 nanoseconds. */
-#define ABR_TIME_MAX ((uint64_t)1 << 62)
+#define ABR_TIME_MAX UINT64_C(4611686018427387904)
 
 /* The most data cells that wait on one connection. */
-#define ABR_WAITING_MAX 65535
+#define ABR_WAITING_MAX 65535u
 
 /* The highest congestion level. */
-#define ABR_LEVEL_MAX 2
+#define ABR_LEVEL_MAX 2u
 
 /* One cell per second, which is also the least minimum rate of a connection. */
-#define ABR_RATE_ONE 512
+#define ABR_RATE_ONE 512u
 
-/* The largest rate that has a code: 2,196,875,771,904. */
-#define ABR_RATE_MAX ((uint64_t)1023 << 31)
+/* The largest rate that has a code. */
+#define ABR_RATE_MAX UINT64_C(2196875771904)
 
 /* The largest rate code with bit 15 clear; its rate is ABR_RATE_MAX. */
-#define ABR_CODE_MAX 0x7FFF
+#define ABR_CODE_MAX 0x7FFFu
 
 /* ---- Parameters of an open (section "Opening") -------------------------- */
 
 /* The value of c that means a CDF of zero. */
-#define ABR_CDF_ZERO 7
+#define ABR_CDF_ZERO 7u
 
 /* The largest CRM, and the largest count of unanswered cells. */
-#define ABR_CRM_MAX 8388608
+#define ABR_CRM_MAX 8388608u
 
 /* The largest ADTF, in steps of 10 ms. */
-#define ABR_ADTF_MAX 1023
+#define ABR_ADTF_MAX 1023u
 
 /* The house set: what abr_house adds to the three rates. */
-#define ABR_HOUSE_N 5
-#define ABR_HOUSE_R 4
-#define ABR_HOUSE_D 4
-#define ABR_HOUSE_C 4
-#define ABR_HOUSE_CRM 524288
-#define ABR_HOUSE_ADTF 50
-#define ABR_HOUSE_TRM 7
+#define ABR_HOUSE_N 5u
+#define ABR_HOUSE_R 4u
+#define ABR_HOUSE_D 4u
+#define ABR_HOUSE_C 4u
+#define ABR_HOUSE_CRM 524288u
+#define ABR_HOUSE_ADTF 50u
+#define ABR_HOUSE_TRM 7u
 
 /* ---- Kinds -------------------------------------------------------------- */
 
 /* What a slot sends (abr_sent.kind). */
-#define ABR_SENT_IDLE 0
-#define ABR_SENT_FORWARD 1
-#define ABR_SENT_TURNED 2
-#define ABR_SENT_DATA 3
+#define ABR_SENT_IDLE 0u
+#define ABR_SENT_FORWARD 1u
+#define ABR_SENT_TURNED 2u
+#define ABR_SENT_DATA 3u
 
 /* What a cell is (abr_cell.kind). */
-#define ABR_CELL_DATA 1
-#define ABR_CELL_RM 2
+#define ABR_CELL_DATA 1u
+#define ABR_CELL_RM 2u
 
 /* ---- Refusals ----------------------------------------------------------- */
 
-#define ABR_OK 0
+#define ABR_OK 0u /* accepted */
 
 /* Because of the input. */
-#define ABR_REFUSED_LENGTH 1        /* cell or buffer not 53 octets */
-#define ABR_REFUSED_HEADER_CHECK 2  /* octet 5 wrong */
-#define ABR_REFUSED_PATH 3          /* VPI not 0 */
-#define ABR_REFUSED_PAYLOAD_TYPE 4  /* payload type 4, 5 or 7 */
-#define ABR_REFUSED_CRC 5           /* CRC-10 wrong */
-#define ABR_REFUSED_PROTOCOL 6      /* protocol not 1 */
-#define ABR_REFUSED_RANGE 7         /* parameter, field or code out of range */
-#define ABR_REFUSED_TIME 8          /* time over 2^62 */
-#define ABR_REFUSED_TOO_LARGE 9     /* level over 2, rate over the largest */
-#define ABR_REFUSED_LOW_VCI 10      /* opening a VCI under 32 */
+#define ABR_REFUSED_LENGTH 1u       /* cell or buffer is not 53 octets */
+#define ABR_REFUSED_HEADER_CHECK 2u /* octet 5 is wrong */
+#define ABR_REFUSED_PATH 3u         /* VPI is not 0 */
+#define ABR_REFUSED_PAYLOAD_TYPE 4u /* payload type is 4, 5 or 7 */
+#define ABR_REFUSED_CRC 5u          /* CRC-10 is wrong */
+#define ABR_REFUSED_PROTOCOL 6u     /* protocol is not 1 */
+#define ABR_REFUSED_RANGE 7u        /* parameter, field or rate code is out of range */
+#define ABR_REFUSED_TIME 8u         /* time is over 2^62 */
+#define ABR_REFUSED_TOO_LARGE 9u    /* level is over 2 or rate is above the largest */
+#define ABR_REFUSED_LOW_VCI 10u     /* VCI is under 32 */
 
 /* Because of the state. */
-#define ABR_REFUSED_NOT_OPEN 11      /* VCI not open */
-#define ABR_REFUSED_ALREADY_OPEN 12  /* VCI already open */
-#define ABR_REFUSED_FULL 13          /* 64 are open */
-#define ABR_REFUSED_TIME_BACKWARD 14 /* before the last accepted open or slot */
-#define ABR_REFUSED_TOO_MUCH_DATA 15 /* waiting data would pass 65,535 */
+#define ABR_REFUSED_NOT_OPEN 11u      /* VCI is not open */
+#define ABR_REFUSED_ALREADY_OPEN 12u  /* VCI is already open */
+#define ABR_REFUSED_FULL 13u          /* 64 connections are open */
+#define ABR_REFUSED_TIME_BACKWARD 14u /* time is before the last accepted open or slot */
+#define ABR_REFUSED_TOO_MUCH_DATA 15u /* waiting data would pass 65,535 cells */
 
 /* ---- Types -------------------------------------------------------------- */
 
-/* The state of an engine. Its words mean nothing outside the library. */
+/* The state of an engine. Its words have no meaning outside the library. */
 typedef struct {
     uint64_t words[ABR_TABLE_WORDS];
 } abr_table;
@@ -146,14 +171,7 @@ typedef struct {
     uint32_t trm;  /* Trm number, 0 to 7: 100/2^(7-trm) ms */
 } abr_params;
 
-/* The answer of a slot. An idle slot has 0 in all three. */
-typedef struct {
-    uint64_t vci;  /* the connection that sends */
-    uint64_t kind; /* ABR_SENT_... */
-    uint64_t acr;  /* its allowed rate afterwards */
-} abr_sent;
-
-/* The fields of an RM cell to be written. */
+/* The fields of an RM cell. A cell that is read has rate codes without bit 15. */
 typedef struct {
     uint32_t vci; /* at most 16 bits */
     uint32_t dir; /* 1 backward; this and the next four are 0 or 1 */
@@ -168,22 +186,52 @@ typedef struct {
     uint32_t sn;  /* carried only */
 } abr_rm;
 
-/* What reading a cell gives. The rate codes come without bit 15. */
+/* The answer of a slot. An idle slot has 0 in all four. */
 typedef struct {
+    uint32_t refusal;
+    uint32_t kind; /* ABR_SENT_... */
+    uint32_t vci;  /* the connection that sends */
+    uint64_t acr;  /* its allowed rate afterwards */
+} abr_sent;
+
+/* The answer of abr_acr. */
+typedef struct {
+    uint32_t refusal;
+    uint64_t acr; /* the allowed rate */
+} abr_allowed;
+
+/* The answer of abr_read. */
+typedef struct {
+    uint32_t refusal;
     uint32_t kind; /* ABR_CELL_DATA or ABR_CELL_RM */
-    uint32_t vci;
     uint32_t efci; /* the congestion mark of a data cell, 0 in an RM cell */
-    uint32_t dir;  /* this and all below: of an RM cell, 0 in a data cell */
-    uint32_t bn;
-    uint32_t ci;
-    uint32_t ni;
-    uint32_t ra;
-    uint32_t er;
-    uint32_t ccr;
-    uint32_t mcr;
-    uint32_t ql;
-    uint32_t sn;
+    abr_rm rm;     /* of a data cell only vci, the rest 0 */
 } abr_cell;
+
+/* The answer of abr_code. */
+typedef struct {
+    uint32_t refusal;
+    uint32_t code;
+} abr_coded;
+
+/* The answer of abr_rate. */
+typedef struct {
+    uint32_t refusal;
+    uint64_t rate;
+} abr_rated;
+
+/* ---- Header and archive ------------------------------------------------- */
+
+/* ABR_VERSION and ABR_TABLE_WORDS of the header that the archive was made with. */
+uint32_t abr_version(void);
+uint32_t abr_table_words(void);
+
+/* Whether this header and the linked archive belong together. Ask it first: with
+ * another archive a table may be too short for its calls. */
+static inline int abr_matches(void)
+{
+    return abr_version() == ABR_VERSION && abr_table_words() == ABR_TABLE_WORDS;
+}
 
 /* ---- Connections -------------------------------------------------------- */
 
@@ -198,15 +246,14 @@ typedef struct {
  *   12  vci is open
  *   13  64 connections are open
  *   14  time before that of the last accepted open or slot
- * A refusal leaves the table as it was.
  */
-uint32_t abr_open(abr_table *table, uint32_t vci, uint64_t time, const abr_params *params);
+ABR_MUST_USE uint32_t abr_open(abr_table *table, uint32_t vci, uint64_t time, abr_params params);
 
 /*
  * Closes a connection and drops all that waits on it (section "Opening").
- * Refusal: 11 vci is not open. It leaves the table as it was.
+ * Refusal: 11 vci is not open.
  */
-uint32_t abr_close(abr_table *table, uint32_t vci);
+ABR_MUST_USE uint32_t abr_close(abr_table *table, uint32_t vci);
 
 /*
  * Adds data cells to those that wait on a connection (section "Opening").
@@ -214,15 +261,14 @@ uint32_t abr_close(abr_table *table, uint32_t vci);
  * Refusals in order:
  *   11  vci is not open
  *   15  more than 65,535 cells would wait
- * A refusal leaves the table as it was.
  */
-uint32_t abr_offer(abr_table *table, uint32_t vci, uint64_t cells);
+ABR_MUST_USE uint32_t abr_offer(abr_table *table, uint32_t vci, uint64_t cells);
 
 /*
  * Reads the allowed rate of a connection (section "Slots", last line).
- * Refusal: 11 vci is not open. It leaves *acr as it was.
+ * Refusal: 11 vci is not open.
  */
-uint32_t abr_acr(const abr_table *table, uint32_t vci, uint64_t *acr);
+ABR_MUST_USE abr_allowed abr_acr(const abr_table *table, uint32_t vci);
 
 /* ---- The receive path --------------------------------------------------- */
 
@@ -240,33 +286,31 @@ uint32_t abr_acr(const abr_table *table, uint32_t vci, uint64_t *acr);
  *    5  an RM cell with a wrong CRC-10
  *    6  an RM cell with a protocol other than 1
  *   11  its VCI is not open
- * A refusal leaves the table as it was.
  */
-uint32_t abr_receive(abr_table *table, const uint8_t *cell, size_t len);
+ABR_MUST_USE uint32_t abr_receive(abr_table *table, const uint8_t *cell, size_t len);
 
 /*
  * Sets the congestion level of the whole engine, which marks the cells that
  * are turned from now on (section "Turning cells round"): 0 none, 1 NI, 2 CI.
- * Refusal: 9 level over 2. It leaves the table as it was.
+ * Refusal: 9 level over 2.
  */
-uint32_t abr_set_level(abr_table *table, uint32_t level);
+ABR_MUST_USE uint32_t abr_set_level(abr_table *table, uint32_t level);
 
 /* ---- The slot ----------------------------------------------------------- */
 
 /*
  * Gives the slot at a time to the connection with the earliest ready instant
- * (section "Slots"), and says in *sent which, what kind of cell it sends, and its
+ * (section "Slots"), and says which it is, what kind of cell it sends and its
  * allowed rate afterwards. The 53 octets of a forward or a turned cell are
  * written to the buffer. For data the buffer is unchanged and the caller sends
- * a data cell of that VCI. If no connection is ready, *sent is all 0 and the
- * buffer unchanged; the slot counts as accepted at its time all the same.
+ * a data cell of that VCI. If no connection is ready, the answer is all 0 and
+ * the buffer unchanged; the slot counts as accepted at its time.
  * Refusals in order:
  *    1  len is not 53
  *    8  time over 2^62
  *   14  time before that of the last accepted open or slot
- * A refusal leaves table, buffer and *sent as they were.
  */
-uint32_t abr_slot(abr_table *table, uint64_t time, uint8_t *cell, size_t len, abr_sent *sent);
+ABR_MUST_USE abr_sent abr_slot(abr_table *table, uint64_t time, uint8_t *cell, size_t len);
 
 /* ---- Cells and rate codes, without a table ------------------------------ */
 
@@ -276,52 +320,50 @@ uint32_t abr_slot(abr_table *table, uint64_t time, uint8_t *cell, size_t len, ab
  * Refusals in order:
  *    1  len is not 53
  *    7  a field out of its range (see abr_rm)
- * A refusal leaves the buffer as it was.
  */
-uint32_t abr_write_rm(const abr_rm *rm, uint8_t *cell, size_t len);
+ABR_MUST_USE uint32_t abr_write_rm(abr_rm rm, uint8_t *cell, size_t len);
 
 /*
  * Reads a cell (section "The cell, 53 octets").
  * Refusals in order: 1, 2, 3, 4, 5, 6, as for abr_receive.
- * A refusal leaves *read as it was.
  */
-uint32_t abr_read(const uint8_t *cell, size_t len, abr_cell *read);
+ABR_MUST_USE abr_cell abr_read(const uint8_t *cell, size_t len);
 
 /*
  * Codes a rate: the code of the greatest code rate not above it (section
  * "Units and the 16-bit rate code").
- * Refusal: 9 rate above the largest. It leaves *code as it was.
+ * Refusal: 9 rate above the largest.
  */
-uint32_t abr_code(uint64_t rate, uint32_t *code);
+ABR_MUST_USE abr_coded abr_code(uint64_t rate);
 
 /*
  * The rate of a code; bit 15 is ignored (same section).
- * Refusal: 7 code over 16 bits. It leaves *rate as it was.
+ * Refusal: 7 code over 16 bits.
  */
-uint32_t abr_rate(uint32_t code, uint64_t *rate);
+ABR_MUST_USE abr_rated abr_rate(uint32_t code);
 
 /*
- * Gives the house set with three rate codes (section "Opening"). Nothing is
- * refused here: an open checks the result.
+ * The house set with three rate codes (section "Opening"). Nothing is refused
+ * here: an open checks the result.
  */
-void abr_house(uint32_t pcr, uint32_t mcr, uint32_t icr, abr_params *params);
+abr_params abr_house(uint32_t pcr, uint32_t mcr, uint32_t icr);
 
 /* ---- The text of a refusal ---------------------------------------------- */
 
-/* The text of an answer; never null. */
+/* The text of an answer, as it is beside its number above; never null. */
 static inline const char *abr_refusal_text(uint32_t refusal)
 {
     switch (refusal) {
     case ABR_OK: return "accepted";
     case ABR_REFUSED_LENGTH: return "cell or buffer is not 53 octets";
-    case ABR_REFUSED_HEADER_CHECK: return "header check (octet 5) is wrong";
+    case ABR_REFUSED_HEADER_CHECK: return "octet 5 is wrong";
     case ABR_REFUSED_PATH: return "VPI is not 0";
     case ABR_REFUSED_PAYLOAD_TYPE: return "payload type is 4, 5 or 7";
     case ABR_REFUSED_CRC: return "CRC-10 is wrong";
-    case ABR_REFUSED_PROTOCOL: return "RM protocol is not 1";
-    case ABR_REFUSED_RANGE: return "parameter or field is out of range";
+    case ABR_REFUSED_PROTOCOL: return "protocol is not 1";
+    case ABR_REFUSED_RANGE: return "parameter, field or rate code is out of range";
     case ABR_REFUSED_TIME: return "time is over 2^62";
-    case ABR_REFUSED_TOO_LARGE: return "level is over 2 or rate above the largest";
+    case ABR_REFUSED_TOO_LARGE: return "level is over 2 or rate is above the largest";
     case ABR_REFUSED_LOW_VCI: return "VCI is under 32";
     case ABR_REFUSED_NOT_OPEN: return "VCI is not open";
     case ABR_REFUSED_ALREADY_OPEN: return "VCI is already open";
@@ -336,7 +378,7 @@ static inline const char *abr_refusal_text(uint32_t refusal)
 
 #if defined(__cplusplus) && __cplusplus >= 201103L
 #define ABR_LAYOUT(name, condition) static_assert(condition, #name)
-#elif !defined(__cplusplus) && defined(__STDC_VERSION__) && __STDC_VERSION__ >= 201112L
+#elif !defined(__cplusplus) && __STDC_VERSION__ >= 201112L
 #define ABR_LAYOUT(name, condition) _Static_assert(condition, #name)
 #else
 #define ABR_LAYOUT(name, condition) typedef char abr_layout_##name[(condition) ? 1 : -1]
@@ -345,15 +387,21 @@ static inline const char *abr_refusal_text(uint32_t refusal)
 ABR_LAYOUT(table_size, sizeof(abr_table) == 8 * ABR_TABLE_WORDS);
 ABR_LAYOUT(params_size, sizeof(abr_params) == 40);
 ABR_LAYOUT(params_trm, offsetof(abr_params, trm) == 36);
-ABR_LAYOUT(sent_size, sizeof(abr_sent) == 24);
-ABR_LAYOUT(sent_kind, offsetof(abr_sent, kind) == 8);
-ABR_LAYOUT(sent_acr, offsetof(abr_sent, acr) == 16);
 ABR_LAYOUT(rm_size, sizeof(abr_rm) == 44);
 ABR_LAYOUT(rm_er, offsetof(abr_rm, er) == 24);
 ABR_LAYOUT(rm_sn, offsetof(abr_rm, sn) == 40);
-ABR_LAYOUT(cell_size, sizeof(abr_cell) == 52);
-ABR_LAYOUT(cell_dir, offsetof(abr_cell, dir) == 12);
-ABR_LAYOUT(cell_sn, offsetof(abr_cell, sn) == 48);
+ABR_LAYOUT(sent_size, sizeof(abr_sent) == 24);
+ABR_LAYOUT(sent_vci, offsetof(abr_sent, vci) == 8);
+ABR_LAYOUT(sent_acr, offsetof(abr_sent, acr) == 16);
+ABR_LAYOUT(allowed_size, sizeof(abr_allowed) == 16);
+ABR_LAYOUT(allowed_acr, offsetof(abr_allowed, acr) == 8);
+ABR_LAYOUT(cell_size, sizeof(abr_cell) == 56);
+ABR_LAYOUT(cell_efci, offsetof(abr_cell, efci) == 8);
+ABR_LAYOUT(cell_rm, offsetof(abr_cell, rm) == 12);
+ABR_LAYOUT(coded_size, sizeof(abr_coded) == 8);
+ABR_LAYOUT(coded_code, offsetof(abr_coded, code) == 4);
+ABR_LAYOUT(rated_size, sizeof(abr_rated) == 16);
+ABR_LAYOUT(rated_rate, offsetof(abr_rated, rate) == 8);
 
 #undef ABR_LAYOUT
 

@@ -147,7 +147,7 @@ fn line(out: &mut String, scale: &Scale, points: &[(u32, f64)], colour: &str) {
     );
 }
 
-/// Names both lines at their ends, moved apart if they would meet.
+/// Names both lines at their ends, moved apart if they would overlap.
 fn names(out: &mut String, scale: &Scale, points: &[(u32, f64, f64)]) {
     let Some((connections, library, reference)) = points.last() else {
         return;

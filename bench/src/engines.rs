@@ -2,7 +2,6 @@
 //! what a caller has in memory anyway is made before the measured loop.
 
 use std::hint::black_box;
-use std::mem::MaybeUninit;
 
 use abr::ffi;
 use reference::{Params, Rm};
@@ -64,7 +63,7 @@ impl Engine for Library {
 
     fn open(&mut self, vci: u32, time: u64, params: &ffi::abr_params) {
         // SAFETY: here and below every pointer is live and every length true.
-        black_box(unsafe { ffi::abr_open(&mut *self.table, vci, time, params) });
+        black_box(unsafe { ffi::abr_open(&mut *self.table, vci, time, *params) });
     }
 
     fn close(&mut self, vci: u32) {
@@ -81,7 +80,7 @@ impl Engine for Library {
 
     fn slot(&mut self, time: u64, buffer: &mut Octets) {
         let (at, len) = (buffer.as_mut_ptr(), buffer.len());
-        with_output(|sent| unsafe { ffi::abr_slot(&mut *self.table, time, at, len, sent) });
+        black_box(&unsafe { ffi::abr_slot(&mut *self.table, time, at, len) });
     }
 
     fn set_level(&mut self, level: u32) {
@@ -89,36 +88,28 @@ impl Engine for Library {
     }
 
     fn acr(&self, vci: u32) {
-        with_output(|acr| unsafe { ffi::abr_acr(&*self.table, vci, acr) });
+        black_box(&unsafe { ffi::abr_acr(&*self.table, vci) });
     }
 
     fn write_rm(rm: &ffi::abr_rm, buffer: &mut Octets) {
-        black_box(unsafe { ffi::abr_write_rm(rm, buffer.as_mut_ptr(), buffer.len()) });
+        black_box(unsafe { ffi::abr_write_rm(*rm, buffer.as_mut_ptr(), buffer.len()) });
     }
 
     fn read(cell: &Octets) {
-        with_output(|read| unsafe { ffi::abr_read(cell.as_ptr(), cell.len(), read) });
+        black_box(&unsafe { ffi::abr_read(cell.as_ptr(), cell.len()) });
     }
 
     fn code(rate: u64) {
-        with_output(|code| unsafe { ffi::abr_code(rate, code) });
+        black_box(&unsafe { ffi::abr_code(rate) });
     }
 
     fn rate(code: u32) {
-        with_output(|rate| unsafe { ffi::abr_rate(code, rate) });
+        black_box(&unsafe { ffi::abr_rate(code) });
     }
 
     fn house(code: u32) {
-        with_output(|params| unsafe { ffi::abr_house(code, code, code, params) });
+        black_box(&unsafe { ffi::abr_house(code, code, code) });
     }
-}
-
-/// A call with an out-parameter, which is not cleared before.
-#[inline(always)]
-fn with_output<T, A>(call: impl FnOnce(*mut T) -> A) {
-    let mut output = MaybeUninit::<T>::uninit();
-    black_box(call(output.as_mut_ptr()));
-    black_box(&output);
 }
 
 /// The reference. None of its calls is inlined into the loop that measures it,

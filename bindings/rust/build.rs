@@ -1,6 +1,6 @@
-//! Links the archive: the file that ABR_LIB names, else
-//! target/staticlib/libabr.a under the root of the repository, else, beside an
-//! unpacked delivery, its lib/libabr.a.
+//! Links the archive: the file that ABR_LIB names (a relative path is taken from
+//! the repository's root), else, in an unpacked delivery, its lib/libabr.a, else
+//! target/staticlib/libabr.a under the root of the repository.
 
 use std::env;
 use std::fs;
@@ -21,15 +21,14 @@ fn main() {
     println!("cargo:rustc-link-lib=static=abr");
 }
 
-/// The archive's path; a relative one is taken from the repository's root.
+/// The path of the archive.
 fn archive() -> PathBuf {
-    let here = Path::new(env!("CARGO_MANIFEST_DIR"));
-    if let Some(path) = env::var_os("ABR_LIB") {
-        return here.join("../..").join(path);
+    let package = Path::new(env!("CARGO_MANIFEST_DIR"));
+    let root = package.join("../..");
+    let delivered = package.join("../lib/libabr.a");
+    match env::var_os("ABR_LIB") {
+        Some(path) => root.join(path),
+        None if delivered.is_file() => delivered,
+        None => root.join("target/staticlib/libabr.a"),
     }
-    let delivered = here.join("../lib/libabr.a");
-    if delivered.is_file() {
-        return delivered;
-    }
-    here.join("../../target/staticlib/libabr.a")
 }

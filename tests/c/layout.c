@@ -7,43 +7,59 @@
 #include "abr.h"
 #include "check.h"
 
-#define AT(type, field, place, width) \
-    CHECK(offsetof(type, field) == (place) * (width) && sizeof(((type *)0)->field) == (width))
+/* The limits are numbers for the preprocessor too. */
+#if ABR_TIME_MAX >> 62 != 1 || ABR_RATE_MAX != 1023 * ABR_RATE_ONE * 4194304 || ABR_VERSION >> 24
+#error "a limit is wrong in #if"
+#endif
 
-static void offsets_of_params_and_sent(void)
+#define AT(type, field, offset, width) \
+    CHECK(offsetof(type, field) == (offset) && sizeof(((type *)0)->field) == (width))
+
+static void offsets_of_params(void)
 {
     AT(abr_params, pcr, 0, 4);
-    AT(abr_params, mcr, 1, 4);
-    AT(abr_params, icr, 2, 4);
-    AT(abr_params, n, 3, 4);
-    AT(abr_params, r, 4, 4);
-    AT(abr_params, d, 5, 4);
-    AT(abr_params, c, 6, 4);
-    AT(abr_params, crm, 7, 4);
-    AT(abr_params, adtf, 8, 4);
-    AT(abr_params, trm, 9, 4);
-    AT(abr_sent, vci, 0, 8);
-    AT(abr_sent, kind, 1, 8);
-    AT(abr_sent, acr, 2, 8);
-    CHECK(sizeof(abr_params) == 40 && sizeof(abr_sent) == 24);
-    CHECK(sizeof(abr_table) == 8 * ABR_TABLE_WORDS);
+    AT(abr_params, mcr, 4, 4);
+    AT(abr_params, icr, 8, 4);
+    AT(abr_params, n, 12, 4);
+    AT(abr_params, r, 16, 4);
+    AT(abr_params, d, 20, 4);
+    AT(abr_params, c, 24, 4);
+    AT(abr_params, crm, 28, 4);
+    AT(abr_params, adtf, 32, 4);
+    AT(abr_params, trm, 36, 4);
 }
 
-static void offsets_of_rm_and_cell(void)
+static void offsets_of_rm(void)
 {
     AT(abr_rm, vci, 0, 4);
-    AT(abr_rm, dir, 1, 4);
-    AT(abr_rm, er, 6, 4);
-    AT(abr_rm, mcr, 8, 4);
-    AT(abr_rm, ql, 9, 4);
-    AT(abr_rm, sn, 10, 4);
-    AT(abr_cell, kind, 0, 4);
-    AT(abr_cell, vci, 1, 4);
-    AT(abr_cell, efci, 2, 4);
-    AT(abr_cell, dir, 3, 4);
-    AT(abr_cell, er, 8, 4);
-    AT(abr_cell, sn, 12, 4);
-    CHECK(sizeof(abr_rm) == 44 && sizeof(abr_cell) == 52);
+    AT(abr_rm, dir, 4, 4);
+    AT(abr_rm, bn, 8, 4);
+    AT(abr_rm, ci, 12, 4);
+    AT(abr_rm, ni, 16, 4);
+    AT(abr_rm, ra, 20, 4);
+    AT(abr_rm, er, 24, 4);
+    AT(abr_rm, ccr, 28, 4);
+    AT(abr_rm, mcr, 32, 4);
+    AT(abr_rm, ql, 36, 4);
+    AT(abr_rm, sn, 40, 4);
+}
+
+static void offsets_of_answers(void)
+{
+    AT(abr_sent, refusal, 0, 4);
+    AT(abr_sent, kind, 4, 4);
+    AT(abr_sent, vci, 8, 4);
+    AT(abr_sent, acr, 16, 8);
+    AT(abr_allowed, refusal, 0, 4);
+    AT(abr_allowed, acr, 8, 8);
+    AT(abr_cell, refusal, 0, 4);
+    AT(abr_cell, kind, 4, 4);
+    AT(abr_cell, efci, 8, 4);
+    AT(abr_cell, rm, 12, 44);
+    AT(abr_coded, refusal, 0, 4);
+    AT(abr_coded, code, 4, 4);
+    AT(abr_rated, refusal, 0, 4);
+    AT(abr_rated, rate, 8, 8);
 }
 
 /* Each field of an RM cell is written from and read to its own place. */
@@ -52,17 +68,15 @@ static void every_rm_field(void)
     static const uint32_t values[11] = {4660, 1, 1, 1, 1, 1, 0x4001, 0x5002, 0x6003, 0x89ABCDEF, 0xFEDCBA98};
     uint8_t octets[ABR_CELL_OCTETS];
     for (int field = 0; field < 11; field++) {
-        uint32_t in[11] = {0};
-        uint32_t out[13];
+        uint32_t fields[11] = {0};
         abr_rm rm;
         abr_cell cell;
-        in[field] = values[field];
-        memcpy(&rm, in, sizeof rm);
-        CHECK(abr_write_rm(&rm, octets, sizeof octets) == ABR_OK);
-        CHECK(abr_read(octets, sizeof octets, &cell) == ABR_OK);
-        memcpy(out, &cell, sizeof out);
-        CHECK(out[0] == ABR_CELL_RM && out[2] == 0 && out[1] == in[0]);
-        CHECK(memcmp(out + 3, in + 1, 40) == 0);
+        fields[field] = values[field];
+        memcpy(&rm, fields, sizeof rm);
+        CHECK(abr_write_rm(rm, octets, sizeof octets) == ABR_OK);
+        cell = abr_read(octets, sizeof octets);
+        CHECK(cell.refusal == ABR_OK && cell.kind == ABR_CELL_RM && cell.efci == 0);
+        CHECK(memcmp(&cell.rm, &rm, sizeof rm) == 0);
     }
 }
 
@@ -81,8 +95,17 @@ static void every_parameter(void)
             words[field] = bad[field];
         }
         memcpy(&params, words, sizeof params);
-        CHECK(abr_open(&table, 32, 0, &params) == (field < 10 ? ABR_REFUSED_RANGE : ABR_OK));
+        CHECK(abr_open(&table, 32, 0, params) == (field < 10 ? ABR_REFUSED_RANGE : ABR_OK));
     }
+}
+
+/* The house set has each code in its own place. */
+static void every_house_field(void)
+{
+    static const uint32_t words[10] = {1, 2, 3, ABR_HOUSE_N, ABR_HOUSE_R, ABR_HOUSE_D, ABR_HOUSE_C,
+                                       ABR_HOUSE_CRM, ABR_HOUSE_ADTF, ABR_HOUSE_TRM};
+    abr_params params = abr_house(1, 2, 3);
+    CHECK(memcmp(&params, words, sizeof params) == 0);
 }
 
 /* A table uses words up to the last and none after it: 64 busy connections. */
@@ -92,18 +115,17 @@ static void the_whole_table(void)
         abr_table table;
         uint64_t after[8];
     } lent;
-    abr_params params;
+    abr_params params = abr_house(0x7FFF, 0x4000, 0x53E8);
     uint8_t octets[ABR_CELL_OCTETS];
-    abr_sent sent;
-    abr_house(0x7FFF, 0x4000, 0x53E8, &params);
     for (uint32_t vci = 32; vci < 96; vci++) {
-        CHECK(abr_open(&lent.table, vci, 0, &params) == ABR_OK);
+        CHECK(abr_open(&lent.table, vci, 0, params) == ABR_OK);
         CHECK(abr_offer(&lent.table, vci, 1) == ABR_OK);
     }
-    CHECK(abr_open(&lent.table, 96, 0, &params) == ABR_REFUSED_FULL);
+    CHECK(abr_open(&lent.table, 96, 0, params) == ABR_REFUSED_FULL);
     for (uint32_t vci = 32; vci < 96; vci++) {
-        CHECK(abr_slot(&lent.table, 0, octets, sizeof octets, &sent) == ABR_OK);
-        CHECK(sent.vci == vci && sent.kind == ABR_SENT_FORWARD && sent.acr == 512000);
+        abr_sent sent = abr_slot(&lent.table, 0, octets, sizeof octets);
+        CHECK(sent.refusal == ABR_OK && sent.vci == vci);
+        CHECK(sent.kind == ABR_SENT_FORWARD && sent.acr == 512000);
     }
     for (int i = 0; i < 8; i++) {
         CHECK(lent.after[i] == 0);
@@ -116,20 +138,25 @@ static void any_alignment(void)
     static uint64_t space[16];
     static abr_table table;
     abr_rm rm = {32, 1, 0, 1, 0, 0, 0x7FFF, 0, 0, 0, 0};
-    abr_cell cell;
-    abr_sent sent;
-    abr_params params;
-    abr_house(0x7FFF, 0x4000, 0x53E8, &params);
-    CHECK(abr_open(&table, 32, 0, &params) == ABR_OK);
+    CHECK(abr_open(&table, 32, 0, abr_house(0x7FFF, 0x4000, 0x53E8)) == ABR_OK);
     CHECK(abr_offer(&table, 32, 100) == ABR_OK);
     for (size_t shift = 0; shift < 16; shift++) {
         uint8_t *octets = (uint8_t *)space + shift;
-        CHECK(abr_write_rm(&rm, octets, ABR_CELL_OCTETS) == ABR_OK);
-        CHECK(abr_read(octets, ABR_CELL_OCTETS, &cell) == ABR_OK && cell.er == 0x7FFF);
+        abr_cell cell;
+        abr_sent sent;
+        CHECK(abr_write_rm(rm, octets, ABR_CELL_OCTETS) == ABR_OK);
+        cell = abr_read(octets, ABR_CELL_OCTETS);
+        CHECK(cell.refusal == ABR_OK && cell.rm.er == 0x7FFF);
         CHECK(abr_receive(&table, octets, ABR_CELL_OCTETS) == ABR_OK);
-        CHECK(abr_slot(&table, shift << 40, octets, ABR_CELL_OCTETS, &sent) == ABR_OK);
-        CHECK(sent.vci == 32);
+        sent = abr_slot(&table, shift << 40, octets, ABR_CELL_OCTETS);
+        CHECK(sent.refusal == ABR_OK && sent.vci == 32);
     }
+}
+
+/* Two slots' answers, field by field: padding may differ. */
+static int same(abr_sent a, abr_sent b)
+{
+    return a.refusal == b.refusal && a.kind == b.kind && a.vci == b.vci && a.acr == b.acr;
 }
 
 /* A table may be copied as a whole: the copy answers as the first one does. */
@@ -139,18 +166,17 @@ static void a_copy_answers_the_same(void)
     static uint64_t space[ABR_TABLE_WORDS + 1];
     abr_table *second = (abr_table *)(space + 1);
     uint8_t octets[ABR_CELL_OCTETS] = {0}, others[ABR_CELL_OCTETS] = {0};
-    abr_sent sent, other;
-    abr_params params;
-    abr_house(0x7FFF, 0x4000, 0x53E8, &params);
+    abr_params params = abr_house(0x7FFF, 0x4000, 0x53E8);
     for (uint32_t vci = 32; vci < 40; vci++) {
-        CHECK(abr_open(&first, vci, 0, &params) == ABR_OK);
+        CHECK(abr_open(&first, vci, 0, params) == ABR_OK);
         CHECK(abr_offer(&first, vci, 100) == ABR_OK);
     }
     for (uint64_t slot = 0; slot < 400; slot++) {
+        abr_sent sent, other;
         memcpy(second, &first, sizeof first);
-        CHECK(abr_slot(&first, slot * 125000, octets, sizeof octets, &sent) == ABR_OK);
-        CHECK(abr_slot(second, slot * 125000, others, sizeof others, &other) == ABR_OK);
-        CHECK(sent.kind != ABR_SENT_IDLE && memcmp(&sent, &other, sizeof sent) == 0);
+        sent = abr_slot(&first, slot * 125000, octets, sizeof octets);
+        other = abr_slot(second, slot * 125000, others, sizeof others);
+        CHECK(sent.refusal == ABR_OK && sent.kind != ABR_SENT_IDLE && same(sent, other));
         CHECK(memcmp(octets, others, sizeof octets) == 0);
         CHECK(memcmp(&first, second, sizeof first) == 0);
     }
@@ -158,12 +184,16 @@ static void a_copy_answers_the_same(void)
 
 int main(void)
 {
-    any_alignment();
-    a_copy_answers_the_same();
-    offsets_of_params_and_sent();
-    offsets_of_rm_and_cell();
+    CHECK(abr_version() == ABR_VERSION);
+    CHECK(abr_table_words() == ABR_TABLE_WORDS);
+    offsets_of_params();
+    offsets_of_rm();
+    offsets_of_answers();
     every_rm_field();
     every_parameter();
+    every_house_field();
+    any_alignment();
+    a_copy_answers_the_same();
     the_whole_table();
     printf("layout: %s\n", checks_failed ? "FAILED" : "ok");
     return checks_failed != 0;

@@ -11,66 +11,66 @@
 #include "abr.h"
 #include "check.h"
 
-enum { THOUSAND = 0x53E8, SLOWEST = 0x4000 };
+#define MS UINT64_C(1000000)
 
-#define MS ((uint64_t)1000000)
-
+static const uint32_t thousand = 0x53E8, slowest = 0x4000;
 static abr_table table;
 static uint8_t cell[ABR_CELL_OCTETS];
 
 /* The slot at a time goes to vci with this kind and rate. */
-static int slot_is(uint64_t time, uint64_t vci, uint64_t kind, uint64_t acr)
+static int slot_is(uint64_t time, uint32_t vci, uint32_t kind, uint64_t acr)
 {
-    abr_sent sent = {9, 9, 9};
-    uint32_t answer = abr_slot(&table, time, cell, sizeof cell, &sent);
-    return answer == ABR_OK && sent.vci == vci && sent.kind == kind && sent.acr == acr;
+    abr_sent sent = abr_slot(&table, time, cell, sizeof cell);
+    return sent.refusal == ABR_OK && sent.vci == vci && sent.kind == kind && sent.acr == acr;
 }
 
 /* A backward cell for vci is received. */
 static uint32_t feedback(uint32_t vci, uint32_t ci, uint32_t er)
 {
-    abr_rm rm = {0, 0, 0, 0, 0, 0, 0, 0, 0, 0, 0};
+    abr_rm rm = {vci, 1, 0, ci, 0, 0, er, 0, 0, 0, 0};
     uint8_t octets[ABR_CELL_OCTETS];
-    rm.vci = vci;
-    rm.dir = 1;
-    rm.ci = ci;
-    rm.er = er;
-    if (abr_write_rm(&rm, octets, sizeof octets) != ABR_OK) {
-        return ABR_REFUSED_RANGE;
-    }
-    return abr_receive(&table, octets, sizeof octets);
+    uint32_t refusal = abr_write_rm(rm, octets, sizeof octets);
+    return refusal != ABR_OK ? refusal : abr_receive(&table, octets, sizeof octets);
 }
 
-static uint64_t acr_of(uint32_t vci)
+static int acr_is(uint32_t vci, uint64_t acr)
 {
-    uint64_t acr = 0;
-    return abr_acr(&table, vci, &acr) == ABR_OK ? acr : 0;
+    abr_allowed allowed = abr_acr(&table, vci);
+    return allowed.refusal == ABR_OK && allowed.acr == acr;
 }
 
 static void opens(void)
 {
-    abr_params params;
-    abr_house(THOUSAND, SLOWEST, THOUSAND, &params);
+    abr_params params = abr_house(thousand, slowest, thousand);
+    CHECK(params.pcr == thousand && params.mcr == slowest && params.icr == thousand);
     CHECK(params.n == ABR_HOUSE_N && params.r == ABR_HOUSE_R && params.d == ABR_HOUSE_D);
     CHECK(params.c == ABR_HOUSE_C && params.crm == ABR_HOUSE_CRM);
     CHECK(params.adtf == ABR_HOUSE_ADTF && params.trm == ABR_HOUSE_TRM);
-    CHECK(abr_open(&table, 31, 0, &params) == ABR_REFUSED_LOW_VCI);
-    CHECK(abr_open(&table, 33, 0, &params) == ABR_OK);
-    CHECK(abr_open(&table, 32, 0, &params) == ABR_OK);
-    CHECK(abr_open(&table, 32, 0, &params) == ABR_REFUSED_ALREADY_OPEN);
+    CHECK(abr_open(&table, 31, 0, params) == ABR_REFUSED_LOW_VCI);
+    CHECK(abr_open(&table, 33, 0, params) == ABR_OK);
+    CHECK(abr_open(&table, 32, 0, params) == ABR_OK);
+    CHECK(abr_open(&table, 32, 0, params) == ABR_REFUSED_ALREADY_OPEN);
     CHECK(abr_offer(&table, 32, 100) == ABR_OK);
     CHECK(abr_offer(&table, 33, 100) == ABR_OK);
     CHECK(abr_offer(&table, 34, 100) == ABR_REFUSED_NOT_OPEN);
     CHECK(abr_offer(&table, 33, ABR_WAITING_MAX) == ABR_REFUSED_TOO_MUCH_DATA);
 }
 
+/* The slot's cell, read. */
+static abr_rm rm_in_cell(void)
+{
+    abr_cell read = abr_read(cell, sizeof cell);
+    CHECK(read.refusal == ABR_OK && read.kind == ABR_CELL_RM && read.efci == 0);
+    return read.rm;
+}
+
 static void both_send(void)
 {
-    abr_cell read;
+    abr_rm rm;
     CHECK(slot_is(0, 32, ABR_SENT_FORWARD, 512000));
-    CHECK(abr_read(cell, sizeof cell, &read) == ABR_OK);
-    CHECK(read.kind == ABR_CELL_RM && read.vci == 32 && read.dir == 0);
-    CHECK(read.er == THOUSAND && read.ccr == THOUSAND && read.mcr == SLOWEST);
+    rm = rm_in_cell();
+    CHECK(rm.vci == 32 && rm.dir == 0);
+    CHECK(rm.er == thousand && rm.ccr == thousand && rm.mcr == slowest);
     CHECK(slot_is(1, 33, ABR_SENT_FORWARD, 512000));
     CHECK(slot_is(2, 0, ABR_SENT_IDLE, 0));
     CHECK(slot_is(1 * MS, 32, ABR_SENT_DATA, 512000));
@@ -80,36 +80,51 @@ static void both_send(void)
 static void feedback_moves_the_rates(void)
 {
     CHECK(feedback(32, 1, ABR_CODE_MAX) == ABR_OK);
-    CHECK(acr_of(32) == 480000 && acr_of(33) == 512000);
+    CHECK(acr_is(32, 480000) && acr_is(33, 512000));
     CHECK(feedback(33, 0, 0x4E00) == ABR_OK); /* 128 cells per second */
-    CHECK(acr_of(33) == 65536);
+    CHECK(acr_is(33, 65536));
     CHECK(slot_is(2 * MS + 66666, 0, ABR_SENT_IDLE, 0)); /* the gap is 1,066,667 */
     CHECK(slot_is(2 * MS + 66667, 32, ABR_SENT_DATA, 480000));
     CHECK(slot_is(8 * MS + 812500, 32, ABR_SENT_DATA, 480000));
     CHECK(slot_is(8 * MS + 812501, 33, ABR_SENT_DATA, 65536)); /* 7,812,500 */
     CHECK(feedback(32, 0, ABR_CODE_MAX) == ABR_OK);
-    CHECK(acr_of(32) == 512000);
+    CHECK(acr_is(32, 512000));
 }
 
 static void a_cell_is_turned(void)
 {
-    abr_rm rm = {32, 0, 0, 0, 0, 0, THOUSAND, THOUSAND, SLOWEST, 0, 0};
+    abr_rm rm = {32, 0, 0, 0, 0, 0, thousand, thousand, slowest, 0, 0};
     uint8_t octets[ABR_CELL_OCTETS];
-    abr_cell read;
     CHECK(abr_set_level(&table, 3) == ABR_REFUSED_TOO_LARGE);
     CHECK(abr_set_level(&table, 2) == ABR_OK);
-    CHECK(abr_write_rm(&rm, octets, sizeof octets) == ABR_OK);
+    CHECK(abr_write_rm(rm, octets, sizeof octets) == ABR_OK);
     CHECK(abr_receive(&table, octets, sizeof octets) == ABR_OK);
     CHECK(slot_is(20 * MS, 32, ABR_SENT_TURNED, 512000));
-    CHECK(abr_read(cell, sizeof cell, &read) == ABR_OK);
-    CHECK(read.vci == 32 && read.dir == 1 && read.ci == 1 && read.ni == 0);
-    CHECK(read.er == THOUSAND && read.ccr == THOUSAND && read.mcr == SLOWEST);
+    rm = rm_in_cell();
+    CHECK(rm.vci == 32 && rm.dir == 1 && rm.ci == 1 && rm.ni == 0);
+    CHECK(rm.er == thousand && rm.ccr == thousand && rm.mcr == slowest);
+}
+
+/* 1,000 cells per second and its code; beside a refusal there is 0. */
+static void codes(void)
+{
+    abr_coded coded = abr_code(512000);
+    abr_rated rated = abr_rate(thousand);
+    CHECK(coded.refusal == ABR_OK && coded.code == thousand);
+    CHECK(rated.refusal == ABR_OK && rated.rate == 512000);
+    coded = abr_code(ABR_RATE_MAX + 1);
+    rated = abr_rate(0x10000);
+    CHECK(coded.refusal == ABR_REFUSED_TOO_LARGE && coded.code == 0);
+    CHECK(rated.refusal == ABR_REFUSED_RANGE && rated.rate == 0);
 }
 
 static void closes(void)
 {
+    abr_allowed allowed;
     CHECK(abr_close(&table, 32) == ABR_OK);
     CHECK(abr_close(&table, 32) == ABR_REFUSED_NOT_OPEN);
+    allowed = abr_acr(&table, 32);
+    CHECK(allowed.refusal == ABR_REFUSED_NOT_OPEN && allowed.acr == 0);
     CHECK(abr_close(&table, 33) == ABR_OK);
     CHECK(slot_is(ABR_TIME_MAX, 0, ABR_SENT_IDLE, 0));
     CHECK(strcmp(abr_refusal_text(ABR_OK), "accepted") == 0);
@@ -118,10 +133,12 @@ static void closes(void)
 
 static int scenario(const char *name)
 {
+    CHECK(abr_matches());
     opens();
     both_send();
     feedback_moves_the_rates();
     a_cell_is_turned();
+    codes();
     closes();
     printf("%s: %s\n", name, checks_failed ? "FAILED" : "ok");
     return checks_failed != 0;

@@ -67,8 +67,8 @@ pub enum Cell {
 /// ```
 pub fn write_rm(rm: &Rm, cell: &mut [u8]) -> Result<(), Refusal> {
     let rm = ffi::abr_rm::from(*rm);
-    // SAFETY: both pointers are live and the length is the buffer's own.
-    Refusal::outcome(unsafe { ffi::abr_write_rm(&rm, cell.as_mut_ptr(), cell.len()) })
+    // SAFETY: the pointer is live and the length is the buffer's own.
+    Refusal::outcome(unsafe { ffi::abr_write_rm(rm, cell.as_mut_ptr(), cell.len()) })
 }
 
 /// Reads a cell.
@@ -86,10 +86,10 @@ pub fn write_rm(rm: &Rm, cell: &mut [u8]) -> Result<(), Refusal> {
 /// assert_eq!(abr::read(&cell), Ok(Cell::Data { vci: 0, efci: false }));
 /// ```
 pub fn read(cell: &[u8]) -> Result<Cell, Refusal> {
-    let mut raw = ffi::abr_cell::default();
-    // SAFETY: both pointers are live and the length is the cell's own.
-    Refusal::outcome(unsafe { ffi::abr_read(cell.as_ptr(), cell.len(), &mut raw) })?;
-    Ok(raw.into())
+    // SAFETY: the pointer is live and the length is the cell's own.
+    let read = unsafe { ffi::abr_read(cell.as_ptr(), cell.len()) };
+    Refusal::outcome(read.refusal)?;
+    Ok(read.into())
 }
 
 impl From<Rm> for ffi::abr_rm {
@@ -110,26 +110,34 @@ impl From<Rm> for ffi::abr_rm {
     }
 }
 
-impl From<ffi::abr_cell> for Cell {
-    fn from(raw: ffi::abr_cell) -> Self {
-        if raw.kind == 1 {
-            return Cell::Data {
-                vci: raw.vci,
-                efci: raw.efci == 1,
-            };
+impl From<ffi::abr_rm> for Rm {
+    fn from(rm: ffi::abr_rm) -> Self {
+        Rm {
+            vci: rm.vci,
+            backward: rm.dir == 1,
+            bn: rm.bn == 1,
+            ci: rm.ci == 1,
+            ni: rm.ni == 1,
+            ra: rm.ra == 1,
+            er: rm.er,
+            ccr: rm.ccr,
+            mcr: rm.mcr,
+            ql: rm.ql,
+            sn: rm.sn,
         }
-        Cell::Rm(Rm {
-            vci: raw.vci,
-            backward: raw.dir == 1,
-            bn: raw.bn == 1,
-            ci: raw.ci == 1,
-            ni: raw.ni == 1,
-            ra: raw.ra == 1,
-            er: raw.er,
-            ccr: raw.ccr,
-            mcr: raw.mcr,
-            ql: raw.ql,
-            sn: raw.sn,
-        })
+    }
+}
+
+impl From<ffi::abr_cell> for Cell {
+    /// The cell of an accepted read.
+    fn from(read: ffi::abr_cell) -> Self {
+        match read.kind {
+            1 => Cell::Data {
+                vci: read.rm.vci,
+                efci: read.efci == 1,
+            },
+            2 => Cell::Rm(read.rm.into()),
+            other => unreachable!("the library answered kind {other}"),
+        }
     }
 }

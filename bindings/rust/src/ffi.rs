@@ -1,7 +1,10 @@
-//! The C interface as `include/abr.h` declares it. Every call is `unsafe` only
-//! because of its pointers.
+//! The C interface as `include/abr.h` declares it. Calls with a pointer are
+//! `unsafe` because of it, the others only because they are foreign.
 
 #![allow(non_camel_case_types, missing_docs)]
+
+/// The version of the header: major, minor and patch number, eight bits each.
+pub const ABR_VERSION: u32 = 0x00_02_00;
 
 /// The words of a table.
 pub const ABR_TABLE_WORDS: usize = 1859;
@@ -16,16 +19,7 @@ pub struct abr_table {
 /// The parameters of an open.
 pub use crate::Params as abr_params;
 
-/// The answer of a slot.
-#[repr(C)]
-#[derive(Debug, Clone, Copy, PartialEq, Eq, Default)]
-pub struct abr_sent {
-    pub vci: u64,
-    pub kind: u64,
-    pub acr: u64,
-}
-
-/// The fields of an RM cell to be written.
+/// The fields of an RM cell.
 #[repr(C)]
 #[derive(Debug, Clone, Copy, PartialEq, Eq, Default)]
 pub struct abr_rm {
@@ -42,42 +36,70 @@ pub struct abr_rm {
     pub sn: u32,
 }
 
-/// What reading a cell gives.
+/// The answer of a slot.
+#[repr(C)]
+#[derive(Debug, Clone, Copy, PartialEq, Eq, Default)]
+pub struct abr_sent {
+    pub refusal: u32,
+    pub kind: u32,
+    pub vci: u32,
+    pub acr: u64,
+}
+
+/// The answer of `abr_acr`.
+#[repr(C)]
+#[derive(Debug, Clone, Copy, PartialEq, Eq, Default)]
+pub struct abr_allowed {
+    pub refusal: u32,
+    pub acr: u64,
+}
+
+/// The answer of `abr_read`.
 #[repr(C)]
 #[derive(Debug, Clone, Copy, PartialEq, Eq, Default)]
 pub struct abr_cell {
+    pub refusal: u32,
     pub kind: u32,
-    pub vci: u32,
     pub efci: u32,
-    pub dir: u32,
-    pub bn: u32,
-    pub ci: u32,
-    pub ni: u32,
-    pub ra: u32,
-    pub er: u32,
-    pub ccr: u32,
-    pub mcr: u32,
-    pub ql: u32,
-    pub sn: u32,
+    pub rm: abr_rm,
+}
+
+/// The answer of `abr_code`.
+#[repr(C)]
+#[derive(Debug, Clone, Copy, PartialEq, Eq, Default)]
+pub struct abr_coded {
+    pub refusal: u32,
+    pub code: u32,
+}
+
+/// The answer of `abr_rate`.
+#[repr(C)]
+#[derive(Debug, Clone, Copy, PartialEq, Eq, Default)]
+pub struct abr_rated {
+    pub refusal: u32,
+    pub rate: u64,
 }
 
 extern "C" {
-    pub fn abr_open(table: *mut abr_table, vci: u32, time: u64, params: *const abr_params) -> u32;
+    pub fn abr_version() -> u32;
+    pub fn abr_table_words() -> u32;
+    pub fn abr_open(table: *mut abr_table, vci: u32, time: u64, params: abr_params) -> u32;
     pub fn abr_close(table: *mut abr_table, vci: u32) -> u32;
     pub fn abr_receive(table: *mut abr_table, cell: *const u8, len: usize) -> u32;
     pub fn abr_offer(table: *mut abr_table, vci: u32, cells: u64) -> u32;
     pub fn abr_set_level(table: *mut abr_table, level: u32) -> u32;
-    pub fn abr_slot(
-        table: *mut abr_table,
-        time: u64,
-        cell: *mut u8,
-        len: usize,
-        sent: *mut abr_sent,
-    ) -> u32;
-    pub fn abr_acr(table: *const abr_table, vci: u32, acr: *mut u64) -> u32;
-    pub fn abr_write_rm(rm: *const abr_rm, cell: *mut u8, len: usize) -> u32;
-    pub fn abr_read(cell: *const u8, len: usize, read: *mut abr_cell) -> u32;
-    pub fn abr_code(rate: u64, code: *mut u32) -> u32;
-    pub fn abr_rate(code: u32, rate: *mut u64) -> u32;
-    pub fn abr_house(pcr: u32, mcr: u32, icr: u32, params: *mut abr_params);
+    pub fn abr_slot(table: *mut abr_table, time: u64, cell: *mut u8, len: usize) -> abr_sent;
+    pub fn abr_acr(table: *const abr_table, vci: u32) -> abr_allowed;
+    pub fn abr_write_rm(rm: abr_rm, cell: *mut u8, len: usize) -> u32;
+    pub fn abr_read(cell: *const u8, len: usize) -> abr_cell;
+    pub fn abr_code(rate: u64) -> abr_coded;
+    pub fn abr_rate(code: u32) -> abr_rated;
+    pub fn abr_house(pcr: u32, mcr: u32, icr: u32) -> abr_params;
+}
+
+/// Whether these declarations and the linked archive belong together.
+pub fn abr_matches() -> bool {
+    // SAFETY: neither call has an argument.
+    let (version, words) = unsafe { (abr_version(), abr_table_words()) };
+    version == ABR_VERSION && words as usize == ABR_TABLE_WORDS
 }

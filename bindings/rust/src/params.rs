@@ -39,9 +39,7 @@ impl Params {
     /// assert_eq!((params.crm, params.adtf, params.trm), (524_288, 50, 7));
     /// ```
     pub fn house(pcr: u32, mcr: u32, icr: u32) -> Self {
-        let mut params = Params::default();
-        // SAFETY: the pointer is to live memory.
-        unsafe { ffi::abr_house(pcr, mcr, icr, &mut params) };
-        params
+        // SAFETY: the call has no pointer.
+        unsafe { ffi::abr_house(pcr, mcr, icr) }
     }
 }

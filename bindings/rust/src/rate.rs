@@ -22,10 +22,10 @@ pub const RATE_MAX: u64 = 1023 << 31;
 /// assert_eq!(abr::code(RATE_MAX + 1), Err(Refusal::TooLarge));
 /// ```
 pub fn code(rate: u64) -> Result<u32, Refusal> {
-    let mut code = 0;
-    // SAFETY: the pointer is to a live u32.
-    Refusal::outcome(unsafe { ffi::abr_code(rate, &mut code) })?;
-    Ok(code)
+    // SAFETY: the call has no pointer.
+    let coded = unsafe { ffi::abr_code(rate) };
+    Refusal::outcome(coded.refusal)?;
+    Ok(coded.code)
 }
 
 /// The rate of a code. Bit 15 is ignored.
@@ -39,8 +39,8 @@ pub fn code(rate: u64) -> Result<u32, Refusal> {
 /// assert_eq!(abr::rate(0x3FFF), Ok(0));
 /// ```
 pub fn rate(code: u32) -> Result<u64, Refusal> {
-    let mut rate = 0;
-    // SAFETY: the pointer is to a live u64.
-    Refusal::outcome(unsafe { ffi::abr_rate(code, &mut rate) })?;
-    Ok(rate)
+    // SAFETY: the call has no pointer.
+    let rated = unsafe { ffi::abr_rate(code) };
+    Refusal::outcome(rated.refusal)?;
+    Ok(rated.rate)
 }

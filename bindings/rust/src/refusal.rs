@@ -78,14 +78,14 @@ impl Refusal {
     pub const fn text(self) -> &'static str {
         match self {
             Refusal::Length => "cell or buffer is not 53 octets",
-            Refusal::HeaderCheck => "header check (octet 5) is wrong",
+            Refusal::HeaderCheck => "octet 5 is wrong",
             Refusal::Path => "VPI is not 0",
             Refusal::PayloadType => "payload type is 4, 5 or 7",
             Refusal::Crc => "CRC-10 is wrong",
-            Refusal::Protocol => "RM protocol is not 1",
-            Refusal::Range => "parameter or field is out of range",
+            Refusal::Protocol => "protocol is not 1",
+            Refusal::Range => "parameter, field or rate code is out of range",
             Refusal::Time => "time is over 2^62",
-            Refusal::TooLarge => "level is over 2 or rate above the largest",
+            Refusal::TooLarge => "level is over 2 or rate is above the largest",
             Refusal::LowVci => "VCI is under 32",
             Refusal::NotOpen => "VCI is not open",
             Refusal::AlreadyOpen => "VCI is already open",

@@ -48,7 +48,12 @@ pub struct Table {
 
 impl Table {
     /// A table with nothing open and congestion level 0.
+    ///
+    /// # Panics
+    /// If the linked archive is of another version than this binding, whose
+    /// table could then be too short for its calls.
     pub fn new() -> Self {
+        assert!(ffi::abr_matches(), "the archive is of another version");
         let words = [0; ffi::ABR_TABLE_WORDS];
         Table {
             raw: Box::new(ffi::abr_table { words }),
@@ -72,8 +77,8 @@ impl Table {
     /// assert_eq!(table.acr(32), Ok(512_000));
     /// ```
     pub fn open(&mut self, vci: u32, time: u64, params: &Params) -> Result<(), Refusal> {
-        // SAFETY: both pointers are live for the call.
-        Refusal::outcome(unsafe { ffi::abr_open(&mut *self.raw, vci, time, params) })
+        // SAFETY: the pointer is live for the call.
+        Refusal::outcome(unsafe { ffi::abr_open(&mut *self.raw, vci, time, *params) })
     }
 
     /// Closes a connection and drops all that waits on it.
@@ -169,17 +174,9 @@ impl Table {
     /// assert_eq!(table.slot(TIME_MAX + 1, &mut cell), Err(Refusal::Time));
     /// ```
     pub fn slot(&mut self, time: u64, cell: &mut [u8]) -> Result<Option<Sent>, Refusal> {
-        let mut sent = ffi::abr_sent::default();
         // SAFETY: the pointers are live and the length is the buffer's own.
-        Refusal::outcome(unsafe {
-            ffi::abr_slot(
-                &mut *self.raw,
-                time,
-                cell.as_mut_ptr(),
-                cell.len(),
-                &mut sent,
-            )
-        })?;
+        let sent = unsafe { ffi::abr_slot(&mut *self.raw, time, cell.as_mut_ptr(), cell.len()) };
+        Refusal::outcome(sent.refusal)?;
         Ok(sent.into())
     }
 
@@ -192,10 +189,10 @@ impl Table {
     /// assert_eq!(abr::Table::new().acr(32), Err(abr::Refusal::NotOpen));
     /// ```
     pub fn acr(&self, vci: u32) -> Result<u64, Refusal> {
-        let mut acr = 0;
-        // SAFETY: both pointers are live for the call.
-        Refusal::outcome(unsafe { ffi::abr_acr(&*self.raw, vci, &mut acr) })?;
-        Ok(acr)
+        // SAFETY: the pointer is live for the call.
+        let allowed = unsafe { ffi::abr_acr(&*self.raw, vci) };
+        Refusal::outcome(allowed.refusal)?;
+        Ok(allowed.acr)
     }
 }
 
@@ -212,7 +209,7 @@ impl fmt::Debug for Table {
 }
 
 impl From<ffi::abr_sent> for Option<Sent> {
-    /// Nothing for an idle slot.
+    /// What an accepted slot sends; nothing for an idle one.
     fn from(sent: ffi::abr_sent) -> Self {
         let kind = match sent.kind {
             0 => return None,
@@ -222,7 +219,7 @@ impl From<ffi::abr_sent> for Option<Sent> {
             other => unreachable!("the library answered kind {other}"),
         };
         Some(Sent {
-            vci: sent.vci as u32,
+            vci: sent.vci,
             kind,
             acr: sent.acr,
         })

@@ -1,4 +1,5 @@
-//! The binding compared with the C header: numbers, layouts and texts.
+//! The binding compared with the C header: numbers, layouts, texts and
+//! prototypes; and the version of all that carries one.
 
 use std::mem::{align_of, offset_of, size_of};
 
@@ -6,34 +7,71 @@ use abr::{ffi, Refusal};
 
 const HEADER: &str = include_str!("../../../include/abr.h");
 
-/// The rest of the line `#define NAME rest`, without a comment.
-fn defined(name: &str) -> &'static str {
+/// The number and the comment of the line `#define NAME number` or
+/// `#define NAME number /* comment */`.
+fn defined(name: &str) -> (u64, &'static str) {
     let start = format!("#define {name} ");
     let line = HEADER.lines().find(|line| line.starts_with(&start));
     let rest = &line.unwrap_or_else(|| panic!("{name} is not in the header"))[start.len()..];
-    rest.split("/*").next().expect("split gives a first").trim()
+    let (value, comment) = rest.split_once("/*").unwrap_or((rest, ""));
+    (number(value.trim()), comment.trim_end_matches("*/").trim())
 }
 
-/// A plain decimal number of the header.
-fn number(name: &str) -> u64 {
-    let text = defined(name);
-    text.parse().unwrap_or_else(|_| panic!("{name} is {text}"))
+/// A number as the header writes it: `7u`, `0x7FFFu` or `UINT64_C(7)`.
+fn number(text: &str) -> u64 {
+    let digits = text
+        .trim_start_matches("UINT64_C(")
+        .trim_end_matches(['u', ')']);
+    let parsed = match digits.strip_prefix("0x") {
+        Some(digits) => u64::from_str_radix(digits, 16),
+        None => digits.parse(),
+    };
+    assert!(text.ends_with(['u', ')']), "{text} is not unsigned");
+    parsed.unwrap_or_else(|_| panic!("{text} is not a number"))
+}
+
+/// The value of a constant of the header.
+fn value(name: &str) -> u64 {
+    defined(name).0
 }
 
 #[test]
 fn the_limits_are_those_of_the_header() {
-    assert_eq!(number("ABR_TABLE_WORDS"), ffi::ABR_TABLE_WORDS as u64);
-    assert_eq!(number("ABR_CELL_OCTETS"), abr::CELL_OCTETS as u64);
-    assert_eq!(number("ABR_CONNECTIONS_MAX"), abr::CONNECTIONS_MAX as u64);
-    assert_eq!(number("ABR_VCI_MIN"), u64::from(abr::VCI_MIN));
-    assert_eq!(number("ABR_VCI_MAX"), u64::from(abr::VCI_MAX));
-    assert_eq!(number("ABR_WAITING_MAX"), abr::WAITING_MAX);
-    assert_eq!(number("ABR_LEVEL_MAX"), u64::from(abr::LEVEL_MAX));
-    assert_eq!(number("ABR_RATE_ONE"), abr::RATE_ONE);
-    assert_eq!(defined("ABR_TIME_MAX"), "((uint64_t)1 << 62)");
-    assert_eq!(abr::TIME_MAX, 1 << 62);
-    assert_eq!(defined("ABR_RATE_MAX"), "((uint64_t)1023 << 31)");
-    assert_eq!(abr::RATE_MAX, 1023 << 31);
+    assert_eq!(value("ABR_TABLE_WORDS"), ffi::ABR_TABLE_WORDS as u64);
+    assert_eq!(value("ABR_CELL_OCTETS"), abr::CELL_OCTETS as u64);
+    assert_eq!(value("ABR_CONNECTIONS_MAX"), abr::CONNECTIONS_MAX as u64);
+    assert_eq!(value("ABR_VCI_MIN"), u64::from(abr::VCI_MIN));
+    assert_eq!(value("ABR_VCI_MAX"), u64::from(abr::VCI_MAX));
+    assert_eq!(value("ABR_WAITING_MAX"), abr::WAITING_MAX);
+    assert_eq!(value("ABR_LEVEL_MAX"), u64::from(abr::LEVEL_MAX));
+    assert_eq!(value("ABR_RATE_ONE"), abr::RATE_ONE);
+    assert_eq!(value("ABR_TIME_MAX"), abr::TIME_MAX);
+    assert_eq!(value("ABR_RATE_MAX"), abr::RATE_MAX);
+    assert_eq!(abr::rate(value("ABR_CODE_MAX") as u32), Ok(abr::RATE_MAX));
+}
+
+#[test]
+fn one_version_everywhere() {
+    let text = env!("CARGO_PKG_VERSION");
+    let parts = text.split('.').map(|part| part.parse::<u32>().unwrap());
+    let version = parts.fold(0, |version, part| version << 8 | part);
+    assert_eq!(value("ABR_VERSION"), u64::from(version));
+    assert_eq!(ffi::ABR_VERSION, version);
+    // SAFETY: neither call has an argument.
+    let (archive, words) = unsafe { (ffi::abr_version(), ffi::abr_table_words()) };
+    assert_eq!(archive, version, "of the archive");
+    assert_eq!(words as usize, ffi::ABR_TABLE_WORDS, "of the archive");
+    assert!(ffi::abr_matches());
+    let makefile = include_str!("../../../Makefile");
+    let line = format!("VERSION := {text}");
+    assert!(makefile.lines().any(|l| l == line), "{line} in Makefile");
+    let changes = include_str!("../../../docs/CHANGES.md");
+    let first = changes.lines().find(|line| line.starts_with("## "));
+    let title = format!("## {text}: ");
+    assert!(
+        first.is_some_and(|line| line.starts_with(&title)),
+        "{title}"
+    );
 }
 
 #[test]
@@ -44,29 +82,30 @@ fn the_house_set_is_that_of_the_header() {
         house.n, house.r, house.d, house.c, house.crm, house.adtf, house.trm,
     ];
     let names = ["N", "R", "D", "C", "CRM", "ADTF", "TRM"];
-    for (value, name) in rest.into_iter().zip(names) {
-        assert_eq!(
-            u64::from(value),
-            number(&format!("ABR_HOUSE_{name}")),
-            "{name}"
-        );
+    for (number, name) in rest.into_iter().zip(names) {
+        let expected = value(&format!("ABR_HOUSE_{name}"));
+        assert_eq!(u64::from(number), expected, "{name}");
     }
 }
 
 #[test]
 fn the_refusals_are_those_of_the_header() {
-    let lines = HEADER
+    let names: Vec<&str> = HEADER
         .lines()
-        .filter(|l| l.starts_with("#define ABR_REFUSED_"));
-    let numbers: Vec<u32> = lines
-        .map(|line| line.split_whitespace().nth(2).unwrap().parse().unwrap())
+        .filter_map(|line| line.strip_prefix("#define ABR_REFUSED_"))
+        .filter_map(|rest| rest.split(' ').next())
         .collect();
-    assert_eq!(numbers, Refusal::ALL.map(Refusal::number));
-    for refusal in Refusal::ALL {
+    assert_eq!(names.len(), Refusal::ALL.len());
+    for (name, refusal) in names.into_iter().zip(Refusal::ALL) {
+        let name = format!("ABR_REFUSED_{name}");
+        let (number, comment) = defined(&name);
+        assert_eq!(number, u64::from(refusal.number()), "{name}");
+        assert_eq!(comment, refusal.text(), "the comment at {name}");
+        let case = format!("case {name}: return \"{}\";", refusal.text());
+        assert!(HEADER.contains(&case), "{case}");
         assert_eq!(Refusal::try_from(refusal.number()), Ok(refusal));
-        let quoted = format!("\"{}\"", refusal.text());
-        assert!(HEADER.contains(&quoted), "{quoted} is not in the header");
     }
+    assert_eq!(defined("ABR_OK"), (0, "accepted"));
     assert_eq!(Refusal::try_from(0), Err(0));
     assert_eq!(Refusal::try_from(16), Err(16));
 }
@@ -77,31 +116,39 @@ fn the_layouts_are_those_of_the_header() {
     assert_eq!(align_of::<ffi::abr_table>(), 8);
     assert_eq!(size_of::<ffi::abr_params>(), 40);
     assert_eq!(offset_of!(ffi::abr_params, trm), 36);
-    assert_eq!(size_of::<ffi::abr_sent>(), 24);
-    assert_eq!(offset_of!(ffi::abr_sent, acr), 16);
     assert_eq!(size_of::<ffi::abr_rm>(), 44);
     assert_eq!(offset_of!(ffi::abr_rm, sn), 40);
-    assert_eq!(size_of::<ffi::abr_cell>(), 52);
-    assert_eq!(offset_of!(ffi::abr_cell, sn), 48);
+    assert_eq!(size_of::<ffi::abr_sent>(), 24);
+    assert_eq!(offset_of!(ffi::abr_sent, vci), 8);
+    assert_eq!(offset_of!(ffi::abr_sent, acr), 16);
+    assert_eq!(size_of::<ffi::abr_allowed>(), 16);
+    assert_eq!(offset_of!(ffi::abr_allowed, acr), 8);
+    assert_eq!(size_of::<ffi::abr_cell>(), 56);
+    assert_eq!(offset_of!(ffi::abr_cell, rm), 12);
+    assert_eq!(size_of::<ffi::abr_coded>(), 8);
+    assert_eq!(offset_of!(ffi::abr_coded, code), 4);
+    assert_eq!(size_of::<ffi::abr_rated>(), 16);
+    assert_eq!(offset_of!(ffi::abr_rated, rate), 8);
+}
+
+/// The names of the functions that lines declare, each the word before its
+/// bracket, in order.
+fn names<'a>(lines: impl Iterator<Item = &'a str>) -> Vec<&'a str> {
+    let mut names: Vec<&str> = lines
+        .filter_map(|line| line.split_once('(')?.0.rsplit(' ').next())
+        .collect();
+    names.sort_unstable();
+    names
 }
 
 #[test]
 fn every_prototype_of_the_header_is_declared_and_no_other() {
-    let names = |text: &str, mark: &str| {
-        let mut found: Vec<String> = text
-            .split(mark)
-            .skip(1)
-            .filter_map(|rest| rest.split('(').next())
-            .filter(|name| name.starts_with("abr_"))
-            .map(str::to_owned)
-            .collect();
-        found.sort();
-        found
+    let prototype = |line: &&str| {
+        line.ends_with(");") && !line.starts_with(' ') && !line.starts_with("ABR_LAYOUT")
     };
-    let mut header = names(HEADER, "\nuint32_t ");
-    header.extend(names(HEADER, "\nvoid "));
-    header.sort();
-    let declared = names(include_str!("../src/ffi.rs"), "pub fn ");
-    assert_eq!(header, declared);
-    assert_eq!(header.len(), 12);
+    let header = names(HEADER.lines().filter(prototype));
+    let ffi = include_str!("../src/ffi.rs");
+    let foreign = |line: &&str| line.starts_with("    pub fn ");
+    assert_eq!(header, names(ffi.lines().filter(foreign)));
+    assert_eq!(header.len(), 14);
 }

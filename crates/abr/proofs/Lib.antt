@@ -1,2 +1,2 @@
--- What the exports' proofs share.
-pub mod Told
+pub mod Answered
+pub mod Exports

@@ -1,35 +1,37 @@
--- Document 01's number for each answer of a call on a table, and what the call's out-parameters hold: a refusal leaves them as they were.
+-- What the calls on a table return, for each case of their answers: document 01's number, 0 if there is no refusal, and zeros beside a refusal.
 -- (Document 01, "Slots", "Refused because of the input" and "Refused because of the state".)
 use Prim.Native.Nat.{ℕ}
-use mathlib.Core.List.{List, [], _∷_}
 use Rattle.connection.specs.declared.kind.Kind.{Kind}
 use Rattle.connection.specs.declared.kind.Kind.the-variants.{Forward, Turned, Data}
-use Rattle.engine.specs.declared.answer.Answer.{Answer}
-use Rattle.engine.specs.declared.answer.Answer.the-variants.{Refused, Accepted, Idle, Sent}
-use Rattle.engine.specs.declared.acr.Acr.{Acr}
-use Rattle.engine.specs.declared.acr.Acr.the-variants.{NotOpen, Rate}
+use Rattle.model.specs.declared.answer.Answer.{Answer}
+use Rattle.model.specs.declared.answer.Answer.the-variants.{Refused, Accepted, Idle, Sent}
+use Rattle.model.specs.declared.acr.Acr.{Acr}
+use Rattle.model.specs.declared.acr.Acr.the-variants.{NotOpen, Rate}
+pub use Rattle.abr.specs.declared.connections.AcrAnswer.{AcrAnswer}
+pub use Rattle.abr.specs.declared.link.SlotAnswer.{SlotAnswer}
 
--- a refusal's number; 0 of an accepted call
 abbrev pub number : Answer → ℕ
 number (Refused n) = n
 number Accepted = 0
 number Idle = 0
 number (Sent v k a) = 0
 
--- the kinds of cell that a slot sends
+-- the kinds of cell that a slot sends; 0 is none
 abbrev pub kindNumber : Kind → ℕ
 kindNumber Forward = 1
 kindNumber Turned = 2
 kindNumber Data = 3
 
--- what a slot tells: VCI, kind and ACR; three times 0 if it is idle. No slot answers Accepted.
-abbrev pub sentWords : Answer → (old : List ℕ) → List ℕ
-sentWords (Refused n) old = old
-sentWords Accepted old = old
-sentWords Idle old = 0 ∷ 0 ∷ 0 ∷ []
-sentWords (Sent v k a) old = v ∷ kindNumber k ∷ a ∷ []
+abbrev pub noCell : (refusal : ℕ) → SlotAnswer
+noCell n = record { refusal = n; kind = 0; vci = 0; acr = 0 }
 
--- what reading an ACR tells
-abbrev pub acrWord : Acr → (old : ℕ) → ℕ
-acrWord NotOpen old = old
-acrWord (Rate x) old = x
+-- no slot answers Accepted
+abbrev pub slotAnswer : Answer → SlotAnswer
+slotAnswer (Refused n) = noCell n
+slotAnswer Accepted = noCell 0
+slotAnswer Idle = noCell 0
+slotAnswer (Sent v k a) = record { refusal = 0; kind = kindNumber k; vci = v; acr = a }
+
+abbrev pub acrAnswer : Acr → AcrAnswer
+acrAnswer NotOpen = record { refusal = 11; acr = 0 }
+acrAnswer (Rate a) = record { refusal = 0; acr = a }

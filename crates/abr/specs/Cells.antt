@@ -1,7 +1,7 @@
--- What writing and reading a cell answer, as numbers. (Document 01, "The cell, 53 octets" and "Refused because of the input".)
+-- What writing and reading a cell return. (Document 01, "The cell, 53 octets" and "Refused because of the input".)
 use Prim.Native.Nat.{ℕ}
 use mathlib.Core.Bool.{cond}
-use mathlib.Core.List.{List, [], _∷_}
+use mathlib.Core.List.{List}
 use lib.ListN.{length}
 use Rattle.cell.specs.Fields.{resourceCell}
 use Rattle.cell.specs.Writing.{writing, bufferAfter}
@@ -10,6 +10,7 @@ use Rattle.cell.specs.declared.read.Reading.{Reading}
 use Rattle.cell.specs.declared.read.Reading.the-variants.{Refused as Unread, User, Resource}
 use Rattle.cell.specs.declared.write.Written.{Written}
 use Rattle.cell.specs.declared.write.Written.the-variants.{Done, Refused as Unwritten}
+pub use Rattle.abr.specs.declared.cells.CellAnswer.{CellAnswer}
 
 abbrev pub writeNumber : Written → ℕ
 writeNumber Done = 0
@@ -22,13 +23,11 @@ numberOf f old = writeNumber (writing (length old) f)
 abbrev pub octetsAfter : Fields → (old : List ℕ) → List ℕ
 octetsAfter f old = bufferAfter (writing (length old) f) (resourceCell 0 f) old
 
-abbrev pub readNumber : Reading → ℕ
-readNumber (Unread n) = n
-readNumber (User v e) = 0
-readNumber (Resource f) = 0
+abbrev pub vciAlone : (vci : ℕ) → Fields
+vciAlone v = record { vci = v; dir = 0; bn = 0; ci = 0; ni = 0; ra = 0; er = 0; ccr = 0; mcr = 0; ql = 0; sn = 0 }
 
--- kind 1, a data cell: VCI, EFCI, and 0 for the fields of an RM cell; kind 2, an RM cell: its fields, and 0 for EFCI; a refusal leaves what stood there
-abbrev pub readWords : Reading → (old : List ℕ) → List ℕ
-readWords (Unread n) old = old
-readWords (User v e) old = 1 ∷ v ∷ cond e 1 0 ∷ 0 ∷ 0 ∷ 0 ∷ 0 ∷ 0 ∷ 0 ∷ 0 ∷ 0 ∷ 0 ∷ 0 ∷ []
-readWords (Resource f) old = 2 ∷ f .vci ∷ 0 ∷ f .dir ∷ f .bn ∷ f .ci ∷ f .ni ∷ f .ra ∷ f .er ∷ f .ccr ∷ f .mcr ∷ f .ql ∷ f .sn ∷ []
+-- kind 1, a data cell: its EFCI, and of the fields the VCI alone; kind 2, an RM cell: its fields, and 0 for EFCI; all 0 beside a refusal
+abbrev pub cellAnswer : Reading → CellAnswer
+cellAnswer (Unread n) = record { refusal = n; kind = 0; efci = 0; rm = vciAlone 0 }
+cellAnswer (User v e) = record { refusal = 0; kind = 1; efci = cond e 1 0; rm = vciAlone v }
+cellAnswer (Resource f) = record { refusal = 0; kind = 2; efci = 0; rm = f }

@@ -1,6 +1,6 @@
--- The C interface: what stands in the numbers that cross it.
-pub mod Args
+-- The C interface: what each export returns, and lists of exported calls.
 pub mod Answers
 pub mod Cells
 pub mod Codes
 pub mod Contract
+pub mod Exports

@@ -2,30 +2,20 @@
 ghost use mathlib.Core.Path.{_≡_};
 ghost use mathlib.Core.Bool.{cond};
 ghost use Rattle.cell.specs.Reading.{reading};
-ghost use Rattle.abr.specs.Args.{fieldsIn};
-ghost use Rattle.abr.specs.Cells.{writeNumber, numberOf, octetsAfter, readNumber, readWords};
+ghost use Rattle.abr.specs.Cells.{writeNumber, numberOf, octetsAfter, vciAlone, cellAnswer};
 use cell::fields::Fields;
 use cell::read::Reading;
-use cell::read::read as read_cell;
 use cell::write::Written;
-use cell::write::write;
+use reading::read::read;
+use writing::write::write;
 
-fn fields_of(f: &[u32; 11]) -> Fields
-    ensures { λ r. ⌜ r ≡ fieldsIn (now (f .entry)) ⌝ }
-{
-    Fields {
-        vci: f[0],
-        dir: f[1],
-        bn: f[2],
-        ci: f[3],
-        ni: f[4],
-        ra: f[5],
-        er: f[6],
-        ccr: f[7],
-        mcr: f[8],
-        ql: f[9],
-        sn: f[10],
-    }
+// kind 1 is a data cell, of whose fields only the VCI counts; 2 is an RM cell.
+#[repr(C)]
+pub struct CellAnswer {
+    pub refusal: u32,
+    pub kind: u32,
+    pub efci: u32,
+    pub rm: Fields,
 }
 
 fn write_number(w: Written) -> u32
@@ -39,10 +29,10 @@ fn write_number(w: Written) -> u32
 
 // Refusals 1, 7.
 #[no_mangle]
-pub extern "C" fn abr_write_rm(rm: &[u32; 11], cell: &mut [u8]) -> u32
-    ensures { λ r. ⌜ (r ≡ numberOf (fieldsIn (now (rm .entry))) (now (cell .entry))) × (now (cell .exit) ≡ octetsAfter (fieldsIn (now (rm .entry))) (now (cell .entry))) ⌝ }
+pub extern "C" fn abr_write_rm(rm: Fields, cell: &mut [u8]) -> u32
+    ensures { λ r. ⌜ (r ≡ numberOf rm (now (cell .entry))) × (now (cell .exit) ≡ octetsAfter rm (now (cell .entry))) ⌝ }
 {
-    write_number(write(cell, fields_of(rm)))
+    write_number(write(cell, rm))
 }
 
 fn bit(b: bool) -> u32
@@ -51,40 +41,54 @@ fn bit(b: bool) -> u32
     if b { 1 } else { 0 }
 }
 
-fn tell_reading(a: Reading, read: &mut [u32; 13]) -> u32
-    ensures { λ r. ⌜ (r ≡ readNumber a) × (now (read .exit) ≡ readWords a (now (read .entry))) ⌝ }
+// The fields of no RM cell, with this VCI.
+fn vci_alone(vci: u32) -> Fields
+    ensures { λ f. ⌜ f ≡ vciAlone vci ⌝ }
+{
+    Fields {
+        vci,
+        dir: 0,
+        bn: 0,
+        ci: 0,
+        ni: 0,
+        ra: 0,
+        er: 0,
+        ccr: 0,
+        mcr: 0,
+        ql: 0,
+        sn: 0,
+    }
+}
+
+fn cell_answer(a: Reading) -> CellAnswer
+    ensures { λ r. ⌜ r ≡ cellAnswer a ⌝ }
 {
     match a {
-        Reading::Refused(n) => n,
-        Reading::User { vci, efci } => {
-            *read = [1, vci, bit(efci), 0, 0, 0, 0, 0, 0, 0, 0, 0, 0];
-            0
-        }
-        Reading::Resource(f) => {
-            *read = [
-                2,
-                f.vci,
-                0,
-                f.dir,
-                f.bn,
-                f.ci,
-                f.ni,
-                f.ra,
-                f.er,
-                f.ccr,
-                f.mcr,
-                f.ql,
-                f.sn,
-            ];
-            0
-        }
+        Reading::Refused(n) => CellAnswer {
+            refusal: n,
+            kind: 0,
+            efci: 0,
+            rm: vci_alone(0),
+        },
+        Reading::User { vci, efci } => CellAnswer {
+            refusal: 0,
+            kind: 1,
+            efci: bit(efci),
+            rm: vci_alone(vci),
+        },
+        Reading::Resource(f) => CellAnswer {
+            refusal: 0,
+            kind: 2,
+            efci: 0,
+            rm: f,
+        },
     }
 }
 
 // Refusals 1, 2, 3, 4, then 5 and 6 for RM cells.
 #[no_mangle]
-pub extern "C" fn abr_read(cell: &[u8], read: &mut [u32; 13]) -> u32
-    ensures { λ r. ⌜ (r ≡ readNumber (reading (now (cell .entry)))) × (now (read .exit) ≡ readWords (reading (now (cell .entry))) (now (read .entry))) ⌝ }
+pub extern "C" fn abr_read(cell: &[u8]) -> CellAnswer
+    ensures { λ r. ⌜ r ≡ cellAnswer (reading (now (cell .entry))) ⌝ }
 {
-    tell_reading(read_cell(cell), read)
+    cell_answer(read(cell))
 }

@@ -1,39 +1,66 @@
-// Rate codes, without a table (document 01, "Units and the 16-bit rate code").
+// Rate codes and the house set, without a table (document 01, "Units and the 16-bit rate code" and "Opening").
 ghost use mathlib.Core.Path.{_≡_};
 ghost use Rattle.rate.specs.Code.{coded};
-ghost use Rattle.abr.specs.Codes.{codeNumber, codeWord, rateNumber, rateWord};
+ghost use Rattle.rate.specs.Params.{houseSet};
+ghost use Rattle.abr.specs.Codes.{codeAnswer, rateAnswer};
 use rate::code::Coded;
 use rate::code::code_of;
 use rate::code::rate_of;
+use rate::params::Params;
 
-fn tell_code(a: Coded, code: &mut u32) -> u32
-    ensures { λ r. ⌜ (r ≡ codeNumber a) × (now (code .exit) ≡ codeWord a (now (code .entry))) ⌝ }
+#[repr(C)]
+pub struct CodeAnswer {
+    pub refusal: u32,
+    pub code: u32,
+}
+
+#[repr(C)]
+pub struct RateAnswer {
+    pub refusal: u32,
+    pub rate: u64,
+}
+
+fn code_answer(a: Coded) -> CodeAnswer
+    ensures { λ r. ⌜ r ≡ codeAnswer a ⌝ }
 {
     match a {
-        Coded::Code(x) => {
-            *code = x;
-            0
-        }
-        Coded::Refused(n) => n,
+        Coded::Code(code) => CodeAnswer { refusal: 0, code },
+        Coded::Refused(n) => CodeAnswer {
+            refusal: n,
+            code: 0,
+        },
     }
 }
 
 // Refusal 9.
 #[no_mangle]
-pub extern "C" fn abr_code(rate: u64, code: &mut u32) -> u32
-    ensures { λ r. ⌜ (r ≡ codeNumber (coded rate)) × (now (code .exit) ≡ codeWord (coded rate) (now (code .entry))) ⌝ }
+pub extern "C" fn abr_code(rate: u64) -> CodeAnswer
+    ensures { λ r. ⌜ r ≡ codeAnswer (coded rate) ⌝ }
 {
-    tell_code(code_of(rate), code)
+    code_answer(code_of(rate))
 }
 
 // Refusal 7 over 16 bits; bit 15 is ignored.
 #[no_mangle]
-pub extern "C" fn abr_rate(code: u32, rate: &mut u64) -> u32
-    ensures { λ r. ⌜ (r ≡ rateNumber code) × (now (rate .exit) ≡ rateWord code (now (rate .entry))) ⌝ }
+pub extern "C" fn abr_rate(code: u32) -> RateAnswer
+    ensures { λ r. ⌜ r ≡ rateAnswer code ⌝ }
 {
     if 65535 < code {
-        return 7;
+        return RateAnswer {
+            refusal: 7,
+            rate: 0,
+        };
     }
-    *rate = rate_of(code);
-    0
+    RateAnswer {
+        refusal: 0,
+        rate: rate_of(code),
+    }
+}
+
+// The house set around three rate codes. Nothing is refused here: an open judges the result.
+#[no_mangle]
+pub extern "C" fn abr_house(pcr: u32, mcr: u32, icr: u32) -> Params
+    ensures { λ p. ⌜ p ≡ houseSet pcr mcr icr ⌝ }
+{
+    Params::house(pcr, mcr, icr)
 }

@@ -1,25 +1,39 @@
 // The calls that name a connection (document 01, "Opening" and "Slots").
 ghost use mathlib.Core.Path.{_≡_};
-ghost use Rattle.engine.specs.Step.{openStep, closeStep, offerStep};
-ghost use Rattle.abr.specs.Args.{paramsIn};
-ghost use Rattle.abr.specs.Answers.{acrWord};
-ghost use Rattle.engine.specs.Queries.{acrNumber};
-ghost use Rattle.abr.specs.Contract.{Numbered, NumberedAcr};
-use crate::answers::number;
-use crate::params::params_of;
-use engine::acr::Acr;
+ghost use Rattle.model.specs.Step.{openStep, closeStep, offerStep};
+ghost use Rattle.abr.specs.Answers.{number, acrAnswer};
+ghost use Rattle.abr.specs.Contract.{Numbered, AnswersAcr};
 use engine::acr::read_acr;
 use engine::close::close;
 use engine::offer::offer;
 use engine::open::open;
+use model::acr::Acr;
+use model::answer::Answer;
+use rate::params::Params;
 use table::layout::WORDS;
+
+// Document 01's number for an answer; 0 if it is no refusal.
+pub fn number(a: Answer) -> u32
+    ensures { λ r. ⌜ r ≡ number a ⌝ }
+{
+    match a {
+        Answer::Refused(n) => n,
+        Answer::Accepted => 0,
+        Answer::Idle => 0,
+        Answer::Sent {
+            name: _,
+            kind: _,
+            acr: _,
+        } => 0,
+    }
+}
 
 // Refusals 10, 7, 8, 12, 13, 14.
 #[no_mangle]
-pub extern "C" fn abr_open(table: &mut [u64; WORDS], vci: u32, time: u64, params: &[u32; 10]) -> u32
-    ensures { λ r. ⌜ Numbered (λ s. openStep s vci time (paramsIn (now (params .entry)))) (now (table .entry)) (now (table .exit)) r ⌝ }
+pub extern "C" fn abr_open(table: &mut [u64; WORDS], vci: u32, time: u64, params: Params) -> u32
+    ensures { λ r. ⌜ Numbered (λ s. openStep s vci time params) (now (table .entry)) (now (table .exit)) r ⌝ }
 {
-    number(open(table, vci, time, params_of(params)))
+    number(open(table, vci, time, params))
 }
 
 // Refusal 11.
@@ -38,22 +52,28 @@ pub extern "C" fn abr_offer(table: &mut [u64; WORDS], vci: u32, cells: u64) -> u
     number(offer(table, vci, cells))
 }
 
-fn tell_acr(a: Acr, acr: &mut u64) -> u32
-    ensures { λ r. ⌜ (r ≡ acrNumber a) × (now (acr .exit) ≡ acrWord a (now (acr .entry))) ⌝ }
+#[repr(C)]
+pub struct AcrAnswer {
+    pub refusal: u32,
+    pub acr: u64,
+}
+
+fn acr_answer(a: Acr) -> AcrAnswer
+    ensures { λ r. ⌜ r ≡ acrAnswer a ⌝ }
 {
     match a {
-        Acr::NotOpen => 11,
-        Acr::Rate(x) => {
-            *acr = x;
-            0
-        }
+        Acr::NotOpen => AcrAnswer {
+            refusal: 11,
+            acr: 0,
+        },
+        Acr::Rate(acr) => AcrAnswer { refusal: 0, acr },
     }
 }
 
 // Refusal 11.
 #[no_mangle]
-pub extern "C" fn abr_acr(table: &[u64; WORDS], vci: u32, acr: &mut u64) -> u32
-    ensures { λ r. ⌜ NumberedAcr vci (now (table .entry)) r (now (acr .entry)) (now (acr .exit)) ⌝ }
+pub extern "C" fn abr_acr(table: &[u64; WORDS], vci: u32) -> AcrAnswer
+    ensures { λ r. ⌜ AnswersAcr vci (now (table .entry)) r ⌝ }
 {
-    tell_acr(read_acr(table, vci), acr)
+    acr_answer(read_acr(table, vci))
 }

@@ -1,8 +1,7 @@
-// The C interface. Each export is one call of the engine, of the cell or of the rate, its answer told as document 01's number.
-// Nothing is written on a refusal. include/abr.h is the header.
-pub mod answers;
+// The C interface. Each export is one call of the engine, of the cell or of the rate; what it returns is document 01's number, or a struct with that number
+// first and zeros beside a refusal. include/abr.h is the header.
 pub mod cells;
 pub mod codes;
 pub mod connections;
 pub mod link;
-pub mod params;
+pub mod version;

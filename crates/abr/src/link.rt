@@ -1,15 +1,15 @@
 // The calls on the link as a whole: received cells, the congestion level, slots (document 01, "Turning cells round" and "Slots").
 ghost use mathlib.Core.Path.{_≡_};
 ghost use lib.ListN.{length};
-ghost use Rattle.engine.specs.Step.{receiveStep, levelStep, slotStep};
-ghost use Rattle.abr.specs.Answers.{number, kindNumber, sentWords};
-ghost use Rattle.abr.specs.Contract.{Numbered, NumberedSlot};
-use crate::answers::number;
+ghost use Rattle.model.specs.Step.{receiveStep, levelStep, slotStep};
+ghost use Rattle.abr.specs.Answers.{kindNumber, noCell, slotAnswer};
+ghost use Rattle.abr.specs.Contract.{Numbered, AnswersSlot};
+use crate::connections::number;
 use connection::kind::Kind;
-use engine::answer::Answer;
 use engine::level::set_level;
 use engine::receive::receive;
 use engine::slot::slot;
+use model::answer::Answer;
 use table::layout::WORDS;
 
 // Refusals 1, 2, 3, 4, then 5 and 6 for RM cells, 11.
@@ -28,7 +28,16 @@ pub extern "C" fn abr_set_level(table: &mut [u64; WORDS], level: u32) -> u32
     number(set_level(table, level))
 }
 
-fn kind_number(k: Kind) -> u64
+// kind 0: an idle slot.
+#[repr(C)]
+pub struct SlotAnswer {
+    pub refusal: u32,
+    pub kind: u32,
+    pub vci: u32,
+    pub acr: u64,
+}
+
+fn kind_number(k: Kind) -> u32
     ensures { λ r. ⌜ r ≡ kindNumber k ⌝ }
 {
     match k {
@@ -38,32 +47,38 @@ fn kind_number(k: Kind) -> u64
     }
 }
 
-fn tell_sent(a: Answer, sent: &mut [u64; 3]) -> u32
-    ensures { λ r. ⌜ (r ≡ number a) × (now (sent .exit) ≡ sentWords a (now (sent .entry))) ⌝ }
+// A slot that sent no cell.
+fn no_cell(refusal: u32) -> SlotAnswer
+    ensures { λ r. ⌜ r ≡ noCell refusal ⌝ }
+{
+    SlotAnswer {
+        refusal,
+        kind: 0,
+        vci: 0,
+        acr: 0,
+    }
+}
+
+fn slot_answer(a: Answer) -> SlotAnswer
+    ensures { λ r. ⌜ r ≡ slotAnswer a ⌝ }
 {
     match a {
-        Answer::Refused(n) => n,
-        Answer::Accepted => 0,
-        Answer::Idle => {
-            *sent = [0, 0, 0];
-            0
-        }
-        Answer::Sent { name, kind, acr } => {
-            *sent = [name as u64, kind_number(kind), acr];
-            0
-        }
+        Answer::Refused(n) => no_cell(n),
+        Answer::Accepted => no_cell(0),
+        Answer::Idle => no_cell(0),
+        Answer::Sent { name, kind, acr } => SlotAnswer {
+            refusal: 0,
+            kind: kind_number(kind),
+            vci: name,
+            acr,
+        },
     }
 }
 
 // Refusals 1, 8, 14.
 #[no_mangle]
-pub extern "C" fn abr_slot(
-    table: &mut [u64; WORDS],
-    time: u64,
-    cell: &mut [u8],
-    sent: &mut [u64; 3],
-) -> u32
-    ensures { λ r. ⌜ NumberedSlot (λ s. slotStep s time (length (now (cell .entry)))) (now (table .entry)) (now (table .exit)) r (now (cell .entry)) (now (cell .exit)) (now (sent .entry)) (now (sent .exit)) ⌝ }
+pub extern "C" fn abr_slot(table: &mut [u64; WORDS], time: u64, cell: &mut [u8]) -> SlotAnswer
+    ensures { λ r. ⌜ AnswersSlot (λ s. slotStep s time (length (now (cell .entry)))) (now (table .entry)) (now (table .exit)) r (now (cell .entry)) (now (cell .exit)) ⌝ }
 {
-    tell_sent(slot(table, time, cell), sent)
+    slot_answer(slot(table, time, cell))
 }

@@ -14,43 +14,44 @@ use Rattle.crc.specs.declared.payload.Payload.{Payload}
 use Rattle.cell.specs.Octets.{octet, pair, payload, AreOctets}
 use Rattle.cell.specs.Header.{vpiOf, vciOf, typeOf, headerRight}
 use Rattle.cell.specs.Fields.{Fields, fieldsOf, crcRight, Checked}
-use Rattle.cell.specs.Reading.{Reading, User, Resource, need, reading}
+use Rattle.cell.specs.Reading.{Reading, User, Resource, reading, Refused}
 use Rattle.cell.specs.Admitted.{Admissible, userCell, rmCell, Admitted, Taken}
 use Rattle.cell.proofs.OctetLists.{octets-drop}
 use Rattle.cell.proofs.Readings.{rest, words-checked, takes-user, takes-rest, takes-fields}
+use Rattle.laws.specs.Require.{require}
 
-need-test : (n : ℕ) (t : Bool) (r : Reading) → Taken (need n t r) → t ≡ true
-unfolding need
-need-test n true r h = refl
-need-test n false r h = absurd (h n refl)
+require-test : (n : ℕ) (t : Bool) (r : Reading) → Taken (require (Refused n) t r) → t ≡ true
+unfolding require
+require-test n true r h = refl
+require-test n false r h = absurd (h n refl)
 
-need-rest : (n : ℕ) (t : Bool) (r : Reading) → Taken (need n t r) → Taken r
-unfolding need
-need-rest n true r h = h
-need-rest n false r h = absurd (h n refl)
+require-rest : (n : ℕ) (t : Bool) (r : Reading) → Taken (require (Refused n) t r) → Taken r
+unfolding require
+require-rest n true r h = h
+require-rest n false r h = absurd (h n refl)
 
 module _ (o : List ℕ) where
   resourceRest : Reading
-  resourceRest = need 4 (eqb (typeOf o) 6) (rest o)
+  resourceRest = require (Refused 4) (eqb (typeOf o) 6) (rest o)
 
   admissible : (t : Bool) → leb (typeOf o) 3 ≡ t → Taken (cond t (User (vciOf o) (eqb (typeOf o / 2 % 2) 1)) resourceRest) → Admissible o
   unfolding crcRight resourceRest
   admissible true e h = userCell (leb-true _ _ e)
   admissible false e h =
-      let h5 : Taken (rest o) = need-rest 4 (eqb (typeOf o) 6) _ h in
-      rmCell (eqb-true _ _ (need-test 4 (eqb (typeOf o) 6) _ h)) (eqb-true _ _ (need-test 5 (crcRight o) _ h5))
-      (eqb-true _ _ (need-test 6 (eqb (octet 6 o) 1) (Resource (fieldsOf o)) (need-rest 5 (crcRight o) _ h5)))
+      let h5 : Taken (rest o) = require-rest 4 (eqb (typeOf o) 6) _ h in
+      rmCell (eqb-true _ _ (require-test 4 (eqb (typeOf o) 6) _ h)) (eqb-true _ _ (require-test 5 (crcRight o) _ h5))
+      (eqb-true _ _ (require-test 6 (eqb (octet 6 o) 1) (Resource (fieldsOf o)) (require-rest 5 (crcRight o) _ h5)))
 
   pub taken-admitted : Taken (reading o) → Admitted o
   unfolding reading headerRight resourceRest
   taken-admitted h =
-      let h2 : Taken _ = need-rest 1 (eqb (length o) 53) _ h in
-      let h3 : Taken _ = need-rest 2 (headerRight o) _ h2 in
-      let h4 : Taken _ = need-rest 3 (eqb (vpiOf o) 0) _ h3 in
+      let h2 : Taken _ = require-rest 1 (eqb (length o) 53) _ h in
+      let h3 : Taken _ = require-rest 2 (headerRight o) _ h2 in
+      let h4 : Taken _ = require-rest 3 (eqb (vpiOf o) 0) _ h3 in
       record {
-        size = eqb-true _ _ (need-test 1 (eqb (length o) 53) _ h);
-        check = eqb-true _ _ (need-test 2 (headerRight o) _ h2);
-        vpi = eqb-true _ _ (need-test 3 (eqb (vpiOf o) 0) _ h3);
+        size = eqb-true _ _ (require-test 1 (eqb (length o) 53) _ h);
+        check = eqb-true _ _ (require-test 2 (headerRight o) _ h2);
+        vpi = eqb-true _ _ (require-test 3 (eqb (vpiOf o) 0) _ h3);
         kind = admissible (leb (typeOf o) 3) refl h4;
       }
 

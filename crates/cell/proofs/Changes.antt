@@ -16,7 +16,7 @@ use Rattle.crc.proofs.Limbs.{Six}
 use Rattle.cell.specs.Fields.{Checked}
 use Rattle.cell.specs.Turning.{turnedMarks, marksAlone, turnedPayload}
 use Rattle.cell.proofs.Turned.{marks-low}
-use Rattle.cell.proofs.PayloadWords.{seal-words, remarked, turn-words}
+use Rattle.cell.proofs.PayloadWords.{crc-words, remarked, turn-words}
 
 -- the bits of an octet that change are four, if the other four stay
 pub changed-lt : (x m : ℕ) → x < 256 → m < 256 → bitXor x m / 16 < 16
@@ -37,10 +37,10 @@ second-changed w m hm e =
     let lo : ℕ = w % 0x1000000000000 in
     let hx : x < 256 = mod-lt (w / 0x1000000000000) (lit< tt) in
     let h : ℕ = bitXor x m in
-    let apart : w ≡ (hi * 256 + x) * 2 ^ 48 + lo = omega arith in
+    let split : w ≡ (hi * 256 + x) * 2 ^ 48 + lo = omega arith in
     let up : h / 16 * 0x10000000000000 ≡ (0 * 256 + h) * 2 ^ 48 + 0 = let z : h / 16 * 16 ≡ h = changed-high x m e in omega arith in
     let back : bitXor x h ≡ m = sym (xor-assoc x x m) ∙ ap (λ (z : ℕ). bitXor z m) (xor-self x) ∙ xor-zero-l m in
-    ap₂ bitXor apart up
+    ap₂ bitXor split up
     ∙ xor-block 48 (hi * 256 + x) (0 * 256 + h) lo 0 (mod-lt w (pow-pos 48)) (lit< tt)
     ∙ ap₂ (λ (y z : ℕ). y * 2 ^ 48 + z) (xor-block 8 hi 0 x h hx (xor-lt 8 x m hx hm) ∙ ap₂ (λ (y z : ℕ). y * 256 + z) (xor-zero-r hi) back) (xor-zero-r lo)
     ∙ joined hi m lo
@@ -70,7 +70,7 @@ pub turn-changes : (p : Payload) (level : ℕ) (efci : Bool) {m k : ℕ} → Six
     (payloadOf (turnedPayload level efci (octetsOf p)))
 turn-changes p level efci {m} {k} six right em hm ek hk =
     (λ i. record { a = first i; b = p .b; c = p .c; d = p .d; e = p .e; f = last-changed (p .f) k hk i })
-    ∙ seal-words (remarked p m) first-lt (six .1) (six .2) (six .3) (six .4) (six .5) check
+    ∙ crc-words (remarked p m) first-lt (six .1) (six .2) (six .3) (six .4) (six .5) check
     ∙ turn-words p level efci m em hm
   where
     x : ℕ

@@ -1,7 +1,7 @@
 pub mod Readings
 pub mod Admits
 pub mod OctetLists
-pub mod Sealed
+pub mod WithCrc
 pub mod Fits
 pub mod Written
 pub mod Turned

@@ -12,11 +12,11 @@ use Rattle.crc.specs.declared.payload.Payload.{Payload}
 use Rattle.crc.proofs.Check.{payload-lt}
 use Rattle.crc.proofs.Words.{payload-of-octets, octets-of-payload}
 use Rattle.cell.specs.Octets.{AreOctets}
-use Rattle.cell.specs.Fields.{Fields, body, sealed}
+use Rattle.cell.specs.Fields.{Fields, body, withCrc}
 use Rattle.cell.specs.Turning.{turnedMarks, turnedPayload}
-use Rattle.cell.proofs.Sealed.{sealed-size, sealed-octets}
+use Rattle.cell.proofs.WithCrc.{withCrc-size, withCrc-octets}
 use Rattle.cell.proofs.Fits.{Fit}
-use Rattle.cell.proofs.Written.{bare-octets}
+use Rattle.cell.proofs.Written.{without-crc-octets}
 
 -- ---- the CRC-10 written new
 
@@ -28,11 +28,11 @@ low-ten : (w a b c d e f g h k : ℕ)
     ≡ a * 0x100000000000000 + b * 0x1000000000000 + c * 0x10000000000 + d * 0x100000000 + e * 0x1000000 + f * 0x10000 + (g / 4 * 4 + k / 256) * 0x100 + k % 256
 low-ten w a b c d e f g h k e0 l m = omega arith
 
-pub seal-words : (p : Payload) {k : ℕ} → p .a < 2 ^ 64 → p .b < 2 ^ 64 → p .c < 2 ^ 64 → p .d < 2 ^ 64 → p .e < 2 ^ 64 → p .f < 2 ^ 64
+pub crc-words : (p : Payload) {k : ℕ} → p .a < 2 ^ 64 → p .b < 2 ^ 64 → p .c < 2 ^ 64 → p .d < 2 ^ 64 → p .e < 2 ^ 64 → p .f < 2 ^ 64
     → k ≡ payloadCheck (octetsOf p)
-    → _≡_ {A = Payload} (record { a = p .a; b = p .b; c = p .c; d = p .d; e = p .e; f = p .f / 1024 * 1024 + k }) (payloadOf (sealed (octetsOf p)))
-unfolding sealed
-seal-words p {k} ha hb hc hd he hf e = λ i. record {
+    → _≡_ {A = Payload} (record { a = p .a; b = p .b; c = p .c; d = p .d; e = p .e; f = p .f / 1024 * 1024 + k }) (payloadOf (withCrc (octetsOf p)))
+unfolding withCrc
+crc-words p {k} ha hb hc hd he hf e = λ i. record {
   a = back i .a;
   b = back i .b;
   c = back i .c;
@@ -44,7 +44,7 @@ seal-words p {k} ha hb hc hd he hf e = λ i. record {
     back : p ≡ payloadOf (octetsOf p)
     back = sym (payload-of-octets p ha hb hc hd he hf)
 
-    last : p .f / 1024 * 1024 + k ≡ wordAt (sealed (octetsOf p)) 40
+    last : p .f / 1024 * 1024 + k ≡ wordAt (withCrc (octetsOf p)) 40
     last =
         let w : ℕ = p .f in
         ap (λ (x : ℕ). w / 1024 * 1024 + x) e
@@ -83,9 +83,9 @@ second-octet w m h = made (w / 0x100000000000000) (w / 0x1000000000000) (w % 0x1
         let v : ℕ = a * 0x100000000000000 + m * 0x1000000000000 + l in
         let top : v / 0x100000000000000 ≡ a = omega arith in
         let next : v / 0x1000000000000 % 256 ≡ m = omega arith in
-        let apart : v ≡ (a * 256 + m) * 0x1000000000000 + l = omega arith in
+        let split : v ≡ (a * 256 + m) * 0x1000000000000 + l = omega arith in
         let low : drop 2 (wordOctets v) ≡ drop 2 (wordOctets w) =
-        ap (λ (x : ℕ). drop 2 (wordOctets x)) apart ∙ low-octets (a * 256 + m) l ∙ sym (ap (λ (x : ℕ). drop 2 (wordOctets x)) e ∙ low-octets k l) in
+        ap (λ (x : ℕ). drop 2 (wordOctets x)) split ∙ low-octets (a * 256 + m) l ∙ sym (ap (λ (x : ℕ). drop 2 (wordOctets x)) e ∙ low-octets k l) in
         ap₂ (λ (x y : ℕ). x % 256 ∷ y ∷ drop 2 (wordOctets v)) top next ∙ ap (λ (t : List ℕ). a % 256 ∷ m ∷ t) low
 
 -- a payload with these bits in octet 7, the second of its first word
@@ -100,13 +100,13 @@ remarked p m = record {
 }
 
 pub turn-words : (p : Payload) (level : ℕ) (efci : Bool) (m : ℕ) → m ≡ turnedMarks level efci (p .a / 0x1000000000000 % 256) → m < 256
-    → payloadOf (sealed (octetsOf (remarked p m))) ≡ payloadOf (turnedPayload level efci (octetsOf p))
+    → payloadOf (withCrc (octetsOf (remarked p m))) ≡ payloadOf (turnedPayload level efci (octetsOf p))
 unfolding turnedPayload
 turn-words p level efci m e h =
     let w : ℕ = p .a in
     let rest : List ℕ = wordOctets (p .b) ++ (wordOctets (p .c) ++ (wordOctets (p .d) ++ (wordOctets (p .e) ++ wordOctets (p .f)))) in
-    ap (λ (l : List ℕ). payloadOf (sealed (l ++ rest))) (second-octet w m h)
-    ∙ ap (λ (x : ℕ). payloadOf (sealed ((w / 0x100000000000000 % 256) ∷ x ∷ (drop 2 (wordOctets w) ++ rest)))) e
+    ap (λ (l : List ℕ). payloadOf (withCrc (l ++ rest))) (second-octet w m h)
+    ∙ ap (λ (x : ℕ). payloadOf (withCrc ((w / 0x100000000000000 % 256) ∷ x ∷ (drop 2 (wordOctets w) ++ rest)))) e
 
 -- ---- writing
 
@@ -118,12 +118,12 @@ long-back x h =
     joined : (x h l a b c d : ℕ) → a * 256 + b ≡ h → c * 256 + d ≡ l → h * 65536 + l ≡ x → a * 0x1000000 + b * 0x10000 + c * 0x100 + d ≡ x
     joined x h l a b c d p q r = omega arith
 
-pub bare-words : (f : Fields) → Fit f → {m a b : ℕ} → m ≡ f .dir * 128 + f .bn * 64 + f .ci * 32 + f .ni * 16 + f .ra * 8
+pub without-crc-words : (f : Fields) → Fit f → {m a b : ℕ} → m ≡ f .dir * 128 + f .bn * 64 + f .ci * 32 + f .ni * 16 + f .ra * 8
     → a ≡ 0x100000000000000 + m * 0x1000000000000 + f .er * 0x100000000 + f .ccr * 0x10000 + f .mcr → b ≡ f .ql * 0x100000000 + f .sn
     → _≡_ {A = Payload}
     (record { a = a; b = b; c = 0x6a6a6a6a6a6a6a6a; d = 0x6a6a6a6a6a6a6a6a; e = 0x6a6a6a6a6a6a6a6a; f = 0x6a6a6a6a6a6a0000 })
     (payloadOf (body f ++ (0 ∷ 0 ∷ [])))
-bare-words f h {m} {a} {b} em ea eb = λ i. record {
+without-crc-words f h {m} {a} {b} em ea eb = λ i. record {
   a = first i;
   b = second i;
   c = 0x6a6a6a6a6a6a6a6a;
@@ -154,11 +154,11 @@ bare-words f h {m} {a} {b} em ea eb = λ i. record {
     second = eb ∙ longs (f .ql) (f .sn) _ _ _ _ _ _ _ _ (long-back (f .ql) (h .ql)) (long-back (f .sn) (h .sn))
 
 -- the octets of the words that are written
-pub sealed-words : (f : Fields) → Fit f → {p q : Payload} → p ≡ payloadOf (body f ++ (0 ∷ 0 ∷ [])) → q ≡ payloadOf (sealed (octetsOf p))
-    → octetsOf q ≡ sealed (body f ++ (0 ∷ 0 ∷ []))
-sealed-words f h {p} e k =
-    let bare : List ℕ = body f ++ (0 ∷ 0 ∷ []) in
-    let o : AreOctets bare = bare-octets f h in
-    let same : octetsOf p ≡ bare = ap octetsOf e ∙ octets-of-payload bare refl (o .each) in
-    ap octetsOf (k ∙ ap (λ (l : List ℕ). payloadOf (sealed l)) same)
-    ∙ octets-of-payload (sealed bare) (sealed-size bare refl) (sealed-octets bare refl o .each)
+pub withCrc-words : (f : Fields) → Fit f → {p q : Payload} → p ≡ payloadOf (body f ++ (0 ∷ 0 ∷ [])) → q ≡ payloadOf (withCrc (octetsOf p))
+    → octetsOf q ≡ withCrc (body f ++ (0 ∷ 0 ∷ []))
+withCrc-words f h {p} e k =
+    let plain : List ℕ = body f ++ (0 ∷ 0 ∷ []) in
+    let o : AreOctets plain = without-crc-octets f h in
+    let same : octetsOf p ≡ plain = ap octetsOf e ∙ octets-of-payload plain refl (o .each) in
+    ap octetsOf (k ∙ ap (λ (l : List ℕ). payloadOf (withCrc l)) same)
+    ∙ octets-of-payload (withCrc plain) (withCrc-size plain refl) (withCrc-octets plain refl o .each)

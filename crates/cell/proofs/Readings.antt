@@ -1,11 +1,11 @@
 -- What reading gives, by the tests of the cell that led there.
-use mathlib.Core.Path.{_≡_, refl, sym, ap, ap₂, _∙_}
+use mathlib.Core.Path.{_≡_, refl, sym, ap, ap₂, _∙_, subst}
 use mathlib.Core.Bool.{Bool, true, false, cond, _||_, true≢false}
 use mathlib.Core.List.{List, [], _∷_}
 use Prim.Native.Nat.{ℕ, suc, _*_, _+_, _/_, _%_, _≤_, _<_}
 use native.Mathlib.Omega.{arith}
 use borrow.Author.Tests.{eq-eqb, ne-eqb, eqb-true, eqb-false, le-leb, lt-leb, leb-true, leb-false}
-use lib.Dec.{leb, eqb}
+use lib.Dec.{leb, eqb, lit<}
 use lib.ListN.{length, getD, take, length-drop}
 use lib.Seq.{getD-drop}
 use Rattle.crc.specs.Checks.{headerCheck, payloadCheck}
@@ -16,8 +16,9 @@ use Rattle.cell.specs.Octets.{octet, pair, payload, AreOctets}
 use Rattle.cell.proofs.OctetLists.{octets-drop}
 use Rattle.cell.specs.Header.{vpiOf, vciOf, typeOf, headerRight}
 use Rattle.cell.specs.Fields.{Fields, fieldsOf, crcRight, Checked}
-use Rattle.cell.specs.Reading.{Reading, need, reading, Refused, User, Resource}
+use Rattle.cell.specs.Reading.{Reading, reading, Refused, User, Resource}
 use Rattle.cell.specs.Refusals.{headerRefusal, restRefusal}
+use Rattle.laws.specs.Require.{require}
 
 -- the fields, from numbers that are equal to theirs
 pub fields-are : (o : List ℕ) {vci er ccr mcr ql sn : ℕ} → vci ≡ vciOf o → er ≡ pair 8 o → ccr ≡ pair 10 o → mcr ≡ pair 12 o
@@ -75,47 +76,47 @@ crc-test o p r n a e k =
 
 -- what is left to test of an RM cell
 abbrev pub rest : List ℕ → Reading
-rest o = need 5 (crcRight o) (need 6 (eqb (octet 6 o) 1) (Resource (fieldsOf o)))
+rest o = require (Refused 5) (crcRight o) (require (Refused 6) (eqb (octet 6 o) 1) (Resource (fieldsOf o)))
 
 module _ (o : List ℕ) where
   refused-5 : crcRight o ≡ false → Refused 5 ≡ rest o
-  unfolding need
+  unfolding require
   refused-5 w = simp w
 
   module _ (w : crcRight o ≡ true) where
     refused-6 : (octet 6 o ≡ 1 → ⊥) → Refused 6 ≡ rest o
-    unfolding need
+    unfolding require
     refused-6 p = simp (w, ne-eqb _ _ p)
 
     pub takes-fields : octet 6 o ≡ 1 → Resource (fieldsOf o) ≡ rest o
-    unfolding need
+    unfolding require
     takes-fields p = simp (w, eq-eqb _ _ p)
 
   refused-1 : (length o ≡ 53 → ⊥) → Refused 1 ≡ reading o
-  unfolding reading need
+  unfolding reading require
   refused-1 n = simp (ne-eqb _ _ n)
 
   module _ (n : length o ≡ 53) where
     refused-2 : headerRight o ≡ false → Refused 2 ≡ reading o
-    unfolding reading need
+    unfolding reading require
     refused-2 h = simp (eq-eqb _ _ n, h)
 
     module _ (h : headerRight o ≡ true) where
       refused-3 : (vpiOf o ≡ 0 → ⊥) → Refused 3 ≡ reading o
-      unfolding reading need
+      unfolding reading require
       refused-3 v = simp (eq-eqb _ _ n, h, ne-eqb _ _ v)
 
       module _ (v : vpiOf o ≡ 0) where
         pub takes-user : typeOf o ≤ 3 → User (vciOf o) (eqb (typeOf o / 2 % 2) 1) ≡ reading o
-        unfolding reading need
+        unfolding reading require
         takes-user t = simp (eq-eqb _ _ n, h, eq-eqb _ _ v, le-leb _ _ t)
 
         refused-4 : 3 < typeOf o → (typeOf o ≡ 6 → ⊥) → Refused 4 ≡ reading o
-        unfolding reading need
+        unfolding reading require
         refused-4 t u = simp (eq-eqb _ _ n, h, eq-eqb _ _ v, lt-leb _ _ t, ne-eqb _ _ u)
 
         pub takes-rest : typeOf o ≡ 6 → rest o ≡ reading o
-        unfolding reading need
+        unfolding reading require
         takes-rest u =
             let above : 3 < typeOf o = omega arith in
             simp (eq-eqb _ _ n, h, eq-eqb _ _ v, lt-leb _ _ above, eq-eqb _ _ u)
@@ -178,3 +179,24 @@ rest-meets o n e = go (crcRight o) (eqb (octet 6 o) 1) refl refl e
     go false b p q e = rest-refused o 4 e (refused-5 o p)
     go true false p q e = rest-refused o 5 e (refused-6 o p (eqb-false _ _ q))
     go true true p q e = record { refused = λ z. absurd (z e); taken = λ _. sym (takes-fields o p (eqb-true _ _ q)) }
+
+-- the number of a refusal is never 0
+require-number :
+    (n : ℕ) → 0 < n → (t : Bool) (r : Reading) → ((m : ℕ) → r ≡ Refused m → 0 < m) → (m : ℕ) → require (Refused n) t r ≡ Refused m → 0 < m
+unfolding require
+require-number n p true r h m e = h m e
+require-number n p false r h m e = let q : n ≡ m = cc in subst (λ (k : ℕ). 0 < k) q p
+
+user-number : (t : Bool) (v : ℕ) (e : Bool) (r : Reading) → ((m : ℕ) → r ≡ Refused m → 0 < m) → (m : ℕ) → cond t (User v e) r ≡ Refused m → 0 < m
+user-number true v e r h m q = let z : _≡_ {A = ℕ} 0 1 = cc in absurd (omega arith)
+user-number false v e r h m q = h m q
+
+pub refusal-number : (o : List ℕ) (n : ℕ) → reading o ≡ Refused n → 0 < n
+unfolding reading
+refusal-number o =
+    require-number 1 (lit< tt) (eqb (length o) 53) _ (require-number 2 (lit< tt) (headerRight o) _ (require-number 3 (lit< tt) (eqb (vpiOf o) 0) _
+    (user-number (leb (typeOf o) 3) (vciOf o) (eqb (typeOf o / 2 % 2) 1) _ (require-number 4 (lit< tt) (eqb (typeOf o) 6) _
+    (require-number 5 (lit< tt) (crcRight o) _ (require-number 6 (lit< tt) (eqb (octet 6 o) 1) _ taken))))))
+  where
+    taken : (m : ℕ) → Resource (fieldsOf o) ≡ Refused m → 0 < m
+    taken m q = let z : _≡_ {A = ℕ} 0 1 = cc in absurd (omega arith)

@@ -11,13 +11,13 @@ use Rattle.crc.specs.Payload.{payloadOf}
 use Rattle.crc.proofs.Words.{octets-of-payload}
 use Rattle.cell.specs.Octets.{octet, pair, payload, AreOctets}
 use Rattle.cell.specs.Header.{vciOf, header}
-use Rattle.cell.specs.Fields.{Fields, fieldsOf, sealed}
+use Rattle.cell.specs.Fields.{Fields, fieldsOf, withCrc}
 use Rattle.cell.specs.Reading.{reading, Resource}
 use Rattle.cell.specs.Turning.{turnedMarks, turnedPayload, turnedCell}
 use Rattle.cell.specs.Returned.{returned, Kept}
 use Rattle.cell.proofs.OctetLists.{octets-cons, octets-drop}
 use Rattle.cell.proofs.Admits.{resource-received}
-use Rattle.cell.proofs.Sealed.{sealed-size, sealed-octets, sealed-at, sealed-six, carried-size, carried-octets, carried-vci, carried-read}
+use Rattle.cell.proofs.WithCrc.{withCrc-size, withCrc-octets, withCrc-at, withCrc-six, carried-size, carried-octets, carried-vci, carried-read}
 
 -- a bit set by a test, or as it was
 mark-le : (t : Bool) (x : ℕ) → cond t 1 (x % 2) ≤ 1
@@ -75,12 +75,12 @@ module _ (level : ℕ) (efci : Bool) (vci : ℕ) (o : List ℕ) (n : length o �
 
   marks-at : octet 7 turned ≡ turnedMarks level efci (octet 7 o)
   unfolding header turnedPayload
-  marks-at = sealed-at marked marked-size 1 (omega arith) ∙ ap (turnedMarks level efci) (getD-drop 5 o 1 0)
+  marks-at = withCrc-at marked marked-size 1 (omega arith) ∙ ap (turnedMarks level efci) (getD-drop 5 o 1 0)
 
   rest-at : (j : ℕ) → j < 44 → getD turned (suc (suc (suc (suc (suc (suc (suc j))))))) 0 ≡ getD o (5 + (2 + j)) 0
   unfolding header turnedPayload
   rest-at j h =
-      sealed-at marked marked-size (suc (suc j)) (omega arith) ∙ getD-drop 2 (payload o) j 0 ∙ getD-drop 5 o (2 + j) 0
+      withCrc-at marked marked-size (suc (suc j)) (omega arith) ∙ getD-drop 2 (payload o) j 0 ∙ getD-drop 5 o (2 + j) 0
 
   middle : (i : ℕ) → 8 ≤ i → i ≤ 51 → octet i turned ≡ octet i o
   middle i l h =
@@ -94,7 +94,7 @@ module _ (level : ℕ) (efci : Bool) (vci : ℕ) (o : List ℕ) (n : length o �
   turned-kept = record {
     low = ap (λ (x : ℕ). x % 16) marks-at ∙ marks-low level efci (octet 7 o);
     middle = middle;
-    six = sealed-six marked marked-size ∙ ap (λ (x : ℕ). x / 4) (getD-drop 2 (payload o) 44 0 ∙ getD-drop 5 o 46 0);
+    six = withCrc-six marked marked-size ∙ ap (λ (x : ℕ). x / 4) (getD-drop 2 (payload o) 44 0 ∙ getD-drop 5 o 46 0);
   }
 
   pairs : (i : ℕ) → 8 ≤ i → i ≤ 50 → pair i turned ≡ pair i o
@@ -158,4 +158,4 @@ module _ (level : ℕ) (efci : Bool) (vci : ℕ) (o : List ℕ) (n : length o �
   unfolding turnedCell turnedPayload
   turned-words a =
       ap (λ (l : List ℕ). header 0 vci ++ l)
-      (octets-of-payload (sealed marked) (sealed-size marked marked-size) (sealed-octets marked marked-size (marked-octets a) .each))
+      (octets-of-payload (withCrc marked) (withCrc-size marked marked-size) (withCrc-octets marked marked-size (marked-octets a) .each))

@@ -8,18 +8,18 @@ use lib.Dec.{lit<}
 use lib.ListN.{length, replicate}
 use Rattle.cell.specs.Octets.{octet, pair, AreOctets}
 use Rattle.cell.specs.Header.{vciOf, header}
-use Rattle.cell.specs.Fields.{Fields, fieldsFit, fieldsOf, body, sealed, resourceCell}
+use Rattle.cell.specs.Fields.{Fields, fieldsFit, fieldsOf, body, withCrc, resourceCell}
 use Rattle.cell.specs.Reading.{reading, Resource}
 use Rattle.cell.proofs.OctetLists.{octets-nil, octets-cons, octets-append, octets-replicate}
-use Rattle.cell.proofs.Sealed.{carried-size, carried-octets, carried-vci, carried-read}
+use Rattle.cell.proofs.WithCrc.{carried-size, carried-octets, carried-vci, carried-read}
 use Rattle.cell.proofs.Fits.{Fit, fit}
 
 -- the payload before its CRC-10 is written
-abbrev bare : Fields → List ℕ
-bare f = body f ++ (0 ∷ 0 ∷ [])
+abbrev unchecked : Fields → List ℕ
+unchecked f = body f ++ (0 ∷ 0 ∷ [])
 
-pub bare-octets : (f : Fields) → Fit f → AreOctets (bare f)
-bare-octets f b =
+pub without-crc-octets : (f : Fields) → Fit f → AreOctets (unchecked f)
+without-crc-octets f b =
     octets-cons (lit< tt) (octets-cons marks
     (two-octets (f .er) (two-octets (f .ccr) (two-octets (f .mcr) (two-octets (f .ql / 65536) (two-octets (f .ql)
     (two-octets (f .sn / 65536) (two-octets (f .sn)
@@ -36,14 +36,14 @@ bare-octets f b =
 module _ (clp : ℕ) (f : Fields) where
   pub written-size : length (resourceCell clp f) ≡ 53
   unfolding resourceCell
-  written-size = carried-size (bare f) refl clp (f .vci)
+  written-size = carried-size (unchecked f) refl clp (f .vci)
 
   pub written-octets : clp ≤ 1 → fieldsFit f ≡ true → AreOctets (resourceCell clp f)
   unfolding resourceCell
-  written-octets h e = carried-octets (bare f) refl clp (f .vci) h (bare-octets f (fit f e))
+  written-octets h e = carried-octets (unchecked f) refl clp (f .vci) h (without-crc-octets f (fit f e))
 
   fields-back : clp ≤ 1 → Fit f → fieldsOf (resourceCell clp f) ≡ f
-  unfolding fieldsOf header sealed resourceCell
+  unfolding fieldsOf header withCrc resourceCell
   fields-back h b = λ i. record {
     vci = p-vci i;
     dir = p-dir i;
@@ -59,7 +59,7 @@ module _ (clp : ℕ) (f : Fields) where
   }
     where
       p-vci : vciOf (resourceCell clp f) ≡ f .vci
-      p-vci = carried-vci (bare f) refl clp (f .vci) h (b .vci)
+      p-vci = carried-vci (unchecked f) refl clp (f .vci) h (b .vci)
 
       p-dir : octet 7 (resourceCell clp f) / 128 % 2 ≡ f .dir
       p-dir = omega arith
@@ -94,4 +94,4 @@ module _ (clp : ℕ) (f : Fields) where
   pub read-written : clp ≤ 1 → fieldsFit f ≡ true → reading (resourceCell clp f) ≡ Resource f
   unfolding resourceCell
   read-written h e =
-      carried-read (bare f) refl clp (f .vci) h (fit f e .vci) refl ∙ ap Resource (fields-back h (fit f e))
+      carried-read (unchecked f) refl clp (f .vci) h (fit f e .vci) refl ∙ ap Resource (fields-back h (fit f e))

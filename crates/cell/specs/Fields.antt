@@ -42,12 +42,12 @@ body f =
     ∷ (two (f .er) ++ (two (f .ccr) ++ (two (f .mcr) ++ (two (f .ql / 65536) ++ (two (f .ql) ++ (two (f .sn / 65536) ++ (two (f .sn) ++ replicate 30 0x6A)))))))
 
 -- a payload of 48 octets with its CRC-10 written new: the six bits before it stay
-unfoldable pub sealed : List ℕ → List ℕ
-sealed p = take 46 p ++ ((getD p 46 0 / 4 * 4 + payloadCheck p / 256) ∷ (payloadCheck p % 256) ∷ [])
+unfoldable pub withCrc : List ℕ → List ℕ
+withCrc p = take 46 p ++ ((getD p 46 0 / 4 * 4 + payloadCheck p / 256) ∷ (payloadCheck p % 256) ∷ [])
 
 -- an RM cell of 53 octets, its six reserved bits 0
 unfoldable pub resourceCell : (clp : ℕ) → Fields → List ℕ
-resourceCell clp f = header clp (f .vci) ++ sealed (body f ++ (0 ∷ 0 ∷ []))
+resourceCell clp f = header clp (f .vci) ++ withCrc (body f ++ (0 ∷ 0 ∷ []))
 
 -- whether the ten bits of the CRC-10 are right
 unfoldable pub crcRight : List ℕ → Bool

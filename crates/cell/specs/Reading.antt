@@ -7,23 +7,19 @@ use lib.ListN.{length}
 use Rattle.cell.specs.Octets.{octet}
 use Rattle.cell.specs.Header.{vpiOf, vciOf, typeOf, headerRight}
 use Rattle.cell.specs.Fields.{fieldsOf, crcRight}
+use Rattle.laws.specs.Require.{require}
 pub use Rattle.cell.specs.declared.read.Reading.{Reading}
 pub use Rattle.cell.specs.declared.read.Reading.the-variants.{Refused, User, Resource}
-
--- the rest, if the test passes; else refusal n
-unfoldable pub need : ℕ → Bool → Reading → Reading
-need n true r = r
-need n false r = Refused n
 
 -- size, header check, VPI and payload type are judged first, the CRC-10 and the protocol of RM cells (type 6) alone; a data cell (types 0 to 3) has its EFCI in the middle bit of its type
 unfoldable pub reading : List ℕ → Reading
 reading o =
-    need 1 (eqb (length o) 53)
-    (need 2 (headerRight o)
-    (need 3 (eqb (vpiOf o) 0)
+    require (Refused 1) (eqb (length o) 53)
+    (require (Refused 2) (headerRight o)
+    (require (Refused 3) (eqb (vpiOf o) 0)
     (cond (leb (typeOf o) 3)
     (User (vciOf o) (eqb (typeOf o / 2 % 2) 1))
-    (need 4 (eqb (typeOf o) 6)
-    (need 5 (crcRight o)
-    (need 6 (eqb (octet 6 o) 1)
+    (require (Refused 4) (eqb (typeOf o) 6)
+    (require (Refused 5) (crcRight o)
+    (require (Refused 6) (eqb (octet 6 o) 1)
     (Resource (fieldsOf o))))))))

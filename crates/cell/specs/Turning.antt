@@ -7,7 +7,7 @@ use lib.ListN.{getD, drop}
 use Rattle.crc.specs.Payload.{octetsOf}
 use Rattle.crc.specs.declared.payload.Payload.{Payload}
 use Rattle.cell.specs.Header.{header}
-use Rattle.cell.specs.Fields.{sealed}
+use Rattle.cell.specs.Fields.{withCrc}
 
 -- octet 7: DIR 1 and BN 0; CI 1 with a saved EFCI or at level 2, NI 1 at level 1; every other bit as received, so that no mark is lost
 unfoldable pub turnedMarks : (level : ℕ) (efci : Bool) → ℕ → ℕ
@@ -19,7 +19,7 @@ marksAlone n = record { a = n * 0x10000000000000; b = 0; c = 0; d = 0; e = 0; f 
 
 -- the payload of 48 octets, received and then turned
 unfoldable pub turnedPayload : (level : ℕ) (efci : Bool) → List ℕ → List ℕ
-turnedPayload level efci p = sealed (getD p 0 0 ∷ turnedMarks level efci (getD p 1 0) ∷ drop 2 p)
+turnedPayload level efci p = withCrc (getD p 0 0 ∷ turnedMarks level efci (getD p 1 0) ∷ drop 2 p)
 
 -- the cell that carries a waiting payload
 unfoldable pub turnedCell : (vci : ℕ) → Payload → List ℕ

@@ -1,10 +1,8 @@
 // The fields of an RM cell (document 01, "The cell, 53 octets").
 ghost use mathlib.Core.Path.{_≡_};
-ghost use Prim.Native.Nat.{_+_, _*_, _/_, _%_};
-ghost use lib.ListN.{length};
-ghost use Rattle.cell.specs.Header.{vciOf};
-ghost use Rattle.cell.specs.Fields.{fieldsFit, fieldsOf};
+ghost use Rattle.cell.specs.Fields.{fieldsFit};
 
+#[repr(C)]
 pub struct Fields {
     pub vci: u32,
     pub dir: u32,
@@ -35,55 +33,5 @@ impl Fields {
             & (self.mcr <= 32767)
             & (self.ql <= 4294967295)
             & (self.sn <= 4294967295)
-    }
-}
-
-// Two octets as one number, high octet first.
-fn pair(high: u8, low: u8) -> u32
-    ensures { λ r. ⌜ r ≡ high * 256 + low ⌝ }
-{
-    high as u32 * 256 + low as u32
-}
-
-// Four octets as one number.
-fn long(a: u8, b: u8, c: u8, d: u8) -> u32
-    ensures { λ r. ⌜ r ≡ (a * 256 + b) * 65536 + (c * 256 + d) ⌝ }
-{
-    pair(a, b) * 65536 + pair(c, d)
-}
-
-// The 16 bits from the low half of b to the high half of d.
-fn vci(b: u8, c: u8, d: u8) -> u32
-    ensures { λ r. ⌜ r ≡ b % 16 * 4096 + c * 16 + d / 16 ⌝ }
-{
-    (b % 16) as u32 * 4096 + c as u32 * 16 + (d / 16) as u32
-}
-
-// The VCI, from octets 2 to 4.
-pub fn vci_of(cell: &[u8]) -> u32
-    requires { ⌜ length (now cell) ≡ 53 ⌝ }
-    ensures { λ r. ⌜ r ≡ vciOf (now (cell .entry)) ⌝ }
-{
-    vci(cell[1], cell[2], cell[3])
-}
-
-// What an RM cell carries: of each rate code the 15 low bits.
-pub fn fields_of(cell: &[u8]) -> Fields
-    requires { ⌜ length (now cell) ≡ 53 ⌝ }
-    ensures { λ r. ⌜ r ≡ fieldsOf (now (cell .entry)) ⌝ }
-{
-    let marks = cell[6] as u32;
-    Fields {
-        vci: vci_of(cell),
-        dir: marks / 128 % 2,
-        bn: marks / 64 % 2,
-        ci: marks / 32 % 2,
-        ni: marks / 16 % 2,
-        ra: marks / 8 % 2,
-        er: pair(cell[7], cell[8]) % 32768,
-        ccr: pair(cell[9], cell[10]) % 32768,
-        mcr: pair(cell[11], cell[12]) % 32768,
-        ql: long(cell[13], cell[14], cell[15], cell[16]),
-        sn: long(cell[17], cell[18], cell[19], cell[20]),
     }
 }

@@ -1,7 +1,5 @@
-// The cell of 53 octets: RM cells written and read, and a received forward cell turned round.
+// The cell of 53 octets: its fields, what reading one gives and what writing one answers. The definitions and their laws are in specs/ and proofs/; the crates
+// writing, reading and turning have the code.
 pub mod fields;
-pub mod put;
 pub mod read;
-pub mod seal;
-pub mod turn;
 pub mod write;

@@ -1,32 +1,36 @@
-// One call of each sort in a row, on one table. It is here for its contract: what the calls ensure, as they stand, makes a trace, so that
-// the theorem on traces (engine/specs/Library.antt) and the promises above it are about these very functions.
+// One exported call of each sort in a row, on one table. It is here for its contract: what the exports ensure, as they stand, makes a trace, so that the theorem
+// on traces (abr/specs/Exports.antt) and the promises above it are about these very functions.
 ghost use Rattle.composed.specs.EachCall.{EachCall};
-use engine::answer::Answer;
-use engine::close::close;
-use engine::level::set_level;
-use engine::offer::offer;
-use engine::open::open;
-use engine::receive::receive;
-use engine::slot::slot;
+use abr::connections::AcrAnswer;
+use abr::connections::abr_acr;
+use abr::connections::abr_close;
+use abr::connections::abr_offer;
+use abr::connections::abr_open;
+use abr::link::abr_receive;
+use abr::link::abr_set_level;
+use abr::link::abr_slot;
 use rate::params::Params;
 use table::layout::WORDS;
 
 pub struct Arguments {
-    pub name: u32,
+    pub vci: u32,
     pub time: u64,
     pub params: Params,
     pub cells: u64,
     pub level: u32,
 }
 
-pub fn each_call(t: &mut [u64; WORDS], a: Arguments, received: &[u8], cell: &mut [u8]) -> Answer
+// The answer is that of reading the ACR.
+pub fn each_call(t: &mut [u64; WORDS], a: Arguments, received: &[u8], cell: &mut [u8]) -> AcrAnswer
     ensures { λ r. ⌜ EachCall a (now (received .entry)) (now (t .entry)) (now (t .exit)) r (now (cell .entry)) (now (cell .exit)) ⌝ }
 {
     let params = a.params;
-    let opened = open(t, a.name, a.time, params);
-    let offered = offer(t, a.name, a.cells);
-    let levelled = set_level(t, a.level);
-    let taken = receive(t, received);
-    let sent = slot(t, a.time, cell);
-    close(t, a.name)
+    let opened = abr_open(t, a.vci, a.time, params);
+    let offered = abr_offer(t, a.vci, a.cells);
+    let levelled = abr_set_level(t, a.level);
+    let taken = abr_receive(t, received);
+    let sent = abr_slot(t, a.time, cell);
+    let rate = abr_acr(t, a.vci);
+    let closed = abr_close(t, a.vci);
+    rate
 }

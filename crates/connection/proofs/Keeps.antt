@@ -14,21 +14,21 @@ use Rattle.rate.specs.declared.moves.Rate.{Rate}
 use Rattle.rate.specs.Code.{rateOf}
 use Rattle.rate.specs.Params.{nrm, paramsFit}
 use Rattle.rate.specs.Moves.{moved, opened, firstCell, idle, unanswered, feedback}
-use Rattle.rate.specs.Bounds.{Held}
-use Rattle.rate.proofs.FourMoves.{opened-held, firstCell-held, firstCell-mono, idle-held, idle-mono, unanswered-held, unanswered-mono, feedback-held}
+use Rattle.rate.specs.Bounds.{RateInBounds}
+use Rattle.rate.proofs.FourMoves.{opened-in-bounds, firstCell-in-bounds, firstCell-mono, idle-in-bounds, idle-mono, unanswered-in-bounds, unanswered-mono, feedback-in-bounds}
 use Rattle.cell.specs.declared.fields.Fields.{Fields}
 use Rattle.connection.specs.Parts.{Connection, Pace, Unsent, Running, waiting, fresh}
-use Rattle.connection.specs.Receiving.{offered, marked, answered, turning, resourceWork}
+use Rattle.connection.specs.Receiving.{offered, afterDataCell, afterBackwardCell, afterForwardCell, afterResourceCell}
 use Rattle.connection.specs.Ready.{lastBefore}
 use Rattle.connection.specs.Kind.{Kind, Forward, Turned, Data, isForward, isTurned, kindAt}
 use Rattle.connection.specs.Sending.{movedBy, paced, sentForward, sentTurned, sentData, after}
-use Rattle.connection.specs.Invariant.{Sound, PaceFits, Proper}
+use Rattle.connection.specs.Invariant.{InBounds, PaceFits, ValidAt}
 
 -- The moves before a forward cell.
-movedBy-held : (t y : ℕ) (p : Pace) (q : Rate) → Held q → Held (movedBy t y p q)
+movedBy-in-bounds : (t y : ℕ) (p : Pace) (q : Rate) → RateInBounds q → RateInBounds (movedBy t y p q)
 unfolding movedBy
-movedBy-held t y Unsent q h = firstCell-held q h
-movedBy-held t y (Running sent forward k turned) q h = unanswered-held y (idle (t - forward) q) (idle-held (t - forward) q h)
+movedBy-in-bounds t y Unsent q h = firstCell-in-bounds q h
+movedBy-in-bounds t y (Running sent forward k turned) q h = unanswered-in-bounds y (idle (t - forward) q) (idle-in-bounds (t - forward) q h)
 
 pub movedBy-mono : (t y : ℕ) (p : Pace) (q : Rate) (a : ℕ) → a ≤ q .acr → movedBy t y p (moved q a) .acr ≤ movedBy t y p q .acr
 unfolding movedBy idle
@@ -54,11 +54,11 @@ pub record Same (c d : Connection) : Type 0 where
   pub trm : d .trm ≡ c .trm
   pub params : d .rate .params ≡ c .rate .params
 
-pub work-same : (level : ℕ) (o : List ℕ) (f : Fields) (c : Connection) → Same c (resourceWork level o f c)
-unfolding resourceWork answered turning feedback
+pub work-same : (level : ℕ) (o : List ℕ) (f : Fields) (c : Connection) → Same c (afterResourceCell level o f c)
+unfolding afterResourceCell afterBackwardCell afterForwardCell feedback
 work-same level o f c = go (eqb (f .dir) 1)
   where
-    go : (t : Bool) → Same c (cond t (answered f c) (turning level o c))
+    go : (t : Bool) → Same c (cond t (afterBackwardCell f c) (afterForwardCell level o c))
     go true = record { name = refl; opened = refl; trm = refl; params = refl }
     go false = record { name = refl; opened = refl; trm = refl; params = refl }
 
@@ -69,95 +69,95 @@ after-same Turned t c = record { name = refl; opened = refl; trm = refl; params 
 after-same Data t c = record { name = refl; opened = refl; trm = refl; params = refl }
 
 -- Whatever the time.
-fresh-sound : (v t : ℕ) (p : Params) → paramsFit p ≡ true → Sound (fresh v t p)
+fresh-in-bounds : (v t : ℕ) (p : Params) → paramsFit p ≡ true → InBounds (fresh v t p)
 unfolding fresh
-fresh-sound v t p e = record { rates = opened-held p e; counted = omega arith; stocked = omega arith }
+fresh-in-bounds v t p e = record { rates = opened-in-bounds p e; counted = omega arith; queued = omega arith }
 
-offered-sound : (n : ℕ) (c : Connection) → waiting (c .load) + n ≤ 65535 → Sound c → Sound (offered n c)
+offered-in-bounds : (n : ℕ) (c : Connection) → waiting (c .queue) + n ≤ 65535 → InBounds c → InBounds (offered n c)
 unfolding offered
-offered-sound n c h s = record { rates = s .rates; counted = s .counted; stocked = h }
+offered-in-bounds n c h s = record { rates = s .rates; counted = s .counted; queued = h }
 
 cleared : (t : Bool) {y : ℕ} → y ≤ 8_388_608 → cond t 0 y ≤ 8_388_608
 cleared true h = omega arith
 cleared false h = h
 
-answered-sound : (f : Fields) (c : Connection) → Sound c → Sound (answered f c)
-unfolding answered
-answered-sound f c s = record {
-  rates = feedback-held (eqb (f .ci) 1) (eqb (f .ni) 1) (rateOf (f .er)) (c .rate) (s .rates);
+after-backward-cell-in-bounds : (f : Fields) (c : Connection) → InBounds c → InBounds (afterBackwardCell f c)
+unfolding afterBackwardCell
+after-backward-cell-in-bounds f c s = record {
+  rates = feedback-in-bounds (eqb (f .ci) 1) (eqb (f .ni) 1) (rateOf (f .er)) (c .rate) (s .rates);
   counted = cleared (eqb (f .bn) 0) (s .counted);
-  stocked = s .stocked;
+  queued = s .queued;
 }
 
-work-sound : (level : ℕ) (o : List ℕ) (f : Fields) (c : Connection) → Sound c → Sound (resourceWork level o f c)
-unfolding resourceWork turning
-work-sound level o f c s = go (eqb (f .dir) 1)
+work-in-bounds : (level : ℕ) (o : List ℕ) (f : Fields) (c : Connection) → InBounds c → InBounds (afterResourceCell level o f c)
+unfolding afterResourceCell afterForwardCell
+work-in-bounds level o f c s = go (eqb (f .dir) 1)
   where
-    go : (t : Bool) → Sound (cond t (answered f c) (turning level o c))
-    go true = answered-sound f c s
+    go : (t : Bool) → InBounds (cond t (afterBackwardCell f c) (afterForwardCell level o c))
+    go true = after-backward-cell-in-bounds f c s
     go false = s
 
-pub after-sound : (k : Kind) (t : ℕ) (c : Connection) → Sound c → Sound (after k t c)
+pub after-in-bounds : (k : Kind) (t : ℕ) (c : Connection) → InBounds c → InBounds (after k t c)
 unfolding after sentForward sentTurned sentData
-after-sound Forward t c s = record { rates = movedBy-held t (c .unacked) (c .pace) (c .rate) (s .rates); counted = omega arith; stocked = s .stocked }
-after-sound Turned t c s = s
-after-sound Data t c s = record { rates = s .rates; counted = s .counted; stocked = omega (arith, s .stocked) }
+after-in-bounds Forward t c s = record { rates = movedBy-in-bounds t (c .unacked) (c .pace) (c .rate) (s .rates); counted = omega arith; queued = s .queued }
+after-in-bounds Turned t c s = s
+after-in-bounds Data t c s = record { rates = s .rates; counted = s .counted; queued = omega (arith, s .queued) }
 
 -- At a time.
 pace-later : (now later n : ℕ) (p : Pace) → now ≤ later → PaceFits now n p → PaceFits later n p
 pace-later now later n Unsent h f = tt
 pace-later now later n (Running sent forward k turned) h f = (f .0, le-trans (f .1) h, f .2)
 
-pub proper-later : (now later : ℕ) → now ≤ later → (c : Connection) → Proper now c → Proper later c
-proper-later now later h c p = (
+pub valid-later : (now later : ℕ) → now ≤ later → (c : Connection) → ValidAt now c → ValidAt later c
+valid-later now later h c p = (
   record {
     assigned = p .0 .assigned;
     coded = p .0 .coded;
     fits = p .0 .fits;
-    timed = p .0 .timed;
+    trmTime = p .0 .trmTime;
     past = le-trans (p .0 .past) h;
     paced = pace-later now later (nrm (c .rate .params)) (c .pace) h (p .0 .paced);
   },
   p .1,
 )
 
-pub fresh-proper : (v t : ℕ) (p : Params) → 32 ≤ v → v ≤ 65535 → paramsFit p ≡ true → Proper t (fresh v t p)
+pub fresh-valid : (v t : ℕ) (p : Params) → 32 ≤ v → v ≤ 65535 → paramsFit p ≡ true → ValidAt t (fresh v t p)
 unfolding fresh
-fresh-proper v t p l u e = (record { assigned = l; coded = u; fits = e; timed = refl; past = le-refl t; paced = tt }, fresh-sound v t p e)
+fresh-valid v t p l u e = (record { assigned = l; coded = u; fits = e; trmTime = refl; past = le-refl t; paced = tt }, fresh-in-bounds v t p e)
 
 -- the same frame, with this pace
-reframed : {now : ℕ} (c d : Connection) → Same c d → Proper now c → PaceFits now (nrm (c .rate .params)) (d .pace) → Sound d → Proper now d
-reframed {now} c d s p h g = (
+same-parts-valid : {now : ℕ} (c d : Connection) → Same c d → ValidAt now c → PaceFits now (nrm (c .rate .params)) (d .pace) → InBounds d → ValidAt now d
+same-parts-valid {now} c d s p h g = (
   record {
     assigned = rw (s .name) (p .0 .assigned);
     coded = rw (s .name) (p .0 .coded);
     fits = ap paramsFit (s .params) ∙ p .0 .fits;
-    timed = rw (s .trm, s .params) (p .0 .timed);
+    trmTime = rw (s .trm, s .params) (p .0 .trmTime);
     past = rw (s .opened) (p .0 .past);
     paced = rw (s .params) h;
   },
   g,
 )
 
-pub offered-proper : {now : ℕ} (n : ℕ) (c : Connection) → waiting (c .load) + n ≤ 65535 → Proper now c → Proper now (offered n c)
+pub offered-valid : {now : ℕ} (n : ℕ) (c : Connection) → waiting (c .queue) + n ≤ 65535 → ValidAt now c → ValidAt now (offered n c)
 unfolding offered
-offered-proper n c h p = (p .0, offered-sound n c h (p .1))
+offered-valid n c h p = (p .0, offered-in-bounds n c h (p .1))
 
-pub marked-proper : {now : ℕ} (e : Bool) (c : Connection) → Proper now c → Proper now (marked e c)
-unfolding marked
-marked-proper e c p = p
+pub after-data-cell-valid : {now : ℕ} (e : Bool) (c : Connection) → ValidAt now c → ValidAt now (afterDataCell e c)
+unfolding afterDataCell
+after-data-cell-valid e c p = p
 
-work-pace : (level : ℕ) (o : List ℕ) (f : Fields) (c : Connection) → resourceWork level o f c .pace ≡ c .pace
-unfolding resourceWork answered turning
+work-pace : (level : ℕ) (o : List ℕ) (f : Fields) (c : Connection) → afterResourceCell level o f c .pace ≡ c .pace
+unfolding afterResourceCell afterBackwardCell afterForwardCell
 work-pace level o f c = go (eqb (f .dir) 1)
   where
-    go : (t : Bool) → cond t (answered f c) (turning level o c) .pace ≡ c .pace
+    go : (t : Bool) → cond t (afterBackwardCell f c) (afterForwardCell level o c) .pace ≡ c .pace
     go true = refl
     go false = refl
 
-pub work-proper : {now : ℕ} (level : ℕ) (o : List ℕ) (f : Fields) (c : Connection) → Proper now c → Proper now (resourceWork level o f c)
-work-proper level o f c p =
-    reframed c (resourceWork level o f c) (work-same level o f c) p (rw (work-pace level o f c) (p .0 .paced)) (work-sound level o f c (p .1))
+pub work-valid : {now : ℕ} (level : ℕ) (o : List ℕ) (f : Fields) (c : Connection) → ValidAt now c → ValidAt now (afterResourceCell level o f c)
+work-valid level o f c p =
+    same-parts-valid c (afterResourceCell level o f c) (work-same level o f c) p (rw (work-pace level o f c) (p .0 .paced)) (work-in-bounds level o f c (p .1))
 
 -- A cell that is no forward cell leaves k below Nrm.
 pub not-forward : (k : Kind) (t : ℕ) (c : Connection) → kindAt t c ≡ k → k ≢ Forward → isForward t c (c .pace) ≡ false
@@ -197,5 +197,5 @@ after-pace Forward t c e h = (le-refl t, le-refl t, pow-pos (c .rate .params .n)
 after-pace Turned t c e h = pace-next t c true (c .pace) h (not-forward Turned t c e turned≢forward)
 after-pace Data t c e h = pace-next t c false (c .pace) h (not-forward Data t c e data≢forward)
 
-pub after-proper : (k : Kind) (t : ℕ) (c : Connection) → kindAt t c ≡ k → Proper t c → Proper t (after k t c)
-after-proper k t c e p = reframed c (after k t c) (after-same k t c) p (after-pace k t c e (p .0 .paced)) (after-sound k t c (p .1))
+pub after-valid : (k : Kind) (t : ℕ) (c : Connection) → kindAt t c ≡ k → ValidAt t c → ValidAt t (after k t c)
+after-valid k t c e p = same-parts-valid c (after k t c) (after-same k t c) p (after-pace k t c e (p .0 .paced)) (after-in-bounds k t c (p .1))

@@ -31,7 +31,7 @@ module _ (c : Connection) {p : Pace} where
   unfolding isTurned
   turned-first e = rw e
 
-  module _ {s f k : ℕ} {t : Bool} (e : p ≡ Running s f k t) {w : Bool} (q : w ≡ waits (c .back .turned)) where
+  module _ {s f k : ℕ} {t : Bool} (e : p ≡ Running s f k t) {w : Bool} (q : w ≡ waits (c .destination .turned)) where
     pub turned-none : not w ≡ true → false ≡ isTurned c p
     unfolding isTurned
     turned-none h = rw (e, sym q ∙ not-true w h)
@@ -40,7 +40,7 @@ module _ (c : Connection) {p : Pace} where
     unfolding isTurned
     turned-new h b = rw (e, sym q ∙ not-false w h, b)
 
-    pub turned-alone : not w ≡ false → not t ≡ false → eqb (c .load .cells) 0 ≡ isTurned c p
+    pub turned-alone : not w ≡ false → not t ≡ false → eqb (c .queue .cells) 0 ≡ isTurned c p
     unfolding isTurned
     turned-alone h b = rw (e, sym q ∙ not-false w h, b)
 

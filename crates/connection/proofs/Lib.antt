@@ -9,4 +9,4 @@ pub mod ReceiveCases
 pub mod Turnings
 pub mod Keeps
 pub mod Spaced
-pub mod InHand
+pub mod Waited

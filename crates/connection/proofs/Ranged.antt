@@ -7,7 +7,7 @@ use Rattle.rate.proofs.Ranges.{trm-le}
 use Rattle.crc.specs.declared.payload.Payload.{Payload}
 use Rattle.cell.specs.declared.fields.Fields.{Fields}
 use Rattle.connection.specs.Parts.{Connection, Pace, Unsent, Running, fresh}
-use Rattle.connection.specs.Receiving.{offered, marked, answered, turningWords}
+use Rattle.connection.specs.Receiving.{offered, afterDataCell, afterBackwardCell, afterForwardPayload}
 use Rattle.connection.specs.Kind.{Kind, Forward, Turned, Data}
 use Rattle.connection.specs.Sending.{paced, sentForward, sentTurned, sentData, after}
 use Rattle.connection.specs.Range.{PaceInRange, InRange, HasRoom}
@@ -21,17 +21,17 @@ module _ (c : Connection) (h : InRange c) where
   unfolding offered
   offered-ranged n = record { opened = h .opened; trm = h .trm; pace = h .pace }
 
-  pub marked-ranged : (e : Bool) → InRange (marked e c)
-  unfolding marked
-  marked-ranged e = record { opened = h .opened; trm = h .trm; pace = h .pace }
+  pub after-data-cell-ranged : (e : Bool) → InRange (afterDataCell e c)
+  unfolding afterDataCell
+  after-data-cell-ranged e = record { opened = h .opened; trm = h .trm; pace = h .pace }
 
-  pub answered-ranged : (f : Fields) → InRange (answered f c)
-  unfolding answered
-  answered-ranged f = record { opened = h .opened; trm = h .trm; pace = h .pace }
+  pub after-backward-cell-ranged : (f : Fields) → InRange (afterBackwardCell f c)
+  unfolding afterBackwardCell
+  after-backward-cell-ranged f = record { opened = h .opened; trm = h .trm; pace = h .pace }
 
-  pub turning-ranged : (level : ℕ) (p : Payload) → InRange (turningWords level p c)
-  unfolding turningWords
-  turning-ranged level p = record { opened = h .opened; trm = h .trm; pace = h .pace }
+  pub after-forward-cell-ranged : (level : ℕ) (p : Payload) → InRange (afterForwardPayload level p c)
+  unfolding afterForwardPayload
+  after-forward-cell-ranged level p = record { opened = h .opened; trm = h .trm; pace = h .pace }
 
 paced-ranged : (t : ℕ) (b : Bool) (p : Pace) → t < 2 ^ 63 → PaceInRange p → HasRoom p → PaceInRange (paced t b p)
 unfolding paced

@@ -5,23 +5,23 @@ use native.Mathlib.Omega.{arith}
 use lib.Pow.{pow-mono}
 use Rattle.rate.specs.declared.moves.Rate.{Rate}
 use Rattle.rate.specs.Units.{largestRate, latestTime}
-use Rattle.rate.specs.Bounds.{Held}
+use Rattle.rate.specs.Bounds.{RateInBounds}
 use Rattle.rate.proofs.Codes.{rate-le}
 use Rattle.rate.proofs.Ranges.{fits, trm-le}
 use Rattle.connection.specs.Parts.{Connection, Pace, Unsent, Running}
-use Rattle.connection.specs.Invariant.{PaceFits, Proper}
+use Rattle.connection.specs.Invariant.{PaceFits, ValidAt}
 use Rattle.connection.specs.Range.{PaceInRange, InRange}
 
 pace-in-range : (now n : ℕ) (p : Pace) → now ≤ latestTime → n ≤ 256 → PaceFits now n p → PaceInRange p
 pace-in-range now n Unsent l m h = tt
 pace-in-range now n (Running sent forward k turned) l m h = (omega arith, omega arith, omega arith)
 
-pub in-range : (now : ℕ) (c : Connection) → now ≤ latestTime → Proper now c → InRange c
+pub in-range : (now : ℕ) (c : Connection) → now ≤ latestTime → ValidAt now c → InRange c
 in-range now c l h = record {
   opened = omega (arith, h .0 .past);
-  trm = omega (arith, h .0 .timed, trm-le (c .rate .params .trm));
+  trm = omega (arith, h .0 .trmTime, trm-le (c .rate .params .trm));
   pace = pace-in-range now (2 ^ c .rate .params .n) (c .pace) l (pow-mono (fits (c .rate .params) (h .0 .fits) .nMost)) (h .0 .paced);
 }
 
-pub acr-is-rate : (q : Rate) → Held q → q .acr ≤ largestRate
+pub acr-is-rate : (q : Rate) → RateInBounds q → q .acr ≤ largestRate
 acr-is-rate q h = le-trans (h .below) (rate-le (q .params .pcr))

@@ -20,11 +20,11 @@ pub never-last : (k n : ℕ) → k < 2 ^ 32 → 64 ≤ n → false ≡ eqb k (2 
 never-last k n h l = sym (ne-eqb k (2 ^ n - 1) (λ e. omega (arith, pow-mono l)))
 
 module _ (c : Connection) where
-  pub data-waits : 0 < c .load .cells → true ≡ anyWaits c
+  pub data-waits : 0 < c .queue .cells → true ≡ anyWaits c
   unfolding anyWaits
   data-waits h = rw (lt-ltb _ _ h)
 
-  pub cell-waits : {w : Bool} → c .load .cells ≤ 0 → w ≡ waits (c .back .turned) → w ≡ anyWaits c
+  pub cell-waits : {w : Bool} → c .queue .cells ≤ 0 → w ≡ waits (c .destination .turned) → w ≡ anyWaits c
   unfolding anyWaits
   cell-waits h e = rw (le-ltb _ _ h) e
 

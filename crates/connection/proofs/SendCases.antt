@@ -11,7 +11,7 @@ use Rattle.rate.specs.Code.{rateOf, codeOf, codeOrZero}
 use Rattle.rate.specs.Moves.{firstCell, idle, unanswered}
 use Rattle.rate.proofs.Codes.{code-of-rate, code-greatest, rate-le}
 use Rattle.cell.specs.Fields.{fieldsFit}
-use Rattle.connection.specs.Parts.{Connection, Pace, Unsent, Running, Nothing, rated, pacing, counting, loaded, keeping}
+use Rattle.connection.specs.Parts.{Connection, Pace, Unsent, Running, Nothing, withRate, withPace, withUnacked, withQueue, withDestination}
 use Rattle.connection.specs.Kind.{Kind, Forward, Turned, Data}
 use Rattle.connection.specs.Sending.{movedBy, paced, sentForward, sentTurned, sentData, after, forwardFields}
 use Rattle.connection.specs.Range.{ForwardCarried}
@@ -36,16 +36,16 @@ module _ (x : ℕ) (b : Bool) {p : Pace} where
 
 module _ (x : ℕ) (c : Connection) {a r : Connection} where
   pub forward-is :
-      {b : Connection} {q : Rate} {y : ℕ} → q ≡ movedBy x (c .unacked) (c .pace) (c .rate) → a ≡ rated c q → b ≡ pacing a (Running x x 0 false)
-      → y ≡ min (c .unacked + 1) 8_388_608 → r ≡ counting b y → r ≡ sentForward x c
+      {b : Connection} {q : Rate} {y : ℕ} → q ≡ movedBy x (c .unacked) (c .pace) (c .rate) → a ≡ withRate c q → b ≡ withPace a (Running x x 0 false)
+      → y ≡ min (c .unacked + 1) 8_388_608 → r ≡ withUnacked b y → r ≡ sentForward x c
   unfolding sentForward
   forward-is q a b y r = rw (r, b, a, q, y)
 
-  pub turned-is : {p : Pace} → p ≡ paced x true (c .pace) → a ≡ pacing c p → r ≡ keeping a (record { efci = c .back .efci; turned = Nothing }) → r ≡ sentTurned x c
+  pub turned-is : {p : Pace} → p ≡ paced x true (c .pace) → a ≡ withPace c p → r ≡ withDestination a (record { efci = c .destination .efci; turned = Nothing }) → r ≡ sentTurned x c
   unfolding sentTurned
   turned-is p a r = rw (r, a, p)
 
-  pub data-is : {p : Pace} {n : ℕ} → n ≡ c .load .cells - 1 → p ≡ paced x false (c .pace) → a ≡ pacing c p → r ≡ loaded a (record { cells = n }) → r ≡ sentData x c
+  pub data-is : {p : Pace} {n : ℕ} → n ≡ c .queue .cells - 1 → p ≡ paced x false (c .pace) → a ≡ withPace c p → r ≡ withQueue a (record { cells = n }) → r ≡ sentData x c
   unfolding sentData
   data-is n p a r = rw (r, a, p, n)
 

@@ -9,9 +9,9 @@ use Rattle.crc.specs.Payload.{payloadOf}
 use Rattle.crc.proofs.Words.{octets-of-payload}
 use Rattle.cell.specs.Octets.{payload}
 use Rattle.connection.specs.Parts.{Connection}
-use Rattle.connection.specs.Receiving.{turning, turningWords}
+use Rattle.connection.specs.Receiving.{afterForwardCell, afterForwardPayload}
 
-pub turning-words :
-    (level : ℕ) (o : List ℕ) (c : Connection) → length o ≡ 53 → ((i : ℕ) → getD o i 0 < 256) → turningWords level (payloadOf (payload o)) c ≡ turning level o c
-unfolding turning turningWords
-turning-words level o c n h = rw (octets-of-payload (drop 5 o) (simp length-drop (omega arith)) (λ i. simp getD-drop (h _)))
+pub after-forward-cell-words :
+    (level : ℕ) (o : List ℕ) (c : Connection) → length o ≡ 53 → ((i : ℕ) → getD o i 0 < 256) → afterForwardPayload level (payloadOf (payload o)) c ≡ afterForwardCell level o c
+unfolding afterForwardCell afterForwardPayload
+after-forward-cell-words level o c n h = rw (octets-of-payload (drop 5 o) (simp length-drop (omega arith)) (λ i. simp getD-drop (h _)))

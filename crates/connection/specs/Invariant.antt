@@ -6,17 +6,17 @@ use mathlib.Core.Bool.{true}
 use Rattle.rate.specs.declared.params.Params.{Params}
 use Rattle.rate.specs.declared.moves.Rate.{Rate}
 use Rattle.rate.specs.Params.{nrm, paramsFit, trmTime}
-use Rattle.rate.specs.Bounds.{Held}
-use Rattle.connection.specs.Parts.{Connection, Pace, Unsent, Running, Load, waiting}
+use Rattle.rate.specs.Bounds.{RateInBounds}
+use Rattle.connection.specs.Parts.{Connection, Pace, Unsent, Running, Queue, waiting}
 
 -- whatever the time: the rate between its bounds, Y and the waiting data within theirs
-pub record SoundParts (q : Rate) (y : ℕ) (l : Load) : Type 0 where
-  pub rates : Held q
+pub record PartsInBounds (q : Rate) (y : ℕ) (l : Queue) : Type 0 where
+  pub rates : RateInBounds q
   pub counted : y ≤ 8_388_608
-  pub stocked : waiting l ≤ 65535
+  pub queued : waiting l ≤ 65535
 
-abbrev pub Sound : Connection → Type 0
-Sound c = SoundParts (c .rate) (c .unacked) (c .load)
+abbrev pub InBounds : Connection → Type 0
+InBounds c = PartsInBounds (c .rate) (c .unacked) (c .queue)
 
 -- no cell was sent after now, no forward cell after the last cell, and k is below Nrm
 abbrev pub PaceFits : (now nrm : ℕ) → Pace → Type 0
@@ -24,13 +24,13 @@ PaceFits now n Unsent = Unit
 PaceFits now n (Running sent forward k turned) = (forward ≤ sent) × (sent ≤ now) × (k < n)
 
 -- a connection's name, parameters and instants, at the time of the last accepted open or slot
-pub record Framed (now name opened trm : ℕ) (p : Params) (pace : Pace) : Type 0 where
+pub record PartsValidAt (now name opened trm : ℕ) (p : Params) (pace : Pace) : Type 0 where
   pub assigned : 32 ≤ name
   pub coded : name ≤ 65535
   pub fits : paramsFit p ≡ true
-  pub timed : trm ≡ trmTime (p .trm)
+  pub trmTime : trm ≡ trmTime (p .trm)
   pub past : opened ≤ now
   pub paced : PaceFits now (nrm p) pace
 
-abbrev pub Proper : (now : ℕ) → Connection → Type 0
-Proper now c = Framed now (c .name) (c .opened) (c .trm) (c .rate .params) (c .pace) × Sound c
+abbrev pub ValidAt : (now : ℕ) → Connection → Type 0
+ValidAt now c = PartsValidAt now (c .name) (c .opened) (c .trm) (c .rate .params) (c .pace) × InBounds c

@@ -15,7 +15,7 @@ isForward t c (Running sent forward k turned) = lastBefore c k || (leb 2 k && le
 -- a turned cell that waits goes if none went since the last forward cell, or if no data waits
 unfoldable pub isTurned : Connection → Pace → Bool
 isTurned c Unsent = false
-isTurned c (Running sent forward k turned) = waits (c .back .turned) && (not turned || eqb (waiting (c .load)) 0)
+isTurned c (Running sent forward k turned) = waits (c .destination .turned) && (not turned || eqb (waiting (c .queue)) 0)
 
 unfoldable pub kindAt : ℕ → Connection → Kind
 kindAt t c = cond (isForward t c (c .pace)) Forward (cond (isTurned c (c .pace)) Turned Data)

@@ -7,41 +7,41 @@ use Rattle.rate.specs.Params.{trmTime}
 use Rattle.rate.specs.Moves.{opened}
 pub use Rattle.connection.specs.declared.parts.Pace.{Pace}
 pub use Rattle.connection.specs.declared.parts.Pace.the-variants.{Unsent, Running}
-pub use Rattle.connection.specs.declared.parts.Load.{Load}
+pub use Rattle.connection.specs.declared.parts.Queue.{Queue}
 pub use Rattle.connection.specs.declared.parts.Waiting.{Waiting}
 pub use Rattle.connection.specs.declared.parts.Waiting.the-variants.{Nothing, Cell}
-pub use Rattle.connection.specs.declared.parts.Back.{Back}
+pub use Rattle.connection.specs.declared.parts.Destination.{Destination}
 pub use Rattle.connection.specs.declared.parts.Connection.{Connection}
 
 -- All that the calls do to a connection is made of these five.
-abbrev pub rated : Connection → Rate → Connection
-rated c q = record { name = c .name; opened = c .opened; trm = c .trm; rate = q; pace = c .pace; unacked = c .unacked; load = c .load; back = c .back }
+abbrev pub withRate : Connection → Rate → Connection
+withRate c q = record { name = c .name; opened = c .opened; trm = c .trm; rate = q; pace = c .pace; unacked = c .unacked; queue = c .queue; destination = c .destination }
 
-abbrev pub pacing : Connection → Pace → Connection
-pacing c p = record { name = c .name; opened = c .opened; trm = c .trm; rate = c .rate; pace = p; unacked = c .unacked; load = c .load; back = c .back }
+abbrev pub withPace : Connection → Pace → Connection
+withPace c p = record { name = c .name; opened = c .opened; trm = c .trm; rate = c .rate; pace = p; unacked = c .unacked; queue = c .queue; destination = c .destination }
 
-abbrev pub counting : Connection → ℕ → Connection
-counting c y = record { name = c .name; opened = c .opened; trm = c .trm; rate = c .rate; pace = c .pace; unacked = y; load = c .load; back = c .back }
+abbrev pub withUnacked : Connection → ℕ → Connection
+withUnacked c y = record { name = c .name; opened = c .opened; trm = c .trm; rate = c .rate; pace = c .pace; unacked = y; queue = c .queue; destination = c .destination }
 
-abbrev pub loaded : Connection → Load → Connection
-loaded c l = record { name = c .name; opened = c .opened; trm = c .trm; rate = c .rate; pace = c .pace; unacked = c .unacked; load = l; back = c .back }
+abbrev pub withQueue : Connection → Queue → Connection
+withQueue c l = record { name = c .name; opened = c .opened; trm = c .trm; rate = c .rate; pace = c .pace; unacked = c .unacked; queue = l; destination = c .destination }
 
-abbrev pub keeping : Connection → Back → Connection
-keeping c b = record { name = c .name; opened = c .opened; trm = c .trm; rate = c .rate; pace = c .pace; unacked = c .unacked; load = c .load; back = b }
+abbrev pub withDestination : Connection → Destination → Connection
+withDestination c b = record { name = c .name; opened = c .opened; trm = c .trm; rate = c .rate; pace = c .pace; unacked = c .unacked; queue = c .queue; destination = b }
 
 -- the data cells that wait; n more; one less
-abbrev pub waiting : Load → ℕ
+abbrev pub waiting : Queue → ℕ
 waiting l = l .cells
 
-abbrev pub filled : ℕ → Load → Load
-filled n l = record { cells = l .cells + n }
+abbrev pub enqueued : ℕ → Queue → Queue
+enqueued n l = record { cells = l .cells + n }
 
-abbrev pub spent : Load → Load
-spent l = record { cells = l .cells - 1 }
+abbrev pub dequeued : Queue → Queue
+dequeued l = record { cells = l .cells - 1 }
 
 -- no cell waits, and no EFCI is saved
-abbrev pub noBack : Back
-noBack = record { efci = false; turned = Nothing }
+abbrev pub noDestination : Destination
+noDestination = record { efci = false; turned = Nothing }
 
 -- a connection as it starts: ACR = ICR, no cell sent, nothing waiting, Y = 0
 unfoldable pub fresh : (name time : ℕ) → Params → Connection
@@ -52,6 +52,6 @@ fresh v t p = record {
   rate = opened p;
   pace = Unsent;
   unacked = 0;
-  load = record { cells = 0 };
-  back = noBack;
+  queue = record { cells = 0 };
+  destination = noDestination;
 }

@@ -1,4 +1,4 @@
--- Ranges in which a connection's instants and counts are added without wrapping. Every table's seat is read into them, whatever it holds,
+-- Ranges in which a connection's instants and counts are added without wrapping. Every table's entry is read into them, whatever it holds,
 -- and each connection in a table that calls made lies within them.
 use Prim.Native.Nat.{ℕ, _+_, _≤_, _<_, _^_}
 use mathlib.Core.Path.{_≡_}

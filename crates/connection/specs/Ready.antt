@@ -14,7 +14,7 @@ waits (Cell p) = true
 
 -- data or a turned cell waits
 unfoldable pub anyWaits : Connection → Bool
-anyWaits c = ltb 0 (waiting (c .load)) || waits (c .back .turned)
+anyWaits c = ltb 0 (waiting (c .queue)) || waits (c .destination .turned)
 
 -- k = Nrm − 1: the next cell is a forward one, whatever waits
 unfoldable pub lastBefore : Connection → ℕ → Bool

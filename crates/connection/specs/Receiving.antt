@@ -10,29 +10,29 @@ use Rattle.crc.specs.Payload.{octetsOf, payloadOf}
 use Rattle.cell.specs.declared.fields.Fields.{Fields}
 use Rattle.cell.specs.Octets.{payload}
 use Rattle.cell.specs.Turning.{turnedPayload}
-use Rattle.connection.specs.Parts.{Connection, Cell, rated, counting, loaded, keeping, filled}
+use Rattle.connection.specs.Parts.{Connection, Cell, withRate, withUnacked, withQueue, withDestination, enqueued}
 
 -- an offer adds to the waiting data
 unfoldable pub offered : ℕ → Connection → Connection
-offered n c = loaded c (filled n (c .load))
+offered n c = withQueue c (enqueued n (c .queue))
 
 -- the latest data cell decides the saved EFCI
-unfoldable pub marked : Bool → Connection → Connection
-marked e c = keeping c (record { efci = e; turned = c .back .turned })
+unfoldable pub afterDataCell : Bool → Connection → Connection
+afterDataCell e c = withDestination c (record { efci = e; turned = c .destination .turned })
 
 -- feedback; the answer of a destination, BN 0, clears Y as well
-unfoldable pub answered : Fields → Connection → Connection
-answered f c =
-    counting (rated c (feedback (eqb (f .ci) 1) (eqb (f .ni) 1) (rateOf (f .er)) (c .rate))) (cond (eqb (f .bn) 0) 0 (c .unacked))
+unfoldable pub afterBackwardCell : Fields → Connection → Connection
+afterBackwardCell f c =
+    withUnacked (withRate c (feedback (eqb (f .ci) 1) (eqb (f .ni) 1) (rateOf (f .er)) (c .rate))) (cond (eqb (f .bn) 0) 0 (c .unacked))
 
 -- a forward cell becomes the one waiting cell, at this congestion level; the saved EFCI is used up
-unfoldable pub turning : (level : ℕ) → List ℕ → Connection → Connection
-turning level o c = keeping c (record { efci = false; turned = Cell (payloadOf (turnedPayload level (c .back .efci) (payload o))) })
+unfoldable pub afterForwardCell : (level : ℕ) → List ℕ → Connection → Connection
+afterForwardCell level o c = withDestination c (record { efci = false; turned = Cell (payloadOf (turnedPayload level (c .destination .efci) (payload o))) })
 
 -- the same, from the words of the received payload
-unfoldable pub turningWords : (level : ℕ) → Payload → Connection → Connection
-turningWords level p c = keeping c (record { efci = false; turned = Cell (payloadOf (turnedPayload level (c .back .efci) (octetsOf p))) })
+unfoldable pub afterForwardPayload : (level : ℕ) → Payload → Connection → Connection
+afterForwardPayload level p c = withDestination c (record { efci = false; turned = Cell (payloadOf (turnedPayload level (c .destination .efci) (octetsOf p))) })
 
--- an RM cell is obeyed if it is a backward cell, and turned round if it is a forward one
-unfoldable pub resourceWork : (level : ℕ) → List ℕ → Fields → Connection → Connection
-resourceWork level o f c = cond (eqb (f .dir) 1) (answered f c) (turning level o c)
+-- a backward RM cell moves the rate, a forward one is turned round
+unfoldable pub afterResourceCell : (level : ℕ) → List ℕ → Fields → Connection → Connection
+afterResourceCell level o f c = cond (eqb (f .dir) 1) (afterBackwardCell f c) (afterForwardCell level o c)

@@ -9,7 +9,7 @@ use Rattle.rate.specs.Moves.{firstCell, idle, unanswered}
 use Rattle.cell.specs.declared.fields.Fields.{Fields}
 use Rattle.cell.specs.Fields.{resourceCell}
 use Rattle.cell.specs.Turning.{turnedCell}
-use Rattle.connection.specs.Parts.{Connection, Pace, Unsent, Running, Waiting, Nothing, Cell, rated, pacing, counting, loaded, keeping, spent}
+use Rattle.connection.specs.Parts.{Connection, Pace, Unsent, Running, Waiting, Nothing, Cell, withRate, withPace, withUnacked, withQueue, withDestination, dequeued}
 use Rattle.connection.specs.Kind.{Kind, Forward, Turned, Data}
 
 -- the moves before a forward cell at t: the first cell's; or idle, and then unanswered
@@ -25,13 +25,13 @@ paced t isTurned (Running sent forward k turned) = Running t forward (k + 1) (tu
 -- Y stops at 2^23
 unfoldable pub sentForward : ℕ → Connection → Connection
 sentForward t c =
-    counting (pacing (rated c (movedBy t (c .unacked) (c .pace) (c .rate))) (Running t t 0 false)) (min (c .unacked + 1) 8_388_608)
+    withUnacked (withPace (withRate c (movedBy t (c .unacked) (c .pace) (c .rate))) (Running t t 0 false)) (min (c .unacked + 1) 8_388_608)
 
 unfoldable pub sentTurned : ℕ → Connection → Connection
-sentTurned t c = keeping (pacing c (paced t true (c .pace))) (record { efci = c .back .efci; turned = Nothing })
+sentTurned t c = withDestination (withPace c (paced t true (c .pace))) (record { efci = c .destination .efci; turned = Nothing })
 
 unfoldable pub sentData : ℕ → Connection → Connection
-sentData t c = loaded (pacing c (paced t false (c .pace))) (spent (c .load))
+sentData t c = withQueue (withPace c (paced t false (c .pace))) (dequeued (c .queue))
 
 unfoldable pub after : Kind → ℕ → Connection → Connection
 after Forward t c = sentForward t c
@@ -66,5 +66,5 @@ pub data Buffer : Type 0 where
 -- a forward cell carries the rate after the moves, a turned cell is the one that waited, and data is the caller's own
 unfoldable pub bufferAfter : Kind → (before now : Connection) → Buffer
 bufferAfter Forward before now = written (resourceCell 0 (forwardFields (now .name) (now .rate)))
-bufferAfter Turned before now = written (waitingCell (before .name) (before .back .turned))
+bufferAfter Turned before now = written (waitingCell (before .name) (before .destination .turned))
 bufferAfter Data before now = untouched

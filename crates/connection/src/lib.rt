@@ -1,7 +1,5 @@
-// One connection by value: what it holds, when it is ready, what it sends, and what sending and receiving make of it.
+// One connection by value: its parts, with the definitions and laws of what it sends and receives in specs/ and proofs/. The crates scheduling and transition
+// have the code.
 pub mod kind;
-pub mod obey;
 pub mod parts;
 pub mod ready;
-pub mod receive;
-pub mod send;

@@ -1,6 +1,6 @@
 // The parts of a connection (document 01, "Opening", "Turning cells round" and "Slots").
 ghost use mathlib.Core.Path.{_≡_};
-ghost use Rattle.connection.specs.Parts.{fresh, rated, pacing, counting, loaded, keeping};
+ghost use Rattle.connection.specs.Parts.{fresh, withRate, withPace, withUnacked, withQueue, withDestination};
 use crc::payload::Payload;
 use rate::moves::Rate;
 use rate::params::Params;
@@ -19,7 +19,7 @@ pub enum Pace {
 }
 
 // The data cells that wait.
-pub struct Load {
+pub struct Queue {
     pub cells: u32,
 }
 
@@ -30,7 +30,7 @@ pub enum Waiting {
 }
 
 // What the receiving side keeps: the saved EFCI and the waiting turned cell.
-pub struct Back {
+pub struct Destination {
     pub efci: bool,
     pub turned: Waiting,
 }
@@ -43,8 +43,8 @@ pub struct Connection {
     pub rate: Rate,
     pub pace: Pace,
     pub unacked: u32,
-    pub load: Load,
-    pub back: Back,
+    pub queue: Queue,
+    pub destination: Destination,
 }
 
 impl Connection {
@@ -59,8 +59,8 @@ impl Connection {
             rate: Rate::opened(params),
             pace: Pace::Unsent,
             unacked: 0,
-            load: Load { cells: 0 },
-            back: Back {
+            queue: Queue { cells: 0 },
+            destination: Destination {
                 efci: false,
                 turned: Waiting::Nothing,
             },
@@ -68,19 +68,19 @@ impl Connection {
     }
 
     // The same connection with one part changed.
-    pub fn rated(mut self, rate: Rate) -> Connection
-        ensures { λ c. ⌜ c ≡ rated self rate ⌝ }
+    pub fn with_rate(mut self, rate: Rate) -> Connection
+        ensures { λ c. ⌜ c ≡ withRate self rate ⌝ }
     {
         self.rate = rate;
         self
     }
 
-    pub fn pacing(self, pace: Pace) -> Connection
-        ensures { λ c. ⌜ c ≡ pacing self pace ⌝ }
+    pub fn with_pace(self, pace: Pace) -> Connection
+        ensures { λ c. ⌜ c ≡ withPace self pace ⌝ }
     {
         let rate = self.rate;
-        let load = self.load;
-        let back = self.back;
+        let queue = self.queue;
+        let destination = self.destination;
         Connection {
             name: self.name,
             opened: self.opened,
@@ -88,29 +88,29 @@ impl Connection {
             rate,
             pace,
             unacked: self.unacked,
-            load,
-            back,
+            queue,
+            destination,
         }
     }
 
-    pub fn counting(mut self, unacked: u32) -> Connection
-        ensures { λ c. ⌜ c ≡ counting self unacked ⌝ }
+    pub fn with_unacked(mut self, unacked: u32) -> Connection
+        ensures { λ c. ⌜ c ≡ withUnacked self unacked ⌝ }
     {
         self.unacked = unacked;
         self
     }
 
-    pub fn loaded(mut self, load: Load) -> Connection
-        ensures { λ c. ⌜ c ≡ loaded self load ⌝ }
+    pub fn with_queue(mut self, queue: Queue) -> Connection
+        ensures { λ c. ⌜ c ≡ withQueue self queue ⌝ }
     {
-        self.load = load;
+        self.queue = queue;
         self
     }
 
-    pub fn keeping(mut self, back: Back) -> Connection
-        ensures { λ c. ⌜ c ≡ keeping self back ⌝ }
+    pub fn with_destination(mut self, destination: Destination) -> Connection
+        ensures { λ c. ⌜ c ≡ withDestination self destination ⌝ }
     {
-        self.back = back;
+        self.destination = destination;
         self
     }
 }

@@ -100,7 +100,7 @@ fn fold9(v: u64) -> u64
 }
 
 // The remainder of six words by x^9 + x^4 + 1.
-fn nine(p: Payload) -> u64
+fn remainder9(p: Payload) -> u64
     ensures { λ r. ⌜ (r ≡ trinomial (wide p)) × (r < 512) ⌝ }
 {
     let v = fold72(fold72(fold144(fold144(fold288(p)))));
@@ -115,11 +115,11 @@ fn parity(z: u64) -> u64
 }
 
 // The remainder of six words by the generator.
-fn ten(p: Payload) -> u64
+fn remainder10(p: Payload) -> u64
     ensures { λ r. ⌜ (r ≡ divide 10 0x633 0 (bits 384 (wide p))) × (r < 1024) ⌝ }
 {
     let q = p.a ^ p.b ^ p.c ^ p.d ^ p.e ^ p.f;
-    let t = nine(p);
+    let t = remainder9(p);
     t ^ (parity(t ^ q) * 0x211)
 }
 
@@ -127,7 +127,7 @@ fn ten(p: Payload) -> u64
 pub fn crc10(p: Payload) -> u64
     ensures { λ r. ⌜ (r ≡ payloadCheck (octetsOf p)) × (r < 1024) ⌝ }
 {
-    ten(Payload {
+    remainder10(Payload {
         a: p.a,
         b: p.b,
         c: p.c,

@@ -1,11 +1,7 @@
--- What every call does, and what holds of every table that calls make.
-pub mod Effects
-pub mod Keeps
-pub mod Given
-pub mod Outs
-pub mod Calls
-pub mod Opened
-pub mod SentOut
-pub mod Received
-pub mod SlotOut
-pub mod Library
+-- What the calls do to the words of a table: one lemma for each way out of each call.
+pub mod Outcomes
+pub mod CallCases
+pub mod OpenCases
+pub mod ReceiveCases
+pub mod SendCases
+pub mod SlotCases

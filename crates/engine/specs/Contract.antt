@@ -3,21 +3,28 @@ use Prim.Native.Nat.{ℕ}
 use mathlib.Core.Path.{_≡_}
 use mathlib.Core.List.{List}
 use Rattle.connection.specs.Sending.{Buffer, untouched, written}
-use Rattle.table.specs.State.{State}
-use Rattle.table.specs.Invariant.{Whole}
+use Rattle.model.specs.State.{State}
+use Rattle.model.specs.Invariant.{WellFormed}
 use Rattle.table.specs.Layout.{words}
-use Rattle.engine.specs.Call.{Answer, Outcome}
+use Rattle.model.specs.declared.answer.Answer.{Answer}
+use Rattle.model.specs.Call.{Outcome}
+use Rattle.model.specs.Queries.{acrOf}
+use Rattle.model.specs.declared.acr.Acr.{Acr}
 
--- Of the words of a whole state, as every state that calls reach is, the call makes the words of the state that f gives, and answers as f says. It has no requires:
+-- Of the words of a well-formed state, as every state that calls reach is, the call makes the words of the state that f gives, and answers as f says. It has no requires:
 -- of any other words it is known that the call ends and stays within its bounds.
 pub record Meets (f : State → Outcome) (before after : List ℕ) (r : Answer) : Type 0 where
-  pub meets : (s : State) → Whole s → before ≡ words s → (after ≡ words (f s .state)) × (r ≡ f s .answer)
+  pub meets : (s : State) → WellFormed s → before ≡ words s → (after ≡ words (f s .state)) × (r ≡ f s .answer)
 
 -- what the lent buffer holds after a call
-abbrev pub held : Buffer → List ℕ → List ℕ
-held untouched old = old
-held (written o) old = o
+abbrev pub bufferContent : Buffer → List ℕ → List ℕ
+bufferContent untouched old = old
+bufferContent (written o) old = o
 
 -- the same of a call that may write its buffer
 pub record MeetsWriting (f : State → Outcome) (before after : List ℕ) (r : Answer) (old new : List ℕ) : Type 0 where
-  pub meets : (s : State) → Whole s → before ≡ words s → (after ≡ words (f s .state)) × (r ≡ f s .answer) × (new ≡ held (f s .buffer) old)
+  pub meets : (s : State) → WellFormed s → before ≡ words s → (after ≡ words (f s .state)) × (r ≡ f s .answer) × (new ≡ bufferContent (f s .buffer) old)
+
+-- the same of reading an ACR, which leaves the table
+pub record MeetsAcr (v : ℕ) (l : List ℕ) (r : Acr) : Type 0 where
+  pub answers : (s : State) → WellFormed s → l ≡ words s → r ≡ acrOf s v

@@ -1,4 +1,4 @@
--- What a slot that goes to a seat writes and leaves.
+-- What a slot that goes to an entry writes and leaves.
 use Prim.Native.Nat.{ℕ, _≤_}
 use mathlib.Core.Path.{_≡_}
 use mathlib.Core.List.{List}
@@ -14,13 +14,13 @@ use Rattle.connection.specs.declared.kind.Kind.{Kind}
 use Rattle.connection.specs.declared.kind.Kind.the-variants.{Forward, Turned, Data}
 use Rattle.connection.specs.Kind.{kindAt}
 use Rattle.connection.specs.Sending.{forwardFields}
-use Rattle.table.specs.State.{State, free, taken, position, holds}
-use Rattle.table.specs.Invariant.{Whole}
+use Rattle.model.specs.State.{State, free, taken, position, holds}
+use Rattle.model.specs.Invariant.{WellFormed}
 use Rattle.table.specs.Layout.{words}
-use Rattle.table.specs.Storing.{frontUpdated, updated}
-use Rattle.engine.specs.Call.{Answer}
-use Rattle.engine.specs.Step.{sendStep}
-use Rattle.engine.specs.Contract.{held}
+use Rattle.table.specs.Storing.{sourceUpdated, updated}
+use Rattle.model.specs.declared.answer.Answer.{Answer}
+use Rattle.model.specs.Step.{sendStep}
+use Rattle.engine.specs.Contract.{bufferContent}
 
 -- the waiting cell, in a buffer that held these octets; none waits only where no turned cell is sent
 abbrev pub waitingOr : (name : ℕ) → Waiting → List ℕ → List ℕ
@@ -34,18 +34,18 @@ pub record ForwardIn (name : ℕ) (q : Rate) (new : List ℕ) : Type 0 where
 -- the buffer after a cell of this kind, from a connection before and after it
 abbrev pub Carried : Kind → (before now : Connection) → (old new : List ℕ) → Type 0
 Carried Forward before now old new = ForwardIn (now .name) (now .rate) new
-Carried Turned before now old new = new ≡ waitingOr (before .name) (before .back .turned) old
+Carried Turned before now old new = new ≡ waitingOr (before .name) (before .destination .turned) old
 Carried Data before now old new = new ≡ old
 
 -- what a cell of this kind leaves of the table's words: only a turned cell changes the receiving side
-abbrev pub storedSent : List ℕ → (seat : ℕ) → Kind → Connection → List ℕ
-storedSent l i Forward c = frontUpdated l i c
+abbrev pub storedSent : List ℕ → (entry : ℕ) → Kind → Connection → List ℕ
+storedSent l i Forward c = sourceUpdated l i c
 storedSent l i Turned c = updated l i c
-storedSent l i Data c = frontUpdated l i c
+storedSent l i Data c = sourceUpdated l i c
 
--- a slot at t that goes to seat i, in a state whose last accepted time is t
+-- a slot at t that goes to entry i, in a state whose last accepted time is t
 pub record Sends (t i : ℕ) (before after : List ℕ) (r : Answer) (old new : List ℕ) : Type 0 where
   pub sends :
-      (s : State) → Whole s → s .last ≡ t → before ≡ words s → (c : Connection) → getD (s .seats) i free ≡ taken c → position (holds (c .name)) (s .seats) ≡ i
+      (s : State) → WellFormed s → s .last ≡ t → before ≡ words s → (c : Connection) → getD (s .entries) i free ≡ taken c → position (holds (c .name)) (s .entries) ≡ i
       → (after ≡ words (sendStep s t (c .name) c (kindAt t c) .state)) × (r ≡ sendStep s t (c .name) c (kindAt t c) .answer)
-      × (new ≡ held (sendStep s t (c .name) c (kindAt t c) .buffer) old)
+      × (new ≡ bufferContent (sendStep s t (c .name) c (kindAt t c) .buffer) old)

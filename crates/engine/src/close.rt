@@ -1,11 +1,11 @@
 // Closing a connection, with all that waits on it (document 01, "Opening").
-ghost use Rattle.engine.specs.Step.{closeStep};
+ghost use Rattle.model.specs.Step.{closeStep};
 ghost use Rattle.engine.specs.Contract.{Meets};
-use crate::answer::Answer;
-use table::find::Found;
-use table::find::find;
+use model::answer::Answer;
+use names::find::Found;
+use names::find::find;
+use storing::store::clear;
 use table::layout::WORDS;
-use table::store::clear;
 
 // Refusal 11.
 pub fn close(t: &mut [u64; WORDS], name: u32) -> Answer

@@ -1,7 +1,8 @@
 // Setting the congestion level (document 01, "Turning cells round").
-ghost use Rattle.engine.specs.Step.{levelStep};
+ghost use Rattle.model.specs.Step.{levelStep};
 ghost use Rattle.engine.specs.Contract.{Meets};
-use crate::answer::Answer;
+use model::answer::Answer;
+use table::layout::LEVEL;
 use table::layout::WORDS;
 
 // Refusal 9.
@@ -11,6 +12,6 @@ pub fn set_level(t: &mut [u64; WORDS], level: u32) -> Answer
     if 2 < level {
         return Answer::Refused(9);
     }
-    t[0] = level as u64;
+    t[LEVEL] = level as u64;
     Answer::Accepted
 }

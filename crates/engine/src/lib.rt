@@ -1,6 +1,5 @@
 // The engine's calls on a lent table. Each has no requires, and its ensures is the equation with the definition of its step.
 pub mod acr;
-pub mod answer;
 pub mod close;
 pub mod level;
 pub mod offer;

@@ -1,13 +1,13 @@
 // Offering data (document 01, "Opening").
-ghost use Rattle.engine.specs.Step.{offerStep};
+ghost use Rattle.model.specs.Step.{offerStep};
 ghost use Rattle.engine.specs.Contract.{Meets};
-use crate::answer::Answer;
-use connection::receive::offered;
-use table::find::Found;
-use table::find::find;
+use loading::load::load;
+use model::answer::Answer;
+use names::find::Found;
+use names::find::find;
+use storing::store::update_source;
 use table::layout::WORDS;
-use table::load::load;
-use table::store::update_front;
+use transition::receive::offered;
 
 // Refusals 11, 15. The sum is never formed before it is known to fit.
 pub fn offer(t: &mut [u64; WORDS], name: u32, cells: u64) -> Answer
@@ -17,13 +17,13 @@ pub fn offer(t: &mut [u64; WORDS], name: u32, cells: u64) -> Answer
         return Answer::Refused(11);
     };
     let c = load(t, i);
-    let waiting = c.load.cells as u64;
+    let waiting = c.queue.cells as u64;
     if 65535 < waiting {
         return Answer::Refused(15);
     }
     if 65535 - waiting < cells {
         return Answer::Refused(15);
     }
-    update_front(t, i, offered(cells as u32, c));
+    update_source(t, i, offered(cells as u32, c));
     Answer::Accepted
 }

@@ -1,14 +1,16 @@
 // Opening a connection (document 01, "Opening").
-ghost use Rattle.engine.specs.Step.{openStep};
+ghost use Rattle.model.specs.Step.{openStep};
 ghost use Rattle.engine.specs.Contract.{Meets};
-use crate::answer::Answer;
 use connection::parts::Connection;
+use model::answer::Answer;
+use names::find::Found;
+use names::find::find;
+use names::find::find_free;
 use rate::params::Params;
-use table::find::Found;
-use table::find::find;
-use table::find::find_free;
+use rate::units::LATEST_TIME;
+use storing::store::store;
+use table::layout::LAST;
 use table::layout::WORDS;
-use table::store::store;
 
 // Refusals 10, 7, 8, 12, 13, 14.
 pub fn open(t: &mut [u64; WORDS], name: u32, time: u64, params: Params) -> Answer
@@ -23,7 +25,7 @@ pub fn open(t: &mut [u64; WORDS], name: u32, time: u64, params: Params) -> Answe
     if !params.fits() {
         return Answer::Refused(7);
     }
-    if 4611686018427387904 < time {
+    if LATEST_TIME < time {
         return Answer::Refused(8);
     }
     let Found::Nothing = find(t, name) else {
@@ -32,10 +34,10 @@ pub fn open(t: &mut [u64; WORDS], name: u32, time: u64, params: Params) -> Answe
     let Found::At(i) = find_free(t) else {
         return Answer::Refused(13);
     };
-    if time < t[1] {
+    if time < t[LAST] {
         return Answer::Refused(14);
     }
     store(t, i, Connection::fresh(name, time, params));
-    t[1] = time;
+    t[LAST] = time;
     Answer::Accepted
 }

@@ -6,27 +6,28 @@ ghost use Rattle.crc.specs.Payload.{payloadOf};
 ghost use Rattle.cell.specs.Fields.{Checked};
 ghost use Rattle.cell.specs.Octets.{payload};
 ghost use Rattle.cell.specs.declared.read.Reading.the-variants.{User, Resource};
-ghost use Rattle.engine.specs.Step.{readStep, receiveStep};
+ghost use Rattle.model.specs.Step.{readStep, receiveStep};
 ghost use Rattle.engine.specs.Contract.{Meets};
-use crate::answer::Answer;
 use cell::fields::Fields;
-use cell::fields::fields_of;
-use cell::fields::vci_of;
-use cell::read::efci_of;
-use cell::read::header_refusal;
-use cell::read::is_data;
-use cell::read::resource_refusal;
-use connection::receive::answered;
-use connection::receive::marked;
-use connection::receive::turning;
 use crc::payload::payload_at;
-use table::find::Found;
-use table::find::find;
+use loading::load::load;
+use model::answer::Answer;
+use names::find::Found;
+use names::find::find;
+use reading::fields::fields_of;
+use reading::fields::vci_of;
+use reading::read::efci_of;
+use reading::read::header_refusal;
+use reading::read::is_data;
+use reading::read::resource_refusal;
+use storing::store::update_destination;
+use storing::store::update_efci;
+use storing::store::update_source;
+use table::layout::LEVEL;
 use table::layout::WORDS;
-use table::load::load;
-use table::store::update_back;
-use table::store::update_front;
-use table::store::update_mark;
+use transition::receive::after_backward_cell;
+use transition::receive::after_data_cell;
+use transition::receive::after_forward_payload;
 
 // A data cell, whose octets no longer count: refusal 11.
 fn receive_data(t: &mut [u64; WORDS], vci: u32, efci: bool) -> Answer
@@ -36,13 +37,13 @@ fn receive_data(t: &mut [u64; WORDS], vci: u32, efci: bool) -> Answer
         return Answer::Refused(11);
     };
     let c = load(t, i);
-    let next = marked(efci, c);
-    let back = next.back;
-    update_mark(t, i, back);
+    let next = after_data_cell(efci, c);
+    let destination = next.destination;
+    update_efci(t, i, destination);
     Answer::Accepted
 }
 
-// An RM cell of these fields: a backward cell is obeyed, a forward one turned round. Refusal 11.
+// An RM cell of these fields: a backward cell moves the rate, a forward one is turned round. Refusal 11.
 fn receive_resource(t: &mut [u64; WORDS], cell: &[u8], f: Fields) -> Answer
     requires { ⌜ (length (now cell) ≡ 53) × Checked (payloadOf (payload (now cell))) ⌝ }
     ensures { λ r. ⌜ Meets (λ s. readStep s (now (cell .entry)) (Resource f)) (now (t .entry)) (now (t .exit)) r ⌝ }
@@ -52,13 +53,13 @@ fn receive_resource(t: &mut [u64; WORDS], cell: &[u8], f: Fields) -> Answer
     };
     let c = load(t, i);
     if f.dir == 1 {
-        let next = answered(f, c);
-        update_front(t, i, next);
+        let next = after_backward_cell(f, c);
+        update_source(t, i, next);
         return Answer::Accepted;
     }
-    let level = (t[0] % 4294967296) as u32;
-    let next = turning(level, payload_at(cell), c);
-    update_back(t, i, next);
+    let level = (t[LEVEL] % 4294967296) as u32;
+    let next = after_forward_payload(level, payload_at(cell), c);
+    update_destination(t, i, next);
     Answer::Accepted
 }
 

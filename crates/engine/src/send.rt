@@ -1,24 +1,25 @@
-// A slot that goes to a seat: the cell that it sends, and what that makes of the seat (document 01, "Slots").
+// A slot that goes to an entry: the cell that it sends, and what that makes of the entry (document 01, "Slots").
 ghost use mathlib.Core.Path.{_≡_};
 ghost use Prim.Native.Nat.{_≤_, _<_};
 ghost use lib.ListN.{length};
 ghost use Rattle.rate.specs.Units.{latestTime};
 ghost use Rattle.connection.specs.Range.{InRange};
 ghost use Rattle.engine.specs.Slots.{waitingOr, ForwardIn, Carried, storedSent, Sends};
-use crate::answer::Answer;
-use cell::turn::put_turned;
-use cell::write::put_resource;
+ghost use Rattle.model.specs.State.{capacity};
 use connection::kind::Kind;
-use connection::kind::kind_at;
 use connection::parts::Connection;
 use connection::parts::Waiting;
-use connection::send::after;
-use connection::send::forward_fields;
+use loading::load::load;
+use model::answer::Answer;
 use rate::moves::Rate;
+use scheduling::kind::kind_at;
+use storing::store::update;
+use storing::store::update_source;
 use table::layout::WORDS;
-use table::load::load;
-use table::store::update;
-use table::store::update_front;
+use transition::send::after;
+use transition::send::forward_fields;
+use writing::turned::put_turned;
+use writing::write::put_resource;
 
 fn put_waiting(cell: &mut [u8], name: u32, w: Waiting)
     requires { ⌜ length (now cell) ≡ 53 ⌝ }
@@ -48,8 +49,8 @@ fn put_cell(cell: &mut [u8], kind: Kind, c: Connection, next: Connection)
             put_forward(cell, next.name, rate)
         }
         Kind::Turned => {
-            let back = c.back;
-            let turned = back.turned;
+            let destination = c.destination;
+            let turned = destination.turned;
             put_waiting(cell, c.name, turned)
         }
         Kind::Data => {}
@@ -58,18 +59,18 @@ fn put_cell(cell: &mut [u8], kind: Kind, c: Connection, next: Connection)
 
 // Only a turned cell changes the receiving side: the cell that waited is gone.
 fn store_sent(t: &mut [u64; WORDS], i: usize, kind: Kind, next: Connection)
-    requires { ⌜ (i < 64) × InRange next ⌝ }
+    requires { ⌜ (i < capacity) × InRange next ⌝ }
     ensures { λ _. ⌜ now (t .exit) ≡ storedSent (now (t .entry)) i kind next ⌝ }
 {
     match kind {
-        Kind::Forward => update_front(t, i, next),
+        Kind::Forward => update_source(t, i, next),
         Kind::Turned => update(t, i, next),
-        Kind::Data => update_front(t, i, next),
+        Kind::Data => update_source(t, i, next),
     }
 }
 
 pub fn send(t: &mut [u64; WORDS], time: u64, i: usize, cell: &mut [u8]) -> Answer
-    requires { ⌜ (i < 64) × ((time ≤ latestTime) × (length (now cell) ≡ 53)) ⌝ }
+    requires { ⌜ (i < capacity) × ((time ≤ latestTime) × (length (now cell) ≡ 53)) ⌝ }
     ensures { λ r. ⌜ Sends time i (now (t .entry)) (now (t .exit)) r (now (cell .entry)) (now (cell .exit)) ⌝ }
 {
     let c = load(t, i);

@@ -1,11 +1,13 @@
 // A slot: whom it goes to, what it sends, and the allowed rate it leaves (document 01, "Slots").
 ghost use lib.ListN.{length};
-ghost use Rattle.engine.specs.Step.{slotStep};
+ghost use Rattle.model.specs.Step.{slotStep};
 ghost use Rattle.engine.specs.Contract.{MeetsWriting};
-use crate::answer::Answer;
 use crate::send::send;
-use table::choose::Choice;
-use table::choose::choose;
+use choice::choose::Choice;
+use choice::choose::choose;
+use model::answer::Answer;
+use rate::units::LATEST_TIME;
+use table::layout::LAST;
 use table::layout::WORDS;
 
 // Refusals 1, 8, 14. An idle slot's time counts too.
@@ -15,16 +17,16 @@ pub fn slot(t: &mut [u64; WORDS], time: u64, cell: &mut [u8]) -> Answer
     if cell.len() != 53 {
         return Answer::Refused(1);
     }
-    if 4611686018427387904 < time {
+    if LATEST_TIME < time {
         return Answer::Refused(8);
     }
-    if time < t[1] {
+    if time < t[LAST] {
         return Answer::Refused(14);
     }
     let choice = choose(t, time);
-    t[1] = time;
+    t[LAST] = time;
     match choice {
-        Choice::Nobody => Answer::Idle,
-        Choice::Seat(i) => send(t, time, i, cell),
+        Choice::NoneReady => Answer::Idle,
+        Choice::Entry(i) => send(t, time, i, cell),
     }
 }

@@ -1,3 +1,4 @@
--- Blocks of words, runs of stores, and rows of values.
+-- Blocks of words, runs of stores, rows of values, and refusals in order.
 pub mod Blocks
 pub mod Rows
+pub mod Require

@@ -8,49 +8,49 @@ use lib.Dec.{eqb}
 use borrow.Author.Tests.{ne-eqb}
 use Rattle.connection.specs.declared.parts.Connection.{Connection}
 use Rattle.connection.specs.Parts.{fresh}
-use Rattle.connection.specs.Receiving.{offered, marked, resourceWork}
+use Rattle.connection.specs.Receiving.{offered, afterDataCell, afterResourceCell}
 use Rattle.connection.specs.Kind.{kindAt}
 use Rattle.connection.specs.Sending.{after}
 use Rattle.connection.proofs.Keeps.{work-same, after-same}
-use Rattle.table.specs.State.{State, Seat, taken, empty, find, put, timed, levelled}
-use Rattle.table.specs.Invariant.{Apart}
-use Rattle.table.proofs.Frames.{put-read, seated-read, freed-read}
-use Rattle.engine.specs.Call.{Call, Outcome, goesTo}
-use Rattle.engine.specs.Step.{refuse, accept, sendStep, idleStep}
-use Rattle.engine.specs.Run.{final}
-use Rattle.engine.proofs.Effects.{Effect, refuses, begins, ends, offers, marks, works, levels, idles, sends, effect}
-use Rattle.engine.proofs.Keeps.{reached-whole}
+use Rattle.model.specs.State.{State, Entry, taken, empty, find, put, withTime, withLevel}
+use Rattle.model.specs.Invariant.{NamesUnique}
+use Rattle.model.proofs.Frames.{put-read, inserted-read, freed-read}
+use Rattle.model.specs.Call.{Call, Outcome, goesTo}
+use Rattle.model.specs.Step.{refuse, accept, sendStep, idleStep}
+use Rattle.model.specs.Run.{final}
+use Rattle.model.proofs.Effects.{Effect, refuses, begins, ends, offers, marks, works, levels, idles, sends, effect}
+use Rattle.model.proofs.Reached.{reached-well-formed}
 use Rattle.promises.specs.Interference.{cellName, names, NoInterference}
 
-same : Seat → Seat
+same : Entry → Entry
 same x = x
 
 -- a reading of another name
-other : (u v : ℕ) (x y : Seat) → some u ≢ some v → cond (eqb u v) x y ≡ y
+other : (u v : ℕ) (x y : Entry) → some u ≢ some v → cond (eqb u v) x y ≡ y
 other u v x y n = rw (ne-eqb u v (λ e. n (ap some e)))
 
 pub put-other :
-    (v u : ℕ) (s : State) → Apart (s .seats) → (d e : Connection) → find u (s .seats) ≡ taken d → e .name ≡ d .name → some u ≢ some v
-    → find v (put u (taken e) s .seats) ≡ find v (s .seats)
+    (v u : ℕ) (s : State) → NamesUnique (s .entries) → (d e : Connection) → find u (s .entries) ≡ taken d → e .name ≡ d .name → some u ≢ some v
+    → find v (put u (taken e) s .entries) ≡ find v (s .entries)
 unfolding same
 put-other v u s a d e f n h = put-read same v u s a d e f n ∙ other u v _ _ h
 
 effect-other :
-    (v : ℕ) {s : State} → Apart (s .seats) → {c : Call} {o : Outcome} → Effect s c o → names c (o .answer) ≢ some v
-    → find v (o .state .seats) ≡ find v (s .seats)
-unfolding same names cellName refuse accept sendStep idleStep timed levelled goesTo fresh offered marked
-effect-other v a (refuses c n) h = refl
-effect-other v {s} a (begins u t p g) h = seated-read same v s (fresh u t p) (g .new) (g .room) ∙ other u v _ _ h
+    (v : ℕ) {s : State} → NamesUnique (s .entries) → {c : Call} {o : Outcome} → Effect s c o → names c (o .answer) ≢ some v
+    → find v (o .state .entries) ≡ find v (s .entries)
+unfolding same names cellName refuse accept sendStep idleStep withTime withLevel goesTo fresh offered afterDataCell
+effect-other v a (refuses c n z) h = refl
+effect-other v {s} a (begins u t p g) h = inserted-read same v s (fresh u t p) (g .new) (g .room) ∙ other u v _ _ h
 effect-other v {s} a (ends u d f) h = freed-read same v u s a ∙ other u v _ _ h
 effect-other v {s} a (offers u n d f b) h = put-other v u s a d (offered n d) f refl h
-effect-other v {s} a (marks o u e d r f) h = put-other v u s a d (marked e d) f refl (rw r at h)
+effect-other v {s} a (marks o u e d r f) h = put-other v u s a d (afterDataCell e d) f refl (rw r at h)
 effect-other v {s} a (works o q d r f) h =
-    put-other v (q .vci) s a d (resourceWork (s .level) o q d) f (work-same (s .level) o q d .name) (rw r at h)
+    put-other v (q .vci) s a d (afterResourceCell (s .level) o q d) f (work-same (s .level) o q d .name) (rw r at h)
 effect-other v a (levels l b) h = refl
 effect-other v a (idles t room g b) h = refl
 effect-other v {s} a (sends t room i u g b) h =
     let k = kindAt t (b .holder) in
-    put-other v u (timed t s) a (b .holder) (after k t (b .holder)) (b .found) (after-same k t (b .holder) .name) h
+    put-other v u (withTime t s) a (b .holder) (after k t (b .holder)) (b .found) (after-same k t (b .holder) .name) h
 
 pub no-interference : NoInterference
-no-interference cs c u h = let a = reached-whole cs .apart in effect-other u a (effect (final empty cs) a c) h
+no-interference cs c u h = let a = reached-well-formed cs .unique in effect-other u a (effect (final empty cs) a c) h

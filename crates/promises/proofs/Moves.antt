@@ -14,63 +14,63 @@ use Rattle.connection.specs.declared.parts.Pace.the-variants.{Unsent, Running}
 use Rattle.connection.specs.declared.kind.Kind.{Kind}
 use Rattle.connection.specs.declared.kind.Kind.the-variants.{Forward, Turned, Data}
 use Rattle.connection.specs.Parts.{fresh}
-use Rattle.connection.specs.Receiving.{offered, marked, answered, turning, resourceWork}
+use Rattle.connection.specs.Receiving.{offered, afterDataCell, afterBackwardCell, afterForwardCell, afterResourceCell}
 use Rattle.connection.specs.Kind.{kindAt}
 use Rattle.connection.specs.Sending.{movedBy, sentForward, sentTurned, sentData, after}
 use Rattle.connection.proofs.Keeps.{work-same, after-same}
-use Rattle.table.specs.State.{State, Seat, free, taken, empty, find, put, timed, levelled}
-use Rattle.table.specs.Invariant.{Apart}
-use Rattle.table.proofs.Seats.{Case, same, other, case}
-use Rattle.table.proofs.Frames.{put-read, seated-read, freed-read}
-use Rattle.engine.specs.declared.answer.Answer.{Answer}
-use Rattle.engine.specs.declared.answer.Answer.the-variants.{Refused, Accepted, Idle, Sent}
-use Rattle.engine.specs.Call.{Call, opening, closing, receiving, offering, levelling, slot, Outcome}
-use Rattle.engine.specs.Step.{refuse, accept, sendStep, idleStep}
-use Rattle.engine.specs.Run.{final}
-use Rattle.engine.proofs.Effects.{Effect, refuses, begins, ends, offers, marks, works, levels, idles, sends, effect}
-use Rattle.engine.proofs.Keeps.{reached-whole}
+use Rattle.model.specs.State.{State, Entry, free, taken, empty, find, put, withTime, withLevel}
+use Rattle.model.specs.Invariant.{NamesUnique}
+use Rattle.model.proofs.Entries.{Case, same, other, case}
+use Rattle.model.proofs.Frames.{put-read, inserted-read, freed-read}
+use Rattle.model.specs.declared.answer.Answer.{Answer}
+use Rattle.model.specs.declared.answer.Answer.the-variants.{Refused, Accepted, Idle, Sent}
+use Rattle.model.specs.Call.{Call, opening, closing, receiving, offering, levelling, slot, Outcome}
+use Rattle.model.specs.Step.{refuse, accept, sendStep, idleStep}
+use Rattle.model.specs.Run.{final}
+use Rattle.model.proofs.Effects.{Effect, refuses, begins, ends, offers, marks, works, levels, idles, sends, effect}
+use Rattle.model.proofs.Reached.{reached-well-formed}
 use Rattle.promises.specs.Moves.{Moves, stays, first, later, fed, FourMoves}
 
--- from the seat of v before the call to the seat after it
-abbrev MovesTo : ℕ → Call → Answer → Seat → Seat → Type 0
+-- from the entry of v before the call to the entry after it
+abbrev MovesTo : ℕ → Call → Answer → Entry → Entry → Type 0
 MovesTo v c a free y = Unit
 MovesTo v c a (taken d) free = Unit
 MovesTo v c a (taken d) (taken e) = Moves v d c a (e .rate)
 
-rests : (v : ℕ) (c : Call) (a : Answer) (x : Seat) → MovesTo v c a x x
+rests : (v : ℕ) (c : Call) (a : Answer) (x : Entry) → MovesTo v c a x x
 rests v c a free = tt
 rests v c a (taken d) = stays
 
-leaves : (v : ℕ) (c : Call) (a : Answer) (x : Seat) → MovesTo v c a x free
+leaves : (v : ℕ) (c : Call) (a : Answer) (x : Entry) → MovesTo v c a x free
 leaves v c a free = tt
 leaves v c a (taken d) = tt
 
-self : Seat → Seat
+self : Entry → Entry
 self x = x
 
--- the seat of u, which may be v's, becomes y
+-- the entry of u, which may be v's, becomes y
 read-moves :
-    (v u : ℕ) (s : State) (c : Call) (a : Answer) (y : Seat) → (u ≡ v → MovesTo v c a (find v (s .seats)) y)
-    → MovesTo v c a (find v (s .seats)) (cond (eqb u v) y (find v (s .seats)))
+    (v u : ℕ) (s : State) (c : Call) (a : Answer) (y : Entry) → (u ≡ v → MovesTo v c a (find v (s .entries)) y)
+    → MovesTo v c a (find v (s .entries)) (cond (eqb u v) y (find v (s .entries)))
 read-moves v u s c a y m = go (case u v)
   where
-    go : Case u v → MovesTo v c a (find v (s .seats)) (cond (eqb u v) y (find v (s .seats)))
+    go : Case u v → MovesTo v c a (find v (s .entries)) (cond (eqb u v) y (find v (s .entries)))
     go (same h) = rw (eq-eqb u v h) (m h)
-    go (other h) = rw (ne-eqb u v h) (rests v c a (find v (s .seats)))
+    go (other h) = rw (ne-eqb u v h) (rests v c a (find v (s .entries)))
 
 changes :
-    (v u : ℕ) (s : State) → Apart (s .seats) → (d e : Connection) → find u (s .seats) ≡ taken d → e .name ≡ d .name → (c : Call) (a : Answer)
-    → (u ≡ v → Moves v d c a (e .rate)) → MovesTo v c a (find v (s .seats)) (find v (put u (taken e) s .seats))
+    (v u : ℕ) (s : State) → NamesUnique (s .entries) → (d e : Connection) → find u (s .entries) ≡ taken d → e .name ≡ d .name → (c : Call) (a : Answer)
+    → (u ≡ v → Moves v d c a (e .rate)) → MovesTo v c a (find v (s .entries)) (find v (put u (taken e) s .entries))
 unfolding self
 changes v u s z d e f n c a m =
-    rw (put-read self v u s z d e f n) (read-moves v u s c a (taken e) (λ h. rw (ap (λ w. find w (s .seats)) (sym h) ∙ f) (m h)))
+    rw (put-read self v u s z d e f n) (read-moves v u s c a (taken e) (λ h. rw (ap (λ w. find w (s .entries)) (sym h) ∙ f) (m h)))
 
 works-move :
-    (v level : ℕ) (o : List ℕ) (f : Fields) (d : Connection) → reading o ≡ Resource f → f .vci ≡ v → Moves v d (receiving o) Accepted (resourceWork level o f d .rate)
-unfolding resourceWork answered turning
+    (v level : ℕ) (o : List ℕ) (f : Fields) (d : Connection) → reading o ≡ Resource f → f .vci ≡ v → Moves v d (receiving o) Accepted (afterResourceCell level o f d .rate)
+unfolding afterResourceCell afterBackwardCell afterForwardCell
 works-move v level o f d r n = go (eqb (f .dir) 1) refl
   where
-    go : (t : Bool) → eqb (f .dir) 1 ≡ t → Moves v d (receiving o) Accepted (cond t (answered f d) (turning level o d) .rate)
+    go : (t : Bool) → eqb (f .dir) 1 ≡ t → Moves v d (receiving o) Accepted (cond t (afterBackwardCell f d) (afterForwardCell level o d) .rate)
     go true e = fed f r n (eqb-true _ _ e)
     go false e = stays
 
@@ -85,26 +85,26 @@ sent-moves v t room acr Forward d = forward-moves v t room acr d (d .pace) refl
 sent-moves v t room acr Turned d = stays
 sent-moves v t room acr Data d = stays
 
-effect-moves : (v : ℕ) {s : State} → Apart (s .seats) → {c : Call} {o : Outcome} → Effect s c o → MovesTo v c (o .answer) (find v (s .seats)) (find v (o .state .seats))
-unfolding self refuse accept sendStep idleStep timed levelled fresh offered marked
-effect-moves v {s} a (refuses c n) = rests v c (Refused n) (find v (s .seats))
+effect-moves : (v : ℕ) {s : State} → NamesUnique (s .entries) → {c : Call} {o : Outcome} → Effect s c o → MovesTo v c (o .answer) (find v (s .entries)) (find v (o .state .entries))
+unfolding self refuse accept sendStep idleStep withTime withLevel fresh offered afterDataCell
+effect-moves v {s} a (refuses c n h) = rests v c (Refused n) (find v (s .entries))
 effect-moves v {s} a (begins u t p g) =
-    rw (seated-read self v s (fresh u t p) (g .new) (g .room))
-    (read-moves v u s (opening u t p) Accepted (taken (fresh u t p)) (λ h. rw (ap (λ w. find w (s .seats)) (sym h) ∙ g .new) tt))
-effect-moves v {s} a (ends u d f) = rw (freed-read self v u s a) (read-moves v u s (closing u) Accepted free (λ _. leaves v (closing u) Accepted (find v (s .seats))))
+    rw (inserted-read self v s (fresh u t p) (g .new) (g .room))
+    (read-moves v u s (opening u t p) Accepted (taken (fresh u t p)) (λ h. rw (ap (λ w. find w (s .entries)) (sym h) ∙ g .new) tt))
+effect-moves v {s} a (ends u d f) = rw (freed-read self v u s a) (read-moves v u s (closing u) Accepted free (λ _. leaves v (closing u) Accepted (find v (s .entries))))
 effect-moves v {s} a (offers u n d f b) = changes v u s a d (offered n d) f refl (offering u n) Accepted (λ _. stays)
-effect-moves v {s} a (marks o u e d r f) = changes v u s a d (marked e d) f refl (receiving o) Accepted (λ _. stays)
+effect-moves v {s} a (marks o u e d r f) = changes v u s a d (afterDataCell e d) f refl (receiving o) Accepted (λ _. stays)
 effect-moves v {s} a (works o q d r f) =
-    changes v (q .vci) s a d (resourceWork (s .level) o q d) f (work-same (s .level) o q d .name) (receiving o) Accepted (works-move v (s .level) o q d r)
-effect-moves v {s} a (levels l b) = rests v (levelling l) Accepted (find v (s .seats))
-effect-moves v {s} a (idles t room g b) = rests v (slot t room) Idle (find v (s .seats))
+    changes v (q .vci) s a d (afterResourceCell (s .level) o q d) f (work-same (s .level) o q d .name) (receiving o) Accepted (works-move v (s .level) o q d r)
+effect-moves v {s} a (levels l b) = rests v (levelling l) Accepted (find v (s .entries))
+effect-moves v {s} a (idles t room g b) = rests v (slot t room) Idle (find v (s .entries))
 effect-moves v {s} a (sends t room i u g b) =
     let k = kindAt t (b .holder) in
-    changes v u (timed t s) a (b .holder) (after k t (b .holder)) (b .found) (after-same k t (b .holder) .name) (slot t room) (Sent u k (after k t (b .holder) .rate .acr))
+    changes v u (withTime t s) a (b .holder) (after k t (b .holder)) (b .found) (after-same k t (b .holder) .name) (slot t room) (Sent u k (after k t (b .holder) .rate .acr))
     (λ h. rw h (sent-moves v t room (after k t (b .holder) .rate .acr) k (b .holder)))
 
 pub four-moves : FourMoves
 four-moves cs c v d e f h =
-    let a = reached-whole cs .apart in
+    let a = reached-well-formed cs .unique in
     let m = effect-moves v a (effect (final empty cs) a c) in
     rw (f, h) at m

@@ -23,22 +23,23 @@ use Rattle.connection.specs.declared.kind.Kind.the-variants.{Forward, Turned, D
 use Rattle.connection.specs.declared.parts.Pace.{Pace}
 use Rattle.connection.specs.declared.parts.Pace.the-variants.{Unsent, Running}
 use Rattle.connection.specs.Parts.{fresh}
-use Rattle.connection.specs.Receiving.{offered, marked, answered, turning, resourceWork}
+use Rattle.connection.specs.Receiving.{offered, afterDataCell, afterBackwardCell, afterForwardCell, afterResourceCell}
 use Rattle.connection.specs.Ready.{lastBefore}
 use Rattle.connection.specs.Kind.{isForward, isTurned, kindAt}
 use Rattle.connection.specs.Sending.{movedBy, sentForward, sentTurned, sentData, after}
 use Rattle.connection.proofs.Keeps.{movedBy-mono, movedBy-only}
-use Rattle.table.specs.State.{State, Seat, free, taken, find, put}
-use Rattle.table.specs.Invariant.{Whole}
-use Rattle.table.specs.Choice.{Winner, nobody, wins, winner}
-use Rattle.table.proofs.Keeps.{proper-at}
-use Rattle.engine.specs.declared.answer.Answer.{Answer}
-use Rattle.engine.specs.declared.answer.Answer.the-variants.{Refused, Accepted, Idle, Sent}
-use Rattle.engine.specs.Call.{Call, opening, closing, receiving, offering, levelling, slot, Outcome, goesTo}
-use Rattle.engine.specs.Step.{refuse, accept, require, ofOpen, openStep, closeStep, offerStep, readStep, receiveStep, levelStep, sendStep, idleStep, serveSeat, serve, slotStep, step}
+use Rattle.model.specs.State.{State, Entry, free, taken, find, put}
+use Rattle.model.specs.Invariant.{WellFormed}
+use Rattle.model.specs.Choice.{Winner, noneReady, wins, winner}
+use Rattle.model.proofs.Preserved.{valid-at}
+use Rattle.model.specs.declared.answer.Answer.{Answer}
+use Rattle.model.specs.declared.answer.Answer.the-variants.{Refused, Accepted, Idle, Sent}
+use Rattle.model.specs.Call.{Call, opening, closing, receiving, offering, levelling, slot, Outcome, goesTo}
+use Rattle.model.specs.Step.{refuse, accept, ofOpen, openStep, closeStep, offerStep, readStep, receiveStep, levelStep, sendStep, idleStep, serveEntry, serve, slotStep, step}
 use Rattle.promises.specs.Demand3.{Comparable, equal, congested, SamePlace}
-use Rattle.promises.proofs.Relation.{lowered, Lower, vacant, lower, Tables, tables, isFree-same, find-lower, put-tables, seated-tables, roomLeft-same, last-same, timed-tables, levelled-tables}
-use Rattle.promises.proofs.Readings.{Harder, Worse, alike, harder, reading-worse}
+use Rattle.promises.proofs.Relation.{lowered, Lower, vacant, lower, Tables, tables, isFree-same, find-lower, put-tables, inserted-tables, roomLeft-same, last-same, withTime-tables, withLevel-tables}
+use Rattle.promises.proofs.Readings.{MoreCongested, NotLessCongested, alike, moreCongested, reading-congested}
+use Rattle.laws.specs.Require.{require}
 
 pub data SameAnswer : Answer → Answer → Type 0 where
   refusals : (n : ℕ) → SameAnswer (Refused n) (Refused n)
@@ -64,17 +65,17 @@ accept-both r = record { states = r; answers = plain }
 
 -- a test that is the same in both
 require-meets :
-    {s₁ s₂ : State} {o p : Outcome} → Tables s₁ s₂ → (n : ℕ) (t u : Bool) → t ≡ u → Meets o p → Meets (require s₁ n t o) (require s₂ n u p)
+    {s₁ s₂ : State} {o p : Outcome} → Tables s₁ s₂ → (n : ℕ) (t u : Bool) → t ≡ u → Meets o p → Meets (require (refuse s₁ n) t o) (require (refuse s₂ n) u p)
 unfolding require
-require-meets {s₁} {s₂} {o} {p} r n t u e h = subst (λ (u : Bool). Meets (require s₁ n t o) (require s₂ n u p)) e (go t)
+require-meets {s₁} {s₂} {o} {p} r n t u e h = subst (λ (u : Bool). Meets (require (refuse s₁ n) t o) (require (refuse s₂ n) u p)) e (go t)
   where
-    go : (t : Bool) → Meets (require s₁ n t o) (require s₂ n t p)
+    go : (t : Bool) → Meets (require (refuse s₁ n) t o) (require (refuse s₂ n) t p)
     go true = h
     go false = λ _. refuse-both r n
 
 -- a change of the connection of one name, open in both or in neither
 ofOpen-meets :
-    {s₁ s₂ : State} {x y : Seat} → Tables s₁ s₂ → Lower x y → (f g : Connection → Outcome)
+    {s₁ s₂ : State} {x y : Entry} → Tables s₁ s₂ → Lower x y → (f g : Connection → Outcome)
     → ((c : Connection) (a : ℕ) → x ≡ taken c → a ≤ c .rate .acr → Meets (f c) (g (lowered c a))) → Meets (ofOpen s₁ x f) (ofOpen s₂ y g)
 unfolding ofOpen
 ofOpen-meets r vacant f g h = λ _. refuse-both r 11
@@ -90,7 +91,7 @@ open-meets r v t p =
     (require-meets r 12 _ _ (isFree-same _ _ (find-lower v r))
     (require-meets r 13 _ _ (roomLeft-same r)
     (require-meets r 14 _ _ (ap (λ l. leb l t) (last-same r)) λ _.
-    accept-both (timed-tables t (seated-tables (fresh v t p) r)))))))
+    accept-both (withTime-tables t (inserted-tables (fresh v t p) r)))))))
 
 close-meets : {s₁ s₂ : State} → Tables s₁ s₂ → (v : ℕ) → Meets (closeStep s₁ v) (closeStep s₂ v)
 unfolding closeStep
@@ -105,64 +106,64 @@ offer-meets r v n =
 
 level-meets : {s₁ s₂ : State} → Tables s₁ s₂ → (l : ℕ) → Meets (levelStep s₁ l) (levelStep s₂ l)
 unfolding levelStep
-level-meets r l = require-meets r 9 _ _ refl λ _. accept-both (levelled-tables l r)
+level-meets r l = require-meets r 9 _ _ refl λ _. accept-both (withLevel-tables l r)
 
 -- Receive.
-answered-lower :
-    (f g : Fields) → Harder f g → (c : Connection) (a : ℕ) → c .rate .acr ≤ peak (c .rate .params) → a ≤ c .rate .acr
-    → Lower (taken (answered f c)) (taken (answered g (lowered c a)))
-unfolding answered feedback
-answered-lower f g h c a u l =
+after-backward-cell-lower :
+    (f g : Fields) → MoreCongested f g → (c : Connection) (a : ℕ) → c .rate .acr ≤ peak (c .rate .params) → a ≤ c .rate .acr
+    → Lower (taken (afterBackwardCell f c)) (taken (afterBackwardCell g (lowered c a)))
+unfolding afterBackwardCell feedback
+after-backward-cell-lower f g h c a u l =
     rw (h .bn)
-    (lower (answered f c) (feedback (eqb (g .ci) 1) (eqb (g .ni) 1) (rateOf (g .er)) (moved (c .rate) a) .acr)
+    (lower (afterBackwardCell f c) (feedback (eqb (g .ci) 1) (eqb (g .ni) 1) (rateOf (g .er)) (moved (c .rate) a) .acr)
     (feedback-mono (eqb (f .ci) 1) (eqb (f .ni) 1) (eqb (g .ci) 1) (eqb (g .ni) 1) (rateOf (f .er)) (rateOf (g .er)) (c .rate) a l u (h .level) (h .rate)))
 
 -- the same cell in both
 work-lower :
     (level : ℕ) (o : List ℕ) (f : Fields) (c : Connection) (a : ℕ) → c .rate .acr ≤ peak (c .rate .params) → a ≤ c .rate .acr
-    → Lower (taken (resourceWork level o f c)) (taken (resourceWork level o f (lowered c a)))
-unfolding resourceWork turning
+    → Lower (taken (afterResourceCell level o f c)) (taken (afterResourceCell level o f (lowered c a)))
+unfolding afterResourceCell afterForwardCell
 work-lower level o f c a u l = go (eqb (f .dir) 1) refl
   where
-    go : (t : Bool) → eqb (f .dir) 1 ≡ t → Lower (taken (cond t (answered f c) (turning level o c))) (taken (cond t (answered f (lowered c a)) (turning level o (lowered c a))))
-    go true e = answered-lower f f (record { vci = refl; first = eqb-true _ _ e; second = eqb-true _ _ e; bn = refl; rate = le-refl _; level = le-refl _ }) c a u l
-    go false e = lower (turning level o c) a l
+    go : (t : Bool) → eqb (f .dir) 1 ≡ t → Lower (taken (cond t (afterBackwardCell f c) (afterForwardCell level o c))) (taken (cond t (afterBackwardCell f (lowered c a)) (afterForwardCell level o (lowered c a))))
+    go true e = after-backward-cell-lower f f (record { vci = refl; first = eqb-true _ _ e; second = eqb-true _ _ e; bn = refl; rate = le-refl _; level = le-refl _ }) c a u l
+    go false e = lower (afterForwardCell level o c) a l
 
-below-peak : {s : State} → Whole s → (v : ℕ) (c : Connection) → find v (s .seats) ≡ taken c → c .rate .acr ≤ peak (c .rate .params)
-below-peak w v c e = proper-at w v c e .1 .rates .below
+below-peak : {s : State} → WellFormed s → (v : ℕ) (c : Connection) → find v (s .entries) ≡ taken c → c .rate .acr ≤ peak (c .rate .params)
+below-peak w v c e = valid-at w v c e .1 .rates .below
 
-resource-meets : {s₁ s₂ : State} → Whole s₁ → Tables s₁ s₂ → (o : List ℕ) (f : Fields) → Meets (readStep s₁ o (Resource f)) (readStep s₂ o (Resource f))
+resource-meets : {s₁ s₂ : State} → WellFormed s₁ → Tables s₁ s₂ → (o : List ℕ) (f : Fields) → Meets (readStep s₁ o (Resource f)) (readStep s₂ o (Resource f))
 unfolding readStep
 resource-meets w (tables l t hs) o f =
     let r = tables l t hs in
     ofOpen-meets r (find-lower (f .vci) r) _ _ λ c a e h _. accept-both (put-tables (f .vci) (work-lower l o f c a (below-peak w (f .vci) c e) h) r)
 
-read-meets : {s₁ s₂ : State} → Whole s₁ → Tables s₁ s₂ → (o : List ℕ) (q : Reading) → Meets (readStep s₁ o q) (readStep s₂ o q)
-unfolding readStep marked
+read-meets : {s₁ s₂ : State} → WellFormed s₁ → Tables s₁ s₂ → (o : List ℕ) (q : Reading) → Meets (readStep s₁ o q) (readStep s₂ o q)
+unfolding readStep afterDataCell
 read-meets w r o (Unread n) = λ _. refuse-both r n
-read-meets w r o (User v e) = ofOpen-meets r (find-lower v r) _ _ λ c a _ l _. accept-both (put-tables v (lower (marked e c) a l) r)
+read-meets w r o (User v e) = ofOpen-meets r (find-lower v r) _ _ λ c a _ l _. accept-both (put-tables v (lower (afterDataCell e c) a l) r)
 read-meets w r o (Resource f) = resource-meets w r o f
 
 -- two backward cells, the second at least as congested
-work-backward : (level : ℕ) (o : List ℕ) (f : Fields) (c : Connection) → f .dir ≡ 1 → resourceWork level o f c ≡ answered f c
-unfolding resourceWork
+work-backward : (level : ℕ) (o : List ℕ) (f : Fields) (c : Connection) → f .dir ≡ 1 → afterResourceCell level o f c ≡ afterBackwardCell f c
+unfolding afterResourceCell
 work-backward level o f c e = rw e
 
-harder-at :
-    {s₁ s₂ : State} → Whole s₁ → Tables s₁ s₂ → (a b : List ℕ) (f g : Fields) → Harder f g → (v w : ℕ) → w ≡ v
-    → Meets (ofOpen s₁ (find v (s₁ .seats)) (λ c. accept (put v (taken (resourceWork (s₁ .level) a f c)) s₁)))
-    (ofOpen s₂ (find w (s₂ .seats)) (λ c. accept (put w (taken (resourceWork (s₂ .level) b g c)) s₂)))
-harder-at {s₁} {s₂} wh r a b f g k v w q =
+moreCongested-at :
+    {s₁ s₂ : State} → WellFormed s₁ → Tables s₁ s₂ → (a b : List ℕ) (f g : Fields) → MoreCongested f g → (v w : ℕ) → w ≡ v
+    → Meets (ofOpen s₁ (find v (s₁ .entries)) (λ c. accept (put v (taken (afterResourceCell (s₁ .level) a f c)) s₁)))
+    (ofOpen s₂ (find w (s₂ .entries)) (λ c. accept (put w (taken (afterResourceCell (s₂ .level) b g c)) s₂)))
+moreCongested-at {s₁} {s₂} wh r a b f g k v w q =
     rw q
     (ofOpen-meets r (find-lower v r) _ _ λ c x e l _.
     accept-both (put-tables v
     (rw (work-backward (s₁ .level) a f c (k .first), work-backward (s₂ .level) b g (lowered c x) (k .second))
-    (answered-lower f g k c x (below-peak wh v c e) l)) r))
+    (after-backward-cell-lower f g k c x (below-peak wh v c e) l)) r))
 
-harder-meets : {s₁ s₂ : State} → Whole s₁ → Tables s₁ s₂ → (a b : List ℕ) {q r : Reading} → Worse q r → Meets (readStep s₁ a q) (readStep s₂ b r)
+moreCongested-meets : {s₁ s₂ : State} → WellFormed s₁ → Tables s₁ s₂ → (a b : List ℕ) {q r : Reading} → NotLessCongested q r → Meets (readStep s₁ a q) (readStep s₂ b r)
 unfolding readStep
-harder-meets w r a b (alike n) = λ _. refuse-both r n
-harder-meets w r a b (harder f g k) = harder-at w r a b f g k (f .vci) (g .vci) (k .vci)
+moreCongested-meets w r a b (alike n) = λ _. refuse-both r n
+moreCongested-meets w r a b (moreCongested f g k) = moreCongested-at w r a b f g k (f .vci) (g .vci) (k .vci)
 
 -- Slot.
 forward-same : (t : ℕ) (c : Connection) (a : ℕ) (p : Pace) → isForward t (lowered c a) p ≡ isForward t c p
@@ -188,36 +189,36 @@ after-lower Forward t c a l =
 after-lower Turned t c a l = lower (sentTurned t c) a l
 after-lower Data t c a l = lower (sentData t c) a l
 
-seat-both : {s₁ s₂ : State} → Tables s₁ s₂ → (t v : ℕ) {x y : Seat} → Lower x y → Both (serveSeat s₁ t v x) (serveSeat s₂ t v y)
-unfolding serveSeat sendStep idleStep
-seat-both r t v vacant = record { states = r; answers = idles }
-seat-both r t v (lower c a l) =
+entry-both : {s₁ s₂ : State} → Tables s₁ s₂ → (t v : ℕ) {x y : Entry} → Lower x y → Both (serveEntry s₁ t v x) (serveEntry s₂ t v y)
+unfolding serveEntry sendStep idleStep
+entry-both r t v vacant = record { states = r; answers = idles }
+entry-both r t v (lower c a l) =
     rw (kind-same t c a) (record { states = put-tables v (after-lower (kindAt t c) t c a l) r; answers = sends v (kindAt t c) _ _ })
 
 pub none≢some : {v : ℕ} → _≡_ {A = Option ℕ} none (some v) → ⊥
 none≢some e = let z : _≡_ {A = ℕ} 0 1 = cc in omega arith
 
 -- slots that go to the same connection, or to none in both
-seats-meet :
-    {s₁ s₂ : State} → Tables s₁ s₂ → (t v w : ℕ) (x y : Seat) → (v ≡ w → Lower x y) → Meets (serveSeat s₁ t v x) (serveSeat s₂ t w y)
-unfolding serveSeat sendStep idleStep goesTo
-seats-meet r t v w free free h e = record { states = r; answers = idles }
-seats-meet r t v w free (taken d) h e = absurd (none≢some e)
-seats-meet r t v w (taken c) free h e = absurd (none≢some (sym e))
-seats-meet {s₁} {s₂} r t v w (taken c) (taken d) h e =
+entries-meet :
+    {s₁ s₂ : State} → Tables s₁ s₂ → (t v w : ℕ) (x y : Entry) → (v ≡ w → Lower x y) → Meets (serveEntry s₁ t v x) (serveEntry s₂ t w y)
+unfolding serveEntry sendStep idleStep goesTo
+entries-meet r t v w free free h e = record { states = r; answers = idles }
+entries-meet r t v w free (taken d) h e = absurd (none≢some e)
+entries-meet r t v w (taken c) free h e = absurd (none≢some (sym e))
+entries-meet {s₁} {s₂} r t v w (taken c) (taken d) h e =
     let q : v ≡ w = cc in
-    subst (λ (w : ℕ). Both (serveSeat s₁ t v (taken c)) (serveSeat s₂ t w (taken d))) q (seat-both r t v (h q))
+    subst (λ (w : ℕ). Both (serveEntry s₁ t v (taken c)) (serveEntry s₂ t w (taken d))) q (entry-both r t v (h q))
 
-find-at : {s₁ s₂ : State} → Tables s₁ s₂ → (v w : ℕ) → v ≡ w → Lower (find v (s₁ .seats)) (find w (s₂ .seats))
+find-at : {s₁ s₂ : State} → Tables s₁ s₂ → (v w : ℕ) → v ≡ w → Lower (find v (s₁ .entries)) (find w (s₂ .entries))
 find-at r v w e = rw (← e) (find-lower v r)
 
--- a slot without a winner is one that goes to a free seat, of any name
+-- a slot without a winner is one that goes to a free entry, of any name
 serve-meets : {s₁ s₂ : State} → Tables s₁ s₂ → (t : ℕ) (x y : Winner) → Meets (serve s₁ t x) (serve s₂ t y)
-unfolding serve serveSeat
-serve-meets r t nobody nobody = seats-meet r t 0 0 free free (λ _. vacant)
-serve-meets {s₁} {s₂} r t nobody (wins j w) = seats-meet r t (suc w) w free (find w (s₂ .seats)) (λ e. absurd (omega arith))
-serve-meets {s₁} {s₂} r t (wins i v) nobody = seats-meet r t v (suc v) (find v (s₁ .seats)) free (λ e. absurd (omega arith))
-serve-meets {s₁} {s₂} r t (wins i v) (wins j w) = seats-meet r t v w (find v (s₁ .seats)) (find w (s₂ .seats)) (find-at r v w)
+unfolding serve serveEntry
+serve-meets r t noneReady noneReady = entries-meet r t 0 0 free free (λ _. vacant)
+serve-meets {s₁} {s₂} r t noneReady (wins j w) = entries-meet r t (suc w) w free (find w (s₂ .entries)) (λ e. absurd (omega arith))
+serve-meets {s₁} {s₂} r t (wins i v) noneReady = entries-meet r t v (suc v) (find v (s₁ .entries)) free (λ e. absurd (omega arith))
+serve-meets {s₁} {s₂} r t (wins i v) (wins j w) = entries-meet r t v w (find v (s₁ .entries)) (find w (s₂ .entries)) (find-at r v w)
 
 slot-meets : {s₁ s₂ : State} → Tables s₁ s₂ → (t room : ℕ) → Meets (slotStep s₁ t room) (slotStep s₂ t room)
 unfolding slotStep
@@ -225,10 +226,10 @@ slot-meets {s₁} {s₂} r t room =
     require-meets r 1 _ _ refl
     (require-meets r 8 _ _ refl
     (require-meets r 14 _ _ (ap (λ l. leb l t) (last-same r))
-    (serve-meets (timed-tables t r) t (winner t (s₁ .seats)) (winner t (s₂ .seats)))))
+    (serve-meets (withTime-tables t r) t (winner t (s₁ .entries)) (winner t (s₂ .entries)))))
 
 -- Every call.
-same-meets : {s₁ s₂ : State} → Whole s₁ → Tables s₁ s₂ → (c : Call) → Meets (step s₁ c) (step s₂ c)
+same-meets : {s₁ s₂ : State} → WellFormed s₁ → Tables s₁ s₂ → (c : Call) → Meets (step s₁ c) (step s₂ c)
 unfolding step receiveStep
 same-meets w r (opening v t p) = open-meets r v t p
 same-meets w r (closing v) = close-meets r v
@@ -237,7 +238,7 @@ same-meets w r (offering v n) = offer-meets r v n
 same-meets w r (levelling l) = level-meets r l
 same-meets w r (slot t room) = slot-meets r t room
 
-pub step-meets : {s₁ s₂ : State} → Whole s₁ → Tables s₁ s₂ → {c d : Call} → Comparable c d → Meets (step s₁ c) (step s₂ d)
+pub step-meets : {s₁ s₂ : State} → WellFormed s₁ → Tables s₁ s₂ → {c d : Call} → Comparable c d → Meets (step s₁ c) (step s₂ d)
 unfolding step receiveStep
 step-meets w r (equal {c}) = same-meets w r c
-step-meets w r (congested {a} {b} k h) = harder-meets w r a b (reading-worse a b k h)
+step-meets w r (congested {a} {b} k h) = moreCongested-meets w r a b (reading-congested a b k h)

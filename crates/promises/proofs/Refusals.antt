@@ -1,19 +1,19 @@
 -- A refusal leaves table and buffer as they were.
-use Prim.Native.Nat.{ℕ}
-use mathlib.Core.Path.{_≡_, refl}
+use Prim.Native.Nat.{ℕ, _<_}
+use mathlib.Core.Path.{_≡_, refl, subst}
 use mathlib.Core.Option.{some}
-use Rattle.table.specs.State.{State, empty}
-use Rattle.engine.specs.Call.{Call, Outcome, refusal}
-use Rattle.engine.specs.Step.{refuse, accept, sendStep, idleStep}
-use Rattle.engine.specs.Run.{final}
-use Rattle.engine.proofs.Effects.{Effect, refuses, begins, ends, offers, marks, works, levels, idles, sends, effect}
-use Rattle.engine.proofs.Keeps.{reached-whole}
+use Rattle.model.specs.State.{State, empty}
+use Rattle.model.specs.Call.{Call, Outcome, refusal}
+use Rattle.model.specs.Step.{refuse, accept, sendStep, idleStep}
+use Rattle.model.specs.Run.{final}
+use Rattle.model.proofs.Effects.{Effect, refuses, begins, ends, offers, marks, works, levels, idles, sends, effect}
+use Rattle.model.proofs.Reached.{reached-well-formed}
 use Rattle.promises.specs.Refusals.{Unchanged, RefusedUnchanged}
 use Rattle.promises.proofs.Pairs.{none≢some}
 
-effect-refused : {s : State} {c : Call} {o : Outcome} → Effect s c o → (n : ℕ) → refusal (o .answer) ≡ some n → Unchanged s o
+effect-refused : {s : State} {c : Call} {o : Outcome} → Effect s c o → (n : ℕ) → refusal (o .answer) ≡ some n → Unchanged s n o
 unfolding refuse accept sendStep idleStep refusal
-effect-refused (refuses c m) n e = record { table = refl; buffer = refl }
+effect-refused (refuses c m h) n e = let q : m ≡ n = cc in record { table = refl; buffer = refl; number = subst (λ (k : ℕ). 0 < k) q h }
 effect-refused (begins u t p g) n e = absurd (none≢some e)
 effect-refused (ends u d f) n e = absurd (none≢some e)
 effect-refused (offers u k d f h) n e = absurd (none≢some e)
@@ -24,4 +24,4 @@ effect-refused (idles t room g b) n e = absurd (none≢some e)
 effect-refused (sends t room i u g b) n e = absurd (none≢some e)
 
 pub refused-unchanged : RefusedUnchanged
-refused-unchanged cs c n e = effect-refused (effect (final empty cs) (reached-whole cs .apart) c) n e
+refused-unchanged cs c n e = effect-refused (effect (final empty cs) (reached-well-formed cs .unique) c) n e

@@ -7,66 +7,66 @@ use lib.ListN.{length, getD, set, replicate}
 use native.Mathlib.Nat.{le-refl}
 use Rattle.rate.specs.Moves.{moved}
 use Rattle.connection.specs.declared.parts.Connection.{Connection}
-use Rattle.connection.specs.Parts.{rated}
-use Rattle.table.specs.State.{State, Seat, free, taken, empty, capacity, position, isFree, holds, find, put, seated, roomLeft, timed, levelled}
+use Rattle.connection.specs.Parts.{withRate}
+use Rattle.model.specs.State.{State, Entry, free, taken, empty, capacity, position, isFree, holds, find, put, inserted, roomLeft, withTime, withLevel}
 
 -- the same connection at another allowed rate
 abbrev pub lowered : Connection → ℕ → Connection
-lowered c a = rated c (moved (c .rate) a)
+lowered c a = withRate c (moved (c .rate) a)
 
-pub data Lower : Seat → Seat → Type 0 where
+pub data Lower : Entry → Entry → Type 0 where
   vacant : Lower free free
   lower : (c : Connection) (a : ℕ) → a ≤ c .rate .acr → Lower (taken c) (taken (lowered c a))
 
-pub data Lowers : List Seat → List Seat → Type 0 where
+pub data Lowers : List Entry → List Entry → Type 0 where
   end : Lowers [] []
-  more : {x y : Seat} {xs ys : List Seat} → Lower x y → Lowers xs ys → Lowers (x ∷ xs) (y ∷ ys)
+  more : {x y : Entry} {xs ys : List Entry} → Lower x y → Lowers xs ys → Lowers (x ∷ xs) (y ∷ ys)
 
 pub data Tables : State → State → Type 0 where
-  tables : (l t : ℕ) {xs ys : List Seat} → Lowers xs ys → Tables (record { level = l; last = t; seats = xs }) (record { level = l; last = t; seats = ys })
+  tables : (l t : ℕ) {xs ys : List Entry} → Lowers xs ys → Tables (record { level = l; last = t; entries = xs }) (record { level = l; last = t; entries = ys })
 
 -- a test that looks past the rates finds the same place in both
-position-same : (f : Seat → Bool) → ((x y : Seat) → Lower x y → f x ≡ f y) → {xs ys : List Seat} → Lowers xs ys → position f xs ≡ position f ys
+position-same : (f : Entry → Bool) → ((x y : Entry) → Lower x y → f x ≡ f y) → {xs ys : List Entry} → Lowers xs ys → position f xs ≡ position f ys
 unfolding position
 position-same f e end = refl
 position-same f e (more h hs) = rw (e _ _ h, position-same f e hs)
 
-holds-same : (v : ℕ) (x y : Seat) → Lower x y → holds v x ≡ holds v y
+holds-same : (v : ℕ) (x y : Entry) → Lower x y → holds v x ≡ holds v y
 unfolding holds
 holds-same v _ _ vacant = refl
 holds-same v _ _ (lower c a h) = refl
 
-pub isFree-same : (x y : Seat) → Lower x y → isFree x ≡ isFree y
+pub isFree-same : (x y : Entry) → Lower x y → isFree x ≡ isFree y
 unfolding isFree
 isFree-same _ _ vacant = refl
 isFree-same _ _ (lower c a h) = refl
 
-length-same : {xs ys : List Seat} → Lowers xs ys → length xs ≡ length ys
+length-same : {xs ys : List Entry} → Lowers xs ys → length xs ≡ length ys
 length-same end = refl
 length-same (more h hs) = ap suc (length-same hs)
 
-getD-lower : {xs ys : List Seat} → Lowers xs ys → (i : ℕ) → Lower (getD xs i free) (getD ys i free)
+getD-lower : {xs ys : List Entry} → Lowers xs ys → (i : ℕ) → Lower (getD xs i free) (getD ys i free)
 getD-lower end i = vacant
 getD-lower (more h hs) zero = h
 getD-lower (more h hs) (suc i) = getD-lower hs i
 
-set-lower : {x y : Seat} → Lower x y → {xs ys : List Seat} → Lowers xs ys → (i : ℕ) → Lowers (set xs i x) (set ys i y)
+set-lower : {x y : Entry} → Lower x y → {xs ys : List Entry} → Lowers xs ys → (i : ℕ) → Lowers (set xs i x) (set ys i y)
 set-lower n end i = end
 set-lower n (more h hs) zero = more n hs
 set-lower n (more h hs) (suc i) = more h (set-lower n hs i)
 
 -- The table's functions.
-pub find-lower : (v : ℕ) {s₁ s₂ : State} → Tables s₁ s₂ → Lower (find v (s₁ .seats)) (find v (s₂ .seats))
+pub find-lower : (v : ℕ) {s₁ s₂ : State} → Tables s₁ s₂ → Lower (find v (s₁ .entries)) (find v (s₂ .entries))
 unfolding find
 find-lower v (tables l t {xs} hs) = rw (← position-same (holds v) (holds-same v) hs) (getD-lower hs (position (holds v) xs))
 
-pub put-tables : (v : ℕ) {x y : Seat} → Lower x y → {s₁ s₂ : State} → Tables s₁ s₂ → Tables (put v x s₁) (put v y s₂)
+pub put-tables : (v : ℕ) {x y : Entry} → Lower x y → {s₁ s₂ : State} → Tables s₁ s₂ → Tables (put v x s₁) (put v y s₂)
 unfolding put
 put-tables v h (tables l t {xs} hs) = rw (← position-same (holds v) (holds-same v) hs) (tables l t (set-lower h hs (position (holds v) xs)))
 
-pub seated-tables : (c : Connection) {s₁ s₂ : State} → Tables s₁ s₂ → Tables (seated c s₁) (seated c s₂)
-unfolding seated
-seated-tables c (tables l t {xs} hs) =
+pub inserted-tables : (c : Connection) {s₁ s₂ : State} → Tables s₁ s₂ → Tables (inserted c s₁) (inserted c s₂)
+unfolding inserted
+inserted-tables c (tables l t {xs} hs) =
     rw (← position-same isFree isFree-same hs) (tables l t (set-lower (lower c (c .rate .acr) (le-refl _)) hs (position isFree xs)))
 
 pub roomLeft-same : {s₁ s₂ : State} → Tables s₁ s₂ → roomLeft s₁ ≡ roomLeft s₂
@@ -76,13 +76,13 @@ roomLeft-same (tables l t hs) = rw (position-same isFree isFree-same hs, length-
 pub last-same : {s₁ s₂ : State} → Tables s₁ s₂ → s₁ .last ≡ s₂ .last
 last-same (tables l t hs) = refl
 
-pub timed-tables : (t : ℕ) {s₁ s₂ : State} → Tables s₁ s₂ → Tables (timed t s₁) (timed t s₂)
-unfolding timed
-timed-tables t (tables l u hs) = tables l t hs
+pub withTime-tables : (t : ℕ) {s₁ s₂ : State} → Tables s₁ s₂ → Tables (withTime t s₁) (withTime t s₂)
+unfolding withTime
+withTime-tables t (tables l u hs) = tables l t hs
 
-pub levelled-tables : (l : ℕ) {s₁ s₂ : State} → Tables s₁ s₂ → Tables (levelled l s₁) (levelled l s₂)
-unfolding levelled
-levelled-tables l (tables k t hs) = tables l t hs
+pub withLevel-tables : (l : ℕ) {s₁ s₂ : State} → Tables s₁ s₂ → Tables (withLevel l s₁) (withLevel l s₂)
+unfolding withLevel
+withLevel-tables l (tables k t hs) = tables l t hs
 
 vacant-all : (n : ℕ) → Lowers (replicate n free) (replicate n free)
 vacant-all zero = end

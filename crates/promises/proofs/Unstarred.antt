@@ -1,6 +1,6 @@
 -- The unstarred lines hold, by computation from the definitions.
 use mathlib.Core.Path.{refl}
-use Rattle.engine.specs.Step.{refuse, idleStep}
+use Rattle.model.specs.Step.{refuse, idleStep}
 use Rattle.promises.specs.Unstarred.{Unstarred}
 use Rattle.promises.proofs.Witness.{computing}
 

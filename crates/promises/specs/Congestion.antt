@@ -27,17 +27,17 @@ pub record Backward (o : List ℕ) : Type 0 where
   pub isBackward : fieldsOf o .dir ≡ 1
 
 -- all that marks, ER and CRC do not occupy is equal: octets 1 to 6, octet 7 but for CI and NI, octets 10 to 51 and the six bits before the CRC
-pub record MarksApart (a b : List ℕ) : Type 0 where
+pub record SameButFeedback (a b : List ℕ) : Type 0 where
   pub start : take 6 a ≡ take 6 b
   pub dirBn : octet 7 a / 64 ≡ octet 7 b / 64
   pub raReserved : octet 7 a % 16 ≡ octet 7 b % 16
   pub middle : take 42 (drop 9 a) ≡ take 42 (drop 9 b)
   pub reserved : octet 52 a / 4 ≡ octet 52 b / 4
 
--- b is at least as congested as a
-pub record AtLeastAsCongested (a b : List ℕ) : Type 0 where
+-- b is at least as congested as a: in the order in which it is said
+pub record AtLeastAsCongested (b a : List ℕ) : Type 0 where
   pub rightFirst : RightChecks a
   pub rightSecond : RightChecks b
-  pub apart : MarksApart a b
+  pub rest : SameButFeedback a b
   pub rate : rateOf (fieldsOf b .er) ≤ rateOf (fieldsOf a .er)
   pub level : levelOf (fieldsOf a) ≤ levelOf (fieldsOf b)

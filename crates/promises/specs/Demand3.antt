@@ -5,14 +5,14 @@ use mathlib.Core.List.{List, [], _∷_}
 use mathlib.Core.Option.{Option, none, some}
 use Rattle.rate.specs.declared.params.Params.{Params}
 use Rattle.rate.specs.Params.{peak, least}
-use Rattle.table.specs.State.{empty}
-use Rattle.engine.specs.Call.{Call, receiving, Outcome, refusal, goesTo, kindSent}
-use Rattle.engine.specs.Run.{run, final, paramsGiven, allowed}
+use Rattle.model.specs.State.{empty}
+use Rattle.model.specs.Call.{Call, receiving, Outcome, refusal, goesTo, kindSent}
+use Rattle.model.specs.Run.{run, final, paramsGiven, allowed}
 use Rattle.promises.specs.Congestion.{Backward, AtLeastAsCongested}
 
 -- not open, by the calls and in the table; or open with an allowed rate between the minimum and the peak that its open gave
 pub data Bounded : Option Params → Option ℕ → Type 0 where
-  shut : Bounded none none
+  notOpen : Bounded none none
   between : {p : Params} {a : ℕ} → least p ≤ a → a ≤ peak p → Bounded (some p) (some a)
 
 -- the two lists have one length, and what stands in the same place is so related
@@ -25,7 +25,7 @@ InPlace R (x ∷ xs) (y ∷ ys) = R x y × InPlace R xs ys
 -- equal calls; or backward cells, the second at least as congested as the first
 pub data Comparable : Call → Call → Type 0 where
   equal : {c : Call} → Comparable c c
-  congested : {a b : List ℕ} → Backward b → AtLeastAsCongested a b → Comparable (receiving a) (receiving b)
+  congested : {a b : List ℕ} → Backward b → AtLeastAsCongested b a → Comparable (receiving a) (receiving b)
 
 -- slots go to the same connection in both, or to none in both
 abbrev pub SamePlace : Outcome → Outcome → Type 0

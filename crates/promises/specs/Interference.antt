@@ -7,11 +7,11 @@ use mathlib.Core.Option.{Option, none, some}
 use Rattle.cell.specs.declared.read.Reading.{Reading}
 use Rattle.cell.specs.declared.read.Reading.the-variants.{Refused, User, Resource}
 use Rattle.cell.specs.Reading.{reading}
-use Rattle.table.specs.State.{empty, find}
-use Rattle.engine.specs.declared.answer.Answer.{Answer}
-use Rattle.engine.specs.Call.{Call, opening, closing, receiving, offering, levelling, slot, goesTo}
-use Rattle.engine.specs.Step.{step}
-use Rattle.engine.specs.Run.{final}
+use Rattle.model.specs.State.{empty, find}
+use Rattle.model.specs.declared.answer.Answer.{Answer}
+use Rattle.model.specs.Call.{Call, opening, closing, receiving, offering, levelling, slot, goesTo}
+use Rattle.model.specs.Step.{step}
+use Rattle.model.specs.Run.{final}
 
 -- the connection of a received cell
 unfoldable pub cellName : Reading → Option ℕ
@@ -32,4 +32,4 @@ names (slot t room) a = goesTo a
 abbrev pub NoInterference : Type 0
 NoInterference =
     (cs : List Call) (c : Call) (u : ℕ) → names c (step (final empty cs) c .answer) ≢ some u
-    → find u (step (final empty cs) c .state .seats) ≡ find u (final empty cs .seats)
+    → find u (step (final empty cs) c .state .entries) ≡ find u (final empty cs .entries)

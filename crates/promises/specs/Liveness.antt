@@ -12,12 +12,12 @@ use Rattle.connection.specs.declared.parts.Pace.{Pace}
 use Rattle.connection.specs.declared.parts.Pace.the-variants.{Unsent, Running}
 use Rattle.connection.specs.declared.ready.Instant.the-variants.{At}
 use Rattle.connection.specs.Ready.{anyWaits, readyInstant}
-use Rattle.table.specs.State.{State, taken, capacity, empty, find}
-use Rattle.table.specs.Invariant.{Each}
-use Rattle.table.specs.Choice.{Ahead}
-use Rattle.engine.specs.Call.{Call, slot, Outcome, goesTo}
-use Rattle.engine.specs.Step.{step}
-use Rattle.engine.specs.Run.{run, final, isAccepted}
+use Rattle.model.specs.State.{State, taken, capacity, empty, find}
+use Rattle.model.specs.Invariant.{Each}
+use Rattle.model.specs.Choice.{Ahead}
+use Rattle.model.specs.Call.{Call, slot, Outcome, goesTo}
+use Rattle.model.specs.Step.{step}
+use Rattle.model.specs.Run.{run, final, isAccepted}
 
 -- before the first cell the opening time, afterwards a gap at the minimum rate after the last cell
 unfoldable pub latestReady : Connection → Pace → ℕ
@@ -34,7 +34,7 @@ pub record Precedes (s : State) (i v : ℕ) (o : Outcome) : Type 0 where
   pub instant : ℕ
   pub name : ℕ
   pub holder : Connection
-  pub found : find name (s .seats) ≡ taken holder
+  pub found : find name (s .entries) ≡ taken holder
   pub readyAt : readyInstant holder ≡ At instant
   pub ahead : Ahead instant name i v
   pub goes : goesTo (o .answer) ≡ some name
@@ -67,11 +67,11 @@ pub record Live (s : State) (v : ℕ) (c : Connection) : Type 0 where
   -- and to itself, if no connection comes before it
   pub first :
       (i t room : ℕ) → readyInstant c ≡ At i → i ≤ t → IsAccepted (step s (slot t room))
-      → Each (λ d. (j : ℕ) → readyInstant d ≡ At j → Ahead i v j (d .name)) (s .seats) → GoesTo v (step s (slot t room))
+      → Each (λ d. (j : ℕ) → readyInstant d ≡ At j → Ahead i v j (d .name)) (s .entries) → GoesTo v (step s (slot t room))
   -- of as many slots in a row as connections can be open, one is its own
   pub served :
       (i : ℕ) (ts : List ℕ) → readyInstant c ≡ At i → length ts ≡ capacity → All (λ t. i ≤ t) ts → All IsAccepted (run s (slots ts))
       → Somewhere (GoesTo v) (run s (slots ts))
 
 abbrev pub Liveness : Type 0
-Liveness = (cs : List Call) (v : ℕ) (c : Connection) → find v (final empty cs .seats) ≡ taken c → Live (final empty cs) v c
+Liveness = (cs : List Call) (v : ℕ) (c : Connection) → find v (final empty cs .entries) ≡ taken c → Live (final empty cs) v c

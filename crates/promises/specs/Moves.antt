@@ -13,12 +13,12 @@ use Rattle.cell.specs.Reading.{reading}
 use Rattle.connection.specs.declared.parts.Connection.{Connection}
 use Rattle.connection.specs.declared.parts.Pace.the-variants.{Unsent, Running}
 use Rattle.connection.specs.declared.kind.Kind.the-variants.{Forward}
-use Rattle.table.specs.State.{taken, empty, find}
-use Rattle.engine.specs.declared.answer.Answer.{Answer}
-use Rattle.engine.specs.declared.answer.Answer.the-variants.{Accepted, Sent}
-use Rattle.engine.specs.Call.{Call, receiving, slot}
-use Rattle.engine.specs.Step.{step}
-use Rattle.engine.specs.Run.{final}
+use Rattle.model.specs.State.{taken, empty, find}
+use Rattle.model.specs.declared.answer.Answer.{Answer}
+use Rattle.model.specs.declared.answer.Answer.the-variants.{Accepted, Sent}
+use Rattle.model.specs.Call.{Call, receiving, slot}
+use Rattle.model.specs.Step.{step}
+use Rattle.model.specs.Run.{final}
 
 -- what a call with this answer may make of the rate record of the connection v, which is d before it
 pub data Moves (v : ℕ) (d : Connection) : Call → Answer → Rate → Type 0 where
@@ -34,5 +34,5 @@ pub data Moves (v : ℕ) (d : Connection) : Call → Answer → Rate → Type 0 
 -- after any list of calls from the empty table, of a connection that is open before and after the next call
 abbrev pub FourMoves : Type 0
 FourMoves =
-    (cs : List Call) (c : Call) (v : ℕ) (d e : Connection) → find v (final empty cs .seats) ≡ taken d → find v (step (final empty cs) c .state .seats) ≡ taken e
+    (cs : List Call) (c : Call) (v : ℕ) (d e : Connection) → find v (final empty cs .entries) ≡ taken d → find v (step (final empty cs) c .state .entries) ≡ taken e
     → Moves v d c (step (final empty cs) c .answer) (e .rate)

@@ -7,10 +7,10 @@ use Rattle.rate.specs.Gap.{gap}
 use Rattle.connection.specs.declared.parts.Connection.{Connection}
 use Rattle.connection.specs.declared.parts.Pace.{Pace}
 use Rattle.connection.specs.declared.parts.Pace.the-variants.{Unsent, Running}
-use Rattle.table.specs.State.{taken, empty, find}
-use Rattle.engine.specs.Call.{Call, slot, goesTo}
-use Rattle.engine.specs.Step.{step}
-use Rattle.engine.specs.Run.{final}
+use Rattle.model.specs.State.{taken, empty, find}
+use Rattle.model.specs.Call.{Call, slot, goesTo}
+use Rattle.model.specs.Step.{step}
+use Rattle.model.specs.Run.{final}
 
 -- before the first cell, not before the opening time
 abbrev pub NotEarly : (t : ℕ) → Connection → Pace → Type 0
@@ -20,5 +20,5 @@ NotEarly t c (Running sent forward k turned) = sent + gap (c .rate .acr) ≤ t
 -- after any list of calls from the empty table
 abbrev pub Spacing : Type 0
 Spacing =
-    (cs : List Call) (t room v : ℕ) (c : Connection) → find v (final empty cs .seats) ≡ taken c
+    (cs : List Call) (t room v : ℕ) (c : Connection) → find v (final empty cs .entries) ≡ taken c
     → goesTo (step (final empty cs) (slot t room) .answer) ≡ some v → NotEarly t c (c .pace)

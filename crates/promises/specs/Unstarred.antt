@@ -9,13 +9,13 @@ use Rattle.rate.specs.Units.{latestTime}
 use Rattle.connection.specs.declared.parts.Pace.{Pace}
 use Rattle.connection.specs.declared.parts.Pace.the-variants.{Unsent, Running}
 use Rattle.connection.specs.declared.kind.Kind.the-variants.{Forward, Data}
-use Rattle.table.specs.State.{Seat, free, taken, empty, find}
-use Rattle.engine.specs.declared.answer.Answer.{Answer}
-use Rattle.engine.specs.declared.answer.Answer.the-variants.{Refused, Accepted, Idle, Sent}
-use Rattle.engine.specs.Call.{Call, opening, receiving, offering, slot}
-use Rattle.engine.specs.Step.{step}
-use Rattle.engine.specs.Run.{final}
-use Rattle.promises.specs.Witness.{easy}
+use Rattle.model.specs.State.{Entry, free, taken, empty, find}
+use Rattle.model.specs.declared.answer.Answer.{Answer}
+use Rattle.model.specs.declared.answer.Answer.the-variants.{Refused, Accepted, Idle, Sent}
+use Rattle.model.specs.Call.{Call, opening, receiving, offering, slot}
+use Rattle.model.specs.Step.{step}
+use Rattle.model.specs.Run.{final}
+use Rattle.promises.specs.Witness.{unmarked}
 
 -- the answer of a call after these calls from the empty table
 abbrev pub next : List Call → Call → Answer
@@ -26,12 +26,12 @@ abbrev pub paceCount : Pace → Option ℕ
 paceCount Unsent = none
 paceCount (Running sent forward k turned) = some k
 
-abbrev pub seatCount : Seat → Option ℕ
-seatCount free = none
-seatCount (taken c) = paceCount (c .pace)
+abbrev pub entryCount : Entry → Option ℕ
+entryCount free = none
+entryCount (taken c) = paceCount (c .pace)
 
 abbrev pub count : List Call → Option ℕ
-count cs = seatCount (find 33 (final empty cs .seats))
+count cs = entryCount (find 33 (final empty cs .entries))
 
 -- n slots, the first at t, each a millisecond after the one before it
 abbrev pub slotsFrom : (t n : ℕ) → List Call
@@ -48,7 +48,7 @@ busy cells n = opening 33 0 house ∷ offering 33 cells ∷ slotsFrom 0 n
 
 -- VCI 33 starts at ICR 16,384 under the same peak; after its forward cell at 0 a backward cell without marks takes it to 48,384, above ICR; then two data cells
 abbrev pub raised : List Call
-raised = opening 33 0 (houseSet 0x53E8 0x4000 0x4A00) ∷ offering 33 9 ∷ slot 0 53 ∷ receiving easy ∷ slot 40_000_000 53 ∷ slot 80_000_000 53 ∷ []
+raised = opening 33 0 (houseSet 0x53E8 0x4000 0x4A00) ∷ offering 33 9 ∷ slot 0 53 ∷ receiving unmarked ∷ slot 40_000_000 53 ∷ slot 80_000_000 53 ∷ []
 
 pub record Unstarred : Type 0 where
   -- Nrm 32, within Trm: at k = 30 no forward cell, at 31 one

@@ -5,28 +5,28 @@ use mathlib.Core.List.{List, [], _∷_}
 use mathlib.Core.Option.{some}
 use Rattle.rate.specs.Params.{houseSet}
 use Rattle.cell.specs.Fields.{resourceCell}
-use Rattle.table.specs.State.{empty}
-use Rattle.engine.specs.Call.{Call, opening, receiving, offering, slot}
-use Rattle.engine.specs.Run.{run, final, allowed}
+use Rattle.model.specs.State.{empty}
+use Rattle.model.specs.Call.{Call, opening, receiving, offering, slot}
+use Rattle.model.specs.Run.{run, final, allowed}
 use Rattle.promises.specs.Demand3.{InPlace, Comparable, SamePlace}
 
 -- a backward cell for VCI 33, with this CI and this ER
-abbrev pub back : (ci er : ℕ) → List ℕ
-back ci er = resourceCell 0 (record { vci = 33; dir = 1; bn = 0; ci = ci; ni = 0; ra = 0; er = er; ccr = 0; mcr = 0; ql = 0; sn = 0 })
+abbrev pub backwardCell : (ci er : ℕ) → List ℕ
+backwardCell ci er = resourceCell 0 (record { vci = 33; dir = 1; bn = 0; ci = ci; ni = 0; ra = 0; er = er; ccr = 0; mcr = 0; ql = 0; sn = 0 })
 
 -- no marks; and CI 1 with a lower ER
-abbrev pub easy : List ℕ
-easy = back 0 0x53E8
+abbrev pub unmarked : List ℕ
+unmarked = backwardCell 0 0x53E8
 
-abbrev pub hard : List ℕ
-hard = back 1 0x4A00
+abbrev pub congestedCell : List ℕ
+congestedCell = backwardCell 1 0x4A00
 
 -- open, offer, a forward cell, the backward cell, a data cell
 abbrev pub calls : List ℕ → List Call
 calls o = opening 33 1000 (houseSet 0x53E8 0x4000 0x4A00) ∷ offering 33 9 ∷ slot 1000 53 ∷ receiving o ∷ slot 34_000_000 53 ∷ []
 
 pub record Witness : Type 0 where
-  pub comparable : InPlace Comparable (calls easy) (calls hard)
-  pub samePlace : InPlace SamePlace (run empty (calls easy)) (run empty (calls hard))
-  pub above : allowed 33 (final empty (calls easy)) ≡ some 48384
-  pub under : allowed 33 (final empty (calls hard)) ≡ some 15360
+  pub comparable : InPlace Comparable (calls unmarked) (calls congestedCell)
+  pub samePlace : InPlace SamePlace (run empty (calls unmarked)) (run empty (calls congestedCell))
+  pub above : allowed 33 (final empty (calls unmarked)) ≡ some 48384
+  pub under : allowed 33 (final empty (calls congestedCell)) ≡ some 15360

@@ -16,7 +16,7 @@ share : (b p : ℕ) → 0 < p → (b + 1) * (p - 1) / p ≡ b - b / p
 share b p h =
     let whole : b - b / p + b / p ≡ b = omega (arith, div-le-self b p) in
     let times = ap (λ (n : ℕ). n * p) whole in
-    let apart = add-mul (b - b / p) (b / p) p in
+    let unique = add-mul (b - b / p) (b / p) p in
     let rest = div-add-mod' b p in
     let less = mod-lt b h in
     let left = mul-sub (b + 1) p 1 in

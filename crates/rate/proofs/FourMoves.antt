@@ -6,8 +6,8 @@ use native.Mathlib.Nat.{le-trans}
 use native.Mathlib.Omega.{arith}
 use lib.Dec.{leb, ltb, eqb}
 use Rattle.rate.specs.Params.{Params, peak, least, adtfTime, paramsFit}
-use Rattle.rate.specs.Moves.{Rate, moved, opened, firstCell, idle, unanswered, aim, feedback, markLevel}
-use Rattle.rate.specs.Bounds.{Between, Held}
+use Rattle.rate.specs.Moves.{Rate, moved, opened, firstCell, idle, unanswered, rateByMarks, feedback, markLevel}
+use Rattle.rate.specs.Bounds.{Between, RateInBounds}
 use Rattle.rate.proofs.Cuts.{cut-le, cut-mono}
 use Rattle.rate.proofs.Ranges.{fits}
 
@@ -20,28 +20,28 @@ cond-mono true p q = p
 cond-mono false p q = q
 
 -- another rate between the bounds
-held-at : {p : Params} {x : ℕ} → Between p x → (a : ℕ) → least p ≤ a → a ≤ peak p → Between p a
-held-at h a l u = record { floor = h .floor; low = h .low; high = h .high; above = l; below = u }
+still-between : {p : Params} {x : ℕ} → Between p x → (a : ℕ) → least p ≤ a → a ≤ peak p → Between p a
+still-between h a l u = record { floor = h .floor; low = h .low; high = h .high; above = l; below = u }
 
 -- A connection as it is opened.
-pub opened-held : (p : Params) → paramsFit p ≡ true → Held (opened p)
-opened-held p e =
+pub opened-in-bounds : (p : Params) → paramsFit p ≡ true → RateInBounds (opened p)
+opened-in-bounds p e =
     let f = fits p e in record { floor = f .floor; low = f .low; high = f .high; above = f .low; below = f .high }
 
 -- First cell.
-pub firstCell-held : (q : Rate) → Held q → Held (firstCell q)
+pub firstCell-in-bounds : (q : Rate) → RateInBounds q → RateInBounds (firstCell q)
 unfolding firstCell
-firstCell-held q h = held-at h _ (omega arith) (omega arith)
+firstCell-in-bounds q h = still-between h _ (omega arith) (omega arith)
 
 pub firstCell-mono : (q : Rate) (a : ℕ) → a ≤ q .acr → firstCell (moved q a) .acr ≤ firstCell q .acr
 unfolding firstCell
 firstCell-mono q a h = omega arith
 
 -- Idle.
-pub idle-held : (t : ℕ) (q : Rate) → Held q → Held (idle t q)
+pub idle-in-bounds : (t : ℕ) (q : Rate) → RateInBounds q → RateInBounds (idle t q)
 unfolding idle
-idle-held t q h =
-    held-at h _ (cond-all (λ a. least (q .params) ≤ a) (ltb (adtfTime (q .params)) t) (omega arith) (h .above))
+idle-in-bounds t q h =
+    still-between h _ (cond-all (λ a. least (q .params) ≤ a) (ltb (adtfTime (q .params)) t) (omega arith) (h .above))
     (cond-all (λ a. a ≤ peak (q .params)) (ltb (adtfTime (q .params)) t) (omega arith) (h .below))
 
 pub idle-mono : (t : ℕ) (q : Rate) (a : ℕ) → a ≤ q .acr → idle t (moved q a) .acr ≤ idle t q .acr
@@ -49,12 +49,12 @@ unfolding idle
 idle-mono t q a h = cond-mono (ltb (adtfTime (q .params)) t) (omega arith) h
 
 -- Unanswered.
-pub unanswered-held : (y : ℕ) (q : Rate) → Held q → Held (unanswered y q)
+pub unanswered-in-bounds : (y : ℕ) (q : Rate) → RateInBounds q → RateInBounds (unanswered y q)
 unfolding unanswered
-unanswered-held y q h =
+unanswered-in-bounds y q h =
     let le = cut-le (q .params .c) (q .acr) in
     let t : Bool = leb (q .params .crm) y && not (eqb (q .params .c) 7) in
-    held-at h _ (cond-all (λ a. least (q .params) ≤ a) t (omega arith) (h .above))
+    still-between h _ (cond-all (λ a. least (q .params) ≤ a) t (omega arith) (h .above))
     (cond-all (λ a. a ≤ peak (q .params)) t (omega arith) (h .below))
 
 pub unanswered-mono : (y : ℕ) (q : Rate) (a : ℕ) → a ≤ q .acr → unanswered y (moved q a) .acr ≤ unanswered y q .acr
@@ -64,33 +64,33 @@ unanswered-mono y q a h =
     cond-mono (leb (q .params .crm) y && not (eqb (q .params .c) 7)) (omega arith) h
 
 -- Feedback: it goes down with the rate, with ER, and with the marks.
-aim-high : (ci ni : Bool) (q : Rate) → Held q → aim ci ni q ≤ peak (q .params)
-unfolding aim
-aim-high true ni q h = le-trans (cut-le (q .params .d) (q .acr)) (h .below)
-aim-high false true q h = h .below
-aim-high false false q h = omega arith
+rateByMarks-high : (ci ni : Bool) (q : Rate) → RateInBounds q → rateByMarks ci ni q ≤ peak (q .params)
+unfolding rateByMarks
+rateByMarks-high true ni q h = le-trans (cut-le (q .params .d) (q .acr)) (h .below)
+rateByMarks-high false true q h = h .below
+rateByMarks-high false false q h = omega arith
 
-pub feedback-held : (ci ni : Bool) (er : ℕ) (q : Rate) → Held q → Held (feedback ci ni er q)
+pub feedback-in-bounds : (ci ni : Bool) (er : ℕ) (q : Rate) → RateInBounds q → RateInBounds (feedback ci ni er q)
 unfolding feedback
-feedback-held ci ni er q h = held-at h _ (omega arith) (omega (arith, aim-high ci ni q h))
+feedback-in-bounds ci ni er q h = still-between h _ (omega arith) (omega (arith, rateByMarks-high ci ni q h))
 
-aim-mono :
+rateByMarks-mono :
     (c₁ n₁ c₂ n₂ : Bool) (q : Rate) (a : ℕ) → a ≤ q .acr → q .acr ≤ peak (q .params) → markLevel c₁ n₁ ≤ markLevel c₂ n₂
-    → aim c₂ n₂ (moved q a) ≤ aim c₁ n₁ q
-unfolding aim markLevel
-aim-mono true n₁ true n₂ q a h u l = cut-mono (q .params .d) h
-aim-mono true n₁ false true q a h u l = omega arith
-aim-mono true n₁ false false q a h u l = omega arith
-aim-mono false true true n₂ q a h u l = le-trans (cut-le (q .params .d) a) h
-aim-mono false false true n₂ q a h u l = omega (arith, cut-le (q .params .d) a)
-aim-mono false true false true q a h u l = h
-aim-mono false true false false q a h u l = omega arith
-aim-mono false false false true q a h u l = omega arith
-aim-mono false false false false q a h u l = omega arith
+    → rateByMarks c₂ n₂ (moved q a) ≤ rateByMarks c₁ n₁ q
+unfolding rateByMarks markLevel
+rateByMarks-mono true n₁ true n₂ q a h u l = cut-mono (q .params .d) h
+rateByMarks-mono true n₁ false true q a h u l = omega arith
+rateByMarks-mono true n₁ false false q a h u l = omega arith
+rateByMarks-mono false true true n₂ q a h u l = le-trans (cut-le (q .params .d) a) h
+rateByMarks-mono false false true n₂ q a h u l = omega (arith, cut-le (q .params .d) a)
+rateByMarks-mono false true false true q a h u l = h
+rateByMarks-mono false true false false q a h u l = omega arith
+rateByMarks-mono false false false true q a h u l = omega arith
+rateByMarks-mono false false false false q a h u l = omega arith
 
 -- the second cell at least as congested as the first, and the rate that it meets not higher
 pub feedback-mono :
     (c₁ n₁ c₂ n₂ : Bool) (e₁ e₂ : ℕ) (q : Rate) (a : ℕ) → a ≤ q .acr → q .acr ≤ peak (q .params) → markLevel c₁ n₁ ≤ markLevel c₂ n₂ → e₂ ≤ e₁
     → feedback c₂ n₂ e₂ (moved q a) .acr ≤ feedback c₁ n₁ e₁ q .acr
 unfolding feedback
-feedback-mono c₁ n₁ c₂ n₂ e₁ e₂ q a h u l e = omega (arith, aim-mono c₁ n₁ c₂ n₂ q a h u l)
+feedback-mono c₁ n₁ c₂ n₂ e₁ e₂ q a h u l e = omega (arith, rateByMarks-mono c₁ n₁ c₂ n₂ q a h u l)

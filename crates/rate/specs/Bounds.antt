@@ -30,5 +30,5 @@ pub record Between (p : Params) (a : ℕ) : Type 0 where
   pub above : least p ≤ a
   pub below : a ≤ peak p
 
-abbrev pub Held : Rate → Type 0
-Held q = Between (q .params) (q .acr)
+abbrev pub RateInBounds : Rate → Type 0
+RateInBounds q = Between (q .params) (q .acr)

@@ -31,15 +31,15 @@ unanswered y q =
     moved q
     (cond (leb (q .params .crm) y && not (eqb (q .params .c) 7)) (max (least (q .params)) (cut (q .params .c) (q .acr))) (q .acr))
 
--- what a backward cell's CI and NI aim at, before ER and the minimum
-unfoldable pub aim : Bool → Bool → Rate → ℕ
-aim true ni q = cut (q .params .d) (q .acr)
-aim false true q = q .acr
-aim false false q = min (peak (q .params)) (q .acr + peak (q .params) / 2 ^ q .params .r)
+-- what a backward cell's CI and NI make of the rate, before ER and the minimum
+unfoldable pub rateByMarks : Bool → Bool → Rate → ℕ
+rateByMarks true ni q = cut (q .params .d) (q .acr)
+rateByMarks false true q = q .acr
+rateByMarks false false q = min (peak (q .params)) (q .acr + peak (q .params) / 2 ^ q .params .r)
 
 -- Feedback: a backward cell's CI, NI and ER, ER as a rate.
 unfoldable pub feedback : Bool → Bool → ℕ → Rate → Rate
-feedback ci ni er q = moved q (max (least (q .params)) (min (aim ci ni q) er))
+feedback ci ni er q = moved q (max (least (q .params)) (min (rateByMarks ci ni q) er))
 
 -- how congested a backward cell's marks say the path is; CI outweighs NI
 unfoldable pub markLevel : Bool → Bool → ℕ

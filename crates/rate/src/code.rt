@@ -1,6 +1,7 @@
 // The 16-bit rate code (document 01, "Units and the 16-bit rate code").
 ghost use mathlib.Core.Path.{_≡_};
 ghost use Rattle.rate.specs.Code.{rateOf, codeOrZero, coded};
+use crate::units::LARGEST_RATE;
 
 // A rate's code, or the number of the refusal.
 pub enum Coded {
@@ -24,7 +25,7 @@ pub fn rate_of(code: u32) -> u64
 pub fn code_or_zero(rate: u64) -> u32
     ensures { λ r. ⌜ r ≡ codeOrZero rate ⌝ }
 {
-    if 2196875771904 < rate {
+    if LARGEST_RATE < rate {
         return 0;
     }
     if rate < 512 {
@@ -38,7 +39,7 @@ pub fn code_or_zero(rate: u64) -> u32
 pub fn code_of(rate: u64) -> Coded
     ensures { λ r. ⌜ r ≡ coded rate ⌝ }
 {
-    if 2196875771904 < rate {
+    if LARGEST_RATE < rate {
         return Coded::Refused(9);
     }
     Coded::Code(code_or_zero(rate))

@@ -3,3 +3,4 @@ pub mod code;
 pub mod gap;
 pub mod moves;
 pub mod params;
+pub mod units;

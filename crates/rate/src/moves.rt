@@ -2,7 +2,7 @@
 // No method has a requires: each form below holds for every u64, so that a table with any content is safe.
 ghost use mathlib.Core.Path.{_≡_};
 ghost use Prim.Native.Nat.{_+_, _/_, _^_, min, max};
-ghost use Rattle.rate.specs.Moves.{moved, opened, firstCell, idle, unanswered, cut, aim, feedback};
+ghost use Rattle.rate.specs.Moves.{moved, opened, firstCell, idle, unanswered, cut, rateByMarks, feedback};
 use crate::params::Params;
 
 pub struct Rate {
@@ -99,8 +99,8 @@ impl Rate {
         self.moved(higher(self.params.least(), cut(self.params.c, self.acr)))
     }
 
-    fn aim(self, ci: bool, ni: bool) -> u64
-        ensures { λ a. ⌜ a ≡ aim ci ni self ⌝ }
+    fn rate_by_marks(self, ci: bool, ni: bool) -> u64
+        ensures { λ a. ⌜ a ≡ rateByMarks ci ni self ⌝ }
     {
         if ci {
             cut(self.params.d, self.acr)
@@ -115,6 +115,6 @@ impl Rate {
     pub fn feedback(self, ci: bool, ni: bool, er: u64) -> Rate
         ensures { λ q. ⌜ q ≡ feedback ci ni er self ⌝ }
     {
-        self.moved(higher(self.params.least(), lower(self.aim(ci, ni), er)))
+        self.moved(higher(self.params.least(), lower(self.rate_by_marks(ci, ni), er)))
     }
 }

@@ -32,6 +32,7 @@ fn within(low: u32, high: u32, x: u32) -> bool
     low <= x && x <= high
 }
 
+#[repr(C)]
 pub struct Params {
     pub pcr: u32,
     pub mcr: u32,

@@ -1,14 +1,7 @@
--- The laws of the table, for the crates above.
-pub mod Seats
-pub mod Frames
-pub mod Winners
-pub mod Keeps
-pub mod Counts
+-- The laws of the words, for the crates that load and store them.
 pub mod Storing
 pub mod Loaded
-pub mod Marks
+pub mod Bitmaps
 pub mod Columns
 pub mod Heading
 pub mod Words
-pub mod Found
-pub mod Choosing

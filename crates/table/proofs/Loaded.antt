@@ -1,4 +1,4 @@
--- Loading gives back the connection that stands in the seat: no number of a connection that calls made lies outside the range it is brought into.
+-- Loading gives back the connection that stands in the entry: no number of a connection that calls made lies outside the range it is brought into.
 use Prim.Native.Nat.{ℕ, _+_, _*_, _%_, _^_, _≤_, _<_}
 use mathlib.Core.Path.{_≡_, refl}
 use mathlib.Core.Bool.{Bool, true, false, cond}
@@ -18,10 +18,10 @@ use Rattle.connection.specs.declared.parts.Pace.the-variants.{Unsent, Running}
 use Rattle.connection.specs.declared.parts.Waiting.{Waiting}
 use Rattle.connection.specs.declared.parts.Waiting.the-variants.{Nothing, Cell}
 use Rattle.connection.specs.declared.parts.Connection.{Connection}
-use Rattle.connection.specs.Invariant.{Proper, PaceFits}
+use Rattle.connection.specs.Invariant.{ValidAt, PaceFits}
 use Rattle.connection.specs.Range.{InRange, PaceInRange, HasRoom}
 use Rattle.connection.proofs.Reached.{in-range}
-use Rattle.table.specs.Layout.{paceTag, paceSent, paceForward, paceK, waitTag, waitingPayload, liveWords, fixedWords}
+use Rattle.table.specs.Layout.{paceTag, paceSent, paceForward, paceK, waitTag, waitingPayload, liveWords, fixedWords, liveFrom, liveWidth}
 use Rattle.table.specs.Loading.{paceOf, waitingOf, paramsAt, connectionFrom, connectionAt}
 
 -- Each part is what its words stand for.
@@ -65,7 +65,7 @@ turned-back false (Cell p) = refl
 
 -- a connection from its own words
 pub words-back :
-    (now : ℕ) (c : Connection) (s t : List ℕ) → now ≤ latestTime → Proper now c → connectionFrom (c .name) (liveWords c ++ s) 0 (fixedWords c ++ t) 0 ≡ c
+    (now : ℕ) (c : Connection) (s t : List ℕ) → now ≤ latestTime → ValidAt now c → connectionFrom (c .name) (liveWords c ++ s) 0 (fixedWords c ++ t) 0 ≡ c
 words-back now c s t l h =
     let r = in-range now c l h in
     let short : c .name % 65536 ≡ c .name = mod-eq-of-lt (omega (arith, h .0 .coded)) in
@@ -76,9 +76,9 @@ words-back now c s t l h =
       params-back c t (fits (c .rate .params) (h .0 .fits)),
       pace-back now (nrm (c .rate .params)) (c .pace) (pow-mono (fits (c .rate .params) (h .0 .fits) .nMost)) (h .0 .paced) (r .pace),
       narrow (c .unacked) (omega (arith, h .1 .counted)),
-      narrow (c .load .cells) (omega (arith, h .1 .stocked)),
-      efci-back (c .back .efci) (c .back .turned),
-      turned-back (c .back .efci) (c .back .turned),
+      narrow (c .queue .cells) (omega (arith, h .1 .queued)),
+      efci-back (c .destination .efci) (c .destination .turned),
+      turned-back (c .destination .efci) (c .destination .turned),
     )
 
 -- words further on in a list
@@ -100,12 +100,12 @@ pub load-ranged : (l : List ℕ) (i : ℕ) → InRange (connectionAt l i)
 load-ranged l i = record {
   opened = omega arith;
   trm = omega arith;
-  pace = pace-ranged (getD l (195 + i * 14 + 3) 0) (getD l (195 + i * 14 + 3 + 1) 0) (getD l (195 + i * 14 + 3 + 2) 0) (getD l (195 + i * 14 + 3 + 3) 0) .0;
+  pace = pace-ranged (getD l (liveFrom + i * liveWidth + 3) 0) (getD l (liveFrom + i * liveWidth + 3 + 1) 0) (getD l (liveFrom + i * liveWidth + 3 + 2) 0) (getD l (liveFrom + i * liveWidth + 3 + 3) 0) .0;
 }
 
 pub load-room : (l : List ℕ) (i : ℕ) → HasRoom (connectionAt l i .pace)
 load-room l i =
-    pace-ranged (getD l (195 + i * 14 + 3) 0) (getD l (195 + i * 14 + 3 + 1) 0) (getD l (195 + i * 14 + 3 + 2) 0) (getD l (195 + i * 14 + 3 + 3) 0) .1
+    pace-ranged (getD l (liveFrom + i * liveWidth + 3) 0) (getD l (liveFrom + i * liveWidth + 3 + 1) 0) (getD l (liveFrom + i * liveWidth + 3 + 2) 0) (getD l (liveFrom + i * liveWidth + 3 + 3) 0) .1
 
 pub load-named : (l : List ℕ) (i : ℕ) → connectionAt l i .name ≤ 65535
 load-named l i = omega arith

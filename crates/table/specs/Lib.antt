@@ -1,13 +1,4 @@
--- The table of connections, and its words in the lent memory.
--- What document 01 says:
-pub mod State
-pub mod Choice
--- What holds of every table that calls made:
-pub mod Invariant
--- Where the words stand:
+-- The words of a state in the lent memory: where they stand, and what loading an entry and storing one make of them.
 pub mod Layout
--- For the code's own functions:
 pub mod Loading
 pub mod Storing
-pub mod Finding
-pub mod Choosing

@@ -1,4 +1,4 @@
--- The connection that a seat's words stand for, whatever they are. Each number is brought into the range in which the engine adds without
+-- The connection that an entry's words stand for, whatever they are. Each number is brought into the range in which the engine adds without
 -- wrapping; that changes none of a table that calls made.
 use Prim.Native.Nat.{ℕ, _+_, _*_, _%_, _^_}
 use mathlib.Core.Bool.{cond}
@@ -12,6 +12,7 @@ use Rattle.connection.specs.declared.parts.Pace.the-variants.{Unsent, Running}
 use Rattle.connection.specs.declared.parts.Waiting.the-variants.{Nothing, Cell}
 use Rattle.connection.specs.declared.parts.Waiting.{Waiting}
 use Rattle.connection.specs.declared.parts.Connection.{Connection}
+use Rattle.table.specs.Layout.{namesFrom, liveFrom, liveWidth, fixedFrom, fixedWidth}
 
 abbrev pub paceOf : (tag sent forward k : ℕ) → Pace
 paceOf tag sent forward k = cond (eqb tag 0) Unsent (Running (sent % 2 ^ 63) (forward % 2 ^ 63) (k % 32768) (eqb tag 2))
@@ -50,9 +51,9 @@ connectionFrom name l a m b = record {
   rate = record { acr = getD l a 0; params = paramsAt m (b + 2) };
   pace = paceAt l (a + 3);
   unacked = getD l (a + 1) 0 % 2 ^ 32;
-  load = record { cells = getD l (a + 2) 0 % 2 ^ 32 };
-  back = record { efci = eqb (getD l (a + 7) 0 % 2) 1; turned = waitingAt l (a + 7) };
+  queue = record { cells = getD l (a + 2) 0 % 2 ^ 32 };
+  destination = record { efci = eqb (getD l (a + 7) 0 % 2) 1; turned = waitingAt l (a + 7) };
 }
 
-abbrev pub connectionAt : List ℕ → (seat : ℕ) → Connection
-connectionAt l i = connectionFrom (getD l (67 + i) 0) l (195 + i * 14) l (1091 + i * 12)
+abbrev pub connectionAt : List ℕ → (entry : ℕ) → Connection
+connectionAt l i = connectionFrom (getD l (namesFrom + i) 0) l (liveFrom + i * liveWidth) l (fixedFrom + i * fixedWidth)

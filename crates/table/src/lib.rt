@@ -1,8 +1,2 @@
-// The table in the lent memory: a seat loaded and stored, a name found, and the choice for a slot.
-pub mod choose;
-pub mod find;
-pub mod index;
-pub mod key;
+// The words of a table in the lent memory, with their laws; the crates names, loading, storing and choice have the code.
 pub mod layout;
-pub mod load;
-pub mod store;

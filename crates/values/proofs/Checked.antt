@@ -2,13 +2,13 @@
 use mathlib.Core.Path.{refl}
 use Rattle.rate.specs.Code.{rateOf, codeBelow, codeOf, coded}
 use Rattle.rate.specs.Gap.{gap}
-use Rattle.rate.specs.Moves.{cut, aim, feedback}
+use Rattle.rate.specs.Moves.{cut, rateByMarks, feedback}
 use Rattle.crc.specs.Remainder.{bring, divide, remainder, bits, octetBits}
 use Rattle.crc.specs.Checks.{headerCheck}
 use Rattle.values.specs.Checked.{Checked}
 
 pub checked : Checked
-unfolding rateOf codeBelow codeOf coded gap cut aim feedback bring divide remainder bits octetBits headerCheck
+unfolding rateOf codeBelow codeOf coded gap cut rateByMarks feedback bring divide remainder bits octetBits headerCheck
 checked = record {
   smallest = refl;
   largest = refl;

@@ -3,25 +3,10 @@ ghost use mathlib.Core.Path.{_≡_};
 ghost use lib.Bits.{bitXor};
 ghost use Rattle.crc.specs.Remainder.{remainder, octetBits};
 ghost use Rattle.vectors.specs.Message.{message};
-use crate::say;
+use crate::print;
 use crc::crc10::crc10;
 use crc::header::header_check;
 use crc::payload::Payload;
-
-fn header_line(s: &[u8], d: u8) {
-    say::hex(b"I.432 header 00 00 00 ", d as u64, 2);
-    say::words(s);
-    say::hex(b": octet 5 is ", header_check(0, 0, 0, d) as u64, 2);
-    say::end();
-}
-
-// The cell headers that ITU-T I.432 gives away.
-fn headers() {
-    header_line(b", unassigned", 0x00);
-    header_line(b", idle", 0x01);
-    header_line(b", physical layer OAM F1", 0x03);
-    header_line(b", physical layer OAM F3", 0x09);
-}
 
 // CRC-8/I-432-1 of the nine octets, four at a time. The exclusive-or with 0x55 is taken back between the steps; the remainder so far
 // goes into the next octet; and leading zero octets have no remainder.
@@ -48,10 +33,12 @@ fn crc10_check() -> u64
     })
 }
 
+// Octet 5 of the cell headers that ITU-T I.432 gives away: unassigned, idle, physical layer OAM F1 and F3; then the checks of the nine octets.
 pub fn show() {
-    headers();
-    say::hex(b"CRC-8/I-432-1 of 123456789 is 0x", crc8_check() as u64, 2);
-    say::end();
-    say::hex(b"CRC-10/ATM of 123456789 is 0x", crc10_check(), 3);
-    say::end();
+    let unassigned = header_check(0, 0, 0, 0x00);
+    let idle = header_check(0, 0, 0, 0x01);
+    let first = header_check(0, 0, 0, 0x03);
+    let third = header_check(0, 0, 0, 0x09);
+    print::octets(&[unassigned, idle, first, third, crc8_check()]);
+    print::codes(&[crc10_check() as u32]);
 }

@@ -1,21 +1,19 @@
-// Document 01's checked values, the standards' published vectors and whole cells, run through the proved functions, a line each.
-// A Rust version, written apart from the documents alone, computes the same lines: reference/tests/vectors.rs holds them against the
-// file stdout beside src/, as the check holds what this program writes.
+// Document 01's checked values, the standards' published vectors and whole cells, run through the proved functions.
+// A Rust version, written apart from the documents alone, computes the same lines: reference/tests/vectors.rs compares them with the
+// file stdout beside src/, as the check compares what this program writes.
 mod cells;
+mod changes;
 mod checks;
-mod damage;
-mod moves;
 mod params;
+mod print;
 mod rates;
-mod say;
-mod turning;
+mod turned;
 
 fn main() {
     rates::show();
     params::show();
-    moves::show();
     checks::show();
     cells::show();
-    damage::show();
-    turning::show();
+    changes::show();
+    turned::show();
 }

@@ -1,63 +1,67 @@
-// Rate codes and gaps (document 01, "Units and the 16-bit rate code", "Slots" and "Checked values").
-use crate::say;
+// Rate codes, gaps and the four moves of the allowed rate (document 01, "Units and the 16-bit rate code", "Four moves of the allowed rate", "Slots" and
+// "Checked values").
+use crate::print;
 use rate::code::Coded;
 use rate::code::code_of;
 use rate::code::rate_of;
 use rate::gap::gap;
+use rate::moves::Rate;
+use rate::params::Params;
 
-fn rate_line(code: u32) {
-    say::hex(b"code 0x", code as u64, 4);
-    say::number(b" is rate ", rate_of(code));
-    say::end();
-}
-
-fn code_line(rate: u64) {
-    say::number(b"rate ", rate);
-    let coded = code_of(rate);
-    match coded {
-        Coded::Code(code) => say::hex(b" codes to 0x", code as u64, 4),
-        Coded::Refused(number) => say::number(b" is refused with ", number as u64),
+// The rate of a code and the gap at an allowed rate; then the code of a rate and 0, or 0 and its refusal.
+fn coded(code: u32, acr: u64, rate: u64) {
+    print::rates(&[rate_of(code), gap(acr)]);
+    let answer = code_of(rate);
+    match answer {
+        Coded::Code(code) => print::codes(&[code, 0]),
+        Coded::Refused(number) => print::codes(&[0, number]),
     }
-    say::end();
 }
 
-fn gap_line(acr: u64) {
-    say::number(b"gap at ", acr);
-    say::number(b" is ", gap(acr));
-    say::end();
+// The house set with MCR 512, ICR 1,024 and another c: ACR as opened, and what each move makes of this ACR.
+fn moved(acr: u64, passed: u64, c: u32, y: u32, pcr: u32, ci: bool, ni: bool, er: u32) {
+    let mut p = Params::house(pcr, 0x4000, 0x4200);
+    p.c = c;
+    let q = Rate { acr, params: p };
+    let opened = Rate::opened(p);
+    let first = q.first_cell();
+    let idle = q.idle(passed);
+    let unanswered = q.unanswered(y);
+    let feedback = q.feedback(ci, ni, rate_of(er));
+    print::rates(
+        &[
+            opened.acr,
+            first.acr,
+            idle.acr,
+            unanswered.acr,
+            feedback.acr,
+        ],
+    );
 }
 
-// The checked values, then bit 15 ignored, and nz 0 under every other bit.
-fn rates() {
-    rate_line(0x4000);
-    rate_line(0x7fff);
-    rate_line(0xffff);
-    rate_line(0xbfff);
-    rate_line(0x0000);
-}
-
-// The checked values, then both ends of the range and what lies above it.
-fn codes() {
-    code_line(512000);
-    code_line(1023);
-    code_line(1025);
-    code_line(511);
-    code_line(0);
-    code_line(512);
-    code_line(2196875771904);
-    code_line(2196875771905);
-}
-
-// The checked values, then the slowest and the fastest rate.
-fn gaps() {
-    gap_line(512000);
-    gap_line(1536);
-    gap_line(512);
-    gap_line(2196875771904);
-}
-
+// Codes: the checked values, bit 15 ignored, nz 0 under every other bit. Gaps: the checked values, the slowest and the fastest rate. Rates: the checked values,
+// both ends of the range and what lies above it.
+// Moves: the three checked values of feedback, the third at ADTF and one below CRM; past ADTF and at CRM, with CDF zero, and below ICR; where both cuts would
+// pass MCR; no mark, NI, NI with a lower ER, an ER below MCR, CI with NI.
 pub fn show() {
-    rates();
-    codes();
-    gaps();
+    coded(0x4000, 512000, 512000);
+    coded(0x7fff, 1536, 1023);
+    coded(0xffff, 512, 1025);
+    coded(0xbfff, 2196875771904, 511);
+    coded(0x0000, 512, 0);
+    coded(0x53e8, 512, 512);
+    coded(0x41ff, 512, 2196875771904);
+    coded(0x4200, 512, 2196875771905);
+    moved(1000, 500000000, 4, 524287, 0x7fff, true, false, 0x7fff);
+    moved(500000, 500000000, 4, 524287, 0x53e8, false, false, 0x7fff);
+    moved(512000, 500000000, 4, 524287, 0x7fff, true, false, 0x5120);
+    moved(512000, 500000001, 4, 524288, 0x7fff, true, false, 0x5120);
+    moved(512000, 500000001, 7, 524288, 0x7fff, true, false, 0x5120);
+    moved(600, 500000001, 4, 524288, 0x7fff, true, false, 0x5120);
+    moved(520, 500000001, 4, 8388608, 0x53e8, true, false, 0x7fff);
+    moved(400000, 0, 4, 0, 0x53e8, false, false, 0x7fff);
+    moved(400000, 0, 4, 0, 0x53e8, false, true, 0x7fff);
+    moved(400000, 0, 4, 0, 0x53e8, false, true, 0x5120);
+    moved(400000, 0, 4, 0, 0x53e8, false, false, 0x0000);
+    moved(1000, 0, 4, 0, 0x53e8, true, true, 0x7fff);
 }

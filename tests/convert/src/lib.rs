@@ -1,73 +1,46 @@
 //! The structs of the C interface and of the reference, converted into each
-//! other. Every field is named once in each direction.
+//! other.
 
 use abr::ffi::{abr_cell, abr_params, abr_rm, abr_sent};
 use reference::{Cell, Kind, Params, Rm, Sent};
 
+/// A struct with these fields of another.
+macro_rules! copied {
+    ($to:ident, $from:expr, $($field:ident)*) => {
+        $to { $($field: $from.$field,)* }
+    };
+}
+
+macro_rules! copied_params {
+    ($to:ident, $from:expr) => {
+        copied!($to, $from, pcr mcr icr n r d c crm adtf trm)
+    };
+}
+
+macro_rules! copied_rm {
+    ($to:ident, $from:expr) => {
+        copied!($to, $from, vci dir bn ci ni ra er ccr mcr ql sn)
+    };
+}
+
 /// The parameters of an open, for the reference.
-pub fn reference_params(p: &abr_params) -> Params {
-    Params {
-        pcr: p.pcr,
-        mcr: p.mcr,
-        icr: p.icr,
-        n: p.n,
-        r: p.r,
-        d: p.d,
-        c: p.c,
-        crm: p.crm,
-        adtf: p.adtf,
-        trm: p.trm,
-    }
+pub fn reference_params(params: &abr_params) -> Params {
+    copied_params!(Params, params)
 }
 
 /// The parameters of an open, for the library.
-pub fn library_params(p: &Params) -> abr_params {
-    abr_params {
-        pcr: p.pcr,
-        mcr: p.mcr,
-        icr: p.icr,
-        n: p.n,
-        r: p.r,
-        d: p.d,
-        c: p.c,
-        crm: p.crm,
-        adtf: p.adtf,
-        trm: p.trm,
-    }
+pub fn library_params(params: &Params) -> abr_params {
+    copied_params!(abr_params, params)
 }
 
 /// The fields of an RM cell, for the reference.
 pub fn reference_rm(rm: &abr_rm) -> Rm {
-    Rm {
-        vci: rm.vci,
-        dir: rm.dir,
-        bn: rm.bn,
-        ci: rm.ci,
-        ni: rm.ni,
-        ra: rm.ra,
-        er: rm.er,
-        ccr: rm.ccr,
-        mcr: rm.mcr,
-        ql: rm.ql,
-        sn: rm.sn,
-    }
+    copied_rm!(Rm, rm)
 }
 
 /// The fields of an RM cell, for the library.
 pub fn library_rm(rm: &Rm) -> abr_rm {
-    abr_rm {
-        vci: rm.vci,
-        dir: rm.dir,
-        bn: rm.bn,
-        ci: rm.ci,
-        ni: rm.ni,
-        ra: rm.ra,
-        er: rm.er,
-        ccr: rm.ccr,
-        mcr: rm.mcr,
-        ql: rm.ql,
-        sn: rm.sn,
-    }
+    copied_rm!(abr_rm, rm)
 }
 
 /// The library's answer of an accepted slot.
@@ -81,35 +54,30 @@ pub fn library_sent(sent: Option<Sent>) -> abr_sent {
         Kind::Data => 3,
     };
     abr_sent {
-        vci: sent.vci.into(),
+        refusal: 0,
         kind,
+        vci: sent.vci,
         acr: sent.acr,
     }
 }
 
-/// The library's answer of a cell that was read.
+/// The library's answer of an accepted read.
 pub fn library_cell(cell: &Cell) -> abr_cell {
-    match *cell {
-        Cell::Data { vci, efci } => abr_cell {
-            kind: 1,
-            vci,
-            efci: efci.into(),
-            ..abr_cell::default()
-        },
-        Cell::Rm(rm) => abr_cell {
-            kind: 2,
-            vci: rm.vci,
-            efci: 0,
-            dir: rm.dir,
-            bn: rm.bn,
-            ci: rm.ci,
-            ni: rm.ni,
-            ra: rm.ra,
-            er: rm.er,
-            ccr: rm.ccr,
-            mcr: rm.mcr,
-            ql: rm.ql,
-            sn: rm.sn,
-        },
+    let (kind, efci, rm) = match *cell {
+        Cell::Data { vci, efci } => (
+            1,
+            efci.into(),
+            Rm {
+                vci,
+                ..Rm::default()
+            },
+        ),
+        Cell::Rm(rm) => (2, 0, rm),
+    };
+    abr_cell {
+        refusal: 0,
+        kind,
+        efci,
+        rm: library_rm(&rm),
     }
 }

@@ -39,7 +39,7 @@ impl Both {
             self.same_acr(vci)?;
         }
         if let Ok(Answer::Sent(sent)) = outcome {
-            self.same_acr(sent.vci as u32)?;
+            self.same_acr(sent.vci)?;
         }
         Ok(outcome)
     }

@@ -1,13 +1,11 @@
 //! A call of the library, over the C interface.
 
-use abr::ffi::{self, abr_cell, abr_params, abr_sent, abr_table};
+use std::fmt::Debug;
+
+use abr::ffi::{self, abr_allowed, abr_cell, abr_coded, abr_rated, abr_sent, abr_table};
 
 use crate::call::{Answer, Call, Outcome};
-use crate::octets::{Buffer, Octets};
-
-/// What fills an out-parameter before the call.
-const FILL: u64 = 0xA5A5_A5A5_5A5A_5A5A;
-const FILL_32: u32 = FILL as u32;
+use crate::octets::Buffer;
 
 /// What is wrong, in words.
 pub type Difference = String;
@@ -28,13 +26,13 @@ impl Default for Library {
 }
 
 impl Library {
-    /// Makes a call. An out-parameter that a refusal wrote is a difference.
+    /// Makes a call. A field that is not 0 beside a refusal is a difference.
     pub fn call(&mut self, call: &Call, buffer: &mut Buffer) -> Result<Outcome, Difference> {
         let table: *mut abr_table = &mut *self.table;
         // SAFETY: every pointer is to live memory of the length given with it.
         Ok(match *call {
             Call::Open { vci, time, params } => {
-                done(unsafe { ffi::abr_open(table, vci, time, &params) })
+                done(unsafe { ffi::abr_open(table, vci, time, params) })
             }
             Call::Close { vci } => done(unsafe { ffi::abr_close(table, vci) }),
             Call::Receive { cell } => {
@@ -43,42 +41,35 @@ impl Library {
             }
             Call::Offer { vci, cells } => done(unsafe { ffi::abr_offer(table, vci, cells) }),
             Call::SetLevel { level } => done(unsafe { ffi::abr_set_level(table, level) }),
-            Call::Slot { time, len } => self.slot(time, buffer.octets(len))?,
+            Call::Slot { time, len } => {
+                let octets = buffer.octets(len).as_mut_ptr();
+                answered(unsafe { ffi::abr_slot(table, time, octets, len) })?
+            }
             Call::Acr { vci } => self.acr(vci)?,
             Call::WriteRm { rm, len } => {
-                let octets = buffer.octets(len);
-                done(unsafe { ffi::abr_write_rm(&rm, octets.as_mut_ptr(), octets.len()) })
+                let octets = buffer.octets(len).as_mut_ptr();
+                done(unsafe { ffi::abr_write_rm(rm, octets, len) })
             }
-            Call::Read { cell } => read(&cell)?,
-            Call::Code { rate } => code(rate)?,
-            Call::Rate { code } => rate(code)?,
-            Call::House { pcr, mcr, icr } => house(pcr, mcr, icr),
+            Call::Read { cell } => {
+                let octets = cell.as_slice();
+                answered(unsafe { ffi::abr_read(octets.as_ptr(), octets.len()) })?
+            }
+            Call::Code { rate } => answered(unsafe { ffi::abr_code(rate) })?,
+            Call::Rate { code } => answered(unsafe { ffi::abr_rate(code) })?,
+            Call::House { pcr, mcr, icr } => {
+                Ok(Answer::Params(unsafe { ffi::abr_house(pcr, mcr, icr) }))
+            }
         })
-    }
-
-    fn slot(&mut self, time: u64, octets: &mut [u8]) -> Result<Outcome, Difference> {
-        let before = abr_sent {
-            vci: FILL,
-            kind: FILL,
-            acr: FILL,
-        };
-        let mut sent = before;
-        let (at, len) = (octets.as_mut_ptr(), octets.len());
-        // SAFETY: the pointers are live and the length is the buffer's own.
-        let refusal = unsafe { ffi::abr_slot(&mut *self.table, time, at, len, &mut sent) };
-        filled(refusal, sent, before, Answer::Sent)
     }
 
     /// The allowed rate of a VCI, open or not.
     pub fn acr(&self, vci: u32) -> Result<Outcome, Difference> {
-        let mut acr = FILL;
-        // SAFETY: both pointers are live.
-        let refusal = unsafe { ffi::abr_acr(&*self.table, vci, &mut acr) };
-        filled(refusal, acr, FILL, Answer::Number)
+        // SAFETY: the pointer is live.
+        answered(unsafe { ffi::abr_acr(&*self.table, vci) })
     }
 }
 
-/// The outcome of a call without an out-parameter.
+/// The outcome of a call that answers nothing but its refusal.
 fn done(refusal: u32) -> Outcome {
     match refusal {
         0 => Ok(Answer::Done),
@@ -86,64 +77,39 @@ fn done(refusal: u32) -> Outcome {
     }
 }
 
-/// The outcome of a call with an out-parameter, which a refusal must leave.
-fn filled<T: PartialEq + std::fmt::Debug>(
-    refusal: u32,
-    value: T,
-    before: T,
-    answer: fn(T) -> Answer,
-) -> Result<Outcome, Difference> {
-    match refusal {
-        0 => Ok(Ok(answer(value))),
-        number if value == before => Ok(Err(number)),
-        number => Err(format!("refused {number}, but wrote {value:x?}")),
+/// An answer with other fields beside the refusal.
+trait Answered: Copy + Default + PartialEq + Debug {
+    fn refusal(&mut self) -> &mut u32;
+    fn answer(self) -> Answer;
+}
+
+/// The outcome of such an answer, whose other fields are 0 if it is a refusal.
+fn answered<T: Answered>(mut answer: T) -> Result<Outcome, Difference> {
+    match std::mem::take(answer.refusal()) {
+        0 => Ok(Ok(answer.answer())),
+        number if answer == T::default() => Ok(Err(number)),
+        number => Err(format!("refused {number}, with {answer:x?} beside it")),
     }
 }
 
-fn read(cell: &Octets) -> Result<Outcome, Difference> {
-    let octets = cell.as_slice();
-    let before = filled_cell();
-    let mut out = before;
-    // SAFETY: both pointers are live.
-    let refusal = unsafe { ffi::abr_read(octets.as_ptr(), octets.len(), &mut out) };
-    filled(refusal, out, before, Answer::Cell)
+macro_rules! answers {
+    ($($name:ident: $answer:expr;)*) => {
+        $(impl Answered for $name {
+            fn refusal(&mut self) -> &mut u32 {
+                &mut self.refusal
+            }
+
+            fn answer(self) -> Answer {
+                $answer(self)
+            }
+        })*
+    };
 }
 
-fn filled_cell() -> abr_cell {
-    abr_cell {
-        kind: FILL_32,
-        vci: FILL_32,
-        efci: FILL_32,
-        dir: FILL_32,
-        bn: FILL_32,
-        ci: FILL_32,
-        ni: FILL_32,
-        ra: FILL_32,
-        er: FILL_32,
-        ccr: FILL_32,
-        mcr: FILL_32,
-        ql: FILL_32,
-        sn: FILL_32,
-    }
-}
-
-fn code(rate: u64) -> Result<Outcome, Difference> {
-    let mut out = FILL_32;
-    // SAFETY: the pointer is live.
-    let refusal = unsafe { ffi::abr_code(rate, &mut out) };
-    filled(refusal, out, FILL_32, |code| Answer::Number(code.into()))
-}
-
-fn rate(code: u32) -> Result<Outcome, Difference> {
-    let mut out = FILL;
-    // SAFETY: the pointer is live.
-    let refusal = unsafe { ffi::abr_rate(code, &mut out) };
-    filled(refusal, out, FILL, Answer::Number)
-}
-
-fn house(pcr: u32, mcr: u32, icr: u32) -> Outcome {
-    let mut out = abr_params::default();
-    // SAFETY: the pointer is live.
-    unsafe { ffi::abr_house(pcr, mcr, icr, &mut out) };
-    Ok(Answer::Params(out))
+answers! {
+    abr_sent: Answer::Sent;
+    abr_cell: Answer::Cell;
+    abr_allowed: |allowed: abr_allowed| Answer::Number(allowed.acr);
+    abr_coded: |coded: abr_coded| Answer::Number(coded.code.into());
+    abr_rated: |rated: abr_rated| Answer::Number(rated.rate);
 }

@@ -76,7 +76,7 @@ pub fn run(seed: u64, profile: Profile, coverage: &mut Coverage) -> Result<(), D
 /// The connection that a call concerns.
 pub fn concerned(call: &Call, outcome: &Outcome) -> Option<u32> {
     match outcome {
-        Ok(Answer::Sent(sent)) => Some(sent.vci as u32),
+        Ok(Answer::Sent(sent)) => Some(sent.vci),
         _ => call.vci(),
     }
 }

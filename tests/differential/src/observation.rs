@@ -196,7 +196,7 @@ impl Observation {
         coverage.reach(Event::ReadyExact, earliest == Some(time));
         coverage.reach(Event::ReadyLessOne, earliest == Some(time + 1));
         self.ties(time, earliest, coverage);
-        if let Some(connection) = self.connections.get_mut(&(sent.vci as u32)) {
+        if let Some(connection) = self.connections.get_mut(&sent.vci) {
             kind_sent(connection, time, sent.kind, coverage);
             connection.acr = sent.acr;
         }
@@ -267,7 +267,7 @@ fn backward_received(connection: &mut Connection, bits: u8, er: u64, coverage: &
 }
 
 /// A cell of this kind was sent; `acr` is still the rate before it.
-fn kind_sent(connection: &mut Connection, time: u64, kind: u64, coverage: &mut Coverage) {
+fn kind_sent(connection: &mut Connection, time: u64, kind: u32, coverage: &mut Coverage) {
     if kind == 1 {
         forward_sent(connection, time, coverage);
         return;

@@ -114,7 +114,7 @@ fn number(outcome: &Outcome) -> Option<u64> {
 }
 
 /// The connection that a slot goes to; 0 for an idle one.
-fn goes_to(outcome: &Outcome) -> Option<u64> {
+fn goes_to(outcome: &Outcome) -> Option<u32> {
     match outcome {
         Ok(Answer::Sent(sent)) => Some(sent.vci),
         _ => None,
@@ -122,7 +122,7 @@ fn goes_to(outcome: &Outcome) -> Option<u64> {
 }
 
 /// What two calls of a pair must have in common beside the connection.
-fn kind(outcome: &Outcome) -> Result<u64, u32> {
+fn kind(outcome: &Outcome) -> Result<u32, u32> {
     match outcome {
         Ok(Answer::Sent(sent)) => Ok(sent.kind),
         Ok(_) => Ok(0),

@@ -1,34 +1,38 @@
 use mathlib.Core.Path.{refl}
 use borrow.Author.Needs.{needs}
-use Rattle.engine.specs.Library.{unlent, opens, closes, receives, offers, levels, slots, then, ended}
+use Rattle.abr.specs.Exports.{numberAlone, opens, closes, receives, offers, levels, slots, then, ended}
 use Rattle.composed.proofs.each_call.Statement.{statement}
 use Rattle.composed.proofs.each_call.Tie as tie
 
 returns : tie.Need-returns
 returns c =
-    let s = c .before .before .before .before in
+    let a = c .before .before in
+    let s = a .before .before .before .before in
     let r = s .before .before .before in
     let l = r .before .before in
     let f = l .before .before in
     let o = f .before .before in
     let start = o .before .before .before .before .before in
     record {
-      opened = unlent (o .«open» .last .0) (o .«open» .result);
-      offered = unlent (f .offer .last .0) (f .offer .result);
-      levelled = unlent (l .set-level .last .0) (l .set-level .result);
-      taken = unlent (r .receive .last .0) (r .receive .result);
-      sent = record { table = s .slot .last .0; answer = s .slot .result; old = start .args .cell .now; new = s .slot .last .1 .1 .0 };
+      opened = numberAlone (o .abr-open .last .0) (o .abr-open .result);
+      offered = numberAlone (f .abr-offer .last .0) (f .abr-offer .result);
+      levelled = numberAlone (l .abr-set-level .last .0) (l .abr-set-level .result);
+      taken = numberAlone (r .abr-receive .last .0) (r .abr-receive .result);
+      sent = record { table = s .abr-slot .last .0; returned = s .abr-slot .result; old = start .args .cell .now; new = s .abr-slot .last .1 .1 .0 };
+      closed = numberAlone (c .abr-close .last .0) (c .abr-close .result);
+      rate = a .abr-acr .ensures;
+      table = refl;
       buffer = refl;
       trace =
-          then (opens (o .«open» .ensures))
-          (then (offers (f .offer .ensures))
-          (then (levels (l .set-level .ensures))
-          (then (receives (r .receive .ensures))
-          (then (slots (s .slot .ensures))
-          (then (closes (c .close .ensures)) ended)))));
+          then (opens (o .abr-open .ensures))
+          (then (offers (f .abr-offer .ensures))
+          (then (levels (l .abr-set-level .ensures))
+          (then (receives (r .abr-receive .ensures))
+          (then (slots (s .abr-slot .ensures))
+          (then (closes (c .abr-close .ensures)) ended)))));
     }
 
 pub each-call-spec : {M : Type 1} → statement M
 each-call-spec =
     tie.close
-    (tie.spec (λ c κs. search needs) (λ c κs. search needs) (λ c κs. search needs) (λ c κs. search needs) (λ c κs. search needs) (λ c κs. search needs) (λ c. search needs) returns)
+    (tie.spec (λ c κs. search needs) (λ c κs. search needs) (λ c κs. search needs) (λ c κs. search needs) (λ c κs. search needs) (λ c κs. search needs) (λ c κs. search needs) (λ c. search needs) returns)

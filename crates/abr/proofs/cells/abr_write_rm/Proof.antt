@@ -1,12 +1,19 @@
+use mathlib.Core.Path.{ap, _∙_}
+use Rattle.cell.specs.Fields.{resourceCell}
+use Rattle.cell.specs.Writing.{bufferAfter}
+use Rattle.cell.specs.declared.write.Written.{Written}
+use Rattle.abr.specs.Cells.{writeNumber}
 use borrow.Author.Needs.{needs}
-use Rattle.abr.proofs.Told.{writes}
 use Rattle.abr.proofs.cells.abr_write_rm.Statement.{statement}
 use Rattle.abr.proofs.cells.abr_write_rm.Tie as tie
 
 returns : tie.Need-returns
 returns c =
     let w = c .before .before .before in
-    writes (w .before .before .before .before .args .cell .now) (w .before .fields-of .ensures) (c .write-number .ensures) (w .write .ensures)
+    let a = w .before .before .before .args in (
+      c .write-number .ensures ∙ ap writeNumber (w .write .ensures .0),
+      w .write .ensures .1 ∙ ap (λ (x : Written). bufferAfter x (resourceCell 0 (a .rm)) (a .cell .now)) (w .write .ensures .0),
+    )
 
 pub abr-write-rm-spec : {M : Type 1} → statement M
-abr-write-rm-spec = tie.close (tie.spec (λ c κs. search needs) (λ c κs. search needs) (λ c κs. search needs) (λ c. search needs) returns)
+abr-write-rm-spec = tie.close (tie.spec (λ c κs. search needs) (λ c κs. search needs) (λ c. search needs) returns)

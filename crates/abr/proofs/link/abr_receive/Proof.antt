@@ -1,5 +1,5 @@
 use borrow.Author.Needs.{needs}
-use Rattle.abr.proofs.Told.{numbers}
+use Rattle.abr.proofs.Answered.{numbers}
 use Rattle.abr.proofs.link.abr_receive.Statement.{statement}
 use Rattle.abr.proofs.link.abr_receive.Tie as tie
 

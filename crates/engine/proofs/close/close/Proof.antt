@@ -1,15 +1,15 @@
 use Prim.Native.Nat.{_<_}
 use borrow.Author.Needs.{needs}
-use Rattle.table.specs.State.{free, put}
-use Rattle.table.proofs.Found.{found-at}
-use Rattle.engine.proofs.Outs.{refused-out, accepted-out, below, missing, standing}
-use Rattle.engine.proofs.Calls.{close-missing, close-done, cleared-is}
+use Rattle.model.specs.State.{free, put, capacity}
+use Rattle.names.proofs.Found.{found-at}
+use Rattle.engine.proofs.Outcomes.{refused-out, accepted-out, below, missing, standing}
+use Rattle.engine.proofs.CallCases.{close-missing, close-done, cleared-is}
 use Rattle.engine.proofs.close.close.Statement.{statement}
 use Rattle.engine.proofs.close.close.Tie as tie
 
--- the seat that was found is one
-seat : (c : tie.After-i) → c .i .given .0 .0 < 64
-seat c = let f = c .before .before in below (f .before .before .args .t .now) (f .before .before .args .name) (f .find .ensures) (c .i .given .1)
+-- the entry that was found is one
+entry : (c : tie.After-i) → c .i .given .0 .0 < capacity
+entry c = let f = c .before .before in below (f .before .before .args .t .now) (f .before .before .args .name) (f .find .ensures) (c .i .given .1)
 
 returns : tie.Need-returns
 returns c =
@@ -18,7 +18,7 @@ returns c =
     record { meets = λ s w e. refused-out s 11 e (close-missing s v (missing s w e v (f .find .ensures) (c .enum-told .given .1))) }
 
 clear-requires : tie.Need-clear-requires
-clear-requires c κs = seat (c .before .before)
+clear-requires c κs = entry (c .before .before)
 
 returns-2 : tie.Need-returns-2
 returns-2 c =
@@ -28,7 +28,7 @@ returns-2 c =
     record {
       meets = λ s w e.
           let p = standing s w e v (f .find .ensures) (i .i .given .1) in
-          accepted-out (put v free s) (cleared-is s w e (seat i) p (c .clear .ensures)) (close-done s v (p .holder) (found-at p));
+          accepted-out (put v free s) (cleared-is s w e (entry i) p (c .clear .ensures)) (close-done s v (p .holder) (found-at p));
     }
 
 pub close-spec : {M : Type 1} → statement M

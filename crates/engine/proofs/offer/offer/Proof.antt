@@ -4,14 +4,15 @@ use native.Mathlib.Omega.{arith}
 use borrow.Author.Needs.{needs}
 use Rattle.connection.specs.Range.{InRange}
 use Rattle.connection.proofs.Ranged.{offered-ranged}
-use Rattle.engine.proofs.Outs.{refused-out, below, missing, standing, ranged}
-use Rattle.engine.proofs.Calls.{offer-missing, offer-over, offer-done}
+use Rattle.engine.proofs.Outcomes.{refused-out, below, missing, standing, ranged}
+use Rattle.engine.proofs.CallCases.{offer-missing, offer-over, offer-done}
 use Rattle.engine.proofs.offer.offer.Statement.{statement}
 use Rattle.engine.proofs.offer.offer.Tie as tie
+use Rattle.model.specs.State.{capacity}
 
--- the seat that was found is one
-seat : (c : tie.After-i) → c .i .given .0 .0 < 64
-seat c = let f = c .before .before in below (f .before .before .args .t .now) (f .before .before .args .name) (f .find .ensures) (c .i .given .1)
+-- the entry that was found is one
+entry : (c : tie.After-i) → c .i .given .0 .0 < capacity
+entry c = let f = c .before .before in below (f .before .before .args .t .now) (f .before .before .args .name) (f .find .ensures) (c .i .given .1)
 
 returns : tie.Need-returns
 returns c =
@@ -23,7 +24,7 @@ returns c =
     }
 
 load-requires : tie.Need-load-requires
-load-requires c κs = seat (c .before .before)
+load-requires c κs = entry (c .before .before)
 
 returns-2 : tie.Need-returns-2
 returns-2 c =
@@ -33,7 +34,7 @@ returns-2 c =
     let st = f .before .before in
     record {
       meets = λ s w e.
-          offer-over s w e (st .args .name) (st .args .cells) (i .i .given .0 .0) (seat i) (standing s w e (st .args .name) (f .find .ensures) (i .i .given .1))
+          offer-over s w e (st .args .name) (st .args .cells) (i .i .given .0 .0) (entry i) (standing s w e (st .args .name) (f .find .ensures) (i .i .given .1))
           (ld .load .result) (ld .load .ensures) (omega (arith, c .if1 .taken));
     }
 
@@ -45,15 +46,15 @@ returns-3 c =
     let st = f .before .before in
     record {
       meets = λ s w e.
-          offer-over s w e (st .args .name) (st .args .cells) (i .i .given .0 .0) (seat i) (standing s w e (st .args .name) (f .find .ensures) (i .i .given .1))
+          offer-over s w e (st .args .name) (st .args .cells) (i .i .given .0 .0) (entry i) (standing s w e (st .args .name) (f .find .ensures) (i .i .given .1))
           (ld .load .result) (ld .load .ensures) (omega (arith, c .if2 .taken, c .before .if1 .left));
     }
 
-update-front-requires : tie.Need-update-front-requires
-update-front-requires c κs =
+update-source-requires : tie.Need-update-source-requires
+update-source-requires c κs =
     let ld = c .before .before .before .before .before in
     let i = ld .before .before .before in
-    (seat i, subst InRange (sym (c .offered .ensures)) (offered-ranged (ld .load .result) (ranged (i .before .before .before .before .args .t .now) (i .i .given .0 .0) (ld .load .ensures)) _))
+    (entry i, subst InRange (sym (c .offered .ensures)) (offered-ranged (ld .load .result) (ranged (i .before .before .before .before .args .t .now) (i .i .given .0 .0) (ld .load .ensures)) _))
 
 returns-4 : tie.Need-returns-4
 returns-4 c =
@@ -65,10 +66,10 @@ returns-4 c =
     let st = f .before .before in
     record {
       meets = λ s w e.
-          offer-done s w e (st .args .name) (st .args .cells) (i .i .given .0 .0) (seat i) (standing s w e (st .args .name) (f .find .ensures) (i .i .given .1))
-          (ld .load .result) (ld .load .ensures) (o .offered .result) (o .offered .ensures) (c .update-front .ensures)
+          offer-done s w e (st .args .name) (st .args .cells) (i .i .given .0 .0) (entry i) (standing s w e (st .args .name) (f .find .ensures) (i .i .given .1))
+          (ld .load .result) (ld .load .ensures) (o .offered .result) (o .offered .ensures) (c .update-source .ensures)
           (omega (arith, e2 .if2 .left, e2 .before .if1 .left));
     }
 
 pub offer-spec : {M : Type 1} → statement M
-offer-spec = tie.close (tie.spec (λ c κs. search needs) (λ c. search needs) (λ c. search needs) returns load-requires (λ c. search needs) returns-2 returns-3 (λ c. search needs) (λ c κs. search needs) update-front-requires returns-4)
+offer-spec = tie.close (tie.spec (λ c κs. search needs) (λ c. search needs) (λ c. search needs) returns load-requires (λ c. search needs) returns-2 returns-3 (λ c. search needs) (λ c κs. search needs) update-source-requires returns-4)

@@ -6,14 +6,14 @@ use borrow.Author.Tests.{not-true, not-false}
 use Rattle.connection.specs.Range.{InRange}
 use Rattle.connection.specs.Parts.{fresh}
 use Rattle.connection.proofs.Ranged.{fresh-ranged}
-use Rattle.table.specs.State.{timed, seated}
-use Rattle.table.proofs.Found.{found-at, room-at}
-use Rattle.engine.proofs.Outs.{refused-out, accepted-out, missing, standing}
-use Rattle.engine.proofs.Opened.{open-low, open-wide, open-unfit, open-late, Passed, open-taken, open-full, open-early, open-done, lowest, seat-below, no-room, last-at, opened-words}
+use Rattle.model.specs.State.{withTime, inserted, capacity}
+use Rattle.names.proofs.Found.{found-at, room-at}
+use Rattle.engine.proofs.Outcomes.{refused-out, accepted-out, missing, standing}
+use Rattle.engine.proofs.OpenCases.{open-low, open-wide, open-unfit, open-late, Passed, open-taken, open-full, open-early, open-done, lowest, entry-below, no-room, last-at, opened-words}
 use Rattle.engine.proofs.open.open.Statement.{statement}
 use Rattle.engine.proofs.open.open.Tie as tie
 
--- what is known past the tests of the input, and that the seat that was found is one
+-- what is known past the tests of the input, and that the entry that was found is one
 passed : (c : tie.Else4) → let st = c .before .before .before .before .before in Passed (st .args .name) (st .args .time) (st .args .params)
 passed c =
     let e3 = c .before in
@@ -25,8 +25,8 @@ passed c =
       timely = c .if4 .left;
     }
 
-seat : (c : tie.After-i) → c .i .given .0 .0 < 64
-seat c = seat-below (c .before .before .find-free .ensures) (c .i .given .1)
+entry : (c : tie.After-i) → c .i .given .0 .0 < capacity
+entry c = entry-below (c .before .before .find-free .ensures) (c .i .given .1)
 
 returns : tie.Need-returns
 returns c =
@@ -98,7 +98,7 @@ returns-7 c =
       meets = λ s w e.
           let at = lowest (sk .find-free .ensures) s w e (i .i .given .1) in
           refused-out s 14 e
-          (open-early s (passed e4) (missing s w e (st .args .name) (fd .find .ensures) (new .enum-told .given .1)) (room-at s w (i .i .given .0 .0) (seat i) at)
+          (open-early s (passed e4) (missing s w e (st .args .name) (fd .find .ensures) (new .enum-told .given .1)) (room-at s w (i .i .given .0 .0) (entry i) at)
           (subst (λ x. st .args .time < x) (last-at s e) (c .if5 .taken)));
     }
 
@@ -107,7 +107,7 @@ store-requires c κs =
     let i = c .before .before .before .before .before in
     let e4 = i .before .before .before .before .before .before .before .before in
     let st = e4 .before .before .before .before .before in
-    (seat i, subst InRange (sym (c .fresh .ensures)) (fresh-ranged (st .args .name) (st .args .time) (st .args .params) (omega (arith, e4 .if4 .left))))
+    (entry i, subst InRange (sym (c .fresh .ensures)) (fresh-ranged (st .args .name) (st .args .time) (st .args .params) (omega (arith, e4 .if4 .left))))
 
 returns-8 : tie.Need-returns-8
 returns-8 c =
@@ -122,9 +122,9 @@ returns-8 c =
     record {
       meets = λ s w e.
           let at = lowest (sk .find-free .ensures) s w e (i .i .given .1) in
-          accepted-out (timed (st .args .time) (seated (fresh (st .args .name) (st .args .time) (st .args .params)) s))
-          (opened-words s w e (st .args .time) (i .i .given .0 .0) (seat i) at (fresh (st .args .name) (st .args .time) (st .args .params)) (fr .fresh .result) (fr .fresh .ensures) (c .store .ensures))
-          (open-done s (passed e4) (missing s w e (st .args .name) (fd .find .ensures) (new .enum-told .given .1)) (room-at s w (i .i .given .0 .0) (seat i) at)
+          accepted-out (withTime (st .args .time) (inserted (fresh (st .args .name) (st .args .time) (st .args .params)) s))
+          (opened-words s w e (st .args .time) (i .i .given .0 .0) (entry i) at (fresh (st .args .name) (st .args .time) (st .args .params)) (fr .fresh .result) (fr .fresh .ensures) (c .store .ensures))
+          (open-done s (passed e4) (missing s w e (st .args .name) (fd .find .ensures) (new .enum-told .given .1)) (room-at s w (i .i .given .0 .0) (entry i) at)
           (subst (λ x. x ≤ st .args .time) (last-at s e) (e5 .if5 .left)));
     }
 

@@ -2,8 +2,8 @@ use Rattle.cell.proofs.Admits.{received-checked}
 use Rattle.cell.specs.Reading.{reading}
 use Rattle.cell.proofs.Readings.{rest, HeaderMeets, header-meets, rest-meets}
 use Rattle.cell.specs.declared.read.Reading.the-variants.{User, Resource}
-use Rattle.engine.proofs.Outs.{refused-out}
-use Rattle.engine.proofs.Received.{unread, user-read, resource-read, same-meets}
+use Rattle.engine.proofs.Outcomes.{refused-out}
+use Rattle.engine.proofs.ReceiveCases.{unread, user-read, resource-read, same-meets}
 use borrow.Author.Needs.{needs}
 use lib.ListN.{length}
 use mathlib.Core.Path.{_≡_, refl, sym, ap, ap₂, _∙_}
@@ -15,8 +15,8 @@ meets : (c : tie.After-header-refusal) → HeaderMeets (c .before .before .args 
 meets c = header-meets (c .before .before .args .cell .now) (c .header-refusal .result) (c .header-refusal .ensures)
 
 -- the header was found that of a data or an RM cell
-whole : (c : tie.Else1) → length (c .before .before .before .args .cell .now) ≡ 53
-whole c = meets (c .before) .size (c .if1 .left)
+of-53 : (c : tie.Else1) → length (c .before .before .before .args .cell .now) ≡ 53
+of-53 c = meets (c .before) .size (c .if1 .left)
 
 -- of an RM cell
 remains : (c : tie.Else2) → let o = c .before .before .before .before .before .args .cell .now in reading o ≡ rest o
@@ -37,13 +37,13 @@ returns c =
     record { meets = λ s w e. refused-out s (h .header-refusal .result) e (unread s o (h .header-refusal .result) (meets h .refused (c .if1 .taken))) }
 
 is-data-requires : tie.Need-is-data-requires
-is-data-requires c κs = whole c
+is-data-requires c κs = of-53 c
 
 vci-of-requires : tie.Need-vci-of-requires
-vci-of-requires c κs = whole (c .before .before .before)
+vci-of-requires c κs = of-53 (c .before .before .before)
 
 efci-of-requires : tie.Need-efci-of-requires
-efci-of-requires c κs = whole (c .before .before .before .before)
+efci-of-requires c κs = of-53 (c .before .before .before .before)
 
 returns-2 : tie.Need-returns-2
 returns-2 c =
@@ -59,7 +59,7 @@ returns-2 c =
     (c .receive-data .ensures)
 
 resource-refusal-requires : tie.Need-resource-refusal-requires
-resource-refusal-requires c κs = whole (c .before .before)
+resource-refusal-requires c κs = of-53 (c .before .before)
 
 returns-3 : tie.Need-returns-3
 returns-3 c =
@@ -69,7 +69,7 @@ returns-3 c =
     record { meets = λ s w e. refused-out s n e (unread s o n (remains e2 ∙ rest-meets o n (c .before .resource-refusal .ensures) .refused (c .if3 .taken))) }
 
 fields-of-requires : tie.Need-fields-of-requires
-fields-of-requires c κs = whole (c .before .before .before .before .before)
+fields-of-requires c κs = of-53 (c .before .before .before .before .before)
 
 receive-resource-requires : tie.Need-receive-resource-requires
 receive-resource-requires c κs =
@@ -77,7 +77,7 @@ receive-resource-requires c κs =
     let d = e2 .before .before in
     let k = d .before .before in
     let o = k .before .args .cell .now in
-    (whole d, received-checked o (c .fields-of .result) (fields c) (record { each = λ i. k .shared-slice-known .given i .fits }) refl)
+    (of-53 d, received-checked o (c .fields-of .result) (fields c) (record { each = λ i. k .shared-slice-known .given i .fits }) refl)
 
 returns-4 : tie.Need-returns-4
 returns-4 c =

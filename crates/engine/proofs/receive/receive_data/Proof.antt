@@ -1,13 +1,14 @@
 use Prim.Native.Nat.{_<_}
-use Rattle.engine.proofs.Outs.{refused-out, below, missing, standing}
-use Rattle.engine.proofs.Received.{data-missing, data-done}
+use Rattle.engine.proofs.Outcomes.{refused-out, below, missing, standing}
+use Rattle.engine.proofs.ReceiveCases.{data-missing, data-done}
 use borrow.Author.Needs.{needs}
 use Rattle.engine.proofs.receive.receive_data.Statement.{statement}
 use Rattle.engine.proofs.receive.receive_data.Tie as tie
+use Rattle.model.specs.State.{capacity}
 
--- the seat that was found is one
-seat : (c : tie.After-i) → c .i .given .0 .0 < 64
-seat c = let f = c .before .before in below (f .before .before .args .t .now) (f .before .before .args .vci) (f .find .ensures) (c .i .given .1)
+-- the entry that was found is one
+entry : (c : tie.After-i) → c .i .given .0 .0 < capacity
+entry c = let f = c .before .before in below (f .before .before .args .t .now) (f .before .before .args .vci) (f .find .ensures) (c .i .given .1)
 
 returns : tie.Need-returns
 returns c =
@@ -16,10 +17,10 @@ returns c =
     record { meets = λ s w e. refused-out s 11 e (data-missing s (a .vci) (a .efci) (missing s w e (a .vci) (f .find .ensures) (c .enum-told .given .1))) }
 
 load-requires : tie.Need-load-requires
-load-requires c κs = seat (c .before .before)
+load-requires c κs = entry (c .before .before)
 
-update-mark-requires : tie.Need-update-mark-requires
-update-mark-requires c κs = seat (c .before .before .before .before .before .before)
+update-efci-requires : tie.Need-update-efci-requires
+update-efci-requires c κs = entry (c .before .before .before .before .before .before)
 
 returns-2 : tie.Need-returns-2
 returns-2 c =
@@ -30,9 +31,9 @@ returns-2 c =
     let a = f .before .before .args in
     record {
       meets = λ s w e.
-          data-done s w e (i .i .given .0 .0) (seat i) (standing s w e (a .vci) (f .find .ensures) (i .i .given .1)) (ld .load .result) (ld .load .ensures)
-          (o .marked .result) (c .update-mark .ensures) (a .efci) (o .marked .ensures);
+          data-done s w e (i .i .given .0 .0) (entry i) (standing s w e (a .vci) (f .find .ensures) (i .i .given .1)) (ld .load .result) (ld .load .ensures)
+          (o .after-data-cell .result) (c .update-efci .ensures) (a .efci) (o .after-data-cell .ensures);
     }
 
 pub receive-data-spec : {M : Type 1} → statement M
-receive-data-spec = tie.close (tie.spec (λ c κs. search needs) (λ c. search needs) (λ c. search needs) returns load-requires (λ c κs. search needs) update-mark-requires returns-2)
+receive-data-spec = tie.close (tie.spec (λ c κs. search needs) (λ c. search needs) (λ c. search needs) returns load-requires (λ c κs. search needs) update-efci-requires returns-2)

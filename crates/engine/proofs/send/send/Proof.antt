@@ -7,20 +7,20 @@ use Rattle.connection.specs.Range.{InRange}
 use Rattle.connection.proofs.Keeps.{after-same}
 use Rattle.connection.proofs.Ranged.{after-ranged}
 use Rattle.table.proofs.Loaded.{load-named}
-use Rattle.engine.proofs.Outs.{ranged, roomy}
-use Rattle.engine.proofs.SentOut.{sent-out}
+use Rattle.engine.proofs.Outcomes.{ranged, roomy}
+use Rattle.engine.proofs.SendCases.{sent-out}
 use Rattle.engine.proofs.send.send.Statement.{statement}
 use Rattle.engine.proofs.send.send.Tie as tie
 
 -- what was loaded lies in range
-loaded : (c : tie.After-load) → InRange (c .load .result)
-loaded c = let start = c .before .before .before in ranged (start .args .t .now) (start .args .i) (c .load .ensures)
+in-range : (c : tie.After-load) → InRange (c .load .result)
+in-range c = let start = c .before .before .before in ranged (start .args .t .now) (start .args .i) (c .load .ensures)
 
 kind-at-requires : tie.Need-kind-at-requires
-kind-at-requires c κs = loaded c
+kind-at-requires c κs = in-range c
 
 after-requires : tie.Need-after-requires
-after-requires c κs = loaded (c .before)
+after-requires c κs = in-range (c .before)
 
 -- the name stays
 named : (c : tie.After-after) → c .after .result .name ≤ 65535
@@ -44,7 +44,7 @@ store-sent-requires c κs =
     let start = l .before .before .before in (
       search needs,
       subst InRange (sym (a .after .ensures))
-          (after-ranged (k .kind-at .result) (start .args .time) (l .load .result) (omega (arith, start .pre .1 .0)) (loaded l) (roomy (start .args .t .now) (start .args .i) (l .load .ensures))),
+          (after-ranged (k .kind-at .result) (start .args .time) (l .load .result) (omega (arith, start .pre .1 .0)) (in-range l) (roomy (start .args .t .now) (start .args .i) (l .load .ensures))),
     )
 
 returns : tie.Need-returns
@@ -55,8 +55,8 @@ returns c =
     let l = k .before in
     let start = l .before .before .before in
     record {
-      sends = λ s w last e d seat place.
-          sent-out s w (start .args .time) last (start .args .t .now) (c .store-sent .last .0) (start .args .cell .now) (p .put-cell .last .0) e (start .args .i) (start .pre .0) d seat place
+      sends = λ s w last e d entry place.
+          sent-out s w (start .args .time) last (start .args .t .now) (c .store-sent .last .0) (start .args .cell .now) (p .put-cell .last .0) e (start .args .i) (start .pre .0) d entry place
           (l .load .result) (l .load .ensures) (k .kind-at .result) (k .kind-at .ensures) (a .after .result) (a .after .ensures) (p .put-cell .ensures) (c .store-sent .ensures);
     }
 

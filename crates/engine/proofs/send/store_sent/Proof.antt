@@ -9,7 +9,7 @@ returns : tie.Need-returns
 returns c =
     let k = c .before .before in
     let a = k .before .before .args in
-    c .update-front .ensures ∙ ap (λ (x : Kind). storedSent (a .t .now) (a .i) x (a .next)) (sym (k .enum-told .given .1))
+    c .update-source .ensures ∙ ap (λ (x : Kind). storedSent (a .t .now) (a .i) x (a .next)) (sym (k .enum-told .given .1))
 
 returns-2 : tie.Need-returns-2
 returns-2 c =
@@ -21,7 +21,7 @@ returns-3 : tie.Need-returns-3
 returns-3 c =
     let k = c .before .before in
     let a = k .before .before .args in
-    c .update-front2 .ensures ∙ ap (λ (x : Kind). storedSent (a .t .now) (a .i) x (a .next)) (sym (k .enum-told3 .given .1))
+    c .update-source2 .ensures ∙ ap (λ (x : Kind). storedSent (a .t .now) (a .i) x (a .next)) (sym (k .enum-told3 .given .1))
 
 pub store-sent-spec : {M : Type 1} → statement M
 store-sent-spec = tie.close (tie.spec (λ c. search needs) (λ c κs. search needs) (λ c. search needs) (λ c κs. search needs) (λ c. search needs) (λ c κs. search needs) returns returns-2 returns-3)

@@ -3,8 +3,8 @@ use mathlib.Core.Path.{_≡_, subst}
 use native.Mathlib.Omega.{arith}
 use borrow.Author.Needs.{needs}
 use lib.ListN.{length}
-use Rattle.engine.proofs.Opened.{last-at}
-use Rattle.engine.proofs.SlotOut.{refused-leaves, slot-short, slot-late, slot-early, idle-leaves, send-leaves, seat-below}
+use Rattle.engine.proofs.OpenCases.{last-at}
+use Rattle.engine.proofs.SlotCases.{refused-leaves, slot-short, slot-late, slot-early, idle-leaves, send-leaves, entry-below}
 use Rattle.engine.proofs.slot.slot.Statement.{statement}
 use Rattle.engine.proofs.slot.slot.Tie as tie
 
@@ -38,7 +38,7 @@ send-requires : tie.Need-send-requires
 send-requires c κs =
     let i = c .before .before .before in
     let ch = i .before .before in
-    (seat-below (ch .choose .result) (i .choice .given .0 .0) (ch .choose .ensures .0) (i .choice .given .1), (search needs, search needs))
+    (entry-below (ch .choose .result) (i .choice .given .0 .0) (ch .choose .ensures .0) (i .choice .given .1), (search needs, search needs))
 
 returns-4 : tie.Need-returns-4
 returns-4 c =

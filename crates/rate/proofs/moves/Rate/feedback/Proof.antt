@@ -7,8 +7,8 @@ use Rattle.rate.proofs.moves.Rate.feedback.Tie as tie
 least-requires : tie.Need-least-requires
 least-requires c κs = search needs
 
-aim-requires : tie.Need-aim-requires
-aim-requires c κs = search needs
+rate-by-marks-requires : tie.Need-rate-by-marks-requires
+rate-by-marks-requires c κs = search needs
 
 lower-requires : tie.Need-lower-requires
 lower-requires c κs = search needs
@@ -26,4 +26,4 @@ returns c = cc
 pub feedback-spec : {M : Type 1} → statement M
 feedback-spec =
     tie.close
-    (tie.spec least-requires aim-requires lower-requires higher-requires moved-requires returns)
+    (tie.spec least-requires rate-by-marks-requires lower-requires higher-requires moved-requires returns)

@@ -1,0 +1,89 @@
+-- Exported calls do what `run` says.
+use Prim.Native.Nat.{ℕ}
+use mathlib.Core.Path.{_≡_, refl, ap, _∙_}
+use mathlib.Core.List.{List, [], _∷_}
+use lib.ListN.{length}
+use Rattle.connection.specs.Sending.{Buffer, untouched}
+use Rattle.model.specs.State.{State, empty}
+use Rattle.model.specs.Invariant.{WellFormed}
+use Rattle.model.specs.declared.answer.Answer.{Answer}
+use Rattle.model.specs.declared.answer.Answer.the-variants.{Refused, Accepted, Idle, Sent}
+use Rattle.model.specs.Call.{Call, opening, closing, receiving, offering, levelling, slot, Outcome}
+use Rattle.model.specs.Step.{refuse, accept, step}
+use Rattle.model.specs.Run.{run, final}
+use Rattle.model.proofs.Preserved.{empty-well-formed}
+use Rattle.model.proofs.Effects.{Effect, refuses, begins, ends, offers as offersTo, marks, works, levels as levelsTo, idles, sends, effect}
+use Rattle.model.proofs.Reached.{step-well-formed, reached-well-formed}
+use Rattle.table.specs.Layout.{words}
+use Rattle.table.proofs.Words.{empty-words}
+use Rattle.engine.specs.Contract.{bufferContent}
+use Rattle.abr.specs.Answers.{number, noCell, slotAnswer}
+use Rattle.abr.specs.Exports.{Observation, numberAlone, Performs, opens, closes, receives, offers, levels, slots, Trace, ended, then, finalWords, zeros, Matches, AllMatch, neither, both, ExportsAreRun}
+
+-- a call that is lent no buffer
+abbrev WithoutBuffer : Call → Type 0
+WithoutBuffer (opening v t p) = Unit
+WithoutBuffer (closing v) = Unit
+WithoutBuffer (receiving o) = Unit
+WithoutBuffer (offering v n) = Unit
+WithoutBuffer (levelling l) = Unit
+WithoutBuffer (slot t room) = ⊥
+
+-- it writes none, and its answer is a number alone
+pub record Plain (o : Outcome) : Type 0 where
+  pub buffer : o .buffer ≡ untouched
+  pub number : noCell (number (o .answer)) ≡ slotAnswer (o .answer)
+
+effect-plain : {s : State} {c : Call} {o : Outcome} → Effect s c o → WithoutBuffer c → Plain o
+unfolding refuse accept
+effect-plain (refuses c n h) u = record { buffer = refl; number = refl }
+effect-plain (begins v t p g) u = record { buffer = refl; number = refl }
+effect-plain (ends v d f) u = record { buffer = refl; number = refl }
+effect-plain (offersTo v n d f h) u = record { buffer = refl; number = refl }
+effect-plain (marks o v e d r f) u = record { buffer = refl; number = refl }
+effect-plain (works o q d r f) u = record { buffer = refl; number = refl }
+effect-plain (levelsTo l h) u = record { buffer = refl; number = refl }
+effect-plain (idles t room g b) u = absurd u
+effect-plain (sends t room i v g b) u = absurd u
+
+nothing-written : (b : Buffer) → b ≡ untouched → [] ≡ bufferContent b []
+nothing-written b e = rw e refl
+
+plain-matches :
+    {s : State} → WellFormed s → (c : Call) → WithoutBuffer c → (m : List ℕ) (r : ℕ) → (m ≡ words (step s c .state)) × (r ≡ number (step s c .answer))
+    → Matches (step s c) (numberAlone m r)
+plain-matches {s} w c u m r h =
+    let p = effect-plain (effect s (w .unique) c) u in
+    record { table = h .0; returned = ap noCell (h .1) ∙ p .number; buffer = nothing-written (step s c .buffer) (p .buffer) }
+
+performs-matches : {s : State} → WellFormed s → {c : Call} {l : List ℕ} {o : Observation} → Performs c l o → l ≡ words s → Matches (step s c) o
+unfolding step
+performs-matches {s} w (opens {v} {t} {p} {l} {m} {r} h) e = plain-matches w (opening v t p) tt m r (h .meets s w e)
+performs-matches {s} w (closes {v} {l} {m} {r} h) e = plain-matches w (closing v) tt m r (h .meets s w e)
+performs-matches {s} w (receives {o} {l} {m} {r} h) e = plain-matches w (receiving o) tt m r (h .meets s w e)
+performs-matches {s} w (offers {v} {n} {l} {m} {r} h) e = plain-matches w (offering v n) tt m r (h .meets s w e)
+performs-matches {s} w (levels {k} {l} {m} {r} h) e = plain-matches w (levelling k) tt m r (h .meets s w e)
+performs-matches {s} w (slots h) e = let g = h .meets s w e in record { table = g .0; returned = g .1; buffer = g .2 }
+
+onward :
+    (s : State) → WellFormed s → (cs : List Call) (l : List ℕ) (os : List Observation) → Trace cs l os → l ≡ words s
+    → AllMatch (run s cs) os × (finalWords l os ≡ words (final s cs))
+onward s w [] l [] ended e = (neither, e)
+onward s w (c ∷ cs) l (o ∷ os) (then h t) e =
+    let g = performs-matches w h e in
+    let rest = onward (step s c .state) (step-well-formed w c) cs (o .table) os t (g .table) in
+    (both g (rest .0), rest .1)
+
+pub zeros-words : zeros ≡ words empty
+zeros-words = rw empty-words refl
+
+last : (cs : List Call) (os : List Observation) → Trace cs zeros os → finalWords zeros os ≡ words (final empty cs)
+last cs os t = onward empty empty-well-formed cs zeros os t zeros-words .1
+
+pub exports-are-run : ExportsAreRun
+exports-are-run = record {
+  onward = onward;
+  each = λ cs os t. onward empty empty-well-formed cs zeros os t zeros-words .0;
+  last = last;
+  acr = λ cs os t v r h. h .meets (final empty cs) (reached-well-formed cs) (last cs os t);
+}

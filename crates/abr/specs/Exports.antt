@@ -1,0 +1,79 @@
+-- What lists of exported calls do to one lent table, as C sees it: numbers, structs, octets and words. (Document 01, "What the library commits to", 1, and
+-- "The lists of demand 3".)
+use Prim.Native.Nat.{ℕ}
+use mathlib.Core.Path.{_≡_}
+use mathlib.Core.List.{List, [], _∷_}
+use lib.ListN.{length, replicate}
+use Rattle.rate.specs.declared.params.Params.{Params}
+use Rattle.model.specs.State.{State, empty}
+use Rattle.model.specs.Invariant.{WellFormed}
+use Rattle.model.specs.Call.{Call, opening, closing, receiving, offering, levelling, slot, Outcome}
+use Rattle.model.specs.Step.{openStep, closeStep, receiveStep, offerStep, levelStep, slotStep}
+use Rattle.model.specs.Queries.{acrOf}
+use Rattle.model.specs.Run.{run, final}
+use Rattle.table.specs.Layout.{words, size}
+use Rattle.engine.specs.Contract.{bufferContent}
+use Rattle.abr.specs.Answers.{SlotAnswer, AcrAnswer, noCell, slotAnswer, acrAnswer}
+use Rattle.abr.specs.Contract.{Numbered, AnswersSlot, AnswersAcr}
+
+-- what a caller sees of one call: the words of the table after it, what it returned, and the lent buffer before and after it
+pub record Observation : Type 0 where
+  pub table : List ℕ
+  pub returned : SlotAnswer
+  pub old : List ℕ
+  pub new : List ℕ
+
+-- a call that returns its number alone and is lent no buffer to write
+abbrev pub numberAlone : (table : List ℕ) → (number : ℕ) → Observation
+numberAlone l r = record { table = l; returned = noCell r; old = []; new = [] }
+
+-- One exported call on these words. What each case holds is the ensures of abr_open, abr_close, abr_receive, abr_offer, abr_set_level or abr_slot, so that
+-- every such call makes one of these.
+pub data Performs : Call → (before : List ℕ) → Observation → Type 0 where
+  opens : {v t : ℕ} {p : Params} {l m : List ℕ} {r : ℕ} → Numbered (λ s. openStep s v t p) l m r → Performs (opening v t p) l (numberAlone m r)
+  closes : {v : ℕ} {l m : List ℕ} {r : ℕ} → Numbered (λ s. closeStep s v) l m r → Performs (closing v) l (numberAlone m r)
+  receives : {o : List ℕ} {l m : List ℕ} {r : ℕ} → Numbered (λ s. receiveStep s o) l m r → Performs (receiving o) l (numberAlone m r)
+  offers : {v n : ℕ} {l m : List ℕ} {r : ℕ} → Numbered (λ s. offerStep s v n) l m r → Performs (offering v n) l (numberAlone m r)
+  levels : {k : ℕ} {l m : List ℕ} {r : ℕ} → Numbered (λ s. levelStep s k) l m r → Performs (levelling k) l (numberAlone m r)
+  slots :
+      {t : ℕ} {l m old new : List ℕ} {r : SlotAnswer} → AnswersSlot (λ s. slotStep s t (length old)) l m r old new
+      → Performs (slot t (length old)) l (record { table = m; returned = r; old = old; new = new })
+
+-- calls in a row, each on the words that the call before it left
+pub data Trace : List Call → (first : List ℕ) → List Observation → Type 0 where
+  ended : {l : List ℕ} → Trace [] l []
+  then : {c : Call} {cs : List Call} {l : List ℕ} {o : Observation} {os : List Observation} → Performs c l o → Trace cs (o .table) os → Trace (c ∷ cs) l (o ∷ os)
+
+-- the words after all of them
+abbrev pub finalWords : (first : List ℕ) → List Observation → List ℕ
+finalWords l [] = l
+finalWords l (o ∷ os) = finalWords (o .table) os
+
+-- the zero table, as a caller first lends it
+abbrev pub zeros : List ℕ
+zeros = replicate size 0
+
+-- a call did what the definitions say: table, answer and buffer
+pub record Matches (p : Outcome) (o : Observation) : Type 0 where
+  pub table : o .table ≡ words (p .state)
+  pub returned : o .returned ≡ slotAnswer (p .answer)
+  pub buffer : o .new ≡ bufferContent (p .buffer) (o .old)
+
+-- each of them in its place, and as many of the one as of the other
+pub data AllMatch : List Outcome → List Observation → Type 0 where
+  neither : AllMatch [] []
+  both : {p : Outcome} {ps : List Outcome} {o : Observation} {os : List Observation} → Matches p o → AllMatch ps os → AllMatch (p ∷ ps) (o ∷ os)
+
+-- Exported calls do what `run` says.
+pub record ExportsAreRun : Type 0 where
+  -- from the words of any well-formed table
+  pub onward :
+      (s : State) → WellFormed s → (cs : List Call) (l : List ℕ) (os : List Observation) → Trace cs l os → l ≡ words s
+      → AllMatch (run s cs) os × (finalWords l os ≡ words (final s cs))
+  -- from the zero table: every call of the list, and the words that are left
+  pub each : (cs : List Call) (os : List Observation) → Trace cs zeros os → AllMatch (run empty cs) os
+  pub last : (cs : List Call) (os : List Observation) → Trace cs zeros os → finalWords zeros os ≡ words (final empty cs)
+  -- and reading an ACR after them
+  pub acr :
+      (cs : List Call) (os : List Observation) → Trace cs zeros os → (v : ℕ) (r : AcrAnswer) → AnswersAcr v (finalWords zeros os) r
+      → r ≡ acrAnswer (acrOf (final empty cs) v)

@@ -1,0 +1,2 @@
+// The entry that a slot goes to.
+pub mod choose;

@@ -1,0 +1,100 @@
+-- One lemma for each way out of an open.
+use Prim.Native.Nat.{ℕ, _≤_, _<_}
+use mathlib.Core.Path.{_≡_, sym, ap, subst, _∙_}
+use mathlib.Core.Bool.{true, false}
+use mathlib.Core.List.{List}
+use lib.Dec.{leb}
+use lib.ListN.{getD, set}
+use borrow.Author.Tests.{le-leb, lt-leb}
+use Rattle.rate.specs.declared.params.Params.{Params}
+use Rattle.rate.specs.Units.{latestTime}
+use Rattle.rate.specs.Params.{paramsFit}
+use Rattle.connection.specs.declared.parts.Connection.{Connection}
+use Rattle.connection.specs.Parts.{fresh}
+use Rattle.model.specs.State.{State, free, taken, find, inserted, roomLeft, withTime, isFree, position, capacity}
+use Rattle.model.specs.Invariant.{WellFormed}
+use Rattle.table.specs.Layout.{words, lastAt}
+use Rattle.table.specs.Storing.{stored}
+use Rattle.names.specs.Finding.{FoundInRange, Vacant, FindsFree}
+use Rattle.names.specs.declared.find.Found.{Found}
+use Rattle.names.specs.declared.find.Found.the-variants.{At, Nothing}
+use Rattle.table.proofs.Words.{store-at}
+use Rattle.model.proofs.Entries.{lowest-free}
+use Rattle.model.specs.Step.{refuse, accept, openStep}
+use Rattle.engine.proofs.Outcomes.{time-word, last-word}
+use Rattle.laws.specs.Require.{require}
+
+module _ (s : State) (v t : ℕ) (p : Params) where
+  pub open-low : v < 32 → openStep s v t p ≡ refuse s 10
+  unfolding openStep require
+  open-low h = rw (lt-leb 32 v h)
+
+  pub open-wide : 32 ≤ v → 65535 < v → openStep s v t p ≡ refuse s 7
+  unfolding openStep require
+  open-wide l h = rw (le-leb 32 v l, lt-leb v 65535 h)
+
+  pub open-unfit : 32 ≤ v → v ≤ 65535 → paramsFit p ≡ false → openStep s v t p ≡ refuse s 7
+  unfolding openStep require
+  open-unfit l h f = rw (le-leb 32 v l, le-leb v 65535 h, f)
+
+  pub open-late : 32 ≤ v → v ≤ 65535 → paramsFit p ≡ true → latestTime < t → openStep s v t p ≡ refuse s 8
+  unfolding openStep require
+  open-late l h f g = rw (le-leb 32 v l, le-leb v 65535 h, f, lt-leb t latestTime g)
+
+-- the tests of the input that an open has passed
+pub record Passed (v t : ℕ) (p : Params) : Type 0 where
+  pub low : 32 ≤ v
+  pub high : v ≤ 65535
+  pub fits : paramsFit p ≡ true
+  pub timely : t ≤ latestTime
+
+module _ (s : State) {v t : ℕ} {p : Params} (i : Passed v t p) where
+  rest :
+      openStep s v t p
+      ≡ require (refuse s 12) (isFree (find v (s .entries))) (require (refuse s 13) (roomLeft s) (require (refuse s 14) (leb (s .last) t) (accept (withTime t (inserted (fresh v t p) s)))))
+  unfolding openStep require
+  rest = rw (le-leb 32 v (i .low), le-leb v 65535 (i .high), i .fits, le-leb t latestTime (i .timely))
+
+  pub open-taken : (c : Connection) → find v (s .entries) ≡ taken c → openStep s v t p ≡ refuse s 12
+  unfolding require isFree
+  open-taken c e = rest ∙ rw e
+
+  module _ (new : find v (s .entries) ≡ free) where
+    pub open-full : roomLeft s ≡ false → openStep s v t p ≡ refuse s 13
+    unfolding require isFree
+    open-full e = rest ∙ rw (new, e)
+
+    pub open-early : roomLeft s ≡ true → t < s .last → openStep s v t p ≡ refuse s 14
+    unfolding require isFree
+    open-early e h = rest ∙ rw (new, e, lt-leb (s .last) t h)
+
+    pub open-done : roomLeft s ≡ true → s .last ≤ t → openStep s v t p ≡ accept (withTime t (inserted (fresh v t p) s))
+    unfolding require isFree
+    open-done e h = rest ∙ rw (new, e, le-leb (s .last) t h)
+
+-- the lowest free entry, as it was found
+module _ {l : List ℕ} {r : Found} (h : FindsFree l r) where
+  pub entry-below : {i : ℕ} → r ≡ At i → i < capacity
+  entry-below q = subst FoundInRange q (h .inside)
+
+  module _ (s : State) (w : WellFormed s) (e : l ≡ words s) where
+    pub lowest : {i : ℕ} → r ≡ At i → position isFree (s .entries) ≡ i
+    lowest q = subst (Vacant s) q (h .is s w e)
+
+    pub no-room : r ≡ Nothing → roomLeft s ≡ false
+    no-room q = subst (Vacant s) q (h .is s w e)
+
+-- the word of the last accepted time
+pub last-at : (s : State) {l : List ℕ} → l ≡ words s → getD l lastAt 0 ≡ s .last
+last-at s e = ap (λ (x : List ℕ). getD x lastAt 0) e ∙ last-word s
+
+-- the entry stored, and the time
+pub opened-words :
+    (s : State) → WellFormed s → {l m : List ℕ} → l ≡ words s → (t i : ℕ) → i < capacity → position isFree (s .entries) ≡ i → (c d : Connection) → d ≡ c → m ≡ stored l i d
+    → set m lastAt t ≡ words (withTime t (inserted c s))
+unfolding inserted
+opened-words s w {l} e t i h q c d a b =
+    ap (λ (x : List ℕ). set x lastAt t)
+    (b ∙ ap (λ (x : Connection). stored l i x) a ∙ ap (λ (x : List ℕ). stored x i c) e ∙ store-at s (w .size) i h c (ap (λ (k : ℕ). getD (s .entries) k free) (sym q) ∙ lowest-free (s .entries))
+    ∙ ap (λ (k : ℕ). words (record { level = s .level; last = s .last; entries = set (s .entries) k (taken c) })) (sym q))
+    ∙ time-word (inserted c s) t

@@ -1,0 +1,105 @@
+-- What a call on the words of a reached state finds and leaves: shared by the calls' proofs.
+use Prim.Native.Nat.{ℕ, _<_}
+use mathlib.Core.Path.{_≡_, refl, sym, ap, subst, _∙_}
+use mathlib.Core.List.{List}
+use lib.ListN.{getD, set}
+use Rattle.connection.specs.declared.parts.Connection.{Connection}
+use Rattle.connection.specs.Invariant.{ValidAt}
+use Rattle.connection.specs.Range.{InRange, HasRoom}
+use Rattle.connection.specs.Ready.{readyInstant}
+use Rattle.connection.proofs.Keeps.{Same}
+use Rattle.names.specs.declared.find.Found.{Found}
+use Rattle.names.specs.declared.find.Found.the-variants.{At, Nothing}
+use Rattle.model.specs.State.{State, Entry, free, taken, find, put, position, holds, withTime, withLevel, capacity}
+use Rattle.model.specs.Invariant.{WellFormed, OnEntry}
+use Rattle.table.specs.Layout.{words, sourceWords, fixedWords, levelAt, lastAt}
+use Rattle.table.specs.Loading.{connectionAt}
+use Rattle.table.specs.Storing.{sourceUpdated, destinationUpdated, efciUpdated, updated}
+use Rattle.names.specs.Finding.{FoundInRange, Located, Names, Finds}
+use Rattle.model.proofs.Entries.{each-get}
+use Rattle.table.proofs.Loaded.{load-ranged, load-room}
+use Rattle.table.proofs.Words.{load-at, update-at, source-at, destination-at, efci-at}
+use Rattle.model.specs.declared.answer.Answer.the-variants.{Refused, Accepted}
+use Rattle.model.specs.Call.{Outcome}
+use Rattle.model.specs.Step.{refuse, accept}
+
+-- The two plain ways out.
+pub refused-out : {l : List ℕ} {o : Outcome} (s : State) (n : ℕ) → l ≡ words s → o ≡ refuse s n → (l ≡ words (o .state)) × (Refused n ≡ o .answer)
+unfolding refuse
+refused-out s n e q = rw q (e, refl)
+
+pub accepted-out : {l : List ℕ} {o : Outcome} (r : State) → l ≡ words r → o ≡ accept r → (l ≡ words (o .state)) × (Accepted ≡ o .answer)
+unfolding accept
+accepted-out r e q = rw q (e, refl)
+
+-- The header's first two words: the level and the last accepted time.
+pub level-word : (s : State) (l : ℕ) → set (words s) levelAt l ≡ words (withLevel l s)
+unfolding words withLevel
+level-word s l = refl
+
+pub time-word : (s : State) (t : ℕ) → set (words s) lastAt t ≡ words (withTime t s)
+unfolding words withTime
+time-word s t = refl
+
+pub last-word : (s : State) → getD (words s) lastAt 0 ≡ s .last
+unfolding words
+last-word s = refl
+
+pub level-at : (s : State) → getD (words s) levelAt 0 ≡ s .level
+unfolding words
+level-at s = refl
+
+-- What was found.
+pub below : (l : List ℕ) (v : ℕ) {r : Found} {i : ℕ} → Finds l v r → r ≡ At i → i < capacity
+below l v h q = subst FoundInRange q (h .inside)
+
+module _ (s : State) (w : WellFormed s) {l : List ℕ} (e : l ≡ words s) (v : ℕ) {r : Found} (h : Finds l v r) where
+  pub missing : r ≡ Nothing → find v (s .entries) ≡ free
+  missing q = subst (Names v (s .entries)) q (h .is s w e)
+
+  pub standing : {i : ℕ} → r ≡ At i → Located (s .entries) v i
+  standing q = subst (Names v (s .entries)) q (h .is s w e)
+
+-- The connection that was loaded is the one that stands in the entry; whatever the words, it lies in range.
+pub ranged : (l : List ℕ) (i : ℕ) {d : Connection} → d ≡ connectionAt l i → InRange d
+ranged l i q = subst InRange (sym q) (load-ranged l i)
+
+pub roomy : (l : List ℕ) (i : ℕ) {d : Connection} → d ≡ connectionAt l i → HasRoom (d .pace)
+roomy l i q = subst (λ (x : Connection). HasRoom (x .pace)) (sym q) (load-room l i)
+
+module _ (s : State) (w : WellFormed s) {v i : ℕ} (p : Located (s .entries) v i) where
+  pub valid-in : ValidAt (s .last) (p .holder)
+  valid-in = subst (OnEntry (ValidAt (s .last))) (p .here) (each-get (ValidAt (s .last)) (s .entries) (w .each) i)
+
+  pub loaded-is : {l : List ℕ} {d : Connection} → l ≡ words s → i < capacity → d ≡ connectionAt l i → d ≡ p .holder
+  loaded-is e h q =
+      q ∙ ap (λ (x : List ℕ). connectionAt x i) e ∙ load-at s (w .size) i h (p .holder) (p .here) (w .timely) valid-in
+
+-- The words with one entry changed are those of the state with the name's entry changed.
+pub put-at : (s : State) (v : ℕ) {i : ℕ} → position (holds v) (s .entries) ≡ i → (x : Entry) → put v x s ≡ record { level = s .level; last = s .last; entries = set (s .entries) i x }
+unfolding put
+put-at s v q x = rw q
+
+same-fixed : (c d : Connection) → Same c d → fixedWords d ≡ fixedWords c
+same-fixed c d h = rw (h .opened, h .trm, h .params)
+
+-- a connection that keeps its entry, with what was stored of it
+kept :
+    (s : State) {v i : ℕ} (p : Located (s .entries) v i) (d : Connection) {m : List ℕ} → m ≡ words (record { level = s .level; last = s .last; entries = set (s .entries) i (taken d) })
+    → m ≡ words (put v (taken d) s)
+kept s {v} p d q = q ∙ ap words (sym (put-at s v (p .place) (taken d)))
+
+module _ (s : State) (w : WellFormed s) {l : List ℕ} (e : l ≡ words s) {v i : ℕ} (h : i < capacity) (p : Located (s .entries) v i) (d : Connection) (k : Same (p .holder) d) where
+  pub updated-is : {m : List ℕ} → m ≡ updated l i d → m ≡ words (put v (taken d) s)
+  updated-is q = kept s p d (q ∙ ap (λ (x : List ℕ). updated x i d) e ∙ update-at s (w .size) i h (p .holder) d (p .here) (k .name) (same-fixed (p .holder) d k))
+
+  pub source-is : {m : List ℕ} → d .destination ≡ p .holder .destination → m ≡ sourceUpdated l i d → m ≡ words (put v (taken d) s)
+  source-is b q = kept s p d (q ∙ ap (λ (x : List ℕ). sourceUpdated x i d) e ∙ source-at s (w .size) i h (p .holder) d (p .here) (k .name) (same-fixed (p .holder) d k) b)
+
+  pub destination-is : {m : List ℕ} → sourceWords d ≡ sourceWords (p .holder) → m ≡ destinationUpdated l i d → m ≡ words (put v (taken d) s)
+  destination-is f q = kept s p d (q ∙ ap (λ (x : List ℕ). destinationUpdated x i d) e ∙ destination-at s (w .size) i h (p .holder) d (p .here) (k .name) (same-fixed (p .holder) d k) f)
+
+  pub efci-is :
+      {m : List ℕ} → sourceWords d ≡ sourceWords (p .holder) → d .destination .turned ≡ p .holder .destination .turned → readyInstant d ≡ readyInstant (p .holder) → m ≡ efciUpdated l i (d .destination)
+      → m ≡ words (put v (taken d) s)
+  efci-is f t r q = kept s p d (q ∙ ap (λ (x : List ℕ). efciUpdated x i (d .destination)) e ∙ efci-at s (w .size) i h (p .holder) d (p .here) (k .name) (same-fixed (p .holder) d k) f t r)

@@ -1,0 +1,156 @@
+-- What a received cell makes of a table: the ways out of receiving.
+use Prim.Native.Nat.{ℕ, _%_, _<_}
+use mathlib.Core.Path.{_≡_, refl, sym, ap, _∙_}
+use mathlib.Core.Bool.{Bool}
+use mathlib.Core.List.{List, []}
+use native.Mathlib.Omega.{arith}
+use lib.ListN.{length, getD}
+use borrow.Author.Tests.{eq-eqb, ne-eqb}
+use Rattle.crc.specs.declared.payload.Payload.{Payload}
+use Rattle.crc.specs.Payload.{payloadOf}
+use Rattle.cell.specs.declared.fields.Fields.{Fields}
+use Rattle.cell.specs.declared.read.Reading.the-variants.{Refused as Unread, User, Resource}
+use Rattle.cell.specs.Octets.{payload}
+use Rattle.cell.specs.Reading.{reading}
+use Rattle.connection.specs.declared.parts.Connection.{Connection}
+use Rattle.connection.specs.declared.parts.Pace.{Pace}
+use Rattle.connection.specs.declared.parts.Pace.the-variants.{Unsent, Running}
+use Rattle.connection.specs.Receiving.{afterDataCell, afterBackwardCell, afterForwardCell, afterForwardPayload, afterResourceCell}
+use Rattle.connection.specs.Ready.{anyWaits, lastBefore, readyFrom, readyInstant}
+use Rattle.connection.proofs.Keeps.{Same, work-same}
+use Rattle.connection.proofs.Turnings.{after-forward-cell-words}
+use Rattle.model.specs.State.{State, free, taken, find, put, capacity}
+use Rattle.model.specs.Invariant.{WellFormed}
+use Rattle.table.specs.Layout.{sourceWords, words, levelAt}
+use Rattle.table.specs.Loading.{connectionAt}
+use Rattle.table.specs.Storing.{sourceUpdated, destinationUpdated, efciUpdated}
+use Rattle.names.specs.Finding.{Located}
+use Rattle.names.proofs.Found.{found-at}
+use Rattle.model.specs.declared.answer.Answer.{Answer}
+use Rattle.model.specs.declared.answer.Answer.the-variants.{Accepted}
+use Rattle.model.specs.Call.{Outcome}
+use Rattle.model.specs.Step.{refuse, accept, ofOpen, readStep, receiveStep}
+use Rattle.engine.specs.Contract.{Meets}
+use Rattle.engine.proofs.Outcomes.{accepted-out, level-at, loaded-is, source-is, destination-is, efci-is}
+
+-- The connection: a backward cell moves the rate, a forward one is turned round from the words of its payload.
+module _ (level : ℕ) (o : List ℕ) (f : Fields) (c : Connection) where
+  work-answers : {r : Connection} → f .dir ≡ 1 → r ≡ afterBackwardCell f c → r ≡ afterResourceCell level o f c
+  unfolding afterResourceCell
+  work-answers e q = rw (eq-eqb (f .dir) 1 e) q
+
+  work-turns :
+      {r : Connection} (p : Payload) → length o ≡ 53 → ((i : ℕ) → getD o i 0 < 256) → (f .dir ≡ 1 → ⊥) → p ≡ payloadOf (payload o) → r ≡ afterForwardPayload level p c
+      → r ≡ afterResourceCell level o f c
+  unfolding afterResourceCell
+  work-turns p n h e a q =
+      rw (ne-eqb (f .dir) 1 e) (q ∙ ap (λ (x : Payload). afterForwardPayload level x c) a ∙ after-forward-cell-words level o c n h)
+
+  is-turning : (f .dir ≡ 1 → ⊥) → afterResourceCell level o f c ≡ afterForwardCell level o c
+  unfolding afterResourceCell
+  is-turning e = rw (ne-eqb (f .dir) 1 e)
+
+after-data-cell-same : (e : Bool) (c : Connection) → Same c (afterDataCell e c)
+unfolding afterDataCell
+after-data-cell-same e c = record { name = refl; opened = refl; trm = refl; params = refl }
+
+-- The step of a cell that changes its connection by g.
+abbrev changing : State → ℕ → (Connection → Connection) → Outcome
+changing s v g = ofOpen s (find v (s .entries)) λ c. accept (put v (taken (g c)) s)
+
+data-step : (s : State) (v : ℕ) (e : Bool) → readStep s [] (User v e) ≡ changing s v (afterDataCell e)
+unfolding readStep
+data-step s v e = refl
+
+work-step : (s : State) (o : List ℕ) (f : Fields) → readStep s o (Resource f) ≡ changing s (f .vci) (afterResourceCell (s .level) o f)
+unfolding readStep
+work-step s o f = refl
+
+missed : (s : State) (v : ℕ) (g : Connection → Connection) → find v (s .entries) ≡ free → changing s v g ≡ refuse s 11
+unfolding ofOpen
+missed s v g q = rw q
+
+met : (s : State) (v : ℕ) (g : Connection → Connection) (c : Connection) → find v (s .entries) ≡ taken c → changing s v g ≡ accept (put v (taken (g c)) s)
+unfolding ofOpen
+met s v g c q = rw q
+
+pub data-missing : (s : State) (v : ℕ) (e : Bool) → find v (s .entries) ≡ free → readStep s [] (User v e) ≡ refuse s 11
+data-missing s v e q = data-step s v e ∙ missed s v (afterDataCell e) q
+
+pub work-missing : (s : State) (o : List ℕ) (f : Fields) → find (f .vci) (s .entries) ≡ free → readStep s o (Resource f) ≡ refuse s 11
+work-missing s o f q = work-step s o f ∙ missed s (f .vci) (afterResourceCell (s .level) o f) q
+
+-- the level, from the first word
+level-of : (s : State) → WellFormed s → {l : List ℕ} → l ≡ words s → getD l levelAt 0 % 4294967296 ≡ s .level
+level-of s w e = ap (λ (x : List ℕ). getD x levelAt 0 % 4294967296) e ∙ ap (λ (x : ℕ). x % 4294967296) (level-at s) ∙ omega (arith, w .levels)
+
+-- the step's outcome, where the words are those of the changed connection
+changed : (s : State) {v i : ℕ} (p : Located (s .entries) v i) {m : List ℕ} {o : Outcome} (g : Connection → Connection) → o ≡ changing s v g
+    → m ≡ words (put v (taken (g (p .holder))) s) → (m ≡ words (o .state)) × (Accepted ≡ o .answer)
+changed s {v} p g r q = accepted-out (put v (taken (g (p .holder))) s) q (r ∙ met s v g (p .holder) (found-at p))
+
+-- the saved EFCI moves no ready instant, and nothing else of the connection
+after-data-cell-kept : (t : Bool) (c : Connection) → (sourceWords (afterDataCell t c) ≡ sourceWords c) × (afterDataCell t c .destination .turned ≡ c .destination .turned)
+unfolding afterDataCell
+after-data-cell-kept t c = (refl, refl)
+
+after-data-cell-from : (t : Bool) (c : Connection) (p : Pace) → readyFrom (afterDataCell t c) p ≡ readyFrom c p
+unfolding afterDataCell readyFrom anyWaits lastBefore
+after-data-cell-from t c Unsent = refl
+after-data-cell-from t c (Running sent forward k turned) = refl
+
+after-data-cell-ready : (t : Bool) (c : Connection) → readyInstant (afterDataCell t c) ≡ readyInstant c
+unfolding afterDataCell readyInstant
+after-data-cell-ready t c = after-data-cell-from t c (c .pace)
+
+after-backward-cell-destination : (f : Fields) (c : Connection) → afterBackwardCell f c .destination ≡ c .destination
+unfolding afterBackwardCell
+after-backward-cell-destination f c = refl
+
+after-forward-cell-source : (level : ℕ) (o : List ℕ) (c : Connection) → sourceWords (afterForwardCell level o c) ≡ sourceWords c
+unfolding afterForwardCell
+after-forward-cell-source level o c = refl
+
+-- the entry's connection, as it was loaded
+module _ (s : State) (w : WellFormed s) {l : List ℕ} (e : l ≡ words s) {v : ℕ} (i : ℕ) (h : i < capacity) (p : Located (s .entries) v i) (d : Connection) (q : d ≡ connectionAt l i) (x : Connection) where
+  pub data-done : {m : List ℕ} → m ≡ efciUpdated l i (x .destination) → (t : Bool) → x ≡ afterDataCell t d → (m ≡ words (readStep s [] (User v t) .state)) × (Accepted ≡ readStep s [] (User v t) .answer)
+  data-done b t a =
+      let k = after-data-cell-kept t (p .holder) in
+      changed s p (afterDataCell t) (data-step s v t)
+      (efci-is s w e h p (afterDataCell t (p .holder)) (after-data-cell-same t (p .holder)) (k .0) (k .1) (after-data-cell-ready t (p .holder)) (b ∙ ap (λ (y : Connection). efciUpdated l i (y .destination)) (a ∙ ap (afterDataCell t) (loaded-is s w p e h q))))
+
+module _ (s : State) (w : WellFormed s) {l : List ℕ} (e : l ≡ words s) (o : List ℕ) (f : Fields) (i : ℕ) (h : i < capacity) (p : Located (s .entries) (f .vci) i) (d : Connection) (q : d ≡ connectionAt l i) (x : Connection) where
+  pub answer-done : {m : List ℕ} → f .dir ≡ 1 → x ≡ afterBackwardCell f d → m ≡ sourceUpdated l i x → (m ≡ words (readStep s o (Resource f) .state)) × (Accepted ≡ readStep s o (Resource f) .answer)
+  answer-done c a b =
+      let work : Connection = afterResourceCell (s .level) o f (p .holder) in
+      let y : x ≡ work = work-answers (s .level) o f (p .holder) c (a ∙ ap (afterBackwardCell f) (loaded-is s w p e h q)) in
+      changed s p (afterResourceCell (s .level) o f) (work-step s o f)
+      (source-is s w e h p work (work-same (s .level) o f (p .holder)) (ap (λ (z : Connection). z .destination) (sym (work-answers (s .level) o f (p .holder) c refl)) ∙ after-backward-cell-destination f (p .holder)) (b ∙ ap (sourceUpdated l i) y))
+
+  pub turn-done :
+      {m : List ℕ} → (f .dir ≡ 1 → ⊥) → length o ≡ 53 → ((k : ℕ) → getD o k 0 < 256) → (g : Payload) → g ≡ payloadOf (payload o) → x ≡ afterForwardPayload (getD l levelAt 0 % 4294967296) g d → m ≡ destinationUpdated l i x
+      → (m ≡ words (readStep s o (Resource f) .state)) × (Accepted ≡ readStep s o (Resource f) .answer)
+  turn-done c n z g r a b =
+      let work : Connection = afterResourceCell (s .level) o f (p .holder) in
+      let y : x ≡ work =
+      work-turns (s .level) o f (p .holder) g n z c r
+      (a ∙ ap (λ (u : ℕ). afterForwardPayload u g d) (level-of s w e) ∙ ap (afterForwardPayload (s .level) g) (loaded-is s w p e h q)) in
+      let t : work ≡ afterForwardCell (s .level) o (p .holder) = is-turning (s .level) o f (p .holder) c in
+      changed s p (afterResourceCell (s .level) o f) (work-step s o f)
+      (destination-is s w e h p work (work-same (s .level) o f (p .holder)) (ap sourceWords t ∙ after-forward-cell-source (s .level) o (p .holder)) (b ∙ ap (destinationUpdated l i) y))
+
+-- What was read: a refusal, or a cell of 53 octets whose step is the rest.
+pub unread : (s : State) (o : List ℕ) (n : ℕ) → reading o ≡ Unread n → receiveStep s o ≡ refuse s n
+unfolding receiveStep readStep
+unread s o n e = rw e
+
+pub user-read : (o : List ℕ) (v : ℕ) (e : Bool) → reading o ≡ User v e → (s : State) → receiveStep s o ≡ readStep s [] (User v e)
+unfolding receiveStep readStep
+user-read o v e q s = rw q
+
+pub resource-read : (o : List ℕ) (f : Fields) → reading o ≡ Resource f → (s : State) → receiveStep s o ≡ readStep s o (Resource f)
+unfolding receiveStep
+resource-read o f q s = rw q
+
+pub same-meets : {f g : State → Outcome} {l m : List ℕ} {r : Answer} → ((s : State) → g s ≡ f s) → Meets f l m r → Meets g l m r
+same-meets h k = record { meets = λ s w e. rw (h s) (k .meets s w e) }

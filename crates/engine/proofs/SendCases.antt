@@ -1,0 +1,74 @@
+-- What a slot that goes to an entry leaves.
+use Prim.Native.Nat.{ℕ, _<_}
+use mathlib.Core.Path.{_≡_, refl, ap, subst, _∙_}
+use mathlib.Core.Bool.{true}
+use mathlib.Core.List.{List}
+use lib.ListN.{getD}
+use Rattle.connection.specs.declared.parts.Connection.{Connection}
+use Rattle.connection.specs.declared.parts.Waiting.{Waiting}
+use Rattle.connection.specs.declared.parts.Waiting.the-variants.{Nothing, Cell}
+use Rattle.connection.specs.declared.kind.Kind.{Kind}
+use Rattle.connection.specs.declared.kind.Kind.the-variants.{Forward, Turned, Data}
+use Rattle.connection.specs.Invariant.{ValidAt}
+use Rattle.connection.specs.Ready.{waits}
+use Rattle.connection.specs.Kind.{kindAt}
+use Rattle.connection.specs.Sending.{after, sentForward, sentData, bufferAfter, waitingCell}
+use Rattle.connection.proofs.Keeps.{after-same, after-valid}
+use Rattle.connection.proofs.Reached.{acr-is-rate}
+use Rattle.connection.proofs.Waited.{turned-waits}
+use Rattle.model.specs.State.{State, free, taken, position, holds, put, capacity}
+use Rattle.model.specs.Invariant.{WellFormed}
+use Rattle.table.specs.Layout.{words}
+use Rattle.table.specs.Loading.{connectionAt}
+use Rattle.names.specs.Finding.{Located}
+use Rattle.model.specs.declared.answer.Answer.the-variants.{Sent}
+use Rattle.model.specs.Step.{sendStep}
+use Rattle.engine.specs.Contract.{bufferContent}
+use Rattle.engine.specs.Slots.{waitingOr, Carried, storedSent}
+use Rattle.engine.proofs.Outcomes.{valid-in, loaded-is, updated-is, source-is}
+
+-- a turned cell that waits is the one in the buffer
+waiting-is : (v : ℕ) (w : Waiting) (old : List ℕ) → waits w ≡ true → waitingOr v w old ≡ waitingCell v w
+unfolding waits waitingCell
+waiting-is v Nothing old e = cc
+waiting-is v (Cell p) old e = refl
+
+carried-is :
+    (t : ℕ) (c : Connection) (k : Kind) (old new : List ℕ) → kindAt t c ≡ k → ValidAt t c → Carried k c (after k t c) old new
+    → new ≡ bufferContent (bufferAfter k c (after k t c)) old
+unfolding bufferAfter
+carried-is t c Forward old new e p h = h .is (acr-is-rate (after Forward t c .rate) (after-valid Forward t c e p .1 .rates))
+carried-is t c Turned old new e p h = h ∙ waiting-is (c .name) (c .destination .turned) old (turned-waits t c e)
+carried-is t c Data old new e p h = h
+
+-- the words of the connection after a cell of kind k
+sent-words :
+    (s : State) (w : WellFormed s) {l m : List ℕ} → l ≡ words s → {v i : ℕ} → i < capacity → (p : Located (s .entries) v i) (k : Kind) (t : ℕ)
+    → m ≡ storedSent l i k (after k t (p .holder)) → m ≡ words (put v (taken (after k t (p .holder))) s)
+unfolding after sentForward sentData
+sent-words s w e h p Forward t q = source-is s w e h p (after Forward t (p .holder)) (after-same Forward t (p .holder)) refl q
+sent-words s w e h p Turned t q = updated-is s w e h p (after Turned t (p .holder)) (after-same Turned t (p .holder)) q
+sent-words s w e h p Data t q = source-is s w e h p (after Data t (p .holder)) (after-same Data t (p .holder)) refl q
+
+-- the connection that was loaded, its kind, and what comes after it
+pub sent-out :
+    (s : State) → WellFormed s → (t : ℕ) → s .last ≡ t → (l m old new : List ℕ) → l ≡ words s → (i : ℕ) → i < capacity → (c : Connection) → getD (s .entries) i free ≡ taken c
+    → position (holds (c .name)) (s .entries) ≡ i → (d : Connection) → d ≡ connectionAt l i → (k : Kind) → k ≡ kindAt t d → (n : Connection) → n ≡ after k t d
+    → Carried k d n old new → m ≡ storedSent l i k n
+    → (m ≡ words (sendStep s t (c .name) c (kindAt t c) .state)) × (Sent (d .name) k (n .rate .acr) ≡ sendStep s t (c .name) c (kindAt t c) .answer)
+    × (new ≡ bufferContent (sendStep s t (c .name) c (kindAt t c) .buffer) old)
+unfolding sendStep
+sent-out s w t last l m old new e i h c entry place d q k a n b g u =
+    let p : Located (s .entries) (c .name) i = record { holder = c; here = entry; named = refl; place = place } in
+    let is : d ≡ c = loaded-is s w p e h q in
+    let x : k ≡ kindAt t c = a ∙ ap (kindAt t) is in
+    let y : n ≡ after (kindAt t c) t c = b ∙ ap (λ (z : Kind). after z t d) x ∙ ap (after (kindAt t c) t) is in
+    let good : ValidAt t c = subst (λ (z : ℕ). ValidAt z c) last (valid-in s w p) in
+    let r : Carried (kindAt t c) c (after (kindAt t c) t c) old new =
+    subst (λ (z : Connection). Carried (kindAt t c) c z old new) y
+    (subst (λ (z : Connection). Carried (kindAt t c) z n old new) is (subst (λ (z : Kind). Carried z d n old new) x g)) in (
+      sent-words s w e h p (kindAt t c) t (u ∙ ap (λ (z : Kind). storedSent l i z n) x ∙ ap (storedSent l i (kindAt t c)) y),
+      ap (λ (z : Connection). Sent (z .name) k (n .rate .acr)) is ∙ ap (λ (z : Kind). Sent (c .name) z (n .rate .acr)) x
+          ∙ ap (λ (z : Connection). Sent (c .name) (kindAt t c) (z .rate .acr)) y,
+      carried-is t c (kindAt t c) old new refl good r,
+    )

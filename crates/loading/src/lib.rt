@@ -1,0 +1,2 @@
+// An entry's connection out of its words.
+pub mod load;

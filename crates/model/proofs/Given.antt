@@ -1,0 +1,87 @@
+-- The parameters of each open connection are those that its open gave, told from the calls and answers alone.
+use Prim.Native.Nat.{ℕ}
+use mathlib.Core.Path.{_≡_, refl, ap, _∙_}
+use mathlib.Core.Logic.{_≢_}
+use mathlib.Core.List.{List, [], _∷_}
+use mathlib.Core.Option.{Option, none, some}
+use mathlib.Core.Bool.{cond}
+use lib.Dec.{eqb}
+use lib.ListN.{replicate}
+use Rattle.rate.specs.declared.params.Params.{Params}
+use Rattle.connection.specs.declared.parts.Connection.{Connection}
+use Rattle.connection.specs.Parts.{fresh}
+use Rattle.connection.specs.Receiving.{offered, afterDataCell, afterResourceCell}
+use Rattle.connection.specs.Kind.{kindAt}
+use Rattle.connection.specs.Sending.{after}
+use Rattle.connection.proofs.Keeps.{work-same, after-same}
+use Rattle.model.specs.State.{State, Entry, free, taken, capacity, empty, find, put, inserted, withTime, withLevel}
+use Rattle.model.specs.Invariant.{NamesUnique, WellFormed}
+use Rattle.model.proofs.Entries.{absent-find, each-free}
+use Rattle.model.proofs.Frames.{put-kept, inserted-read, freed-read}
+use Rattle.model.proofs.Preserved.{empty-well-formed}
+use Rattle.model.specs.Call.{Call, opening, closing, receiving, offering, levelling, slot, Outcome}
+use Rattle.model.specs.Step.{refuse, accept, sendStep, idleStep, step}
+use Rattle.model.specs.Run.{final, isAccepted, given, givenFrom, paramsGiven}
+use Rattle.model.proofs.Effects.{Enters, Effect, refuses, begins, ends, offers, marks, works, levels, idles, sends, effect}
+use Rattle.model.proofs.Reached.{step-well-formed}
+
+unfoldable pub entryParams : Entry → Option Params
+entryParams free = none
+entryParams (taken c) = some (c .rate .params)
+
+abbrev pub paramsAt : ℕ → State → Option Params
+paramsAt v s = entryParams (find v (s .entries))
+
+-- a refusal gives and takes nothing
+refused-given : (v : ℕ) (c : Call) (s : State) (n : ℕ) (p : Option Params) → p ≡ given v c (isAccepted (refuse s n .answer)) p
+unfolding refuse given isAccepted
+refused-given v (opening u t q) s n p = refl
+refused-given v (closing u) s n p = refl
+refused-given v (receiving o) s n p = refl
+refused-given v (offering u k) s n p = refl
+refused-given v (levelling l) s n p = refl
+refused-given v (slot t room) s n p = refl
+
+begun-params :
+    (v : ℕ) (s : State) (u t : ℕ) (p : Params) → Enters s u t p → paramsAt v (inserted (fresh u t p) s) ≡ cond (eqb u v) (some p) (paramsAt v s)
+unfolding fresh entryParams
+begun-params v s u t p g = inserted-read entryParams v s (fresh u t p) (g .new) (g .room)
+
+ended-params : (v u : ℕ) (s : State) → NamesUnique (s .entries) → paramsAt v (put u free s) ≡ cond (eqb u v) none (paramsAt v s)
+unfolding entryParams
+ended-params v u s a = freed-read entryParams v u s a
+
+kept-params :
+    (v u : ℕ) (s : State) → NamesUnique (s .entries) → (d e : Connection) → find u (s .entries) ≡ taken d → e .name ≡ d .name → e .rate .params ≡ d .rate .params
+    → paramsAt v (put u (taken e) s) ≡ paramsAt v s
+unfolding entryParams
+kept-params v u s a d e f n h = put-kept entryParams v u s a d e f n (ap some h)
+
+effect-given : (v : ℕ) {s : State} → NamesUnique (s .entries) → {c : Call} {o : Outcome} → Effect s c o → paramsAt v (o .state) ≡ given v c (isAccepted (o .answer)) (paramsAt v s)
+unfolding refuse accept withLevel idleStep sendStep withTime given isAccepted offered afterDataCell
+effect-given v {s} a (refuses c n h) = refused-given v c s n (paramsAt v s)
+effect-given v {s} a (begins u t p g) = begun-params v s u t p g
+effect-given v {s} a (ends u d f) = ended-params v u s a
+effect-given v {s} a (offers u n d f h) = kept-params v u s a d (offered n d) f refl refl
+effect-given v {s} a (marks o u e d r f) = kept-params v u s a d (afterDataCell e d) f refl refl
+effect-given v {s} a (works o q d r f) =
+    let same = work-same (s .level) o q d in
+    kept-params v (q .vci) s a d (afterResourceCell (s .level) o q d) f (same .name) (same .params)
+effect-given v {s} a (levels l h) = refl
+effect-given v {s} a (idles t room g b) = refl
+effect-given v {s} a (sends t room i u g b) =
+    let same = after-same (kindAt t (b .holder)) t (b .holder) in
+    kept-params v u (withTime t s) a (b .holder) (after (kindAt t (b .holder)) t (b .holder)) (b .found) (same .name) (same .params)
+
+run-given : (v : ℕ) (s : State) → WellFormed s → (before : Option Params) → paramsAt v s ≡ before → (cs : List Call) → paramsAt v (final s cs) ≡ givenFrom v s before cs
+run-given v s w b e [] = e
+run-given v s w b e (c ∷ cs) =
+    run-given v (step s c .state) (step-well-formed w c) (given v c (isAccepted (step s c .answer)) b)
+    (effect-given v (w .unique) (effect s (w .unique) c) ∙ ap (given v c (isAccepted (step s c .answer))) e) cs
+
+nothing-open : (v : ℕ) → paramsAt v empty ≡ none
+unfolding entryParams empty
+nothing-open v = rw (absent-find v (replicate capacity free) (each-free (λ c. c .name ≢ v) capacity))
+
+pub params-given : (v : ℕ) (cs : List Call) → paramsAt v (final empty cs) ≡ paramsGiven v cs
+params-given v cs = run-given v empty empty-well-formed none (nothing-open v) cs

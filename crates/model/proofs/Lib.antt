@@ -1,0 +1,9 @@
+-- The laws of the state, and what holds of every table that calls make.
+pub mod Entries
+pub mod Frames
+pub mod Winners
+pub mod Preserved
+pub mod Counts
+pub mod Effects
+pub mod Reached
+pub mod Given

@@ -1,0 +1,45 @@
+-- The calls of a list, and their outcomes. (Document 01, "The lists of demand 3".)
+use Prim.Native.Nat.{ℕ}
+use mathlib.Core.List.{List}
+use mathlib.Core.Option.{Option, none, some}
+use Rattle.rate.specs.declared.params.Params.{Params}
+use Rattle.connection.specs.declared.kind.Kind.{Kind}
+use Rattle.connection.specs.Sending.{Buffer}
+use Rattle.model.specs.State.{State}
+pub use Rattle.model.specs.declared.answer.Answer.{Answer}
+pub use Rattle.model.specs.declared.answer.Answer.the-variants.{Refused, Accepted, Idle, Sent}
+
+-- Nothing bounds the arguments. What a lent buffer holds before a slot is no argument, so room is its length.
+pub data Call : Type 0 where
+  opening : (name time : ℕ) → Params → Call
+  closing : (name : ℕ) → Call
+  receiving : (octets : List ℕ) → Call
+  offering : (name cells : ℕ) → Call
+  levelling : (level : ℕ) → Call
+  slot : (time room : ℕ) → Call
+
+-- the table that a call leaves, its answer, and what it writes
+pub record Outcome : Type 0 where
+  pub state : State
+  pub answer : Answer
+  pub buffer : Buffer
+
+-- document 01's number of a refusal; an accepted call has none
+unfoldable pub refusal : Answer → Option ℕ
+refusal (Refused n) = some n
+refusal Accepted = none
+refusal Idle = none
+refusal (Sent v k a) = none
+
+-- the connection that a slot goes to, and the kind of cell it sends: none of an idle or refused slot
+unfoldable pub goesTo : Answer → Option ℕ
+goesTo (Refused n) = none
+goesTo Accepted = none
+goesTo Idle = none
+goesTo (Sent v k a) = some v
+
+unfoldable pub kindSent : Answer → Option Kind
+kindSent (Refused n) = none
+kindSent Accepted = none
+kindSent Idle = none
+kindSent (Sent v k a) = some k

@@ -1,0 +1,34 @@
+-- What holds of every table that the calls make from an empty one. (Document 01, "What the library commits to", 1.)
+use Prim.Native.Nat.{ℕ, _≤_}
+use mathlib.Core.Path.{_≡_}
+use mathlib.Core.Logic.{_≢_}
+use mathlib.Core.List.{List, [], _∷_}
+use lib.ListN.{length}
+use Rattle.rate.specs.Units.{latestTime}
+use Rattle.connection.specs.declared.parts.Connection.{Connection}
+use Rattle.connection.specs.Invariant.{ValidAt}
+use Rattle.model.specs.State.{State, Entry, free, taken, capacity}
+
+abbrev pub OnEntry : (Connection → Type 0) → Entry → Type 0
+OnEntry P free = Unit
+OnEntry P (taken c) = P c
+
+abbrev pub Each : (Connection → Type 0) → List Entry → Type 0
+Each P [] = Unit
+Each P (s ∷ ss) = OnEntry P s × Each P ss
+
+-- no entry holds the name
+abbrev pub Absent : ℕ → List Entry → Type 0
+Absent v ss = Each (λ c. c .name ≢ v) ss
+
+-- no two entries hold one name
+abbrev pub NamesUnique : List Entry → Type 0
+NamesUnique [] = Unit
+NamesUnique (s ∷ ss) = OnEntry (λ c. Absent (c .name) ss) s × NamesUnique ss
+
+pub record WellFormed (s : State) : Type 0 where
+  pub levels : s .level ≤ 2
+  pub timely : s .last ≤ latestTime
+  pub size : length (s .entries) ≡ capacity
+  pub each : Each (ValidAt (s .last)) (s .entries)
+  pub unique : NamesUnique (s .entries)

@@ -1,0 +1,11 @@
+-- The engine as document 01 describes it, without a word of memory: read this first.
+-- The table, and who is served in a slot:
+pub mod State
+pub mod Choice
+-- The calls, each with its refusals in order, and lists of calls:
+pub mod Call
+pub mod Step
+pub mod Queries
+pub mod Run
+-- What holds of every table that calls made:
+pub mod Invariant

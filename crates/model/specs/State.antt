@@ -1,0 +1,59 @@
+-- The state of a table: the congestion level, the time of the last accepted open or slot, and the entries. (Document 01, first paragraph and "The lists of demand 3".)
+use Prim.Native.Nat.{ℕ, suc}
+use mathlib.Core.Bool.{Bool, true, false, cond}
+use mathlib.Core.List.{List, [], _∷_}
+use lib.Dec.{ltb, eqb}
+use lib.ListN.{length, getD, set, replicate}
+use Rattle.connection.specs.declared.parts.Connection.{Connection}
+
+pub data Entry : Type 0 where
+  free : Entry
+  taken : Connection → Entry
+
+pub record State : Type 0 where
+  pub level : ℕ
+  pub last : ℕ
+  pub entries : List Entry
+
+-- how many connections can be open
+abbrev pub capacity : ℕ
+capacity = 64
+
+-- the table that every list starts from
+unfoldable pub empty : State
+empty = record { level = 0; last = 0; entries = replicate capacity free }
+
+-- the first entry at which the test passes; the number of entries if it passes at none
+unfoldable pub position : (Entry → Bool) → List Entry → ℕ
+position f [] = 0
+position f (s ∷ ss) = cond (f s) 0 (suc (position f ss))
+
+unfoldable pub isFree : Entry → Bool
+isFree free = true
+isFree (taken c) = false
+
+unfoldable pub holds : ℕ → Entry → Bool
+holds v free = false
+holds v (taken c) = eqb (c .name) v
+
+-- the entry of a name; a free one if the name is not open
+unfoldable pub find : ℕ → List Entry → Entry
+find v ss = getD ss (position (holds v) ss) free
+
+-- the entry of a name is given this content
+unfoldable pub put : ℕ → Entry → State → State
+put v x s = record { level = s .level; last = s .last; entries = set (s .entries) (position (holds v) (s .entries)) x }
+
+-- a connection takes the lowest free entry
+unfoldable pub inserted : Connection → State → State
+inserted c s = record { level = s .level; last = s .last; entries = set (s .entries) (position isFree (s .entries)) (taken c) }
+
+unfoldable pub roomLeft : State → Bool
+roomLeft s = ltb (position isFree (s .entries)) (length (s .entries))
+
+-- the time of an accepted open or slot
+unfoldable pub withTime : ℕ → State → State
+withTime t s = record { level = s .level; last = t; entries = s .entries }
+
+unfoldable pub withLevel : ℕ → State → State
+withLevel l s = record { level = l; last = s .last; entries = s .entries }

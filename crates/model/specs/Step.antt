@@ -1,0 +1,103 @@
+-- What each call does to a table, its refusals in document 01's order ("Refused because of the state").
+use Prim.Native.Nat.{ℕ, _+_}
+use mathlib.Core.Bool.{Bool, true, false, _&&_}
+use mathlib.Core.List.{List}
+use lib.Dec.{leb, eqb}
+use Rattle.rate.specs.declared.params.Params.{Params}
+use Rattle.rate.specs.Units.{latestTime}
+use Rattle.rate.specs.Params.{paramsFit}
+use Rattle.cell.specs.declared.read.Reading.{Reading}
+use Rattle.cell.specs.declared.read.Reading.the-variants.{Refused as Unread, User, Resource}
+use Rattle.cell.specs.Reading.{reading}
+use Rattle.connection.specs.declared.parts.Connection.{Connection}
+use Rattle.connection.specs.declared.kind.Kind.{Kind}
+use Rattle.connection.specs.Parts.{fresh, waiting}
+use Rattle.connection.specs.Receiving.{offered, afterDataCell, afterResourceCell}
+use Rattle.connection.specs.Kind.{kindAt}
+use Rattle.connection.specs.Sending.{untouched, after, bufferAfter}
+use Rattle.model.specs.State.{State, Entry, free, taken, find, put, inserted, roomLeft, withTime, withLevel, isFree}
+use Rattle.model.specs.Choice.{Winner, noneReady, wins, winner}
+use Rattle.model.specs.Call.{Call, opening, closing, receiving, offering, levelling, slot, Refused, Accepted, Idle, Sent, Outcome}
+use Rattle.laws.specs.Require.{require}
+
+-- a refusal leaves table and buffer
+unfoldable pub refuse : State → ℕ → Outcome
+refuse s n = record { state = s; answer = Refused n; buffer = untouched }
+
+unfoldable pub accept : State → Outcome
+accept s = record { state = s; answer = Accepted; buffer = untouched }
+
+-- the rest on the open connection in an entry; 11 on a free one
+unfoldable pub ofOpen : State → Entry → (Connection → Outcome) → Outcome
+ofOpen s free f = refuse s 11
+ofOpen s (taken c) f = f c
+
+-- Open: 10, 7, 8, 12, 13, 14.
+unfoldable pub openStep : State → (name time : ℕ) → Params → Outcome
+openStep s v t p =
+    require (refuse s 10) (leb 32 v)
+    (require (refuse s 7) (leb v 65535 && paramsFit p)
+    (require (refuse s 8) (leb t latestTime)
+    (require (refuse s 12) (isFree (find v (s .entries)))
+    (require (refuse s 13) (roomLeft s)
+    (require (refuse s 14) (leb (s .last) t)
+    (accept (withTime t (inserted (fresh v t p) s))))))))
+
+-- Close: 11. All that waits on the connection goes with it.
+unfoldable pub closeStep : State → (name : ℕ) → Outcome
+closeStep s v = ofOpen s (find v (s .entries)) λ c. accept (put v free s)
+
+-- Offer: 11, 15.
+unfoldable pub offerStep : State → (name cells : ℕ) → Outcome
+offerStep s v n =
+    ofOpen s (find v (s .entries)) λ c.
+    require (refuse s 15) (leb (waiting (c .queue) + n) 65535)
+    (accept (put v (taken (offered n c)) s))
+
+-- Receive: the refusals of reading, then 11.
+unfoldable pub readStep : State → List ℕ → Reading → Outcome
+readStep s o (Unread n) = refuse s n
+readStep s o (User v e) = ofOpen s (find v (s .entries)) λ c. accept (put v (taken (afterDataCell e c)) s)
+readStep s o (Resource f) = ofOpen s (find (f .vci) (s .entries)) λ c. accept (put (f .vci) (taken (afterResourceCell (s .level) o f c)) s)
+
+unfoldable pub receiveStep : State → List ℕ → Outcome
+receiveStep s o = readStep s o (reading o)
+
+-- Setting the level: 9.
+unfoldable pub levelStep : State → (level : ℕ) → Outcome
+levelStep s l = require (refuse s 9) (leb l 2) (accept (withLevel l s))
+
+-- a slot's cell of this kind, from the connection c of the name v
+unfoldable pub sendStep : State → (t v : ℕ) → Connection → Kind → Outcome
+sendStep s t v c k = record {
+  state = put v (taken (after k t c)) s;
+  answer = Sent v k (after k t c .rate .acr);
+  buffer = bufferAfter k c (after k t c);
+}
+
+unfoldable pub idleStep : State → Outcome
+idleStep s = record { state = s; answer = Idle; buffer = untouched }
+
+unfoldable pub serveEntry : State → (t v : ℕ) → Entry → Outcome
+serveEntry s t v free = idleStep s
+serveEntry s t v (taken c) = sendStep s t v c (kindAt t c)
+
+unfoldable pub serve : State → ℕ → Winner → Outcome
+serve s t noneReady = idleStep s
+serve s t (wins i v) = serveEntry s t v (find v (s .entries))
+
+-- Slot: 1, 8, 14. The time of an idle slot counts too.
+unfoldable pub slotStep : State → (time room : ℕ) → Outcome
+slotStep s t room =
+    require (refuse s 1) (eqb room 53)
+    (require (refuse s 8) (leb t latestTime)
+    (require (refuse s 14) (leb (s .last) t)
+    (serve (withTime t s) t (winner t (s .entries)))))
+
+unfoldable pub step : State → Call → Outcome
+step s (opening v t p) = openStep s v t p
+step s (closing v) = closeStep s v
+step s (receiving o) = receiveStep s o
+step s (offering v n) = offerStep s v n
+step s (levelling l) = levelStep s l
+step s (slot t room) = slotStep s t room

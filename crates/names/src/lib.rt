@@ -1,0 +1,3 @@
+// The index of names and the bits of the entries in use: a name's entry, and the lowest free one.
+pub mod find;
+pub mod index;

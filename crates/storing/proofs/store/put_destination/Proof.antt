@@ -1,0 +1,9 @@
+use borrow.Author.Needs.{needs}
+use Rattle.storing.proofs.store.put_destination.Statement.{statement}
+use Rattle.storing.proofs.store.put_destination.Tie as tie
+
+returns : tie.Need-returns
+returns c = rw (c .before .waiting-payload .ensures, c .destination-tag .ensures)
+
+pub put-destination-spec : {M : Type 1} → statement M
+put-destination-spec = tie.close (tie.spec (λ c κs. search needs) (λ c κs. search needs) (λ c. search needs) (λ c. search needs) (λ c. search needs) (λ c. search needs) (λ c. search needs) (λ c. search needs) (λ c. search needs) (λ c. search needs) (λ c. search needs) (λ c. search needs) (λ c. search needs) (λ c. search needs) (λ c. search needs) (λ c. search needs) (λ c. search needs) (λ c. search needs) (λ c. search needs) (λ c. search needs) (λ c. search needs) (λ c. search needs) returns)

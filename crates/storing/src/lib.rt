@@ -1,0 +1,3 @@
+// A connection into the words of its entry.
+pub mod key;
+pub mod store;

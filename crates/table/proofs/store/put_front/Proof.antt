@@ -1,9 +1,0 @@
-use borrow.Author.Needs.{needs}
-use Rattle.table.proofs.store.put_front.Statement.{statement}
-use Rattle.table.proofs.store.put_front.Tie as tie
-
-returns : tie.Need-returns
-returns c = let p = c .before .before .pace-words .ensures in rw (p .0, p .1, p .2, p .3)
-
-pub put-front-spec : {M : Type 1} → statement M
-put-front-spec = tie.close (tie.spec (λ c κs. search needs) (λ c. search needs) (λ c. search needs) (λ c. search needs) (λ c. search needs) (λ c. search needs) (λ c. search needs) (λ c. search needs) (λ c. search needs) (λ c. search needs) (λ c. search needs) (λ c. search needs) (λ c. search needs) (λ c. search needs) (λ c. search needs) (λ c. search needs) (λ c. search needs) (λ c. search needs) (λ c. search needs) (λ c. search needs) (λ c. search needs) (λ c. search needs) (λ c. search needs) returns)

@@ -1,0 +1,56 @@
+// What an offer, or a received cell, makes of its connection (document 01, "Opening", "Four moves of the allowed rate" and "Turning cells round").
+ghost use mathlib.Core.Path.{_≡_};
+ghost use Prim.Native.Nat.{_+_, _≤_};
+ghost use Rattle.cell.specs.Fields.{Checked};
+ghost use Rattle.connection.specs.Parts.{waiting};
+ghost use Rattle.connection.specs.Receiving.{offered, afterDataCell, afterBackwardCell, afterForwardPayload};
+use crate::feedback::with_feedback;
+use cell::fields::Fields;
+use connection::parts::Connection;
+use connection::parts::Destination;
+use connection::parts::Queue;
+use connection::parts::Waiting;
+use crc::payload::Payload;
+use rate::code::rate_of;
+use turning::turn::turn;
+
+// An offer adds to the waiting data.
+pub fn offered(n: u32, c: Connection) -> Connection
+    requires { ⌜ waiting (c .queue) + n ≤ 65535 ⌝ }
+    ensures { λ r. ⌜ r ≡ offered n c ⌝ }
+{
+    c.with_queue(Queue {
+        cells: c.queue.cells + n,
+    })
+}
+
+// The latest data cell decides the saved EFCI.
+pub fn after_data_cell(efci: bool, c: Connection) -> Connection
+    ensures { λ r. ⌜ r ≡ afterDataCell efci c ⌝ }
+{
+    let destination = c.destination;
+    let turned = destination.turned;
+    c.with_destination(Destination { efci, turned })
+}
+
+// Feedback; the answer of a destination, BN 0, clears Y as well.
+pub fn after_backward_cell(f: Fields, c: Connection) -> Connection
+    ensures { λ r. ⌜ r ≡ afterBackwardCell f c ⌝ }
+{
+    let rate = c.rate;
+    let moved = c.with_rate(with_feedback(rate, f.ci == 1, f.ni == 1, rate_of(f.er)));
+    let cleared = moved.with_unacked(0);
+    if f.bn == 0 { cleared } else { moved }
+}
+
+// A forward cell, whose CRC-10 was found right, becomes the one waiting cell, from the words of its payload; the saved EFCI is used up.
+pub fn after_forward_payload(level: u32, p: Payload, c: Connection) -> Connection
+    requires { ⌜ Checked p ⌝ }
+    ensures { λ r. ⌜ r ≡ afterForwardPayload level p c ⌝ }
+{
+    let turned = Waiting::Cell(turn(p, level, c.destination.efci));
+    c.with_destination(Destination {
+        efci: false,
+        turned,
+    })
+}

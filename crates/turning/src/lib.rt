@@ -1,0 +1,2 @@
+// A received forward cell turned round.
+pub mod turn;
