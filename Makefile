@@ -4,7 +4,7 @@
 #   make demo               two connections, slot by slot, and a picture of them
 #   make test               the gate: proofs, then every test
 #   make install PREFIX=    library, header and abr.pc
-#   make dist               the tarball that is sold
+#   make dist               the tarball that is sold; only of a commit for which make test has passed
 #   make bench              the cost of each call, library and reference
 #   make soak [SEED=n]      random lists without end
 #
