@@ -33,7 +33,7 @@ pub struct Sent {
 }
 
 /// The allowed rate and the contract that it moves under. Each move takes the
-/// record and hands back the moved one.
+/// record and returns the moved one.
 #[derive(Debug, Clone, Copy, PartialEq, Eq)]
 pub struct RateRecord {
     /// The allowed rate.

@@ -27,7 +27,7 @@ pub const MRM: u32 = 2;
 /// The largest CRM, and the number at which the unanswered count stops.
 pub const CRM_MAX: u32 = 8_388_608;
 
-/// The value of c that stands for a CDF of zero.
+/// The value of c that means a CDF of zero.
 pub const CDF_ZERO: u32 = 7;
 
 /// The parameters as an open gives them: rate codes, exponents and numbers.

@@ -16,6 +16,8 @@ pub struct Both {
     engine: Engine,
     /// What fills the next buffers.
     fill: u8,
+    /// The allowed rates compared.
+    pub rates: u64,
 }
 
 impl Both {
@@ -57,7 +59,8 @@ impl Both {
     }
 
     /// Compares the allowed rate of one VCI, open or not.
-    pub fn same_acr(&self, vci: u32) -> Result<(), Difference> {
+    pub fn same_acr(&mut self, vci: u32) -> Result<(), Difference> {
+        self.rates += 1;
         let ours = self.library.acr(vci)?;
         let theirs = self.engine.acr(vci).map(Answer::Number);
         if ours == theirs {

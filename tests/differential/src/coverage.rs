@@ -108,7 +108,9 @@ events! {
 pub struct Coverage {
     /// Calls made.
     pub calls: u64,
-    /// By sort of call and refusal number; 0 stands for accepted.
+    /// Allowed rates compared.
+    pub rates: u64,
+    /// By sort of call and refusal number; 0 means accepted.
     pub outcomes: [[u64; 16]; SORTS.len()],
     /// By kind of slot; 0 is idle.
     pub kinds: [u64; 4],
@@ -121,6 +123,7 @@ impl Default for Coverage {
     fn default() -> Self {
         Coverage {
             calls: 0,
+            rates: 0,
             outcomes: [[0; 16]; SORTS.len()],
             kinds: [0; 4],
             damaged: [0; 53],
@@ -169,6 +172,7 @@ impl Coverage {
             to.iter_mut().zip(from).for_each(|(to, from)| *to += from);
         };
         self.calls += other.calls;
+        self.rates += other.rates;
         for (to, from) in self.outcomes.iter_mut().zip(&other.outcomes) {
             add(to, from);
         }
@@ -211,8 +215,9 @@ impl Coverage {
             .map(|event| format!("{event:?} {}", self.reached(*event)))
             .collect();
         format!(
-            "{} calls; slots idle {}, forward {}, turned {}, data {}; {}",
+            "{} calls, {} rates compared; slots idle {}, forward {}, turned {}, data {}; {}",
             self.calls,
+            self.rates,
             self.kinds[0],
             self.kinds[1],
             self.kinds[2],

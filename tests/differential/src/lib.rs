@@ -7,8 +7,9 @@
 //!   reference, whose outcome is the expected one;
 //! * [`both`]: one call made on both sides and everything compared;
 //! * [`observation`]: what is known of a list's connections from its calls;
-//! * [`generate`]: lists of calls at the edges;
+//! * [`profile`], [`generate`]: lists of calls at the edges;
 //! * [`coverage`]: what the lists reached;
+//! * [`parallel`]: jobs on all processors;
 //! * [`lists`]: whole lists, each repeatable by its number;
 //! * [`pairs`]: two lists, the second at least as congested.
 
@@ -22,4 +23,6 @@ pub mod lists;
 pub mod observation;
 pub mod octets;
 pub mod pairs;
+pub mod parallel;
+pub mod profile;
 pub mod rng;

@@ -3,9 +3,10 @@
 use crate::both::Both;
 use crate::call::{Answer, Call, Outcome};
 use crate::coverage::Coverage;
-use crate::generate::{Generator, Profile, PROFILES};
+use crate::generate::Generator;
 use crate::library::Difference;
 use crate::observation::Observation;
+use crate::profile::{Profile, PROFILES};
 
 /// The calls of one list.
 pub const LIST: u64 = 2_000;
@@ -46,7 +47,7 @@ impl List {
 
     /// Compares the allowed rates of all open connections, and those of VCIs
     /// that were closed.
-    fn same_rates(&self) -> Result<(), Difference> {
+    fn same_rates(&mut self) -> Result<(), Difference> {
         let mut vcis = self.seen.connections.keys().chain(&self.seen.closed);
         vcis.try_for_each(|vci| self.both.same_acr(*vci))
     }
@@ -70,6 +71,7 @@ pub fn run(seed: u64, profile: Profile, coverage: &mut Coverage) -> Result<(), D
             list.same_rates().map_err(report)?;
         }
     }
+    coverage.rates += list.both.rates;
     Ok(())
 }
 

@@ -8,18 +8,19 @@ use abr::CELL_OCTETS;
 
 use crate::call::{Answer, Call, Outcome};
 use crate::coverage::Coverage;
-use crate::generate::{Generator, Profile};
+use crate::generate::Generator;
 use crate::library::{Difference, Library};
 use crate::lists::concerned;
 use crate::observation::Observation;
 use crate::octets::{put_crc, Buffer, Octets};
+use crate::profile::Profile;
 use crate::rng::Rng;
 
 /// The calls of one list of a pair.
 const LIST: u64 = 1_000;
 
 /// What the pairs showed.
-#[derive(Debug, Clone, Copy, Default)]
+#[derive(Debug, Clone, Copy, PartialEq, Eq, Default)]
 pub struct Tally {
     /// Pairs run.
     pub pairs: u64,
@@ -33,6 +34,18 @@ pub struct Tally {
     pub raised: u64,
     /// Backward cells with a lower explicit rate.
     pub lowered: u64,
+}
+
+impl Tally {
+    /// Adds the counts of another run.
+    pub fn add(&mut self, other: &Tally) {
+        self.pairs += other.pairs;
+        self.cut_off += other.cut_off;
+        self.compared += other.compared;
+        self.lower += other.lower;
+        self.raised += other.raised;
+        self.lowered += other.lowered;
+    }
 }
 
 /// Both lists of a pair, as far as they have run.
@@ -73,7 +86,7 @@ impl Pair {
         if goes_to(&first) != goes_to(&second) {
             return Ok(false);
         }
-        if kind(&first) != kind(&second) {
+        if sends(&first) != sends(&second) {
             return Err(format!("{first:?} and {second:?}"));
         }
         let vci = concerned(call, &first).unwrap_or(0);
@@ -113,16 +126,17 @@ fn number(outcome: &Outcome) -> Option<u64> {
     }
 }
 
-/// The connection that a slot goes to; 0 for an idle one.
+/// The connection that a slot goes to; none if it is idle or refused.
 fn goes_to(outcome: &Outcome) -> Option<u32> {
     match outcome {
-        Ok(Answer::Sent(sent)) => Some(sent.vci),
+        Ok(Answer::Sent(sent)) if sent.kind != 0 => Some(sent.vci),
         _ => None,
     }
 }
 
-/// What two calls of a pair must have in common beside the connection.
-fn kind(outcome: &Outcome) -> Result<u32, u32> {
+/// What two calls of a pair must have in common beside the connection: the kind
+/// of cell, 0 if none is sent, or the refusal.
+fn sends(outcome: &Outcome) -> Result<u32, u32> {
     match outcome {
         Ok(Answer::Sent(sent)) => Ok(sent.kind),
         Ok(_) => Ok(0),

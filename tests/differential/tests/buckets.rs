@@ -6,19 +6,24 @@
 use abr::{CELL_OCTETS, CONNECTIONS_MAX};
 use differential::call::Call;
 use differential::coverage::{Coverage, Event};
-use differential::generate::{Generator, Profile, PROFILES};
+use differential::generate::Generator;
 use differential::lists::{self, List};
+use differential::profile::{Profile, PROFILES};
 use differential::rng::Rng;
 
 /// The lists of each sort of VCIs.
-const LISTS: u64 = 30;
+const LISTS: u64 = 300;
 
 /// The numbers of open connections that a list passes through, in any order
 /// and several times.
 const TARGETS: [usize; 8] = [0, 1, 8, 40, 62, 63, 64, 64];
 
 /// Each refusal and kind must be reached so often.
-const LEAST: u64 = 20;
+const LEAST: u64 = 200;
+
+/// So many calls and compared rates there must be of each sort of VCIs.
+const CALLS: u64 = 3_000_000;
+const RATES: u64 = 30_000_000;
 
 /// The number of VCIs of a list, more than can be open.
 const VCIS: u32 = 80;
@@ -94,7 +99,7 @@ impl Changing {
     }
 
     /// Compares the allowed rates of all VCIs of the list, open or not.
-    fn same_rates(&self) {
+    fn same_rates(&mut self) {
         for vci in &self.vcis {
             if let Err(difference) = self.list.both.same_acr(*vci) {
                 panic!("{}, {difference}", self.name);
@@ -167,17 +172,23 @@ impl Changing {
     }
 }
 
+/// Runs one list.
+fn run_list(name: &str, seed: u64, vcis: fn(&mut Rng) -> Vec<u32>) -> Coverage {
+    let mut changing = Changing::new(name, seed, vcis);
+    let mut targets = TARGETS.repeat(5);
+    changing.rng.shuffle(&mut targets);
+    targets
+        .into_iter()
+        .for_each(|target| changing.round(target));
+    changing.coverage.rates += changing.list.both.rates;
+    changing.coverage
+}
+
 /// Runs the lists of one sort of VCIs.
 fn run(name: &str, vcis: fn(&mut Rng) -> Vec<u32>) {
     let (first, mut total) = (lists::seed(), Coverage::default());
     for seed in first..first + LISTS {
-        let mut changing = Changing::new(name, seed, vcis);
-        let mut targets = TARGETS.repeat(5);
-        changing.rng.shuffle(&mut targets);
-        targets
-            .into_iter()
-            .for_each(|target| changing.round(target));
-        total.add(&changing.coverage);
+        total.add(&run_list(name, seed, vcis));
     }
     println!("{name}, lists from {first}: {}", total.summary());
     let [open, close, _, offer, ..] = total.outcomes;
@@ -185,6 +196,8 @@ fn run(name: &str, vcis: fn(&mut Rng) -> Vec<u32>) {
     let mut counts = refused.iter().chain(&total.kinds);
     assert!(counts.all(|count| *count >= LEAST), "{refused:?}");
     assert!(total.reached(Event::ReopenedLoaded) >= LEAST);
+    assert!(total.calls >= CALLS, "{} calls", total.calls);
+    assert!(total.rates >= RATES, "{} rates", total.rates);
 }
 
 #[test]

@@ -69,7 +69,7 @@ fn as_read(rm: &abr_rm) -> abr_cell {
 fn what_is_written_is_read_back() {
     let mut rng = Rng::new(lists::seed());
     let mut library = Library::default();
-    for _ in 0..300_000 {
+    for _ in 0..3_000_000 {
         let rm = random_rm(&mut rng);
         let mut buffer = Buffer::new(rng.next() as u8);
         let len = CELL_OCTETS;
@@ -86,7 +86,7 @@ fn what_is_written_is_read_back() {
 fn both_sides_write_the_same_octets() {
     let mut rng = Rng::new(lists::seed() + 1);
     let mut both = Both::default();
-    for _ in 0..100_000 {
+    for _ in 0..1_000_000 {
         let rm = random_rm(&mut rng);
         let len = CELL_OCTETS;
         assert_eq!(
@@ -100,7 +100,7 @@ fn both_sides_write_the_same_octets() {
 fn both_sides_read_random_octets_the_same() {
     let mut rng = Rng::new(lists::seed() + 2);
     let mut both = with_connection();
-    for _ in 0..200_000 {
+    for _ in 0..2_000_000 {
         let mut octets = [0; CELL_OCTETS];
         rng.fill(&mut octets);
         let header = Header {
@@ -213,7 +213,7 @@ fn every_rate_code_and_the_rates_beside_it() {
         }
     }
     let mut rng = Rng::new(lists::seed() + 3);
-    for _ in 0..200_000 {
+    for _ in 0..2_000_000 {
         let shift = rng.below(64);
         let rate = rng.next() >> shift;
         let _ = agree(&mut both, &Call::Code { rate });

@@ -1,52 +1,46 @@
 //! Random lists of calls, both sides compared. ABR_SEED gives other lists.
 
-use std::sync::Mutex;
-
 use differential::coverage::Coverage;
-use differential::generate::PROFILES;
-use differential::lists;
+use differential::library::Difference;
+use differential::profile::PROFILES;
+use differential::{lists, parallel};
 
-/// How many lists of each profile.
-const LISTS: u64 = 400;
+/// How many lists of each profile, and how many of them in one job.
+const LISTS: u64 = 4_000;
+const JOB: u64 = 100;
 
 /// Each event, refusal and kind must be reached so often.
-const LEAST: u64 = 20;
+const LEAST: u64 = 200;
 
-/// Runs the lists of one profile.
-fn run_profile(place: usize) -> Coverage {
-    let profile = PROFILES[place];
-    let first = lists::seed() + 1_000_000 * place as u64;
+/// So many allowed rates must be compared.
+const RATES: u64 = 100_000_000;
+
+/// Runs the lists of a job: a profile's place, and the number of the first.
+fn run_job((place, first): (usize, u64)) -> Result<Coverage, Difference> {
     let mut coverage = Coverage::default();
-    for seed in first..first + LISTS {
-        if let Err(difference) = lists::run(seed, profile, &mut coverage) {
-            panic!("{difference}");
-        }
+    for seed in first..first + JOB {
+        lists::run(seed, PROFILES[place], &mut coverage)?;
     }
-    println!(
-        "{}, lists from {first}: {}",
-        profile.name,
-        coverage.summary()
-    );
-    coverage
+    Ok(coverage)
+}
+
+/// The jobs of a profile.
+fn jobs(place: usize) -> impl Iterator<Item = (usize, u64)> {
+    let first = lists::seed() + 1_000_000 * place as u64;
+    (0..LISTS / JOB).map(move |job| (place, first + job * JOB))
 }
 
 #[test]
 fn library_and_reference_agree_on_lists_that_reach_every_edge() {
     println!("seed {}", lists::seed());
-    let total = Mutex::new(Coverage::default());
-    let next = Mutex::new(0..PROFILES.len());
-    std::thread::scope(|scope| {
-        let work = || loop {
-            let place = next.lock().expect("no profile failed").next();
-            let Some(place) = place else { return };
-            let coverage = run_profile(place);
-            total.lock().expect("no profile failed").add(&coverage);
-        };
-        scope.spawn(work);
-        scope.spawn(work);
-    });
-    let total = total.into_inner().expect("no profile failed");
+    let jobs = (0..PROFILES.len()).flat_map(jobs).collect();
+    let mut total = Coverage::default();
+    for coverage in parallel::run(jobs, run_job).unwrap_or_else(|why| panic!("{why}")) {
+        total.add(&coverage);
+    }
     println!("all: {}", total.summary());
     assert_eq!(total.missing(LEAST), Vec::<String>::new());
-    assert!(total.calls >= 5_000_000, "{} calls", total.calls);
+    let calls = PROFILES.len() as u64 * LISTS * lists::LIST;
+    assert_eq!(total.calls, calls);
+    assert!(total.rates >= RATES, "{} rates", total.rates);
 }

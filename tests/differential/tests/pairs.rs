@@ -1,39 +1,54 @@
-//! Random pairs of lists, the second at least as congested.
+//! Random pairs of lists, the second at least as congested. ABR_SEED gives
+//! other lists.
 
-use differential::generate::{Profile, PROFILES, SPACED};
-use differential::lists;
+use differential::library::Difference;
 use differential::pairs::{self, Tally};
+use differential::profile::{Profile, PROFILES, SPACED};
+use differential::{lists, parallel};
 
-/// Runs pairs of a profile from a seed on.
-fn run_pairs(profile: Profile, first: u64, count: u64) -> Tally {
+/// The pairs of one job.
+const JOB: u64 = 100;
+
+/// Runs the pairs of a job: a profile, and the number of the first.
+fn run_job((profile, first): (Profile, u64)) -> Result<Tally, Difference> {
     let mut tally = Tally::default();
-    for seed in first..first + count {
-        if let Err(difference) = pairs::run(seed, profile, &mut tally) {
-            panic!("{difference}");
-        }
+    for seed in first..first + JOB {
+        pairs::run(seed, profile, &mut tally)?;
     }
-    println!("{}, pairs from {first}: {tally:?}", profile.name);
-    tally
+    Ok(tally)
+}
+
+/// Runs so many pairs of a profile from a seed on.
+fn run_pairs(profile: Profile, first: u64, count: u64) -> Tally {
+    let jobs = (0..count / JOB).map(|job| (profile, first + job * JOB));
+    let tallies = parallel::run(jobs.collect(), run_job).unwrap_or_else(|why| panic!("{why}"));
+    let mut total = Tally::default();
+    tallies.iter().for_each(|tally| total.add(tally));
+    println!("{}, pairs from {first}: {total:?}", profile.name);
+    total
 }
 
 #[test]
 fn more_congestion_never_allows_a_higher_rate() {
-    let tally = run_pairs(SPACED, lists::seed(), 1_000);
-    assert!(tally.compared >= 500_000, "{tally:?}");
-    assert!(tally.lower >= 100_000, "{tally:?}");
-    assert!(
-        tally.raised >= 10_000 && tally.lowered >= 10_000,
-        "{tally:?}"
-    );
-    assert!(tally.cut_off < tally.pairs, "{tally:?}");
+    let tally = run_pairs(SPACED, lists::seed(), 10_000);
+    assert!(tally.compared >= 20_000_000, "{tally:?}");
+    assert!(tally.lower >= 2_000_000, "{tally:?}");
+    assert!(tally.raised >= 200_000, "{tally:?}");
+    assert!(tally.lowered >= 200_000, "{tally:?}");
+    assert!(tally.cut_off < tally.pairs / 10, "{tally:?}");
 }
 
 #[test]
 fn nor_on_lists_of_every_profile_until_a_slot_differs() {
-    let mut cut_off = 0;
+    let mut total = Tally::default();
     for (place, profile) in PROFILES.into_iter().enumerate() {
         let first = lists::seed() + 1_000_000 * place as u64;
-        cut_off += run_pairs(profile, first, 300).cut_off;
+        let tally = run_pairs(profile, first, 3_000);
+        assert!(tally.compared >= 500_000, "{tally:?}");
+        assert!(tally.lower >= 15_000, "{tally:?}");
+        total.add(&tally);
     }
-    assert!(cut_off > 0, "no slot went to different connections");
+    println!("every profile: {total:?}");
+    assert!(total.compared >= 60_000_000, "{total:?}");
+    assert!(total.cut_off > 0, "{total:?}");
 }

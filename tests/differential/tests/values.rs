@@ -188,9 +188,11 @@ fn sixty_four_open_and_no_more_in_any_order() {
     );
 }
 
+/// Y counts up to the largest CRM. That it stops there cannot be observed: Y is
+/// only compared with CRM, which is never above that number.
 #[test]
-fn the_unanswered_count_reaches_crm_and_stops() {
-    // Nrm 2: every second cell is a forward cell. CRM is the largest.
+fn the_unanswered_count_reaches_the_largest_crm() {
+    // Nrm 2: every second cell is a forward cell.
     const CRM: u64 = 8_388_608;
     let fast = abr::code(512_000_000).unwrap();
     let mut params = Params::house(fast, 0x4000, fast);

@@ -6,9 +6,9 @@ use std::process::ExitCode;
 use std::time::{Duration, Instant};
 
 use differential::coverage::Coverage;
-use differential::generate::SPACED;
 use differential::lists;
 use differential::pairs::{self, Tally};
+use differential::profile::SPACED;
 
 /// How often a progress line comes.
 const PROGRESS: Duration = Duration::from_secs(10);

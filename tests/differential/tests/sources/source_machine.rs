@@ -65,7 +65,7 @@ fn t1_takes_the_lesser_of_acr_and_icr() {
 
 #[test]
 fn t2_and_t3_only_bn_0_is_an_answer() {
-    // Y is 3 = CRM. NI and a high ER leave the rate; with BN 0 Y becomes 0.
+    // Y is 3 = CRM. NI and a high ER do not change the rate; with BN 0 Y becomes 0.
     // Else the next forward cell is cut to 102,400 x 7 / 8.
     for (bn, expected) in [(false, INITIAL), (true, 89_600)] {
         let mut station = Station::open(&paper());

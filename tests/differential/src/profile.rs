@@ -1,0 +1,68 @@
+//! What the lists of each sort are like.
+
+/// What the lists of one sort are like.
+#[derive(Debug, Clone, Copy)]
+pub struct Profile {
+    /// Its name.
+    pub name: &'static str,
+    /// How many VCIs the list uses.
+    pub vcis: u32,
+    /// The least exponent of a rate code.
+    pub exponent: u32,
+    /// How long before 2^62 the list starts, if it does.
+    pub before_end: Option<u64>,
+    /// One argument in so many is out of its range or unknown.
+    pub fault: u64,
+    /// Slots are so far apart that every connection is due again.
+    pub spaced: bool,
+    /// How often each sort of call is made, in the order of the sorts.
+    pub weights: [u64; 12],
+}
+
+const USUAL: [u64; 12] = [4, 1, 24, 8, 2, 52, 2, 2, 2, 1, 1, 1];
+
+/// The profiles of the differential lists.
+pub const PROFILES: [Profile; 7] = [
+    Profile::usual("one", 1, 8),
+    Profile::usual("few", 3, 12),
+    Profile {
+        weights: [12, 3, 24, 14, 2, 40, 1, 1, 1, 1, 1, 1],
+        ..Profile::usual("many", 80, 16)
+    },
+    Profile {
+        weights: [20, 1, 10, 20, 1, 30, 1, 1, 1, 1, 1, 1],
+        ..Profile::usual("full", 72, 0)
+    },
+    Profile::usual("ties", 6, 29),
+    Profile {
+        before_end: Some(60_000_000),
+        ..Profile::usual("late", 3, 14)
+    },
+    Profile {
+        fault: 3,
+        weights: [10, 2, 30, 10, 4, 30, 4, 12, 12, 4, 4, 1],
+        ..Profile::usual("faulty", 4, 10)
+    },
+];
+
+/// The profile of the pairs: both lists' slots go to the same connections for
+/// long, since all are due in every slot.
+pub const SPACED: Profile = Profile {
+    spaced: true,
+    weights: [2, 0, 40, 10, 2, 46, 0, 0, 0, 0, 0, 0],
+    ..Profile::usual("spaced", 3, 20)
+};
+
+impl Profile {
+    const fn usual(name: &'static str, vcis: u32, exponent: u32) -> Self {
+        Profile {
+            name,
+            vcis,
+            exponent,
+            before_end: None,
+            fault: 40,
+            spaced: false,
+            weights: USUAL,
+        }
+    }
+}
