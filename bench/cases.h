@@ -17,7 +17,7 @@
 #define SECOND UINT64_C(1000000000)
 
 /* What a case needs beside the 64 connections. */
-enum need { NOTHING, NRM_2, TURNED_WAITS, FORWARD_CELL, BACKWARD_CELL, DATA_CELL, LAST_CLOSED };
+enum need { NOTHING, NRM_2, TURNED_WAITS, MADE_WAITS, FORWARD_CELL, BACKWARD_CELL, DATA_CELL, LAST_CLOSED };
 
 typedef struct {
     const char *name;
@@ -45,6 +45,7 @@ static void call_open(void) { refusal = abr_open(&table, LAST, 3 * SECOND, param
 static void call_close(void) { refusal = abr_close(&table, LAST); }
 static void call_offer(void) { refusal = abr_offer(&table, LAST, 1); }
 static void call_set_level(void) { refusal = abr_set_level(&table, 2); }
+static void call_make(void) { refusal = abr_make(&table, LAST, 3 * SECOND); }
 static void call_acr(void) { allowed = abr_acr(&table, LAST); }
 static void call_write_rm(void) { refusal = abr_write_rm(rm, cell, sizeof cell); }
 static void call_read(void) { content = abr_read(cell, sizeof cell); }
@@ -55,6 +56,7 @@ static void call_house(void) { params = abr_house(ABR_CODE_MAX, 0x4000, 0x53E8);
 static const abr_case cases[] = {
     {"slot, forward cell", NRM_2, call_slot, ABR_SENT_FORWARD},
     {"slot, turned cell", TURNED_WAITS, call_slot, ABR_SENT_TURNED},
+    {"slot, made cell", MADE_WAITS, call_slot, ABR_SENT_TURNED},
     {"slot, data", NOTHING, call_slot, ABR_SENT_DATA},
     {"receive, forward cell", FORWARD_CELL, call_receive, 0},
     {"receive, backward cell", BACKWARD_CELL, call_receive, 0},
@@ -63,6 +65,7 @@ static const abr_case cases[] = {
     {"close", NOTHING, call_close, 0},
     {"offer", NOTHING, call_offer, 0},
     {"set level", NOTHING, call_set_level, 0},
+    {"make", MADE_WAITS, call_make, 0},
     {"acr", NOTHING, call_acr, 0},
     {"write", NOTHING, call_write_rm, 0},
     {"read, RM cell", FORWARD_CELL, call_read, ABR_CELL_RM},
@@ -128,14 +131,17 @@ static int make_rm_cell(uint32_t dir)
 static int prepare(enum need need)
 {
     memset(&table, 0, sizeof table);
-    int wrong = fill(need == NRM_2 ? 1 : 5) | round_at(0) | round_at(SECOND);
+    if (fill(need == NRM_2 ? 1 : 5) || round_at(0) || round_at(SECOND)) {
+        return 1;
+    }
     switch (need) {
-    case TURNED_WAITS: return wrong | make_rm_cell(0) | (abr_receive(&table, cell, sizeof cell) != ABR_OK);
-    case FORWARD_CELL: return wrong | make_rm_cell(0);
-    case BACKWARD_CELL: return wrong | make_rm_cell(1);
-    case DATA_CELL: return wrong | make_data_cell();
-    case LAST_CLOSED: return wrong | (abr_close(&table, LAST) != ABR_OK);
-    default: return wrong;
+    case TURNED_WAITS: return make_rm_cell(0) || abr_receive(&table, cell, sizeof cell) != ABR_OK;
+    case MADE_WAITS: return abr_set_level(&table, 2) != ABR_OK || abr_make(&table, LAST, SECOND) != ABR_OK;
+    case FORWARD_CELL: return make_rm_cell(0);
+    case BACKWARD_CELL: return make_rm_cell(1);
+    case DATA_CELL: return make_data_cell();
+    case LAST_CLOSED: return abr_close(&table, LAST) != ABR_OK;
+    default: return 0;
     }
 }
 

@@ -4,7 +4,8 @@
  * A transmitter asks once per cell slot which of up to 64 connections of one
  * link sends, what kind of cell, and what rate it is allowed afterwards. The
  * sections named below are those of document 01, "The ABR end-system rate
- * engine", which says what every call does.
+ * engine", which says what every call does but abr_make: that is request L1 of
+ * document 02.
  *
  * Language. C99 or later, C++11 or later, or C++98 with <stdint.h>.
  *
@@ -58,11 +59,11 @@ extern "C" {
 
 /* ---- Version ------------------------------------------------------------ */
 
-/* 0.2.0: major, minor and patch number, eight bits each. */
-#define ABR_VERSION 0x000200u
+/* 0.3.0: major, minor and patch number, eight bits each. */
+#define ABR_VERSION 0x000300u
 
 /* The words of a table. */
-#define ABR_TABLE_WORDS 1859u
+#define ABR_TABLE_WORDS 1987u
 
 /* ---- Limits ------------------------------------------------------------- */
 
@@ -81,6 +82,9 @@ extern "C" {
 
 /* The most data cells that wait on one connection. */
 #define ABR_WAITING_MAX 65535u
+
+/* The least time from one made cell of a connection to the next, 100 ms. */
+#define ABR_MAKE_INTERVAL UINT64_C(100000000)
 
 /* The highest congestion level. */
 #define ABR_LEVEL_MAX 2u
@@ -116,7 +120,7 @@ extern "C" {
 
 /* ---- Kinds -------------------------------------------------------------- */
 
-/* What a slot sends (abr_sent.kind). */
+/* What a slot sends (abr_sent.kind). A made cell counts as a turned one. */
 #define ABR_SENT_IDLE 0u
 #define ABR_SENT_FORWARD 1u
 #define ABR_SENT_TURNED 2u
@@ -146,8 +150,10 @@ extern "C" {
 #define ABR_REFUSED_NOT_OPEN 11u      /* VCI is not open */
 #define ABR_REFUSED_ALREADY_OPEN 12u  /* VCI is already open */
 #define ABR_REFUSED_FULL 13u          /* 64 connections are open */
-#define ABR_REFUSED_TIME_BACKWARD 14u /* time is before the last accepted open or slot */
+#define ABR_REFUSED_TIME_BACKWARD 14u /* time is before the last accepted open, slot or made cell */
 #define ABR_REFUSED_TOO_MUCH_DATA 15u /* waiting data would pass 65,535 cells */
+#define ABR_REFUSED_NOT_CONGESTED 16u /* congestion level is 0 */
+#define ABR_REFUSED_TOO_SOON 17u      /* less than 100 ms since the last made cell */
 
 /* ---- Types -------------------------------------------------------------- */
 
@@ -245,7 +251,7 @@ static inline int abr_matches(void)
  *    8  time over 2^62
  *   12  vci is open
  *   13  64 connections are open
- *   14  time before that of the last accepted open or slot
+ *   14  time before that of the last accepted open, slot or made cell
  */
 ABR_MUST_USE uint32_t abr_open(abr_table *table, uint32_t vci, uint64_t time, abr_params params);
 
@@ -291,24 +297,44 @@ ABR_MUST_USE uint32_t abr_receive(abr_table *table, const uint8_t *cell, size_t 
 
 /*
  * Sets the congestion level of the whole engine, which marks the cells that
- * are turned from now on (section "Turning cells round"): 0 none, 1 NI, 2 CI.
+ * are turned or made from now on (section "Turning cells round"): 0 none, 1 NI,
+ * 2 CI.
  * Refusal: 9 level over 2.
  */
 ABR_MUST_USE uint32_t abr_set_level(abr_table *table, uint32_t level);
+
+/*
+ * Makes a backward RM cell on a connection at a time (document 02, L1), for a
+ * receiver that is congested while no forward cell arrives that it could turn
+ * round. The cell has BN 1, CI 1 at level 2 or NI 1 at level 1, as ER the code of
+ * PCR, and CCR and MCR 0; a later level does not change it. It waits beside the
+ * turned cell and is sent after it, replaces an earlier made cell that still
+ * waits, and neither takes nor clears a saved congestion mark. A slot sends it by
+ * the rules for a turned cell and answers ABR_SENT_TURNED. Its time then counts
+ * for refusal 14 as a slot's does.
+ * Refusals in order:
+ *    8  time over 2^62
+ *   11  vci is not open
+ *   14  time before that of the last accepted open, slot or made cell
+ *   16  the level is 0
+ *   17  less than 100 ms since the last cell made on this connection, sent or
+ *       not; one that is opened anew starts without
+ */
+ABR_MUST_USE uint32_t abr_make(abr_table *table, uint32_t vci, uint64_t time);
 
 /* ---- The slot ----------------------------------------------------------- */
 
 /*
  * Gives the slot at a time to the connection with the earliest ready instant
  * (section "Slots"), and says which it is, what kind of cell it sends and its
- * allowed rate afterwards. The 53 octets of a forward or a turned cell are
- * written to the buffer. For data the buffer is unchanged and the caller sends
+ * allowed rate afterwards. The 53 octets of a forward, a turned or a made cell
+ * are written to the buffer. For data the buffer is unchanged and the caller sends
  * a data cell of that VCI. If no connection is ready, the answer is all 0 and
  * the buffer unchanged; the slot counts as accepted at its time.
  * Refusals in order:
  *    1  len is not 53
  *    8  time over 2^62
- *   14  time before that of the last accepted open or slot
+ *   14  time before that of the last accepted open, slot or made cell
  */
 ABR_MUST_USE abr_sent abr_slot(abr_table *table, uint64_t time, uint8_t *cell, size_t len);
 
@@ -368,8 +394,10 @@ static inline const char *abr_refusal_text(uint32_t refusal)
     case ABR_REFUSED_NOT_OPEN: return "VCI is not open";
     case ABR_REFUSED_ALREADY_OPEN: return "VCI is already open";
     case ABR_REFUSED_FULL: return "64 connections are open";
-    case ABR_REFUSED_TIME_BACKWARD: return "time is before the last accepted open or slot";
+    case ABR_REFUSED_TIME_BACKWARD: return "time is before the last accepted open, slot or made cell";
     case ABR_REFUSED_TOO_MUCH_DATA: return "waiting data would pass 65,535 cells";
+    case ABR_REFUSED_NOT_CONGESTED: return "congestion level is 0";
+    case ABR_REFUSED_TOO_SOON: return "less than 100 ms since the last made cell";
     default: return "not an answer of this library";
     }
 }

@@ -27,6 +27,7 @@ pub trait Engine {
     fn receive(&mut self, cell: &Octets);
     fn slot(&mut self, time: u64, buffer: &mut Octets);
     fn set_level(&mut self, level: u32);
+    fn make(&mut self, vci: u32, time: u64);
     fn acr(&self, vci: u32);
 
     fn write_rm(rm: &Self::Rm, buffer: &mut Octets);
@@ -85,6 +86,10 @@ impl Engine for Library {
 
     fn set_level(&mut self, level: u32) {
         black_box(unsafe { ffi::abr_set_level(&mut *self.table, level) });
+    }
+
+    fn make(&mut self, vci: u32, time: u64) {
+        black_box(unsafe { ffi::abr_make(&mut *self.table, vci, time) });
     }
 
     fn acr(&self, vci: u32) {
@@ -164,6 +169,11 @@ impl Engine for Reference {
     #[inline(never)]
     fn set_level(&mut self, level: u32) {
         black_box(&self.engine.set_level(level));
+    }
+
+    #[inline(never)]
+    fn make(&mut self, vci: u32, time: u64) {
+        black_box(&self.engine.make(vci, time));
     }
 
     #[inline(never)]

@@ -51,6 +51,9 @@ impl<E: Engine> Fixture<E> {
         if workload.sort() == Some(Sort::Moving) {
             fixture.first_cells();
         }
+        if workload == Workload::Make {
+            fixture.engine.set_level(2);
+        }
         fixture
     }
 
@@ -98,6 +101,10 @@ impl<E: Engine> Fixture<E> {
                 let vci = black_box(self.last + 1);
                 self.engine.open(vci, self.time, &self.params);
                 self.engine.close(vci);
+            }),
+            Workload::Make => repeat(times, |_| {
+                self.time += self.step;
+                self.engine.make(black_box(self.last), self.time);
             }),
             Workload::Acr => repeat(times, |_| self.engine.acr(black_box(self.last))),
             Workload::Level => repeat(times, |_| self.engine.set_level(black_box(1))),
@@ -161,8 +168,12 @@ fn params_of(vci: u32, workload: Workload) -> Params {
     }
 }
 
-/// The time from one slot to the next: the gap at the sum of all rates.
+/// The time from one slot to the next: the gap at the sum of all rates. From one
+/// making to the next: the least that is accepted.
 fn step(connections: u32, workload: Workload) -> u64 {
+    if workload == Workload::Make {
+        return abr::MAKE_INTERVAL;
+    }
     let codes = order(connections, workload)
         .into_iter()
         .map(|vci| params_of(vci, workload).icr);

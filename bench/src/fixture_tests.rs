@@ -97,6 +97,20 @@ fn moving_cells_move_the_rate() {
     }
 }
 
+/// The measured makings are accepted on both sides.
+#[test]
+fn makings_are_accepted() {
+    let mut library = Fixture::<Library>::new(64, Workload::Make);
+    let mut reference = Fixture::<Reference>::new(64, Workload::Make);
+    let vci = library.last;
+    for time in (1..10).map(|i| library.time + i * library.step) {
+        let table = &mut *library.engine.table;
+        // SAFETY: the pointer is live.
+        assert_eq!(unsafe { ffi::abr_make(table, vci, time) }, 0);
+        assert_eq!(reference.engine.engine.make(vci, time), Ok(()));
+    }
+}
+
 /// The measured opens and closes are accepted.
 #[test]
 fn opens_are_accepted() {

@@ -38,6 +38,8 @@ pub enum Workload {
     Offer,
     /// An open and the close of it.
     OpenClose,
+    /// A backward cell made on the last connection, replacing the one before.
+    Make,
     /// The rate of the last connection.
     Acr,
     /// The congestion level set.
@@ -87,7 +89,7 @@ const fn row(name: &'static str, text: &'static str, connections: u32, workload:
 }
 
 /// All rows.
-pub static ROWS: [Row; 28] = [
+pub static ROWS: [Row; 29] = [
     row(
         "slot-1",
         "slot, 1 busy connection",
@@ -205,6 +207,12 @@ pub static ROWS: [Row; 28] = [
         "open and close, 63 others open",
         63,
         Workload::OpenClose,
+    ),
+    row(
+        "make",
+        "make a backward cell, last of 64",
+        64,
+        Workload::Make,
     ),
     row("acr", "ask for the rate, last of 64", 64, Workload::Acr),
     row("level", "set the congestion level", 64, Workload::Level),

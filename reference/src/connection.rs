@@ -1,8 +1,9 @@
 //! One connection: the four moves of its allowed rate (document 01, "Four
-//! moves of the allowed rate"), what waits on it, and when and what it sends
-//! ("Slots").
+//! moves of the allowed rate"), its waiting data, and when and what it sends
+//! ("Slots"; with document 02's L1 a made cell counts as a turned one).
 
 use crate::cell::{self, Octets, Rm};
+use crate::destination::Destination;
 use crate::params::{Contract, CDF_ZERO, CRM_MAX, MRM};
 use crate::rate::{code_within, gap, rate_of};
 use crate::refusal::{self, Refusal};
@@ -15,7 +16,7 @@ pub const DATA_MAX: u64 = 65_535;
 pub enum Kind {
     /// A forward RM cell of this source.
     Forward,
-    /// A backward RM cell, made of a forward cell that was received.
+    /// A backward RM cell: a received forward cell turned round, or a made one.
     Turned,
     /// A cell of waiting data.
     Data,
@@ -111,7 +112,7 @@ struct History {
     last_forward: u64,
     /// The cells sent since that forward cell.
     k: u32,
-    /// Whether one of them was a turned cell.
+    /// Whether one of them was a turned or a made cell.
     turned: bool,
 }
 
@@ -125,10 +126,8 @@ pub struct Connection {
     history: Option<History>,
     /// Waiting data cells.
     data: u64,
-    /// The waiting turned cell.
-    turned: Option<Octets>,
-    /// The saved EFCI.
-    efci: bool,
+    /// The receiving side, with the backward cells that wait.
+    destination: Destination,
     /// Forward cells sent since the last answer, the document's Y.
     unanswered: u32,
 }
@@ -142,8 +141,7 @@ impl Connection {
             rate: RateRecord::new(contract),
             history: None,
             data: 0,
-            turned: None,
-            efci: false,
+            destination: Destination::default(),
             unanswered: 0,
         }
     }
@@ -162,18 +160,20 @@ impl Connection {
         Ok(())
     }
 
-    /// A data cell arrived: its mark replaces the saved one.
+    /// A data cell arrived.
     pub fn receive_data(&mut self, efci: bool) {
-        self.efci = efci;
+        self.destination.receive_data(efci);
     }
 
-    /// A forward cell arrived: it is turned at once, under the present congestion
-    /// level, and replaces the one that waited. The saved mark becomes 0.
+    /// A forward cell arrived under this congestion level.
     pub fn receive_forward(&mut self, cell: &Octets, level: u32) {
-        let ci = self.efci || level == 2;
-        let ni = level == 1;
-        self.turned = Some(cell::turn(cell, self.vci, ci, ni));
-        self.efci = false;
+        self.destination.receive_forward(self.vci, cell, level);
+    }
+
+    /// Makes a backward cell under this congestion level. Refusals: 16, 17.
+    pub fn make(&mut self, time: u64, level: u32) -> Result<(), Refusal> {
+        let pcr = self.rate.contract.pcr;
+        self.destination.make(self.vci, time, level, pcr)
     }
 
     /// A backward cell arrived: it moves the rate, and with BN 0 it answers all
@@ -187,7 +187,7 @@ impl Connection {
 
     /// The ready instant; nothing for never.
     pub fn ready(&self) -> Option<u64> {
-        let waiting = self.data > 0 || self.turned.is_some();
+        let waiting = self.data > 0 || self.destination.waits();
         let Some(history) = self.history else {
             return waiting.then_some(self.opened);
         };
@@ -210,7 +210,7 @@ impl Connection {
         let passed = time - history.last_forward;
         if history.k == nrm - 1 || (history.k >= MRM && passed >= trm) {
             Kind::Forward
-        } else if self.turned.is_some() && (!history.turned || self.data == 0) {
+        } else if self.destination.waits() && (!history.turned || self.data == 0) {
             Kind::Turned
         } else {
             Kind::Data
@@ -223,7 +223,7 @@ impl Connection {
         match kind {
             Kind::Forward => *buffer = self.forward_cell(time),
             Kind::Turned => {
-                if let Some(cell) = self.turned.take() {
+                if let Some(cell) = self.destination.take() {
                     *buffer = cell;
                 }
             }

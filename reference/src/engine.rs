@@ -1,5 +1,6 @@
 //! The table of connections and the calls on it (document 01, from "Opening"
-//! to "Slots"; the orders of refusals are in "Refused because of the state").
+//! to "Slots"; the orders of refusals are in "Refused because of the state", that
+//! of a made cell in document 02's L1).
 
 use std::collections::BTreeMap;
 
@@ -24,7 +25,7 @@ pub const VCI_MIN: u32 = 32;
 type Table = BTreeMap<u32, Connection>;
 
 /// The whole engine: the table, the congestion level, and the time of the last
-/// accepted open or slot (0 before any, which refuses nothing).
+/// accepted open, slot or making (0 before any, which refuses nothing).
 #[derive(Debug, Clone, PartialEq, Eq, Default)]
 pub struct Engine {
     table: Table,
@@ -94,8 +95,19 @@ impl Engine {
         Ok(())
     }
 
-    /// Gives a slot to a connection; nothing when the slot is idle. A forward or
-    /// turned cell is written to the buffer, which is unchanged otherwise.
+    /// Makes a backward cell on a connection. Refusals: 8, 11, 14, 16, 17.
+    pub fn make(&mut self, vci: u32, time: u64) -> Result<(), Refusal> {
+        check_range(time)?;
+        let (level, order) = (self.level, self.in_order(time));
+        let connection = self.connection(vci)?;
+        order?;
+        connection.make(time, level)?;
+        self.last = time;
+        Ok(())
+    }
+
+    /// Gives a slot to a connection; nothing when the slot is idle. A forward,
+    /// turned or made cell is written to the buffer, which is unchanged otherwise.
     /// Refusals: 1, 8, 14.
     pub fn slot(&mut self, time: u64, buffer: &mut [u8]) -> Result<Option<Sent>, Refusal> {
         let buffer: &mut Octets = buffer.try_into().map_err(|_| refusal::LENGTH)?;
@@ -120,11 +132,17 @@ impl Engine {
         self.table.get_mut(&vci).ok_or(refusal::NOT_OPEN)
     }
 
-    /// Sets the time of the last accepted open or slot. Refusal: 14.
-    fn advance(&mut self, time: u64) -> Result<(), Refusal> {
+    /// Refuses a time before the last accepted one with 14.
+    fn in_order(&self, time: u64) -> Result<(), Refusal> {
         if time < self.last {
             return Err(refusal::TIME_BACKWARD);
         }
+        Ok(())
+    }
+
+    /// Sets the time of the last accepted open, slot or making. Refusal: 14.
+    fn advance(&mut self, time: u64) -> Result<(), Refusal> {
+        self.in_order(time)?;
         self.last = time;
         Ok(())
     }

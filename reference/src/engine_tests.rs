@@ -5,29 +5,29 @@ use crate::engine::{Engine, TIME_MAX};
 use crate::{code_of, rate_of, read, write_rm, Cell, Kind, Params, Rm, Sent};
 
 /// One millisecond, the gap at 1,000 cells per second.
-const MS: u64 = 1_000_000;
+pub(crate) const MS: u64 = 1_000_000;
 
 /// The code of 1,000 cells per second.
-const THOUSAND: u32 = 0x53E8;
+pub(crate) const THOUSAND: u32 = 0x53E8;
 
 /// A rate of 1,000 cells per second.
-const RATE: u64 = 512_000;
+pub(crate) const RATE: u64 = 512_000;
 
 /// An initial rate of 1,000 cells per second, between the least minimum and the
 /// largest peak.
-fn params() -> Params {
+pub(crate) fn params() -> Params {
     Params::house(0x7FFF, 0x4000, THOUSAND)
 }
 
 /// An engine with one connection, VCI 32, opened at time 0.
-fn engine_with(params: &Params) -> Engine {
+pub(crate) fn engine_with(params: &Params) -> Engine {
     let mut engine = Engine::new();
     engine.open(32, 0, params).unwrap();
     engine
 }
 
 /// The octets of an RM cell.
-fn octets(rm: &Rm) -> [u8; LENGTH] {
+pub(crate) fn octets(rm: &Rm) -> [u8; LENGTH] {
     let mut cell = [0; LENGTH];
     write_rm(rm, &mut cell).unwrap();
     cell
@@ -45,7 +45,7 @@ fn backward(vci: u32) -> Rm {
 }
 
 /// A forward cell as some other source may send it.
-fn forward(vci: u32) -> Rm {
+pub(crate) fn forward(vci: u32) -> Rm {
     Rm {
         vci,
         er: THOUSAND,
@@ -79,13 +79,13 @@ fn with_crc(mut cell: [u8; LENGTH]) -> [u8; LENGTH] {
 }
 
 /// A slot whose kind alone counts; nothing when idle.
-fn kind(engine: &mut Engine, time: u64) -> Option<Kind> {
+pub(crate) fn kind(engine: &mut Engine, time: u64) -> Option<Kind> {
     let sent = engine.slot(time, &mut [0; LENGTH]).unwrap();
     sent.map(|sent| sent.kind)
 }
 
 /// A slot and the RM cell that it wrote.
-fn slot_rm(engine: &mut Engine, time: u64) -> (Sent, Rm) {
+pub(crate) fn slot_rm(engine: &mut Engine, time: u64) -> (Sent, Rm) {
     let mut buffer = [0; LENGTH];
     let sent = engine.slot(time, &mut buffer).unwrap().unwrap();
     match read(&buffer) {
@@ -95,7 +95,7 @@ fn slot_rm(engine: &mut Engine, time: u64) -> (Sent, Rm) {
 }
 
 /// Asserts that a call is refused with a number and changes nothing.
-fn refused<T: std::fmt::Debug + PartialEq>(
+pub(crate) fn refused<T: std::fmt::Debug + PartialEq>(
     engine: &Engine,
     number: u32,
     call: impl FnOnce(&mut Engine) -> Result<T, u32>,
@@ -744,12 +744,13 @@ fn closing_does_not_reset_the_last_time() {
 /// A random call on the engine; on VCIs 32 to 35, accepted or refused.
 fn random_call(engine: &mut Engine, time: &mut u64, mut draw: impl FnMut(u32) -> u32) {
     let vci = 32 + draw(4);
-    let _accepted_or_refused = match draw(8) {
+    let _accepted_or_refused = match draw(9) {
         0 if draw(8) == 0 => engine.close(vci),
         0 => engine.open(vci, *time, &Params::house(0x53E8, 0x4000, 0x4A00)),
         1 => engine.offer(vci, u64::from(draw(9))),
         2 => engine.set_level(draw(4)),
         3 => engine.receive(&data(vci, draw(2) == 1)),
+        6 => engine.make(vci, *time),
         4 | 5 => {
             let (dir, bn, ci, ni) = (draw(2), draw(2), draw(2), draw(2));
             let rm = Rm {

@@ -1,5 +1,5 @@
-//! A reference version of the ABR end-system rate engine, written from document
-//! 01 alone.
+//! A reference version of the ABR end-system rate engine, written from documents
+//! 01 and 02 alone.
 //!
 //! It follows the document's text before speed: nothing is cached, every slot
 //! computes every ready instant again and compares them all.
@@ -7,6 +7,7 @@
 //! * [`rate`]: rate codes and the gap between cells;
 //! * [`params`]: the parameters of an open, their ranges, the house set;
 //! * [`cell`]: header check, CRC-10, writing, reading and turning cells;
+//! * [`destination`]: the saved EFCI, turned and made cells;
 //! * [`connection`]: the four moves of the allowed rate, and pacing;
 //! * [`engine`]: the table of connections and the calls on it;
 //! * [`refusal`]: the numbers of the refusals.
@@ -15,6 +16,7 @@
 
 pub mod cell;
 pub mod connection;
+pub mod destination;
 pub mod engine;
 pub mod params;
 pub mod rate;
@@ -22,6 +24,8 @@ pub mod refusal;
 
 #[cfg(test)]
 mod engine_tests;
+#[cfg(test)]
+mod make_tests;
 
 pub use cell::{read, write_rm, Cell, Rm};
 pub use connection::{Kind, Sent};

@@ -1,5 +1,5 @@
 //! The refusals of document 01 by number ("Refused because of the input" and
-//! "Refused because of the state").
+//! "Refused because of the state"), and those of document 02.
 
 /// A refusal is its number.
 pub type Refusal = u32;
@@ -30,7 +30,11 @@ pub const NOT_OPEN: Refusal = 11;
 pub const ALREADY_OPEN: Refusal = 12;
 /// The table is full.
 pub const FULL: Refusal = 13;
-/// The time is before the last accepted open or slot.
+/// The time is before the last accepted open, slot or making.
 pub const TIME_BACKWARD: Refusal = 14;
 /// More than 65,535 data cells would wait.
 pub const TOO_MUCH_DATA: Refusal = 15;
+/// A backward cell was to be made at level 0.
+pub const NOT_CONGESTED: Refusal = 16;
+/// Less than 100 ms have passed since the last made cell of the connection.
+pub const TOO_SOON: Refusal = 17;

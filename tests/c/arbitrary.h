@@ -33,7 +33,7 @@ static uint64_t edge_word(void)
     }
 }
 
-/* A table that calls made: some open connections, perhaps with free entries between, data, cells sent. */
+/* A table that calls made: some open connections, perhaps with free entries between, data, cells made and sent. */
 static void reached_table(abr_table *table)
 {
     uint8_t cell[ABR_CELL_OCTETS];
@@ -43,12 +43,14 @@ static void reached_table(abr_table *table)
     for (uint32_t i = 0; i < count; i++) {
         refused |= abr_open(table, 32 + i, i, params);
         refused |= abr_offer(table, 32 + i, next() & 0xFF);
+        refused |= abr_set_level(table, (uint32_t)(next() % 3));
+        refused |= abr_make(table, 32 + i, i);
         refused |= abr_slot(table, i, cell, sizeof cell).refusal;
         if (closes && next() % 4 == 0) {
             refused |= abr_close(table, 32 + (uint32_t)(next() % count));
         }
     }
-    (void)refused; /* more than 64 opens and closes of what is not open are among them */
+    (void)refused; /* more than 64 opens, closes of what is not open and makings at level 0 are among them */
 }
 
 /*

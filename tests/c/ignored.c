@@ -11,6 +11,7 @@ void ignored(abr_table *table, uint8_t *cell, abr_params params, abr_rm rm)
     abr_acr(table, 32);
     abr_receive(table, cell, ABR_CELL_OCTETS);
     abr_set_level(table, 1);
+    abr_make(table, 32, 0);
     abr_slot(table, 0, cell, ABR_CELL_OCTETS);
     abr_write_rm(rm, cell, ABR_CELL_OCTETS);
     abr_read(cell, ABR_CELL_OCTETS);

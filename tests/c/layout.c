@@ -108,7 +108,18 @@ static void every_house_field(void)
     CHECK(memcmp(&params, words, sizeof params) == 0);
 }
 
-/* A table uses words up to the last and none after it: 64 busy connections. */
+/* The next slots go to the connections in order, each with this kind. */
+static void all_send(abr_table *table, uint64_t time, uint32_t kind)
+{
+    uint8_t octets[ABR_CELL_OCTETS];
+    for (uint32_t vci = 32; vci < 96; vci++) {
+        abr_sent sent = abr_slot(table, time, octets, sizeof octets);
+        CHECK(sent.refusal == ABR_OK && sent.vci == vci);
+        CHECK(sent.kind == kind && sent.acr == 512000);
+    }
+}
+
+/* A table uses words up to the last and none after it: 64 busy connections, on each a made cell. */
 static void the_whole_table(void)
 {
     static struct {
@@ -116,17 +127,17 @@ static void the_whole_table(void)
         uint64_t after[8];
     } lent;
     abr_params params = abr_house(0x7FFF, 0x4000, 0x53E8);
-    uint8_t octets[ABR_CELL_OCTETS];
+    CHECK(abr_set_level(&lent.table, 1) == ABR_OK);
     for (uint32_t vci = 32; vci < 96; vci++) {
         CHECK(abr_open(&lent.table, vci, 0, params) == ABR_OK);
         CHECK(abr_offer(&lent.table, vci, 1) == ABR_OK);
+        CHECK(abr_make(&lent.table, vci, 0) == ABR_OK);
+        CHECK(abr_make(&lent.table, vci, 0) == ABR_REFUSED_TOO_SOON);
     }
     CHECK(abr_open(&lent.table, 96, 0, params) == ABR_REFUSED_FULL);
-    for (uint32_t vci = 32; vci < 96; vci++) {
-        abr_sent sent = abr_slot(&lent.table, 0, octets, sizeof octets);
-        CHECK(sent.refusal == ABR_OK && sent.vci == vci);
-        CHECK(sent.kind == ABR_SENT_FORWARD && sent.acr == 512000);
-    }
+    all_send(&lent.table, 0, ABR_SENT_FORWARD);
+    all_send(&lent.table, 1000000, ABR_SENT_TURNED);
+    all_send(&lent.table, 2000000, ABR_SENT_DATA);
     for (int i = 0; i < 8; i++) {
         CHECK(lent.after[i] == 0);
     }

@@ -13,7 +13,7 @@
 #include "arbitrary.h"
 
 enum { TABLE, CELL, OBJECTS };
-enum { OPEN, CLOSE, RECEIVE, OFFER, SET_LEVEL, SLOT, ACR, WRITE_RM, READ, CODE, RATE, HOUSE, CALLS };
+enum { OPEN, CLOSE, RECEIVE, OFFER, SET_LEVEL, MAKE, SLOT, ACR, WRITE_RM, READ, CODE, RATE, HOUSE, CALLS };
 
 typedef struct {
     uint8_t *block, *copy;
@@ -126,6 +126,7 @@ static uint32_t one_call(int call)
     case RECEIVE: return abr_receive(at(TABLE), at(CELL), any_length());
     case OFFER: return abr_offer(at(TABLE), any_vci(), edge_word());
     case SET_LEVEL: return abr_set_level(at(TABLE), (uint32_t)(next() % 4));
+    case MAKE: return abr_make(at(TABLE), any_vci(), any_time());
     case SLOT: return abr_slot(at(TABLE), any_time(), at(CELL), any_length()).refusal;
     case ACR: return abr_acr(at(TABLE), any_vci()).refusal;
     default: return without_table(call);

@@ -1,7 +1,8 @@
 /*
  * A scenario: two connections on one link, VCI 32 and VCI 33, at 1,000 cells per
- * second each. The first receives CI once, the second an explicit rate. The
- * numbers were computed by hand from document 01. Valid as C and as C++.
+ * second each. The first receives CI once, the second an explicit rate; a cell is
+ * turned, and two are made. The numbers were computed by hand from documents 01
+ * and 02. Valid as C and as C++.
  */
 #ifndef SCENARIO_H
 #define SCENARIO_H
@@ -105,6 +106,26 @@ static void a_cell_is_turned(void)
     CHECK(rm.er == thousand && rm.ccr == thousand && rm.mcr == slowest);
 }
 
+/* Two cells are made on VCI 33, which is due since 16,625,001; 32 is due at 21 ms too, but later. */
+static void cells_are_made(void)
+{
+    abr_rm rm;
+    CHECK(abr_make(&table, 33, ABR_TIME_MAX + 1) == ABR_REFUSED_TIME);
+    CHECK(abr_make(&table, 34, 21 * MS) == ABR_REFUSED_NOT_OPEN);
+    CHECK(abr_make(&table, 33, 20 * MS - 1) == ABR_REFUSED_TIME_BACKWARD);
+    CHECK(abr_make(&table, 33, 21 * MS) == ABR_OK);
+    CHECK(abr_slot(&table, 21 * MS - 1, cell, sizeof cell).refusal == ABR_REFUSED_TIME_BACKWARD);
+    CHECK(abr_set_level(&table, 1) == ABR_OK);
+    CHECK(slot_is(21 * MS, 33, ABR_SENT_TURNED, 65536));
+    rm = rm_in_cell();
+    CHECK(rm.vci == 33 && rm.dir == 1 && rm.bn == 1 && rm.ci == 1 && rm.ni == 0 && rm.ra == 0);
+    CHECK(rm.er == thousand && rm.ccr == 0 && rm.mcr == 0 && rm.ql == 0 && rm.sn == 0);
+    CHECK(abr_make(&table, 33, 121 * MS - 1) == ABR_REFUSED_TOO_SOON);
+    CHECK(abr_make(&table, 33, 121 * MS) == ABR_OK);
+    CHECK(abr_set_level(&table, 0) == ABR_OK);
+    CHECK(abr_make(&table, 33, 300 * MS) == ABR_REFUSED_NOT_CONGESTED);
+}
+
 /* 1,000 cells per second and its code; beside a refusal there is 0. */
 static void codes(void)
 {
@@ -128,7 +149,7 @@ static void closes(void)
     CHECK(abr_close(&table, 33) == ABR_OK);
     CHECK(slot_is(ABR_TIME_MAX, 0, ABR_SENT_IDLE, 0));
     CHECK(strcmp(abr_refusal_text(ABR_OK), "accepted") == 0);
-    CHECK(strcmp(abr_refusal_text(15), abr_refusal_text(16)) != 0);
+    CHECK(strcmp(abr_refusal_text(17), abr_refusal_text(18)) != 0);
 }
 
 static int scenario(const char *name)
@@ -138,6 +159,7 @@ static int scenario(const char *name)
     both_send();
     feedback_moves_the_rates();
     a_cell_is_turned();
+    cells_are_made();
     codes();
     closes();
     printf("%s: %s\n", name, checks_failed ? "FAILED" : "ok");

@@ -4,10 +4,10 @@
 #![allow(non_camel_case_types, missing_docs)]
 
 /// The version of the header: major, minor and patch number, eight bits each.
-pub const ABR_VERSION: u32 = 0x00_02_00;
+pub const ABR_VERSION: u32 = 0x00_03_00;
 
 /// The words of a table.
-pub const ABR_TABLE_WORDS: usize = 1859;
+pub const ABR_TABLE_WORDS: usize = 1987;
 
 /// The state of an engine; all zero when empty.
 #[repr(C)]
@@ -88,6 +88,7 @@ extern "C" {
     pub fn abr_receive(table: *mut abr_table, cell: *const u8, len: usize) -> u32;
     pub fn abr_offer(table: *mut abr_table, vci: u32, cells: u64) -> u32;
     pub fn abr_set_level(table: *mut abr_table, level: u32) -> u32;
+    pub fn abr_make(table: *mut abr_table, vci: u32, time: u64) -> u32;
     pub fn abr_slot(table: *mut abr_table, time: u64, cell: *mut u8, len: usize) -> abr_sent;
     pub fn abr_acr(table: *const abr_table, vci: u32) -> abr_allowed;
     pub fn abr_write_rm(rm: abr_rm, cell: *mut u8, len: usize) -> u32;

@@ -4,14 +4,14 @@ use std::error::Error;
 use std::fmt;
 
 /// A refused call changes nothing and says why (document 01, "Refused because
-/// of the input" and "Refused because of the state").
+/// of the input" and "Refused because of the state"; document 02, L1).
 ///
 /// ```
 /// use abr::Refusal;
 /// assert_eq!(abr::rate(0x1_0000), Err(Refusal::Range));
 /// assert_eq!(Refusal::Range.number(), 7);
 /// assert_eq!(Refusal::try_from(7), Ok(Refusal::Range));
-/// assert_eq!(Refusal::try_from(16), Err(16));
+/// assert_eq!(Refusal::try_from(18), Err(18));
 /// assert_eq!(Refusal::Full.to_string(), "64 connections are open");
 /// ```
 #[derive(Debug, Clone, Copy, PartialEq, Eq, Hash)]
@@ -43,15 +43,19 @@ pub enum Refusal {
     AlreadyOpen = 12,
     /// 64 connections are open.
     Full = 13,
-    /// The time is before that of the last accepted open or slot.
+    /// The time is before that of the last accepted open, slot or made cell.
     TimeBackward = 14,
     /// More than 65,535 data cells would wait.
     TooMuchData = 15,
+    /// A cell was to be made, but the congestion level is 0.
+    NotCongested = 16,
+    /// Less than 100 ms have passed since the connection's last made cell.
+    TooSoon = 17,
 }
 
 impl Refusal {
     /// All refusals in the order of their numbers.
-    pub const ALL: [Refusal; 15] = [
+    pub const ALL: [Refusal; 17] = [
         Refusal::Length,
         Refusal::HeaderCheck,
         Refusal::Path,
@@ -67,9 +71,11 @@ impl Refusal {
         Refusal::Full,
         Refusal::TimeBackward,
         Refusal::TooMuchData,
+        Refusal::NotCongested,
+        Refusal::TooSoon,
     ];
 
-    /// The number that document 01 gives it.
+    /// Its number in the documents.
     pub const fn number(self) -> u32 {
         self as u32
     }
@@ -90,8 +96,10 @@ impl Refusal {
             Refusal::NotOpen => "VCI is not open",
             Refusal::AlreadyOpen => "VCI is already open",
             Refusal::Full => "64 connections are open",
-            Refusal::TimeBackward => "time is before the last accepted open or slot",
+            Refusal::TimeBackward => "time is before the last accepted open, slot or made cell",
             Refusal::TooMuchData => "waiting data would pass 65,535 cells",
+            Refusal::NotCongested => "congestion level is 0",
+            Refusal::TooSoon => "less than 100 ms since the last made cell",
         }
     }
 

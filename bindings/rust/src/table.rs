@@ -15,6 +15,8 @@ pub const VCI_MAX: u32 = 65_535;
 pub const TIME_MAX: u64 = 1 << 62;
 /// The most data cells that wait on one connection.
 pub const WAITING_MAX: u64 = 65_535;
+/// The least time from one made cell of a connection to the next, 100 ms.
+pub const MAKE_INTERVAL: u64 = 100_000_000;
 /// The highest congestion level.
 pub const LEVEL_MAX: u32 = 2;
 
@@ -23,7 +25,8 @@ pub const LEVEL_MAX: u32 = 2;
 pub enum Kind {
     /// A forward RM cell; its octets are in the buffer.
     Forward,
-    /// A received forward RM cell, turned round; its octets are in the buffer.
+    /// A received forward RM cell, turned round, or a made backward one; its
+    /// octets are in the buffer.
     Turned,
     /// Data, which the caller sends; the buffer is unchanged.
     Data,
@@ -140,8 +143,8 @@ impl Table {
         Refusal::outcome(unsafe { ffi::abr_offer(&mut *self.raw, vci, cells) })
     }
 
-    /// Sets the congestion level, which marks the cells turned from now on:
-    /// 0 none, 1 no increase, 2 congestion.
+    /// Sets the congestion level, which marks the cells turned or made from now
+    /// on: 0 none, 1 no increase, 2 congestion.
     ///
     /// # Errors
     /// [`Refusal::TooLarge`] over 2.
@@ -157,8 +160,42 @@ impl Table {
         Refusal::outcome(unsafe { ffi::abr_set_level(&mut *self.raw, level) })
     }
 
+    /// Makes a backward RM cell with BN 1 on a connection, for a receiver that is
+    /// congested while no forward cell arrives. It waits beside the turned cell
+    /// and is sent after it, as a cell of kind [`Kind::Turned`]. It replaces an
+    /// earlier made cell that still waits. Its marks are those of the level now.
+    ///
+    /// # Errors
+    /// In this order: [`Refusal::Time`], [`Refusal::NotOpen`],
+    /// [`Refusal::TimeBackward`], [`Refusal::NotCongested`] at level 0,
+    /// [`Refusal::TooSoon`] less than [`MAKE_INTERVAL`] after the connection's
+    /// last made cell.
+    ///
+    /// ```
+    /// use abr::{Cell, Kind, Params, Refusal, Rm, Table, CELL_OCTETS, MAKE_INTERVAL};
+    /// let mut table = Table::new();
+    /// table.open(32, 0, &Params::house(0x53E8, 0x4000, 0x53E8))?;
+    /// assert_eq!(table.make(32, 0), Err(Refusal::NotCongested));
+    /// table.set_level(2)?;
+    /// table.make(32, 0)?;
+    /// assert_eq!(table.make(32, MAKE_INTERVAL - 1), Err(Refusal::TooSoon));
+    ///
+    /// let mut cell = [0; CELL_OCTETS];
+    /// let first = table.slot(0, &mut cell)?.expect("the made cell waits");
+    /// assert_eq!(first.kind, Kind::Forward);
+    /// let sent = table.slot(1_000_000, &mut cell)?.expect("the made cell waits");
+    /// assert_eq!(sent.kind, Kind::Turned);
+    /// let made = Rm { vci: 32, backward: true, bn: true, ci: true, er: 0x53E8, ..Rm::default() };
+    /// assert_eq!(abr::read(&cell)?, Cell::Rm(made));
+    /// # Ok::<(), Refusal>(())
+    /// ```
+    pub fn make(&mut self, vci: u32, time: u64) -> Result<(), Refusal> {
+        // SAFETY: the pointer is live for the call.
+        Refusal::outcome(unsafe { ffi::abr_make(&mut *self.raw, vci, time) })
+    }
+
     /// Gives the slot at a time to the connection with the earliest ready
-    /// instant, if one is ready. A forward or turned cell is written to the
+    /// instant, if one is ready. A forward, turned or made cell is written to the
     /// buffer.
     ///
     /// # Errors

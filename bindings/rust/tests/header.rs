@@ -43,6 +43,7 @@ fn the_limits_are_those_of_the_header() {
     assert_eq!(value("ABR_VCI_MIN"), u64::from(abr::VCI_MIN));
     assert_eq!(value("ABR_VCI_MAX"), u64::from(abr::VCI_MAX));
     assert_eq!(value("ABR_WAITING_MAX"), abr::WAITING_MAX);
+    assert_eq!(value("ABR_MAKE_INTERVAL"), abr::MAKE_INTERVAL);
     assert_eq!(value("ABR_LEVEL_MAX"), u64::from(abr::LEVEL_MAX));
     assert_eq!(value("ABR_RATE_ONE"), abr::RATE_ONE);
     assert_eq!(value("ABR_TIME_MAX"), abr::TIME_MAX);
@@ -67,11 +68,8 @@ fn one_version_everywhere() {
     assert!(makefile.lines().any(|l| l == line), "{line} in Makefile");
     let changes = include_str!("../../../docs/CHANGES.md");
     let first = changes.lines().find(|line| line.starts_with("## "));
-    let title = format!("## {text}: ");
-    assert!(
-        first.is_some_and(|line| line.starts_with(&title)),
-        "{title}"
-    );
+    let title = format!(" ({text}): ");
+    assert!(first.is_some_and(|line| line.contains(&title)), "{title}");
 }
 
 #[test]
@@ -107,7 +105,7 @@ fn the_refusals_are_those_of_the_header() {
     }
     assert_eq!(defined("ABR_OK"), (0, "accepted"));
     assert_eq!(Refusal::try_from(0), Err(0));
-    assert_eq!(Refusal::try_from(16), Err(16));
+    assert_eq!(Refusal::try_from(18), Err(18));
 }
 
 #[test]
@@ -150,5 +148,5 @@ fn every_prototype_of_the_header_is_declared_and_no_other() {
     let ffi = include_str!("../src/ffi.rs");
     let foreign = |line: &&str| line.starts_with("    pub fn ");
     assert_eq!(header, names(ffi.lines().filter(foreign)));
-    assert_eq!(header.len(), 14);
+    assert_eq!(header.len(), 15);
 }

@@ -8,17 +8,17 @@ use Rattle.model.specs.State.{State, empty}
 use Rattle.model.specs.Invariant.{WellFormed}
 use Rattle.model.specs.declared.answer.Answer.{Answer}
 use Rattle.model.specs.declared.answer.Answer.the-variants.{Refused, Accepted, Idle, Sent}
-use Rattle.model.specs.Call.{Call, opening, closing, receiving, offering, levelling, slot, Outcome}
+use Rattle.model.specs.Call.{Call, opening, closing, receiving, offering, levelling, slot, making, Outcome}
 use Rattle.model.specs.Step.{refuse, accept, step}
 use Rattle.model.specs.Run.{run, final}
 use Rattle.model.proofs.Preserved.{empty-well-formed}
-use Rattle.model.proofs.Effects.{Effect, refuses, begins, ends, offers as offersTo, marks, works, levels as levelsTo, idles, sends, effect}
+use Rattle.model.proofs.Effects.{Effect, refuses, begins, ends, offers as offersTo, marks, works, levels as levelsTo, idles, sends, makes as makesAt, effect}
 use Rattle.model.proofs.Reached.{step-well-formed, reached-well-formed}
 use Rattle.table.specs.Layout.{words}
 use Rattle.table.proofs.Words.{empty-words}
 use Rattle.engine.specs.Contract.{bufferContent}
 use Rattle.abr.specs.Answers.{number, noCell, slotAnswer}
-use Rattle.abr.specs.Exports.{Observation, numberAlone, Performs, opens, closes, receives, offers, levels, slots, Trace, ended, then, finalWords, zeros, Matches, AllMatch, neither, both, ExportsAreRun}
+use Rattle.abr.specs.Exports.{Observation, numberAlone, Performs, opens, closes, receives, offers, levels, makes, slots, Trace, ended, then, finalWords, zeros, Matches, AllMatch, neither, both, ExportsAreRun}
 
 -- a call that is lent no buffer
 abbrev WithoutBuffer : Call → Type 0
@@ -28,6 +28,7 @@ WithoutBuffer (receiving o) = Unit
 WithoutBuffer (offering v n) = Unit
 WithoutBuffer (levelling l) = Unit
 WithoutBuffer (slot t room) = ⊥
+WithoutBuffer (making v t) = Unit
 
 -- it writes none, and its answer is a number alone
 pub record Plain (o : Outcome) : Type 0 where
@@ -45,6 +46,7 @@ effect-plain (works o q d r f) u = record { buffer = refl; number = refl }
 effect-plain (levelsTo l h) u = record { buffer = refl; number = refl }
 effect-plain (idles t room g b) u = absurd u
 effect-plain (sends t room i v g b) u = absurd u
+effect-plain (makesAt v t d f g h m) u = record { buffer = refl; number = refl }
 
 nothing-written : (b : Buffer) → b ≡ untouched → [] ≡ bufferContent b []
 nothing-written b e = rw e refl
@@ -63,6 +65,7 @@ performs-matches {s} w (closes {v} {l} {m} {r} h) e = plain-matches w (closing v
 performs-matches {s} w (receives {o} {l} {m} {r} h) e = plain-matches w (receiving o) tt m r (h .meets s w e)
 performs-matches {s} w (offers {v} {n} {l} {m} {r} h) e = plain-matches w (offering v n) tt m r (h .meets s w e)
 performs-matches {s} w (levels {k} {l} {m} {r} h) e = plain-matches w (levelling k) tt m r (h .meets s w e)
+performs-matches {s} w (makes {v} {t} {l} {m} {r} h) e = plain-matches w (making v t) tt m r (h .meets s w e)
 performs-matches {s} w (slots h) e = let g = h .meets s w e in record { table = g .0; returned = g .1; buffer = g .2 }
 
 onward :

@@ -1,4 +1,4 @@
--- What the calls on a table return, for each case of their answers: document 01's number, 0 if there is no refusal, and zeros beside a refusal.
+-- What the calls on a table return, for each case of their answers: the documents' number, 0 if there is no refusal, and zeros beside a refusal.
 -- (Document 01, "Slots", "Refused because of the input" and "Refused because of the state".)
 use Prim.Native.Nat.{ℕ}
 use Rattle.connection.specs.declared.kind.Kind.{Kind}

@@ -7,8 +7,8 @@ use lib.ListN.{length, replicate}
 use Rattle.rate.specs.declared.params.Params.{Params}
 use Rattle.model.specs.State.{State, empty}
 use Rattle.model.specs.Invariant.{WellFormed}
-use Rattle.model.specs.Call.{Call, opening, closing, receiving, offering, levelling, slot, Outcome}
-use Rattle.model.specs.Step.{openStep, closeStep, receiveStep, offerStep, levelStep, slotStep}
+use Rattle.model.specs.Call.{Call, opening, closing, receiving, offering, levelling, slot, making, Outcome}
+use Rattle.model.specs.Step.{openStep, closeStep, receiveStep, offerStep, levelStep, slotStep, makeStep}
 use Rattle.model.specs.Queries.{acrOf}
 use Rattle.model.specs.Run.{run, final}
 use Rattle.table.specs.Layout.{words, size}
@@ -27,7 +27,7 @@ pub record Observation : Type 0 where
 abbrev pub numberAlone : (table : List ℕ) → (number : ℕ) → Observation
 numberAlone l r = record { table = l; returned = noCell r; old = []; new = [] }
 
--- One exported call on these words. What each case holds is the ensures of abr_open, abr_close, abr_receive, abr_offer, abr_set_level or abr_slot, so that
+-- One exported call on these words. What each case holds is the ensures of abr_open, abr_close, abr_receive, abr_offer, abr_set_level, abr_make or abr_slot, so that
 -- every such call makes one of these.
 pub data Performs : Call → (before : List ℕ) → Observation → Type 0 where
   opens : {v t : ℕ} {p : Params} {l m : List ℕ} {r : ℕ} → Numbered (λ s. openStep s v t p) l m r → Performs (opening v t p) l (numberAlone m r)
@@ -35,6 +35,7 @@ pub data Performs : Call → (before : List ℕ) → Observation → Type 0 wher
   receives : {o : List ℕ} {l m : List ℕ} {r : ℕ} → Numbered (λ s. receiveStep s o) l m r → Performs (receiving o) l (numberAlone m r)
   offers : {v n : ℕ} {l m : List ℕ} {r : ℕ} → Numbered (λ s. offerStep s v n) l m r → Performs (offering v n) l (numberAlone m r)
   levels : {k : ℕ} {l m : List ℕ} {r : ℕ} → Numbered (λ s. levelStep s k) l m r → Performs (levelling k) l (numberAlone m r)
+  makes : {v t : ℕ} {l m : List ℕ} {r : ℕ} → Numbered (λ s. makeStep s v t) l m r → Performs (making v t) l (numberAlone m r)
   slots :
       {t : ℕ} {l m old new : List ℕ} {r : SlotAnswer} → AnswersSlot (λ s. slotStep s t (length old)) l m r old new
       → Performs (slot t (length old)) l (record { table = m; returned = r; old = old; new = new })

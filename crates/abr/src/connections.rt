@@ -1,10 +1,11 @@
-// The calls that name a connection (document 01, "Opening" and "Slots").
+// The calls that name a connection (document 01, "Opening" and "Slots"; document 02, L1).
 ghost use mathlib.Core.Path.{_≡_};
-ghost use Rattle.model.specs.Step.{openStep, closeStep, offerStep};
+ghost use Rattle.model.specs.Step.{openStep, closeStep, offerStep, makeStep};
 ghost use Rattle.abr.specs.Answers.{number, acrAnswer};
 ghost use Rattle.abr.specs.Contract.{Numbered, AnswersAcr};
 use engine::acr::read_acr;
 use engine::close::close;
+use engine::make::make;
 use engine::offer::offer;
 use engine::open::open;
 use model::acr::Acr;
@@ -12,7 +13,7 @@ use model::answer::Answer;
 use rate::params::Params;
 use table::layout::WORDS;
 
-// Document 01's number for an answer; 0 if it is no refusal.
+// The documents' number for an answer; 0 if it is no refusal.
 pub fn number(a: Answer) -> u32
     ensures { λ r. ⌜ r ≡ number a ⌝ }
 {
@@ -50,6 +51,14 @@ pub extern "C" fn abr_offer(table: &mut [u64; WORDS], vci: u32, cells: u64) -> u
     ensures { λ r. ⌜ Numbered (λ s. offerStep s vci cells) (now (table .entry)) (now (table .exit)) r ⌝ }
 {
     number(offer(table, vci, cells))
+}
+
+// Refusals 8, 11, 14, 16, 17.
+#[no_mangle]
+pub extern "C" fn abr_make(table: &mut [u64; WORDS], vci: u32, time: u64) -> u32
+    ensures { λ r. ⌜ Numbered (λ s. makeStep s vci time) (now (table .entry)) (now (table .exit)) r ⌝ }
+{
+    number(make(table, vci, time))
 }
 
 #[repr(C)]

@@ -1,4 +1,4 @@
-// The C interface. Each export is one call of the engine, of the cell or of the rate; what it returns is document 01's number, or a struct with that number
+// The C interface. Each export is one call of the engine, of the cell or of the rate; what it returns is the documents' number, or a struct with that number
 // first and zeros beside a refusal. include/abr.h is the header.
 pub mod cells;
 pub mod codes;

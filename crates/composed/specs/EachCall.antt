@@ -3,7 +3,7 @@ use Prim.Native.Nat.{ℕ}
 use mathlib.Core.Path.{_≡_}
 use mathlib.Core.List.{List, [], _∷_}
 use lib.ListN.{length}
-use Rattle.model.specs.Call.{Call, opening, closing, receiving, offering, levelling, slot}
+use Rattle.model.specs.Call.{Call, opening, closing, receiving, offering, levelling, slot, making}
 use Rattle.abr.specs.declared.connections.AcrAnswer.{AcrAnswer}
 use Rattle.abr.specs.Contract.{AnswersAcr}
 use Rattle.abr.specs.Exports.{Observation, Trace}
@@ -12,17 +12,18 @@ use Rattle.composed.specs.declared.Arguments.{Arguments}
 abbrev pub calls : Arguments → (received old : List ℕ) → List Call
 calls a received old =
     opening (a .vci) (a .time) (a .params) ∷ offering (a .vci) (a .cells) ∷ levelling (a .level) ∷ receiving received ∷ slot (a .time) (length old)
-    ∷ closing (a .vci) ∷ []
+    ∷ making (a .vci) (a .time) ∷ closing (a .vci) ∷ []
 
--- what was observed of each call on the way; the ACR is read between the slot and the close
+-- what was observed of each call on the way; the ACR is read before the close
 pub record EachCall (a : Arguments) (received before after : List ℕ) (r : AcrAnswer) (old new : List ℕ) : Type 0 where
   pub opened : Observation
   pub offered : Observation
   pub levelled : Observation
   pub taken : Observation
   pub sent : Observation
+  pub made : Observation
   pub closed : Observation
-  pub rate : AnswersAcr (a .vci) (sent .table) r
+  pub rate : AnswersAcr (a .vci) (made .table) r
   pub table : closed .table ≡ after
   pub buffer : sent .new ≡ new
-  pub trace : Trace (calls a received old) before (opened ∷ offered ∷ levelled ∷ taken ∷ sent ∷ closed ∷ [])
+  pub trace : Trace (calls a received old) before (opened ∷ offered ∷ levelled ∷ taken ∷ sent ∷ made ∷ closed ∷ [])

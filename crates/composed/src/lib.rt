@@ -4,6 +4,7 @@ ghost use Rattle.composed.specs.EachCall.{EachCall};
 use abr::connections::AcrAnswer;
 use abr::connections::abr_acr;
 use abr::connections::abr_close;
+use abr::connections::abr_make;
 use abr::connections::abr_offer;
 use abr::connections::abr_open;
 use abr::link::abr_receive;
@@ -30,6 +31,7 @@ pub fn each_call(t: &mut [u64; WORDS], a: Arguments, received: &[u8], cell: &mut
     let levelled = abr_set_level(t, a.level);
     let taken = abr_receive(t, received);
     let sent = abr_slot(t, a.time, cell);
+    let made = abr_make(t, a.vci, a.time);
     let rate = abr_acr(t, a.vci);
     let closed = abr_close(t, a.vci);
     rate

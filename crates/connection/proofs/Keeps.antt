@@ -17,12 +17,13 @@ use Rattle.rate.specs.Moves.{moved, opened, firstCell, idle, unanswered, feedba
 use Rattle.rate.specs.Bounds.{RateInBounds}
 use Rattle.rate.proofs.FourMoves.{opened-in-bounds, firstCell-in-bounds, firstCell-mono, idle-in-bounds, idle-mono, unanswered-in-bounds, unanswered-mono, feedback-in-bounds}
 use Rattle.cell.specs.declared.fields.Fields.{Fields}
-use Rattle.connection.specs.Parts.{Connection, Pace, Unsent, Running, waiting, fresh}
+use Rattle.connection.specs.Parts.{Connection, Pace, Unsent, Running, waiting, fresh, Instant, Never, At, Waiting, Nothing, Cell, Made}
+use Rattle.connection.specs.Making.{withMade}
 use Rattle.connection.specs.Receiving.{offered, afterDataCell, afterBackwardCell, afterForwardCell, afterResourceCell}
 use Rattle.connection.specs.Ready.{lastBefore}
 use Rattle.connection.specs.Kind.{Kind, Forward, Turned, Data, isForward, isTurned, kindAt}
-use Rattle.connection.specs.Sending.{movedBy, paced, sentForward, sentTurned, sentData, after}
-use Rattle.connection.specs.Invariant.{InBounds, PaceFits, ValidAt}
+use Rattle.connection.specs.Sending.{movedBy, paced, sentForward, sentTurned, sentData, after, madeLeft}
+use Rattle.connection.specs.Invariant.{InBounds, PaceFits, ValidAt, MadeValidAt, NotAfter}
 
 -- The moves before a forward cell.
 movedBy-in-bounds : (t y : ℕ) (p : Pace) (q : Rate) → RateInBounds q → RateInBounds (movedBy t y p q)
@@ -108,6 +109,10 @@ pace-later : (now later n : ℕ) (p : Pace) → now ≤ later → PaceFits now n
 pace-later now later n Unsent h f = tt
 pace-later now later n (Running sent forward k turned) h f = (f .0, le-trans (f .1) h, f .2)
 
+not-after-later : (now later : ℕ) → now ≤ later → (i : Instant) → NotAfter now i → NotAfter later i
+not-after-later now later h Never p = tt
+not-after-later now later h (At i) p = le-trans p h
+
 pub valid-later : (now later : ℕ) → now ≤ later → (c : Connection) → ValidAt now c → ValidAt later c
 valid-later now later h c p = (
   record {
@@ -119,15 +124,18 @@ valid-later now later h c p = (
     paced = pace-later now later (nrm (c .rate .params)) (c .pace) h (p .0 .paced);
   },
   p .1,
+  record { level = p .2 .level; past = not-after-later now later h (c .destination .made .last) (p .2 .past) },
 )
 
 pub fresh-valid : (v t : ℕ) (p : Params) → 32 ≤ v → v ≤ 65535 → paramsFit p ≡ true → ValidAt t (fresh v t p)
 unfolding fresh
-fresh-valid v t p l u e = (record { assigned = l; coded = u; fits = e; trmTime = refl; past = le-refl t; paced = tt }, fresh-in-bounds v t p e)
+fresh-valid v t p l u e = (record { assigned = l; coded = u; fits = e; trmTime = refl; past = le-refl t; paced = tt }, fresh-in-bounds v t p e, record { level = omega arith; past = tt })
 
--- the same frame, with this pace
-same-parts-valid : {now : ℕ} (c d : Connection) → Same c d → ValidAt now c → PaceFits now (nrm (c .rate .params)) (d .pace) → InBounds d → ValidAt now d
-same-parts-valid {now} c d s p h g = (
+-- the same fixed parts, with this pace
+same-parts-valid :
+    {now : ℕ} (c d : Connection) → Same c d → ValidAt now c → PaceFits now (nrm (c .rate .params)) (d .pace) → InBounds d → MadeValidAt now (d .destination .made)
+    → ValidAt now d
+same-parts-valid {now} c d s p h g m = (
   record {
     assigned = rw (s .name) (p .0 .assigned);
     coded = rw (s .name) (p .0 .coded);
@@ -137,11 +145,12 @@ same-parts-valid {now} c d s p h g = (
     paced = rw (s .params) h;
   },
   g,
+  m,
 )
 
 pub offered-valid : {now : ℕ} (n : ℕ) (c : Connection) → waiting (c .queue) + n ≤ 65535 → ValidAt now c → ValidAt now (offered n c)
 unfolding offered
-offered-valid n c h p = (p .0, offered-in-bounds n c h (p .1))
+offered-valid n c h p = (p .0, offered-in-bounds n c h (p .1), p .2)
 
 pub after-data-cell-valid : {now : ℕ} (e : Bool) (c : Connection) → ValidAt now c → ValidAt now (afterDataCell e c)
 unfolding afterDataCell
@@ -155,9 +164,26 @@ work-pace level o f c = go (eqb (f .dir) 1)
     go true = refl
     go false = refl
 
+work-made : (level : ℕ) (o : List ℕ) (f : Fields) (c : Connection) → afterResourceCell level o f c .destination .made ≡ c .destination .made
+unfolding afterResourceCell afterBackwardCell afterForwardCell
+work-made level o f c = go (eqb (f .dir) 1)
+  where
+    go : (t : Bool) → cond t (afterBackwardCell f c) (afterForwardCell level o c) .destination .made ≡ c .destination .made
+    go true = refl
+    go false = refl
+
+-- a cell made now, at a level of the engine
+pub made-same : (t level : ℕ) (c : Connection) → Same c (withMade t level c)
+unfolding withMade
+made-same t level c = record { name = refl; opened = refl; trm = refl; params = refl }
+
+pub made-valid : (t level : ℕ) (c : Connection) → level ≤ 2 → ValidAt t c → ValidAt t (withMade t level c)
+unfolding withMade
+made-valid t level c h p = (p .0, p .1, record { level = h; past = le-refl t })
+
 pub work-valid : {now : ℕ} (level : ℕ) (o : List ℕ) (f : Fields) (c : Connection) → ValidAt now c → ValidAt now (afterResourceCell level o f c)
 work-valid level o f c p =
-    same-parts-valid c (afterResourceCell level o f c) (work-same level o f c) p (rw (work-pace level o f c) (p .0 .paced)) (work-in-bounds level o f c (p .1))
+    same-parts-valid c (afterResourceCell level o f c) (work-same level o f c) p (rw (work-pace level o f c) (p .0 .paced)) (work-in-bounds level o f c (p .1)) (rw (work-made level o f c) (p .2))
 
 -- A cell that is no forward cell leaves k below Nrm.
 pub not-forward : (k : Kind) (t : ℕ) (c : Connection) → kindAt t c ≡ k → k ≢ Forward → isForward t c (c .pace) ≡ false
@@ -197,5 +223,17 @@ after-pace Forward t c e h = (le-refl t, le-refl t, pow-pos (c .rate .params .n)
 after-pace Turned t c e h = pace-next t c true (c .pace) h (not-forward Turned t c e turned≢forward)
 after-pace Data t c e h = pace-next t c false (c .pace) h (not-forward Data t c e data≢forward)
 
+left-made : {now : ℕ} (w : Waiting) (m : Made) → MadeValidAt now m → MadeValidAt now (madeLeft w m)
+unfolding madeLeft
+left-made Nothing m h = record { level = omega arith; past = h .past }
+left-made (Cell p) m h = h
+
+after-made : (k : Kind) (t : ℕ) (c : Connection) → MadeValidAt t (c .destination .made) → MadeValidAt t (after k t c .destination .made)
+unfolding after sentForward sentTurned sentData
+after-made Forward t c h = h
+after-made Turned t c h = left-made (c .destination .turned) (c .destination .made) h
+after-made Data t c h = h
+
 pub after-valid : (k : Kind) (t : ℕ) (c : Connection) → kindAt t c ≡ k → ValidAt t c → ValidAt t (after k t c)
-after-valid k t c e p = same-parts-valid c (after k t c) (after-same k t c) p (after-pace k t c e (p .0 .paced)) (after-in-bounds k t c (p .1))
+after-valid k t c e p =
+    same-parts-valid c (after k t c) (after-same k t c) p (after-pace k t c e (p .0 .paced)) (after-in-bounds k t c (p .1)) (after-made k t c (p .2))

@@ -5,7 +5,7 @@ use Prim.Native.Nat.{ℕ, _+_, _≤_, _<_}
 use lib.Dec.{leb, eqb}
 use borrow.Author.Tests.{le-leb, lt-leb, not-true, not-false}
 use Rattle.connection.specs.Parts.{Connection, Pace, Unsent, Running}
-use Rattle.connection.specs.Ready.{waits, lastBefore}
+use Rattle.connection.specs.Ready.{waits, lastBefore, backwardWaits}
 use Rattle.connection.specs.Kind.{Forward, Turned, Data, isForward, isTurned, kindAt}
 
 module _ (x : ℕ) (c : Connection) {p : Pace} where
@@ -31,7 +31,7 @@ module _ (c : Connection) {p : Pace} where
   unfolding isTurned
   turned-first e = rw e
 
-  module _ {s f k : ℕ} {t : Bool} (e : p ≡ Running s f k t) {w : Bool} (q : w ≡ waits (c .destination .turned)) where
+  module _ {s f k : ℕ} {t : Bool} (e : p ≡ Running s f k t) {w : Bool} (q : w ≡ backwardWaits (c .destination)) where
     pub turned-none : not w ≡ true → false ≡ isTurned c p
     unfolding isTurned
     turned-none h = rw (e, sym q ∙ not-true w h)

@@ -1,4 +1,4 @@
--- What an open, an offer, a received cell and a slot make of a connection in range is in range again.
+-- What an open, an offer, a received cell, a making and a slot make of a connection in range is in range again.
 use mathlib.Core.Bool.{Bool}
 use Prim.Native.Nat.{ℕ, _^_, _<_}
 use native.Mathlib.Omega.{arith}
@@ -6,41 +6,51 @@ use Rattle.rate.specs.declared.params.Params.{Params}
 use Rattle.rate.proofs.Ranges.{trm-le}
 use Rattle.crc.specs.declared.payload.Payload.{Payload}
 use Rattle.cell.specs.declared.fields.Fields.{Fields}
-use Rattle.connection.specs.Parts.{Connection, Pace, Unsent, Running, fresh}
+use Rattle.connection.specs.Parts.{Connection, Pace, Unsent, Running, fresh, Waiting, Nothing, Cell, Made}
+use Rattle.connection.specs.Making.{withMade}
 use Rattle.connection.specs.Receiving.{offered, afterDataCell, afterBackwardCell, afterForwardPayload}
 use Rattle.connection.specs.Kind.{Kind, Forward, Turned, Data}
-use Rattle.connection.specs.Sending.{paced, sentForward, sentTurned, sentData, after}
-use Rattle.connection.specs.Range.{PaceInRange, InRange, HasRoom}
+use Rattle.connection.specs.Sending.{paced, sentForward, sentTurned, sentData, after, madeLeft}
+use Rattle.connection.specs.Range.{PaceInRange, InRange, HasRoom, InstantInRange}
 
 pub fresh-ranged : (name time : ℕ) (p : Params) → time < 2 ^ 63 → InRange (fresh name time p)
 unfolding fresh
-fresh-ranged name time p h = record { opened = h; trm = omega (arith, trm-le (p .trm)); pace = tt }
+fresh-ranged name time p h = record { opened = h; trm = omega (arith, trm-le (p .trm)); pace = tt; made = tt }
 
 module _ (c : Connection) (h : InRange c) where
   pub offered-ranged : (n : ℕ) → InRange (offered n c)
   unfolding offered
-  offered-ranged n = record { opened = h .opened; trm = h .trm; pace = h .pace }
+  offered-ranged n = record { opened = h .opened; trm = h .trm; pace = h .pace; made = h .made }
 
   pub after-data-cell-ranged : (e : Bool) → InRange (afterDataCell e c)
   unfolding afterDataCell
-  after-data-cell-ranged e = record { opened = h .opened; trm = h .trm; pace = h .pace }
+  after-data-cell-ranged e = record { opened = h .opened; trm = h .trm; pace = h .pace; made = h .made }
 
   pub after-backward-cell-ranged : (f : Fields) → InRange (afterBackwardCell f c)
   unfolding afterBackwardCell
-  after-backward-cell-ranged f = record { opened = h .opened; trm = h .trm; pace = h .pace }
+  after-backward-cell-ranged f = record { opened = h .opened; trm = h .trm; pace = h .pace; made = h .made }
+
+  pub made-ranged : (t level : ℕ) → t < 2 ^ 63 → InRange (withMade t level c)
+  unfolding withMade
+  made-ranged t level l = record { opened = h .opened; trm = h .trm; pace = h .pace; made = l }
 
   pub after-forward-cell-ranged : (level : ℕ) (p : Payload) → InRange (afterForwardPayload level p c)
   unfolding afterForwardPayload
-  after-forward-cell-ranged level p = record { opened = h .opened; trm = h .trm; pace = h .pace }
+  after-forward-cell-ranged level p = record { opened = h .opened; trm = h .trm; pace = h .pace; made = h .made }
 
 paced-ranged : (t : ℕ) (b : Bool) (p : Pace) → t < 2 ^ 63 → PaceInRange p → HasRoom p → PaceInRange (paced t b p)
 unfolding paced
 paced-ranged t b Unsent l h r = tt
 paced-ranged t b (Running sent forward k turned) l h r = (l, h .1, omega arith)
 
+left-ranged : (w : Waiting) (m : Made) → InstantInRange (m .last) → InstantInRange (madeLeft w m .last)
+unfolding madeLeft
+left-ranged Nothing m h = h
+left-ranged (Cell p) m h = h
+
 -- a slot at t, with room for one more cell
 pub after-ranged : (kind : Kind) (t : ℕ) (c : Connection) → t < 2 ^ 63 → InRange c → HasRoom (c .pace) → InRange (after kind t c)
 unfolding after sentForward sentTurned sentData
-after-ranged Forward t c l h r = record { opened = h .opened; trm = h .trm; pace = (l, l, omega arith) }
-after-ranged Turned t c l h r = record { opened = h .opened; trm = h .trm; pace = paced-ranged t _ (c .pace) l (h .pace) r }
-after-ranged Data t c l h r = record { opened = h .opened; trm = h .trm; pace = paced-ranged t _ (c .pace) l (h .pace) r }
+after-ranged Forward t c l h r = record { opened = h .opened; trm = h .trm; pace = (l, l, omega arith); made = h .made }
+after-ranged Turned t c l h r = record { opened = h .opened; trm = h .trm; pace = paced-ranged t _ (c .pace) l (h .pace) r; made = left-ranged (c .destination .turned) (c .destination .made) (h .made) }
+after-ranged Data t c l h r = record { opened = h .opened; trm = h .trm; pace = paced-ranged t _ (c .pace) l (h .pace) r; made = h .made }

@@ -9,7 +9,7 @@ use lib.Pow.{pow-mono, shl-exact}
 use borrow.Author.Tests.{lt-ltb, le-ltb, le-leb, lt-leb, ne-eqb}
 use Rattle.rate.specs.Gap.{gap}
 use Rattle.connection.specs.Parts.{Connection, Pace, Unsent, Running}
-use Rattle.connection.specs.Ready.{Never, At, waits, anyWaits, lastBefore, readyFrom}
+use Rattle.connection.specs.Ready.{Never, At, waits, anyWaits, lastBefore, readyFrom, backwardWaits}
 
 -- 2^n by a shift
 pub shifted : (n : ℕ) → n < 64 → (1 * 2 ^ n) % 2 ^ 64 ≡ 2 ^ n
@@ -24,7 +24,7 @@ module _ (c : Connection) where
   unfolding anyWaits
   data-waits h = rw (lt-ltb _ _ h)
 
-  pub cell-waits : {w : Bool} → c .queue .cells ≤ 0 → w ≡ waits (c .destination .turned) → w ≡ anyWaits c
+  pub cell-waits : {w : Bool} → c .queue .cells ≤ 0 → w ≡ backwardWaits (c .destination) → w ≡ anyWaits c
   unfolding anyWaits
   cell-waits h e = rw (le-ltb _ _ h) e
 

@@ -26,6 +26,6 @@ module _ (f : Fields) (c : Connection) {e : ℕ} {q : Rate} {a : Connection}
 
 pub after-forward-cell-is :
     (level : ℕ) (p : Payload) (c : Connection) {w : Payload} {r : Connection} → w ≡ payloadOf (turnedPayload level (c .destination .efci) (octetsOf p))
-    → r ≡ withDestination c (record { efci = false; turned = Cell w }) → r ≡ afterForwardPayload level p c
+    → r ≡ withDestination c (record { efci = false; turned = Cell w; made = c .destination .made }) → r ≡ afterForwardPayload level p c
 unfolding afterForwardPayload
 after-forward-cell-is level p c e h = rw (h, e)

@@ -3,17 +3,20 @@ use mathlib.Core.Path.{_≡_, refl, sym, _∙_}
 use mathlib.Core.Bool.{Bool, true, false, cond, _||_}
 use Prim.Native.Nat.{ℕ, _+_, _-_, _/_, _%_, _≤_, min}
 use native.Mathlib.Omega.{arith}
-use lib.Dec.{leb}
+use lib.Dec.{leb, eqb}
 use borrow.Author.Tests.{leb-true, le-leb, eq-eqb, ne-eqb}
 use Rattle.rate.specs.declared.moves.Rate.{Rate}
+use Rattle.rate.specs.declared.params.Params.{Params}
+use Rattle.cell.specs.declared.fields.Fields.{Fields}
 use Rattle.rate.specs.Units.{largestRate}
 use Rattle.rate.specs.Code.{rateOf, codeOf, codeOrZero}
 use Rattle.rate.specs.Moves.{firstCell, idle, unanswered}
 use Rattle.rate.proofs.Codes.{code-of-rate, code-greatest, rate-le}
 use Rattle.cell.specs.Fields.{fieldsFit}
-use Rattle.connection.specs.Parts.{Connection, Pace, Unsent, Running, Nothing, withRate, withPace, withUnacked, withQueue, withDestination}
+use Rattle.connection.specs.Parts.{Connection, Pace, Unsent, Running, Nothing, withRate, withPace, withUnacked, withQueue, withDestination, Made}
 use Rattle.connection.specs.Kind.{Kind, Forward, Turned, Data}
-use Rattle.connection.specs.Sending.{movedBy, paced, sentForward, sentTurned, sentData, after, forwardFields}
+use Rattle.connection.specs.Making.{madeFields}
+use Rattle.connection.specs.Sending.{movedBy, paced, sentForward, sentTurned, sentData, after, forwardFields, madeLeft}
 use Rattle.connection.specs.Range.{ForwardCarried}
 
 module _ (x y : ℕ) {p : Pace} (q : Rate) {r : Rate} where
@@ -41,9 +44,11 @@ module _ (x : ℕ) (c : Connection) {a r : Connection} where
   unfolding sentForward
   forward-is q a b y r = rw (r, b, a, q, y)
 
-  pub turned-is : {p : Pace} → p ≡ paced x true (c .pace) → a ≡ withPace c p → r ≡ withDestination a (record { efci = c .destination .efci; turned = Nothing }) → r ≡ sentTurned x c
+  pub turned-is :
+      {p : Pace} {m : Made} → p ≡ paced x true (c .pace) → a ≡ withPace c p → m ≡ madeLeft (c .destination .turned) (c .destination .made)
+      → r ≡ withDestination a (record { efci = c .destination .efci; turned = Nothing; made = m }) → r ≡ sentTurned x c
   unfolding sentTurned
-  turned-is p a r = rw (r, a, p)
+  turned-is p a m r = rw (r, a, p, m)
 
   pub data-is : {p : Pace} {n : ℕ} → n ≡ c .queue .cells - 1 → p ≡ paced x false (c .pace) → a ≡ withPace c p → r ≡ withQueue a (record { cells = n }) → r ≡ sentData x c
   unfolding sentData
@@ -98,3 +103,11 @@ carried v q {e} {a} {m} er ccr mcr = record {
   fits = λ h.
       rw (le-leb v 65535 h, le-leb e 32767 (own-fits (q .params .pcr) er), le-leb a 32767 (any-fits (q .acr) ccr), le-leb m 32767 (own-fits (q .params .mcr) mcr));
 }
+
+pub made-carried :
+    (v : ℕ) (p : Params) (level : ℕ) {ci ni e : ℕ} → (ci ≡ cond (eqb level 2) 1 0) × (ci ≤ 1) → (ni ≡ cond (eqb level 1) 1 0) × (ni ≤ 1) → e ≡ codeOf (rateOf (p .pcr))
+    → (_≡_ {A = Fields} (record { vci = v; dir = 1; bn = 1; ci = ci; ni = ni; ra = 0; er = e; ccr = 0; mcr = 0; ql = 0; sn = 0 }) (madeFields v p level))
+    × (v ≤ 65535 → fieldsFit (record { vci = v; dir = 1; bn = 1; ci = ci; ni = ni; ra = 0; er = e; ccr = 0; mcr = 0; ql = 0; sn = 0 }) ≡ true)
+unfolding madeFields fieldsFit
+made-carried v p level {ci} {ni} {e} c n er =
+    (rw (c .0, n .0, er), λ h. rw (le-leb v 65535 h, le-leb ci 1 (c .1), le-leb ni 1 (n .1), le-leb e 32767 (own-fits (p .pcr) er)))

@@ -7,7 +7,7 @@ use Rattle.rate.specs.declared.params.Params.{Params}
 use Rattle.rate.specs.declared.moves.Rate.{Rate}
 use Rattle.rate.specs.Params.{nrm, paramsFit, trmTime}
 use Rattle.rate.specs.Bounds.{RateInBounds}
-use Rattle.connection.specs.Parts.{Connection, Pace, Unsent, Running, Queue, waiting}
+use Rattle.connection.specs.Parts.{Connection, Pace, Unsent, Running, Queue, Made, Instant, Never, At, waiting}
 
 -- whatever the time: the rate between its bounds, Y and the waiting data within theirs
 pub record PartsInBounds (q : Rate) (y : ℕ) (l : Queue) : Type 0 where
@@ -23,7 +23,7 @@ abbrev pub PaceFits : (now nrm : ℕ) → Pace → Type 0
 PaceFits now n Unsent = Unit
 PaceFits now n (Running sent forward k turned) = (forward ≤ sent) × (sent ≤ now) × (k < n)
 
--- a connection's name, parameters and instants, at the time of the last accepted open or slot
+-- a connection's name, parameters and instants, at the time of the last accepted open, slot or making
 pub record PartsValidAt (now name opened trm : ℕ) (p : Params) (pace : Pace) : Type 0 where
   pub assigned : 32 ≤ name
   pub coded : name ≤ 65535
@@ -32,5 +32,15 @@ pub record PartsValidAt (now name opened trm : ℕ) (p : Params) (pace : Pace) :
   pub past : opened ≤ now
   pub paced : PaceFits now (nrm p) pace
 
+-- not after now, if there is such an instant
+abbrev pub NotAfter : (now : ℕ) → Instant → Type 0
+NotAfter now Never = Unit
+NotAfter now (At i) = i ≤ now
+
+-- the made cell that waits has a level of the engine, and none was made after now
+pub record MadeValidAt (now : ℕ) (m : Made) : Type 0 where
+  pub level : m .level ≤ 2
+  pub past : NotAfter now (m .last)
+
 abbrev pub ValidAt : (now : ℕ) → Connection → Type 0
-ValidAt now c = PartsValidAt now (c .name) (c .opened) (c .trm) (c .rate .params) (c .pace) × InBounds c
+ValidAt now c = PartsValidAt now (c .name) (c .opened) (c .trm) (c .rate .params) (c .pace) × InBounds c × MadeValidAt now (c .destination .made)

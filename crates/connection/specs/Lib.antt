@@ -1,6 +1,7 @@
 -- One connection, as document 01 sets it out. Each file states one part of it; the code follows with the same names.
 pub mod Parts
 pub mod Receiving
+pub mod Making
 pub mod Ready
 pub mod Kind
 pub mod Sending

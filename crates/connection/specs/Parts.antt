@@ -10,7 +10,10 @@ pub use Rattle.connection.specs.declared.parts.Pace.the-variants.{Unsent
 pub use Rattle.connection.specs.declared.parts.Queue.{Queue}
 pub use Rattle.connection.specs.declared.parts.Waiting.{Waiting}
 pub use Rattle.connection.specs.declared.parts.Waiting.the-variants.{Nothing, Cell}
+pub use Rattle.connection.specs.declared.parts.Made.{Made}
 pub use Rattle.connection.specs.declared.parts.Destination.{Destination}
+pub use Rattle.connection.specs.declared.ready.Instant.{Instant}
+pub use Rattle.connection.specs.declared.ready.Instant.the-variants.{Never, At}
 pub use Rattle.connection.specs.declared.parts.Connection.{Connection}
 
 -- All that the calls do to a connection is made of these five.
@@ -39,9 +42,9 @@ enqueued n l = record { cells = l .cells + n }
 abbrev pub dequeued : Queue → Queue
 dequeued l = record { cells = l .cells - 1 }
 
--- no cell waits, and no EFCI is saved
-abbrev pub noDestination : Destination
-noDestination = record { efci = false; turned = Nothing }
+-- no cell waits, none was made, and no EFCI is saved
+abbrev pub freshDestination : Destination
+freshDestination = record { efci = false; turned = Nothing; made = record { level = 0; last = Never } }
 
 -- a connection as it starts: ACR = ICR, no cell sent, nothing waiting, Y = 0
 unfoldable pub fresh : (name time : ℕ) → Params → Connection
@@ -53,5 +56,5 @@ fresh v t p = record {
   pace = Unsent;
   unacked = 0;
   queue = record { cells = 0 };
-  destination = noDestination;
+  destination = freshDestination;
 }

@@ -7,18 +7,22 @@ use Rattle.rate.specs.declared.moves.Rate.{Rate}
 use Rattle.rate.specs.Units.{largestRate}
 use Rattle.cell.specs.declared.fields.Fields.{Fields}
 use Rattle.cell.specs.Fields.{fieldsFit}
-use Rattle.connection.specs.Parts.{Connection, Pace, Unsent, Running}
-use Rattle.connection.specs.Ready.{Instant, Never, At}
+use Rattle.connection.specs.Parts.{Connection, Pace, Unsent, Running, Instant, Never, At}
 use Rattle.connection.specs.Sending.{forwardFields}
 
 abbrev pub PaceInRange : Pace → Type 0
 PaceInRange Unsent = Unit
 PaceInRange (Running sent forward k turned) = (sent < 2 ^ 63) × (forward < 2 ^ 63) × (k < 65536)
 
+abbrev pub InstantInRange : Instant → Type 0
+InstantInRange Never = Unit
+InstantInRange (At i) = i < 2 ^ 63
+
 pub record InRange (c : Connection) : Type 0 where
   pub opened : c .opened < 2 ^ 63
   pub trm : c .trm < 2 ^ 32
   pub pace : PaceInRange (c .pace)
+  pub made : InstantInRange (c .destination .made .last)
 
 -- room for one more cell in the count k, so that the range still holds after a cell that is no forward cell
 abbrev pub HasRoom : Pace → Type 0

@@ -4,7 +4,7 @@ use mathlib.Core.Bool.{Bool, true, false, cond, _||_}
 use lib.Dec.{leb, ltb, eqb}
 use Rattle.rate.specs.Params.{nrm}
 use Rattle.rate.specs.Gap.{gap}
-use Rattle.connection.specs.Parts.{Connection, Pace, Unsent, Running, Waiting, Nothing, Cell, waiting}
+use Rattle.connection.specs.Parts.{Connection, Pace, Unsent, Running, Waiting, Nothing, Cell, Destination, waiting}
 pub use Rattle.connection.specs.declared.ready.Instant.{Instant}
 pub use Rattle.connection.specs.declared.ready.Instant.the-variants.{Never, At}
 
@@ -12,9 +12,13 @@ unfoldable pub waits : Waiting → Bool
 waits Nothing = false
 waits (Cell p) = true
 
--- data or a turned cell waits
+-- a turned or a made cell waits (document 02, L1)
+unfoldable pub backwardWaits : Destination → Bool
+backwardWaits d = waits (d .turned) || ltb 0 (d .made .level)
+
+-- data, a turned or a made cell waits
 unfoldable pub anyWaits : Connection → Bool
-anyWaits c = ltb 0 (waiting (c .queue)) || waits (c .destination .turned)
+anyWaits c = ltb 0 (waiting (c .queue)) || backwardWaits (c .destination)
 
 -- k = Nrm − 1: the next cell is a forward one, whatever waits
 unfoldable pub lastBefore : Connection → ℕ → Bool

@@ -18,20 +18,22 @@ offered n c = withQueue c (enqueued n (c .queue))
 
 -- the latest data cell decides the saved EFCI
 unfoldable pub afterDataCell : Bool → Connection → Connection
-afterDataCell e c = withDestination c (record { efci = e; turned = c .destination .turned })
+afterDataCell e c = withDestination c (record { efci = e; turned = c .destination .turned; made = c .destination .made })
 
 -- feedback; the answer of a destination, BN 0, clears Y as well
 unfoldable pub afterBackwardCell : Fields → Connection → Connection
 afterBackwardCell f c =
     withUnacked (withRate c (feedback (eqb (f .ci) 1) (eqb (f .ni) 1) (rateOf (f .er)) (c .rate))) (cond (eqb (f .bn) 0) 0 (c .unacked))
 
--- a forward cell becomes the one waiting cell, at this congestion level; the saved EFCI is used up
+-- a forward cell becomes the one waiting turned cell, at this congestion level; the saved EFCI is used up
 unfoldable pub afterForwardCell : (level : ℕ) → List ℕ → Connection → Connection
-afterForwardCell level o c = withDestination c (record { efci = false; turned = Cell (payloadOf (turnedPayload level (c .destination .efci) (payload o))) })
+afterForwardCell level o c =
+    withDestination c (record { efci = false; turned = Cell (payloadOf (turnedPayload level (c .destination .efci) (payload o))); made = c .destination .made })
 
 -- the same, from the words of the received payload
 unfoldable pub afterForwardPayload : (level : ℕ) → Payload → Connection → Connection
-afterForwardPayload level p c = withDestination c (record { efci = false; turned = Cell (payloadOf (turnedPayload level (c .destination .efci) (octetsOf p))) })
+afterForwardPayload level p c =
+    withDestination c (record { efci = false; turned = Cell (payloadOf (turnedPayload level (c .destination .efci) (octetsOf p))); made = c .destination .made })
 
 -- a backward RM cell moves the rate, a forward one is turned round
 unfoldable pub afterResourceCell : (level : ℕ) → List ℕ → Fields → Connection → Connection

@@ -1,23 +1,25 @@
 -- What a slot at t makes of the connection that it goes to, and what it writes. (Document 01, "Slots".)
 use Prim.Native.Nat.{ℕ, _+_, _-_, min}
 use mathlib.Core.Bool.{Bool, true, false, _||_}
-use mathlib.Core.List.{List, []}
+use mathlib.Core.List.{List}
 use Rattle.rate.specs.declared.moves.Rate.{Rate}
+use Rattle.rate.specs.declared.params.Params.{Params}
 use Rattle.rate.specs.Code.{codeOf}
 use Rattle.rate.specs.Params.{peak, least}
 use Rattle.rate.specs.Moves.{firstCell, idle, unanswered}
 use Rattle.cell.specs.declared.fields.Fields.{Fields}
 use Rattle.cell.specs.Fields.{resourceCell}
 use Rattle.cell.specs.Turning.{turnedCell}
-use Rattle.connection.specs.Parts.{Connection, Pace, Unsent, Running, Waiting, Nothing, Cell, withRate, withPace, withUnacked, withQueue, withDestination, dequeued}
+use Rattle.connection.specs.Parts.{Connection, Pace, Unsent, Running, Waiting, Nothing, Cell, Made, withRate, withPace, withUnacked, withQueue, withDestination, dequeued}
 use Rattle.connection.specs.Kind.{Kind, Forward, Turned, Data}
+use Rattle.connection.specs.Making.{madeFields}
 
 -- the moves before a forward cell at t: the first cell's; or idle, and then unanswered
 unfoldable pub movedBy : (t y : ℕ) → Pace → Rate → Rate
 movedBy t y Unsent q = firstCell q
 movedBy t y (Running sent forward k turned) q = unanswered y (idle (t - forward) q)
 
--- one more cell at t that is no forward cell; the flag says if it is a turned one
+-- one more cell at t that is no forward cell; the flag says if it is a turned or made one
 unfoldable pub paced : ℕ → Bool → Pace → Pace
 paced t isTurned Unsent = Unsent
 paced t isTurned (Running sent forward k turned) = Running t forward (k + 1) (turned || isTurned)
@@ -27,8 +29,15 @@ unfoldable pub sentForward : ℕ → Connection → Connection
 sentForward t c =
     withUnacked (withPace (withRate c (movedBy t (c .unacked) (c .pace) (c .rate))) (Running t t 0 false)) (min (c .unacked + 1) 8_388_608)
 
+-- the turned cell goes before the made one
+unfoldable pub madeLeft : Waiting → Made → Made
+madeLeft Nothing m = record { level = 0; last = m .last }
+madeLeft (Cell p) m = m
+
 unfoldable pub sentTurned : ℕ → Connection → Connection
-sentTurned t c = withDestination (withPace c (paced t true (c .pace))) (record { efci = c .destination .efci; turned = Nothing })
+sentTurned t c =
+    withDestination (withPace c (paced t true (c .pace)))
+    (record { efci = c .destination .efci; turned = Nothing; made = madeLeft (c .destination .turned) (c .destination .made) })
 
 unfoldable pub sentData : ℕ → Connection → Connection
 sentData t c = withQueue (withPace c (paced t false (c .pace))) (dequeued (c .queue))
@@ -54,17 +63,18 @@ forwardFields v q = record {
   sn = 0;
 }
 
-unfoldable pub waitingCell : (name : ℕ) → Waiting → List ℕ
-waitingCell v Nothing = []
-waitingCell v (Cell p) = turnedCell v p
+-- the backward cell that goes: the turned one that waits, else the made one
+unfoldable pub backwardCell : (name : ℕ) → Params → Waiting → (level : ℕ) → List ℕ
+backwardCell v p Nothing level = resourceCell 0 (madeFields v p level)
+backwardCell v p (Cell w) level = turnedCell v w
 
 -- what the lent buffer holds after a call: what it held, or these octets
 pub data Buffer : Type 0 where
   untouched : Buffer
   written : List ℕ → Buffer
 
--- a forward cell carries the rate after the moves, a turned cell is the one that waited, and data is the caller's own
+-- a forward cell carries the rate after the moves, a turned or made cell is the one that waited, and data is the caller's own
 unfoldable pub bufferAfter : Kind → (before now : Connection) → Buffer
 bufferAfter Forward before now = written (resourceCell 0 (forwardFields (now .name) (now .rate)))
-bufferAfter Turned before now = written (waitingCell (before .name) (before .destination .turned))
+bufferAfter Turned before now = written (backwardCell (before .name) (before .rate .params) (before .destination .turned) (before .destination .made .level))
 bufferAfter Data before now = untouched

@@ -1,13 +1,14 @@
 // The parts of a connection (document 01, "Opening", "Turning cells round" and "Slots").
 ghost use mathlib.Core.Path.{_≡_};
 ghost use Rattle.connection.specs.Parts.{fresh, withRate, withPace, withUnacked, withQueue, withDestination};
+use crate::ready::Instant;
 use crc::payload::Payload;
 use rate::moves::Rate;
 use rate::params::Params;
 use rate::params::trm_time;
 
 // The cells sent: none yet; or the instants of the last cell and of the last forward cell, the cells k since then, and whether a turned
-// cell is among them.
+// or made cell is among them.
 pub enum Pace {
     Unsent,
     Running {
@@ -29,10 +30,18 @@ pub enum Waiting {
     Cell(Payload),
 }
 
-// What the receiving side keeps: the saved EFCI and the waiting turned cell.
+// The backward cells that the connection makes itself (document 02, L1): the level at which the one that waits was made, 0 if none waits, and the instant of
+// the last making.
+pub struct Made {
+    pub level: u32,
+    pub last: Instant,
+}
+
+// What the receiving side keeps: the saved EFCI, the waiting turned cell, and the cells made.
 pub struct Destination {
     pub efci: bool,
     pub turned: Waiting,
+    pub made: Made,
 }
 
 // trm is Trm in nanoseconds, looked up once, at the open; unacked is the count Y.
@@ -63,6 +72,10 @@ impl Connection {
             destination: Destination {
                 efci: false,
                 turned: Waiting::Nothing,
+                made: Made {
+                    level: 0,
+                    last: Instant::Never,
+                },
             },
         }
     }

@@ -1,5 +1,4 @@
-// When a connection may send (document 01, "Slots").
-// A ready instant in nanoseconds, if the connection has one.
+// An instant in nanoseconds, or none: a ready instant (document 01, "Slots"), or that of the last making (document 02, L1).
 pub enum Instant {
     Never,
     At(u64),

@@ -5,3 +5,4 @@ pub mod OpenCases
 pub mod ReceiveCases
 pub mod SendCases
 pub mod SlotCases
+pub mod MakeCases

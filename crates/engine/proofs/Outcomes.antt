@@ -1,7 +1,8 @@
 -- What a call on the words of a reached state finds and leaves: shared by the calls' proofs.
-use Prim.Native.Nat.{ℕ, _<_}
+use Prim.Native.Nat.{ℕ, _<_, _%_}
 use mathlib.Core.Path.{_≡_, refl, sym, ap, subst, _∙_}
 use mathlib.Core.List.{List}
+use native.Mathlib.Omega.{arith}
 use lib.ListN.{getD, set}
 use Rattle.connection.specs.declared.parts.Connection.{Connection}
 use Rattle.connection.specs.Invariant.{ValidAt}
@@ -48,6 +49,10 @@ last-word s = refl
 pub level-at : (s : State) → getD (words s) levelAt 0 ≡ s .level
 unfolding words
 level-at s = refl
+
+-- the level, from the first word
+pub level-of : (s : State) → WellFormed s → {l : List ℕ} → l ≡ words s → getD l levelAt 0 % 4294967296 ≡ s .level
+level-of s w e = ap (λ (x : List ℕ). getD x levelAt 0 % 4294967296) e ∙ ap (λ (x : ℕ). x % 4294967296) (level-at s) ∙ omega (arith, w .levels)
 
 -- What was found.
 pub below : (l : List ℕ) (v : ℕ) {r : Found} {i : ℕ} → Finds l v r → r ≡ At i → i < capacity
@@ -100,6 +105,6 @@ module _ (s : State) (w : WellFormed s) {l : List ℕ} (e : l ≡ words s) {v i 
   destination-is f q = kept s p d (q ∙ ap (λ (x : List ℕ). destinationUpdated x i d) e ∙ destination-at s (w .size) i h (p .holder) d (p .here) (k .name) (same-fixed (p .holder) d k) f)
 
   pub efci-is :
-      {m : List ℕ} → sourceWords d ≡ sourceWords (p .holder) → d .destination .turned ≡ p .holder .destination .turned → readyInstant d ≡ readyInstant (p .holder) → m ≡ efciUpdated l i (d .destination)
+      {m : List ℕ} → sourceWords d ≡ sourceWords (p .holder) → d .destination .turned ≡ p .holder .destination .turned → d .destination .made ≡ p .holder .destination .made → readyInstant d ≡ readyInstant (p .holder) → m ≡ efciUpdated l i (d .destination)
       → m ≡ words (put v (taken d) s)
-  efci-is f t r q = kept s p d (q ∙ ap (λ (x : List ℕ). efciUpdated x i (d .destination)) e ∙ efci-at s (w .size) i h (p .holder) d (p .here) (k .name) (same-fixed (p .holder) d k) f t r)
+  efci-is f t b r q = kept s p d (q ∙ ap (λ (x : List ℕ). efciUpdated x i (d .destination)) e ∙ efci-at s (w .size) i h (p .holder) d (p .here) (k .name) (same-fixed (p .holder) d k) f t b r)

@@ -16,7 +16,7 @@ use Rattle.connection.specs.declared.parts.Connection.{Connection}
 use Rattle.connection.specs.declared.parts.Pace.{Pace}
 use Rattle.connection.specs.declared.parts.Pace.the-variants.{Unsent, Running}
 use Rattle.connection.specs.Receiving.{afterDataCell, afterBackwardCell, afterForwardCell, afterForwardPayload, afterResourceCell}
-use Rattle.connection.specs.Ready.{anyWaits, lastBefore, readyFrom, readyInstant}
+use Rattle.connection.specs.Ready.{anyWaits, backwardWaits, lastBefore, readyFrom, readyInstant}
 use Rattle.connection.proofs.Keeps.{Same, work-same}
 use Rattle.connection.proofs.Turnings.{after-forward-cell-words}
 use Rattle.model.specs.State.{State, free, taken, find, put, capacity}
@@ -31,7 +31,7 @@ use Rattle.model.specs.declared.answer.Answer.the-variants.{Accepted}
 use Rattle.model.specs.Call.{Outcome}
 use Rattle.model.specs.Step.{refuse, accept, ofOpen, readStep, receiveStep}
 use Rattle.engine.specs.Contract.{Meets}
-use Rattle.engine.proofs.Outcomes.{accepted-out, level-at, loaded-is, source-is, destination-is, efci-is}
+use Rattle.engine.proofs.Outcomes.{accepted-out, level-of, loaded-is, source-is, destination-is, efci-is}
 
 -- The connection: a backward cell moves the rate, a forward one is turned round from the words of its payload.
 module _ (level : ℕ) (o : List ℕ) (f : Fields) (c : Connection) where
@@ -80,22 +80,18 @@ data-missing s v e q = data-step s v e ∙ missed s v (afterDataCell e) q
 pub work-missing : (s : State) (o : List ℕ) (f : Fields) → find (f .vci) (s .entries) ≡ free → readStep s o (Resource f) ≡ refuse s 11
 work-missing s o f q = work-step s o f ∙ missed s (f .vci) (afterResourceCell (s .level) o f) q
 
--- the level, from the first word
-level-of : (s : State) → WellFormed s → {l : List ℕ} → l ≡ words s → getD l levelAt 0 % 4294967296 ≡ s .level
-level-of s w e = ap (λ (x : List ℕ). getD x levelAt 0 % 4294967296) e ∙ ap (λ (x : ℕ). x % 4294967296) (level-at s) ∙ omega (arith, w .levels)
-
 -- the step's outcome, where the words are those of the changed connection
 changed : (s : State) {v i : ℕ} (p : Located (s .entries) v i) {m : List ℕ} {o : Outcome} (g : Connection → Connection) → o ≡ changing s v g
     → m ≡ words (put v (taken (g (p .holder))) s) → (m ≡ words (o .state)) × (Accepted ≡ o .answer)
 changed s {v} p g r q = accepted-out (put v (taken (g (p .holder))) s) q (r ∙ met s v g (p .holder) (found-at p))
 
 -- the saved EFCI moves no ready instant, and nothing else of the connection
-after-data-cell-kept : (t : Bool) (c : Connection) → (sourceWords (afterDataCell t c) ≡ sourceWords c) × (afterDataCell t c .destination .turned ≡ c .destination .turned)
+after-data-cell-kept : (t : Bool) (c : Connection) → (sourceWords (afterDataCell t c) ≡ sourceWords c) × (afterDataCell t c .destination .turned ≡ c .destination .turned) × (afterDataCell t c .destination .made ≡ c .destination .made)
 unfolding afterDataCell
-after-data-cell-kept t c = (refl, refl)
+after-data-cell-kept t c = (refl, refl, refl)
 
 after-data-cell-from : (t : Bool) (c : Connection) (p : Pace) → readyFrom (afterDataCell t c) p ≡ readyFrom c p
-unfolding afterDataCell readyFrom anyWaits lastBefore
+unfolding afterDataCell readyFrom anyWaits backwardWaits lastBefore
 after-data-cell-from t c Unsent = refl
 after-data-cell-from t c (Running sent forward k turned) = refl
 
@@ -117,7 +113,7 @@ module _ (s : State) (w : WellFormed s) {l : List ℕ} (e : l ≡ words s) {v : 
   data-done b t a =
       let k = after-data-cell-kept t (p .holder) in
       changed s p (afterDataCell t) (data-step s v t)
-      (efci-is s w e h p (afterDataCell t (p .holder)) (after-data-cell-same t (p .holder)) (k .0) (k .1) (after-data-cell-ready t (p .holder)) (b ∙ ap (λ (y : Connection). efciUpdated l i (y .destination)) (a ∙ ap (afterDataCell t) (loaded-is s w p e h q))))
+      (efci-is s w e h p (afterDataCell t (p .holder)) (after-data-cell-same t (p .holder)) (k .0) (k .1) (k .2) (after-data-cell-ready t (p .holder)) (b ∙ ap (λ (y : Connection). efciUpdated l i (y .destination)) (a ∙ ap (afterDataCell t) (loaded-is s w p e h q))))
 
 module _ (s : State) (w : WellFormed s) {l : List ℕ} (e : l ≡ words s) (o : List ℕ) (f : Fields) (i : ℕ) (h : i < capacity) (p : Located (s .entries) (f .vci) i) (d : Connection) (q : d ≡ connectionAt l i) (x : Connection) where
   pub answer-done : {m : List ℕ} → f .dir ≡ 1 → x ≡ afterBackwardCell f d → m ≡ sourceUpdated l i x → (m ≡ words (readStep s o (Resource f) .state)) × (Accepted ≡ readStep s o (Resource f) .answer)

@@ -1,21 +1,16 @@
 -- What a slot that goes to an entry leaves.
 use Prim.Native.Nat.{ℕ, _<_}
 use mathlib.Core.Path.{_≡_, refl, ap, subst, _∙_}
-use mathlib.Core.Bool.{true}
 use mathlib.Core.List.{List}
 use lib.ListN.{getD}
 use Rattle.connection.specs.declared.parts.Connection.{Connection}
-use Rattle.connection.specs.declared.parts.Waiting.{Waiting}
-use Rattle.connection.specs.declared.parts.Waiting.the-variants.{Nothing, Cell}
 use Rattle.connection.specs.declared.kind.Kind.{Kind}
 use Rattle.connection.specs.declared.kind.Kind.the-variants.{Forward, Turned, Data}
 use Rattle.connection.specs.Invariant.{ValidAt}
-use Rattle.connection.specs.Ready.{waits}
 use Rattle.connection.specs.Kind.{kindAt}
-use Rattle.connection.specs.Sending.{after, sentForward, sentData, bufferAfter, waitingCell}
+use Rattle.connection.specs.Sending.{after, sentForward, sentData, bufferAfter}
 use Rattle.connection.proofs.Keeps.{after-same, after-valid}
 use Rattle.connection.proofs.Reached.{acr-is-rate}
-use Rattle.connection.proofs.Waited.{turned-waits}
 use Rattle.model.specs.State.{State, free, taken, position, holds, put, capacity}
 use Rattle.model.specs.Invariant.{WellFormed}
 use Rattle.table.specs.Layout.{words}
@@ -24,21 +19,15 @@ use Rattle.names.specs.Finding.{Located}
 use Rattle.model.specs.declared.answer.Answer.the-variants.{Sent}
 use Rattle.model.specs.Step.{sendStep}
 use Rattle.engine.specs.Contract.{bufferContent}
-use Rattle.engine.specs.Slots.{waitingOr, Carried, storedSent}
+use Rattle.engine.specs.Slots.{Carried, storedSent}
 use Rattle.engine.proofs.Outcomes.{valid-in, loaded-is, updated-is, source-is}
-
--- a turned cell that waits is the one in the buffer
-waiting-is : (v : ℕ) (w : Waiting) (old : List ℕ) → waits w ≡ true → waitingOr v w old ≡ waitingCell v w
-unfolding waits waitingCell
-waiting-is v Nothing old e = cc
-waiting-is v (Cell p) old e = refl
 
 carried-is :
     (t : ℕ) (c : Connection) (k : Kind) (old new : List ℕ) → kindAt t c ≡ k → ValidAt t c → Carried k c (after k t c) old new
     → new ≡ bufferContent (bufferAfter k c (after k t c)) old
 unfolding bufferAfter
 carried-is t c Forward old new e p h = h .is (acr-is-rate (after Forward t c .rate) (after-valid Forward t c e p .1 .rates))
-carried-is t c Turned old new e p h = h ∙ waiting-is (c .name) (c .destination .turned) old (turned-waits t c e)
+carried-is t c Turned old new e p h = h
 carried-is t c Data old new e p h = h
 
 -- the words of the connection after a cell of kind k

@@ -6,14 +6,11 @@ use lib.ListN.{getD}
 use Rattle.rate.specs.declared.moves.Rate.{Rate}
 use Rattle.rate.specs.Units.{largestRate}
 use Rattle.cell.specs.Fields.{resourceCell}
-use Rattle.cell.specs.Turning.{turnedCell}
 use Rattle.connection.specs.declared.parts.Connection.{Connection}
-use Rattle.connection.specs.declared.parts.Waiting.{Waiting}
-use Rattle.connection.specs.declared.parts.Waiting.the-variants.{Nothing, Cell}
 use Rattle.connection.specs.declared.kind.Kind.{Kind}
 use Rattle.connection.specs.declared.kind.Kind.the-variants.{Forward, Turned, Data}
 use Rattle.connection.specs.Kind.{kindAt}
-use Rattle.connection.specs.Sending.{forwardFields}
+use Rattle.connection.specs.Sending.{forwardFields, backwardCell}
 use Rattle.model.specs.State.{State, free, taken, position, holds}
 use Rattle.model.specs.Invariant.{WellFormed}
 use Rattle.table.specs.Layout.{words}
@@ -22,11 +19,6 @@ use Rattle.model.specs.declared.answer.Answer.{Answer}
 use Rattle.model.specs.Step.{sendStep}
 use Rattle.engine.specs.Contract.{bufferContent}
 
--- the waiting cell, in a buffer that held these octets; none waits only where no turned cell is sent
-abbrev pub waitingOr : (name : ℕ) → Waiting → List ℕ → List ℕ
-waitingOr v Nothing old = old
-waitingOr v (Cell p) old = turnedCell v p
-
 -- a forward cell, if the allowed rate is a rate, as that of every connection that calls made is
 pub record ForwardIn (name : ℕ) (q : Rate) (new : List ℕ) : Type 0 where
   pub is : q .acr ≤ largestRate → new ≡ resourceCell 0 (forwardFields name q)
@@ -34,10 +26,10 @@ pub record ForwardIn (name : ℕ) (q : Rate) (new : List ℕ) : Type 0 where
 -- the buffer after a cell of this kind, from a connection before and after it
 abbrev pub Carried : Kind → (before now : Connection) → (old new : List ℕ) → Type 0
 Carried Forward before now old new = ForwardIn (now .name) (now .rate) new
-Carried Turned before now old new = new ≡ waitingOr (before .name) (before .destination .turned) old
+Carried Turned before now old new = new ≡ backwardCell (before .name) (before .rate .params) (before .destination .turned) (before .destination .made .level)
 Carried Data before now old new = new ≡ old
 
--- what a cell of this kind leaves of the table's words: only a turned cell changes the receiving side
+-- what a cell of this kind leaves of the table's words: only a turned or made cell changes the receiving side
 abbrev pub storedSent : List ℕ → (entry : ℕ) → Kind → Connection → List ℕ
 storedSent l i Forward c = sourceUpdated l i c
 storedSent l i Turned c = updated l i c

@@ -2,6 +2,7 @@
 pub mod acr;
 pub mod close;
 pub mod level;
+pub mod make;
 pub mod offer;
 pub mod open;
 pub mod receive;

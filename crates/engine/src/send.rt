@@ -4,7 +4,8 @@ ghost use Prim.Native.Nat.{_≤_, _<_};
 ghost use lib.ListN.{length};
 ghost use Rattle.rate.specs.Units.{latestTime};
 ghost use Rattle.connection.specs.Range.{InRange};
-ghost use Rattle.engine.specs.Slots.{waitingOr, ForwardIn, Carried, storedSent, Sends};
+ghost use Rattle.connection.specs.Sending.{backwardCell};
+ghost use Rattle.engine.specs.Slots.{ForwardIn, Carried, storedSent, Sends};
 ghost use Rattle.model.specs.State.{capacity};
 use connection::kind::Kind;
 use connection::parts::Connection;
@@ -12,21 +13,24 @@ use connection::parts::Waiting;
 use loading::load::load;
 use model::answer::Answer;
 use rate::moves::Rate;
+use rate::params::Params;
 use scheduling::kind::kind_at;
 use storing::store::update;
 use storing::store::update_source;
 use table::layout::WORDS;
+use transition::make::made_fields;
 use transition::send::after;
 use transition::send::forward_fields;
 use writing::turned::put_turned;
 use writing::write::put_resource;
 
-fn put_waiting(cell: &mut [u8], name: u32, w: Waiting)
-    requires { ⌜ length (now cell) ≡ 53 ⌝ }
-    ensures { λ _. ⌜ now (cell .exit) ≡ waitingOr name w (now (cell .entry)) ⌝ }
+// The backward cell that goes: the turned one that waits, else the made one.
+fn put_backward(cell: &mut [u8], name: u32, params: Params, w: Waiting, level: u32)
+    requires { ⌜ (length (now cell) ≡ 53) × (name ≤ 65535) ⌝ }
+    ensures { λ _. ⌜ now (cell .exit) ≡ backwardCell name params w level ⌝ }
 {
     match w {
-        Waiting::Nothing => {}
+        Waiting::Nothing => put_resource(cell, 0, made_fields(name, params, level)),
         Waiting::Cell(p) => put_turned(cell, name, p),
     }
 }
@@ -40,7 +44,7 @@ fn put_forward(cell: &mut [u8], name: u32, rate: Rate)
 
 // Data is the caller's own: the buffer stays.
 fn put_cell(cell: &mut [u8], kind: Kind, c: Connection, next: Connection)
-    requires { ⌜ (length (now cell) ≡ 53) × (next .name ≤ 65535) ⌝ }
+    requires { ⌜ (length (now cell) ≡ 53) × ((c .name ≤ 65535) × (next .name ≤ 65535)) ⌝ }
     ensures { λ _. ⌜ Carried kind c next (now (cell .entry)) (now (cell .exit)) ⌝ }
 {
     match kind {
@@ -49,15 +53,17 @@ fn put_cell(cell: &mut [u8], kind: Kind, c: Connection, next: Connection)
             put_forward(cell, next.name, rate)
         }
         Kind::Turned => {
+            let rate = c.rate;
+            let params = rate.params;
             let destination = c.destination;
             let turned = destination.turned;
-            put_waiting(cell, c.name, turned)
+            put_backward(cell, c.name, params, turned, destination.made.level)
         }
         Kind::Data => {}
     }
 }
 
-// Only a turned cell changes the receiving side: the cell that waited is gone.
+// Only a turned or made cell changes the receiving side: it no longer waits.
 fn store_sent(t: &mut [u64; WORDS], i: usize, kind: Kind, next: Connection)
     requires { ⌜ (i < capacity) × InRange next ⌝ }
     ensures { λ _. ⌜ now (t .exit) ≡ storedSent (now (t .entry)) i kind next ⌝ }

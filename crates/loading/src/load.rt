@@ -1,14 +1,16 @@
 // An entry's connection out of its words.
 ghost use mathlib.Core.Path.{_≡_};
 ghost use Prim.Native.Nat.{_<_, _+_, _≤_};
-ghost use Rattle.table.specs.Loading.{paceOf, paceAt, waitingOf, waitingAt, paramsAt, connectionAt};
+ghost use Rattle.table.specs.Loading.{paceOf, paceAt, waitingOf, waitingAt, instantOf, madeAt, paramsAt, connectionAt};
 ghost use Rattle.table.specs.Layout.{size};
 ghost use Rattle.model.specs.State.{capacity};
 use connection::parts::Connection;
 use connection::parts::Destination;
+use connection::parts::Made;
 use connection::parts::Pace;
 use connection::parts::Queue;
 use connection::parts::Waiting;
+use connection::ready::Instant;
 use crc::payload::Payload;
 use rate::moves::Rate;
 use rate::params::Params;
@@ -65,6 +67,25 @@ fn waiting_at(t: &[u64; WORDS], b: usize) -> Waiting
     waiting_of(t[b], p)
 }
 
+fn instant_of(word: u64) -> Instant
+    ensures { λ i. ⌜ i ≡ instantOf word ⌝ }
+{
+    if word == 0 {
+        return Instant::Never;
+    }
+    Instant::At((word - 1) % 9223372036854775808)
+}
+
+fn made_at(t: &[u64; WORDS], b: usize) -> Made
+    requires { ⌜ b + 2 ≤ size ⌝ }
+    ensures { λ m. ⌜ m ≡ madeAt (now (t .entry)) b ⌝ }
+{
+    Made {
+        level: (t[b] % 4294967296) as u32,
+        last: instant_of(t[b + 1]),
+    }
+}
+
 fn params_at(t: &[u64; WORDS], b: usize) -> Params
     requires { ⌜ b + 10 ≤ size ⌝ }
     ensures { λ p. ⌜ p ≡ paramsAt (now (t .entry)) b ⌝ }
@@ -92,6 +113,7 @@ pub fn load(t: &[u64; WORDS], i: usize) -> Connection
     let params = params_at(t, b + 2);
     let pace = pace_at(t, a + 3);
     let turned = waiting_at(t, a + 7);
+    let made = made_at(t, a + 14);
     Connection {
         name: (t[NAMES + i] % 65536) as u32,
         opened: t[b] % 9223372036854775808,
@@ -105,6 +127,7 @@ pub fn load(t: &[u64; WORDS], i: usize) -> Connection
         destination: Destination {
             efci: t[a + 7] % 2 == 1,
             turned,
+            made,
         },
     }
 }

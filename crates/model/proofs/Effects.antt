@@ -4,7 +4,7 @@ use mathlib.Core.Path.{_≡_, refl}
 use mathlib.Core.Bool.{Bool, true, false, _&&_}
 use mathlib.Core.List.{List}
 use lib.Dec.{leb, T, lit<, ltb}
-use borrow.Author.Tests.{leb-true}
+use borrow.Author.Tests.{leb-true, ltb-true}
 use Rattle.rate.specs.declared.params.Params.{Params}
 use Rattle.rate.specs.Units.{latestTime}
 use Rattle.rate.specs.Params.{paramsFit}
@@ -15,14 +15,15 @@ use Rattle.cell.specs.Reading.{reading}
 use Rattle.cell.proofs.Readings.{refusal-number}
 use Rattle.connection.specs.declared.parts.Connection.{Connection}
 use Rattle.connection.specs.Parts.{fresh, waiting}
+use Rattle.connection.specs.Making.{mayMake, withMade}
 use Rattle.connection.specs.Receiving.{offered, afterDataCell, afterResourceCell}
 use Rattle.connection.specs.Kind.{kindAt}
 use Rattle.model.specs.State.{State, Entry, free, taken, find, put, inserted, roomLeft, withTime, withLevel, isFree}
 use Rattle.model.specs.Invariant.{NamesUnique}
 use Rattle.model.specs.Choice.{Winner, noneReady, wins, winner, Chosen, Best}
 use Rattle.model.proofs.Winners.{winner-best}
-use Rattle.model.specs.Call.{Call, opening, closing, receiving, offering, levelling, slot, Outcome}
-use Rattle.model.specs.Step.{refuse, accept, ofOpen, openStep, closeStep, offerStep, readStep, receiveStep, levelStep, sendStep, idleStep, serveEntry, serve, slotStep, step}
+use Rattle.model.specs.Call.{Call, opening, closing, receiving, offering, levelling, slot, making, Outcome}
+use Rattle.model.specs.Step.{refuse, accept, ofOpen, openStep, closeStep, offerStep, readStep, receiveStep, levelStep, sendStep, idleStep, serveEntry, serve, slotStep, makeStep, step}
 use Rattle.laws.specs.Require.{require}
 
 -- an instant that does not lie before the last accepted one
@@ -57,6 +58,9 @@ pub data Effect (s : State) : Call → Outcome → Type 0 where
   sends :
       (t room i u : ℕ) → Timely s t → (b : Chosen t i u (s .entries))
       → Effect s (slot t room) (sendStep (withTime t s) t u (b .holder) (kindAt t (b .holder)))
+  makes :
+      (u t : ℕ) (d : Connection) → find u (s .entries) ≡ taken d → Timely s t → 0 < s .level → mayMake t (d .destination .made .last) ≡ true
+      → Effect s (making u t) (accept (put u (taken (withMade t (s .level) d)) (withTime t s)))
 
 module _ {s : State} (c : Call) where
   require-effect : (n : ℕ) → T (ltb 0 n) → (t : Bool) (o : Outcome) → (t ≡ true → Effect s c o) → Effect s c (require (refuse s n) t o)
@@ -134,6 +138,16 @@ slot-effect s t room a =
     require-effect (slot t room) 14 tt _ _ λ since.
     serve-effect s t room (timely s t since until) (winner t (s .entries)) (winner-best t (s .entries) a)
 
+make-effect : (s : State) (u t : ℕ) → Effect s (making u t) (makeStep s u t)
+unfolding makeStep
+make-effect s u t =
+    require-effect (making u t) 8 tt _ _ λ until.
+    ofOpen-effect (making u t) (find u (s .entries)) _ λ d e.
+    require-effect (making u t) 14 tt _ _ λ since.
+    require-effect (making u t) 16 tt _ _ λ high.
+    require-effect (making u t) 17 tt _ _ λ rested.
+    makes u t d e (timely s t since until) (ltb-true _ _ high) rested
+
 -- every call has one of these effects
 pub effect : (s : State) → NamesUnique (s .entries) → (c : Call) → Effect s c (step s c)
 unfolding step receiveStep
@@ -143,3 +157,4 @@ effect s a (receiving o) = read-effect s o (reading o) refl
 effect s a (offering u n) = offer-effect s u n
 effect s a (levelling l) = level-effect s l
 effect s a (slot t room) = slot-effect s t room a
+effect s a (making u t) = make-effect s u t

@@ -10,6 +10,7 @@ use lib.ListN.{replicate}
 use Rattle.rate.specs.declared.params.Params.{Params}
 use Rattle.connection.specs.declared.parts.Connection.{Connection}
 use Rattle.connection.specs.Parts.{fresh}
+use Rattle.connection.specs.Making.{withMade}
 use Rattle.connection.specs.Receiving.{offered, afterDataCell, afterResourceCell}
 use Rattle.connection.specs.Kind.{kindAt}
 use Rattle.connection.specs.Sending.{after}
@@ -19,10 +20,10 @@ use Rattle.model.specs.Invariant.{NamesUnique, WellFormed}
 use Rattle.model.proofs.Entries.{absent-find, each-free}
 use Rattle.model.proofs.Frames.{put-kept, inserted-read, freed-read}
 use Rattle.model.proofs.Preserved.{empty-well-formed}
-use Rattle.model.specs.Call.{Call, opening, closing, receiving, offering, levelling, slot, Outcome}
+use Rattle.model.specs.Call.{Call, opening, closing, receiving, offering, levelling, slot, making, Outcome}
 use Rattle.model.specs.Step.{refuse, accept, sendStep, idleStep, step}
 use Rattle.model.specs.Run.{final, isAccepted, given, givenFrom, paramsGiven}
-use Rattle.model.proofs.Effects.{Enters, Effect, refuses, begins, ends, offers, marks, works, levels, idles, sends, effect}
+use Rattle.model.proofs.Effects.{Enters, Effect, refuses, begins, ends, offers, marks, works, levels, idles, sends, makes, effect}
 use Rattle.model.proofs.Reached.{step-well-formed}
 
 unfoldable pub entryParams : Entry → Option Params
@@ -41,6 +42,7 @@ refused-given v (receiving o) s n p = refl
 refused-given v (offering u k) s n p = refl
 refused-given v (levelling l) s n p = refl
 refused-given v (slot t room) s n p = refl
+refused-given v (making u t) s n p = refl
 
 begun-params :
     (v : ℕ) (s : State) (u t : ℕ) (p : Params) → Enters s u t p → paramsAt v (inserted (fresh u t p) s) ≡ cond (eqb u v) (some p) (paramsAt v s)
@@ -58,7 +60,7 @@ unfolding entryParams
 kept-params v u s a d e f n h = put-kept entryParams v u s a d e f n (ap some h)
 
 effect-given : (v : ℕ) {s : State} → NamesUnique (s .entries) → {c : Call} {o : Outcome} → Effect s c o → paramsAt v (o .state) ≡ given v c (isAccepted (o .answer)) (paramsAt v s)
-unfolding refuse accept withLevel idleStep sendStep withTime given isAccepted offered afterDataCell
+unfolding refuse accept withLevel idleStep sendStep withTime given isAccepted offered afterDataCell withMade
 effect-given v {s} a (refuses c n h) = refused-given v c s n (paramsAt v s)
 effect-given v {s} a (begins u t p g) = begun-params v s u t p g
 effect-given v {s} a (ends u d f) = ended-params v u s a
@@ -72,6 +74,7 @@ effect-given v {s} a (idles t room g b) = refl
 effect-given v {s} a (sends t room i u g b) =
     let same = after-same (kindAt t (b .holder)) t (b .holder) in
     kept-params v u (withTime t s) a (b .holder) (after (kindAt t (b .holder)) t (b .holder)) (b .found) (same .name) (same .params)
+effect-given v {s} a (makes u t d f g h m) = kept-params v u (withTime t s) a d (withMade t (s .level) d) f refl refl
 
 run-given : (v : ℕ) (s : State) → WellFormed s → (before : Option Params) → paramsAt v s ≡ before → (cs : List Call) → paramsAt v (final s cs) ≡ givenFrom v s before cs
 run-given v s w b e [] = e

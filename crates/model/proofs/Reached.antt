@@ -5,11 +5,12 @@ use mathlib.Core.List.{List, [], _∷_}
 use Rattle.rate.specs.declared.params.Params.{Params}
 use Rattle.connection.specs.declared.parts.Connection.{Connection}
 use Rattle.connection.specs.Parts.{fresh}
+use Rattle.connection.specs.Making.{withMade}
 use Rattle.connection.specs.Receiving.{offered, afterDataCell, afterResourceCell}
 use Rattle.connection.specs.Kind.{kindAt}
 use Rattle.connection.specs.Sending.{after}
 use Rattle.connection.specs.Invariant.{ValidAt}
-use Rattle.connection.proofs.Keeps.{fresh-valid, offered-valid, after-data-cell-valid, work-same, work-valid, after-same, after-valid}
+use Rattle.connection.proofs.Keeps.{made-valid, fresh-valid, offered-valid, after-data-cell-valid, work-same, work-valid, after-same, after-valid}
 use Rattle.model.specs.State.{State, free, taken, empty, find, put, inserted, withTime}
 use Rattle.model.specs.Invariant.{WellFormed}
 use Rattle.model.specs.Choice.{winner, Best}
@@ -19,7 +20,7 @@ use Rattle.model.proofs.Winners.{winner-best}
 use Rattle.model.specs.Call.{Call, Outcome}
 use Rattle.model.specs.Step.{refuse, accept, sendStep, idleStep, step}
 use Rattle.model.specs.Run.{final}
-use Rattle.model.proofs.Effects.{Timely, Enters, Effect, refuses, begins, ends, offers, marks, works, levels, idles, sends, effect}
+use Rattle.model.proofs.Effects.{Timely, Enters, Effect, refuses, begins, ends, offers, marks, works, levels, idles, sends, makes, effect}
 
 begun-well-formed : {s : State} → WellFormed s → (u t : ℕ) (p : Params) → Enters s u t p → WellFormed (withTime t (inserted (fresh u t p) s))
 unfolding withTime inserted fresh
@@ -38,7 +39,7 @@ sent-well-formed w t u g d f =
     changed-well-formed (withTime-well-formed w t (g .since) (g .until)) u d (after (kindAt t d) t d) f (after-same (kindAt t d) t d .name) (after-valid (kindAt t d) t d refl)
 
 effect-well-formed : {s : State} → WellFormed s → {c : Call} {o : Outcome} → Effect s c o → WellFormed (o .state)
-unfolding refuse accept idleStep sendStep offered afterDataCell
+unfolding refuse accept idleStep sendStep offered afterDataCell withTime withMade
 effect-well-formed w (refuses c n h) = w
 effect-well-formed w (begins u t p g) = begun-well-formed w u t p g
 effect-well-formed w (ends u d f) = put-well-formed w u free tt tt
@@ -49,6 +50,8 @@ effect-well-formed {s} w (works o q d r f) =
 effect-well-formed w (levels l h) = withLevel-well-formed w l h
 effect-well-formed w (idles t room g b) = withTime-well-formed w t (g .since) (g .until)
 effect-well-formed w (sends t room i u g b) = sent-well-formed w t u g (b .holder) (b .found)
+effect-well-formed {s} w (makes u t d f g h m) =
+    changed-well-formed (withTime-well-formed w t (g .since) (g .until)) u d (withMade t (s .level) d) f refl (made-valid t (s .level) d (w .levels))
 
 pub step-well-formed : {s : State} → WellFormed s → (c : Call) → WellFormed (step s c .state)
 step-well-formed {s} w c = effect-well-formed w (effect s (w .unique) c)

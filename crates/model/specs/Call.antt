@@ -17,6 +17,7 @@ pub data Call : Type 0 where
   offering : (name cells : ℕ) → Call
   levelling : (level : ℕ) → Call
   slot : (time room : ℕ) → Call
+  making : (name time : ℕ) → Call
 
 -- the table that a call leaves, its answer, and what it writes
 pub record Outcome : Type 0 where
@@ -24,7 +25,7 @@ pub record Outcome : Type 0 where
   pub answer : Answer
   pub buffer : Buffer
 
--- document 01's number of a refusal; an accepted call has none
+-- the documents' number of a refusal; an accepted call has none
 unfoldable pub refusal : Answer → Option ℕ
 refusal (Refused n) = some n
 refusal Accepted = none

@@ -1,4 +1,4 @@
--- The engine as document 01 describes it, without a word of memory: read this first.
+-- The engine as documents 01 and 02 describe it, without a word of memory: read this first.
 -- The table, and who is served in a slot:
 pub mod State
 pub mod Choice

@@ -1,8 +1,8 @@
--- What each call does to a table, its refusals in document 01's order ("Refused because of the state").
+-- What each call does to a table, its refusals in their order. (Document 01, "Refused because of the state"; document 02.)
 use Prim.Native.Nat.{ℕ, _+_}
 use mathlib.Core.Bool.{Bool, true, false, _&&_}
 use mathlib.Core.List.{List}
-use lib.Dec.{leb, eqb}
+use lib.Dec.{leb, ltb, eqb}
 use Rattle.rate.specs.declared.params.Params.{Params}
 use Rattle.rate.specs.Units.{latestTime}
 use Rattle.rate.specs.Params.{paramsFit}
@@ -13,11 +13,12 @@ use Rattle.connection.specs.declared.parts.Connection.{Connection}
 use Rattle.connection.specs.declared.kind.Kind.{Kind}
 use Rattle.connection.specs.Parts.{fresh, waiting}
 use Rattle.connection.specs.Receiving.{offered, afterDataCell, afterResourceCell}
+use Rattle.connection.specs.Making.{mayMake, withMade}
 use Rattle.connection.specs.Kind.{kindAt}
 use Rattle.connection.specs.Sending.{untouched, after, bufferAfter}
 use Rattle.model.specs.State.{State, Entry, free, taken, find, put, inserted, roomLeft, withTime, withLevel, isFree}
 use Rattle.model.specs.Choice.{Winner, noneReady, wins, winner}
-use Rattle.model.specs.Call.{Call, opening, closing, receiving, offering, levelling, slot, Refused, Accepted, Idle, Sent, Outcome}
+use Rattle.model.specs.Call.{Call, opening, closing, receiving, offering, levelling, slot, making, Refused, Accepted, Idle, Sent, Outcome}
 use Rattle.laws.specs.Require.{require}
 
 -- a refusal leaves table and buffer
@@ -94,6 +95,16 @@ slotStep s t room =
     (require (refuse s 14) (leb (s .last) t)
     (serve (withTime t s) t (winner t (s .entries)))))
 
+-- Making a backward cell: 8, 11, 14, 16, 17. Its time counts as a slot's does. (Document 02, L1.)
+unfoldable pub makeStep : State → (name time : ℕ) → Outcome
+makeStep s v t =
+    require (refuse s 8) (leb t latestTime)
+    (ofOpen s (find v (s .entries)) λ c.
+    require (refuse s 14) (leb (s .last) t)
+    (require (refuse s 16) (ltb 0 (s .level))
+    (require (refuse s 17) (mayMake t (c .destination .made .last))
+    (accept (put v (taken (withMade t (s .level) c)) (withTime t s))))))
+
 unfoldable pub step : State → Call → Outcome
 step s (opening v t p) = openStep s v t p
 step s (closing v) = closeStep s v
@@ -101,3 +112,4 @@ step s (receiving o) = receiveStep s o
 step s (offering v n) = offerStep s v n
 step s (levelling l) = levelStep s l
 step s (slot t room) = slotStep s t room
+step s (making v t) = makeStep s v t

@@ -1,4 +1,4 @@
-// The engine as document 01 describes it: the state, the calls and lists of calls, in specs/, and what holds of them, in proofs/. No code: the types of the
+// The engine as documents 01 and 02 describe it: the state, the calls and lists of calls, in specs/, and what holds of them, in proofs/. No code: the types of the
 // answers alone.
 pub mod acr;
 pub mod answer;

@@ -20,7 +20,7 @@ use Rattle.model.specs.Step.{refuse, accept, idleStep, sendStep, step}
 use Rattle.model.specs.Queries.{entryAcr, acrOf}
 use Rattle.model.specs.Run.{run, final, isAccepted, given, givenFrom, entryRate, allowed}
 use Rattle.model.proofs.Preserved.{empty-well-formed}
-use Rattle.model.proofs.Effects.{Effect, refuses, begins, ends, offers, marks, works, levels, idles, sends, effect}
+use Rattle.model.proofs.Effects.{Effect, refuses, begins, ends, offers, marks, works, levels, idles, sends, makes, effect}
 use Rattle.model.proofs.Reached.{step-well-formed}
 use Rattle.abr.specs.declared.connections.AcrAnswer.{AcrAnswer}
 use Rattle.abr.specs.Answers.{slotAnswer, acrAnswer}
@@ -46,6 +46,7 @@ effect-accepted (works o q d r f) = refl
 effect-accepted (levels l h) = refl
 effect-accepted (idles t room g b) = refl
 effect-accepted (sends t room i u g b) = refl
+effect-accepted (makes u t d f g b m) = refl
 
 -- the kind and the connection of a slot, and a refusal's number
 orZero : Option ℕ → ℕ
@@ -95,6 +96,7 @@ effect-leaves (works o q d r f) z = absurd (z refl)
 effect-leaves (levels l h) z = absurd (z refl)
 effect-leaves (idles t room g b) z = absurd (z refl)
 effect-leaves (sends t room i u g b) z = absurd (z refl)
+effect-leaves (makes u t d f g b m) z = absurd (z refl)
 
 leave-from : (s : State) → WellFormed s → (cs : List Call) (l : List ℕ) (os : List Observation) → AllMatch (run s cs) os → l ≡ words s → RefusedLeave l os
 leave-from s w [] l [] neither e = tt

@@ -6,6 +6,7 @@ pub mod Demand3
 pub mod Exports
 pub mod Witness
 pub mod Unstarred
+pub mod Makings
 pub mod Refusals
 pub mod Interference
 pub mod Moves

@@ -14,6 +14,7 @@ use Rattle.connection.specs.declared.parts.Pace.the-variants.{Unsent, Running}
 use Rattle.connection.specs.declared.kind.Kind.{Kind}
 use Rattle.connection.specs.declared.kind.Kind.the-variants.{Forward, Turned, Data}
 use Rattle.connection.specs.Parts.{fresh}
+use Rattle.connection.specs.Making.{withMade}
 use Rattle.connection.specs.Receiving.{offered, afterDataCell, afterBackwardCell, afterForwardCell, afterResourceCell}
 use Rattle.connection.specs.Kind.{kindAt}
 use Rattle.connection.specs.Sending.{movedBy, sentForward, sentTurned, sentData, after}
@@ -24,10 +25,10 @@ use Rattle.model.proofs.Entries.{Case, same, other, case}
 use Rattle.model.proofs.Frames.{put-read, inserted-read, freed-read}
 use Rattle.model.specs.declared.answer.Answer.{Answer}
 use Rattle.model.specs.declared.answer.Answer.the-variants.{Refused, Accepted, Idle, Sent}
-use Rattle.model.specs.Call.{Call, opening, closing, receiving, offering, levelling, slot, Outcome}
+use Rattle.model.specs.Call.{Call, opening, closing, receiving, offering, levelling, slot, Outcome, making}
 use Rattle.model.specs.Step.{refuse, accept, sendStep, idleStep}
 use Rattle.model.specs.Run.{final}
-use Rattle.model.proofs.Effects.{Effect, refuses, begins, ends, offers, marks, works, levels, idles, sends, effect}
+use Rattle.model.proofs.Effects.{Effect, refuses, begins, ends, offers, marks, works, levels, idles, sends, makes, effect}
 use Rattle.model.proofs.Reached.{reached-well-formed}
 use Rattle.promises.specs.Moves.{Moves, stays, first, later, fed, FourMoves}
 
@@ -86,7 +87,7 @@ sent-moves v t room acr Turned d = stays
 sent-moves v t room acr Data d = stays
 
 effect-moves : (v : ℕ) {s : State} → NamesUnique (s .entries) → {c : Call} {o : Outcome} → Effect s c o → MovesTo v c (o .answer) (find v (s .entries)) (find v (o .state .entries))
-unfolding self refuse accept sendStep idleStep withTime withLevel fresh offered afterDataCell
+unfolding self refuse accept sendStep idleStep withTime withLevel fresh offered afterDataCell withMade
 effect-moves v {s} a (refuses c n h) = rests v c (Refused n) (find v (s .entries))
 effect-moves v {s} a (begins u t p g) =
     rw (inserted-read self v s (fresh u t p) (g .new) (g .room))
@@ -102,6 +103,7 @@ effect-moves v {s} a (sends t room i u g b) =
     let k = kindAt t (b .holder) in
     changes v u (withTime t s) a (b .holder) (after k t (b .holder)) (b .found) (after-same k t (b .holder) .name) (slot t room) (Sent u k (after k t (b .holder) .rate .acr))
     (λ h. rw h (sent-moves v t room (after k t (b .holder) .rate .acr) k (b .holder)))
+effect-moves v {s} a (makes u t d f g b m) = changes v u (withTime t s) a d (withMade t (s .level) d) f refl (making u t) Accepted (λ _. stays)
 
 pub four-moves : FourMoves
 four-moves cs c v d e f h =

@@ -23,6 +23,7 @@ use Rattle.connection.specs.declared.kind.Kind.the-variants.{Forward, Turned, D
 use Rattle.connection.specs.declared.parts.Pace.{Pace}
 use Rattle.connection.specs.declared.parts.Pace.the-variants.{Unsent, Running}
 use Rattle.connection.specs.Parts.{fresh}
+use Rattle.connection.specs.Making.{withMade}
 use Rattle.connection.specs.Receiving.{offered, afterDataCell, afterBackwardCell, afterForwardCell, afterResourceCell}
 use Rattle.connection.specs.Ready.{lastBefore}
 use Rattle.connection.specs.Kind.{isForward, isTurned, kindAt}
@@ -34,8 +35,8 @@ use Rattle.model.specs.Choice.{Winner, noneReady, wins, winner}
 use Rattle.model.proofs.Preserved.{valid-at}
 use Rattle.model.specs.declared.answer.Answer.{Answer}
 use Rattle.model.specs.declared.answer.Answer.the-variants.{Refused, Accepted, Idle, Sent}
-use Rattle.model.specs.Call.{Call, opening, closing, receiving, offering, levelling, slot, Outcome, goesTo}
-use Rattle.model.specs.Step.{refuse, accept, ofOpen, openStep, closeStep, offerStep, readStep, receiveStep, levelStep, sendStep, idleStep, serveEntry, serve, slotStep, step}
+use Rattle.model.specs.Call.{Call, opening, closing, receiving, offering, levelling, slot, making, Outcome, goesTo}
+use Rattle.model.specs.Step.{refuse, accept, ofOpen, openStep, closeStep, offerStep, readStep, receiveStep, levelStep, sendStep, idleStep, serveEntry, serve, slotStep, makeStep, step}
 use Rattle.promises.specs.Demand3.{Comparable, equal, congested, SamePlace}
 use Rattle.promises.proofs.Relation.{lowered, Lower, vacant, lower, Tables, tables, isFree-same, find-lower, put-tables, inserted-tables, roomLeft-same, last-same, withTime-tables, withLevel-tables}
 use Rattle.promises.proofs.Readings.{MoreCongested, NotLessCongested, alike, moreCongested, reading-congested}
@@ -228,6 +229,17 @@ slot-meets {s₁} {s₂} r t room =
     (require-meets r 14 _ _ (ap (λ l. leb l t) (last-same r))
     (serve-meets (withTime-tables t r) t (winner t (s₁ .entries)) (winner t (s₂ .entries)))))
 
+-- Making a backward cell.
+make-meets : {s₁ s₂ : State} → Tables s₁ s₂ → (v t : ℕ) → Meets (makeStep s₁ v t) (makeStep s₂ v t)
+unfolding makeStep withMade
+make-meets (tables l u hs) v t =
+    require-meets (tables l u hs) 8 _ _ refl
+    (ofOpen-meets (tables l u hs) (find-lower v (tables l u hs)) _ _ λ c a e h.
+    require-meets (tables l u hs) 14 _ _ refl
+    (require-meets (tables l u hs) 16 _ _ refl
+    (require-meets (tables l u hs) 17 _ _ refl λ _.
+    accept-both (put-tables v (lower (withMade t l c) a h) (withTime-tables t (tables l u hs))))))
+
 -- Every call.
 same-meets : {s₁ s₂ : State} → WellFormed s₁ → Tables s₁ s₂ → (c : Call) → Meets (step s₁ c) (step s₂ c)
 unfolding step receiveStep
@@ -237,6 +249,7 @@ same-meets w r (receiving o) = read-meets w r o (reading o)
 same-meets w r (offering v n) = offer-meets r v n
 same-meets w r (levelling l) = level-meets r l
 same-meets w r (slot t room) = slot-meets r t room
+same-meets w r (making v t) = make-meets r v t
 
 pub step-meets : {s₁ s₂ : State} → WellFormed s₁ → Tables s₁ s₂ → {c d : Call} → Comparable c d → Meets (step s₁ c) (step s₂ d)
 unfolding step receiveStep

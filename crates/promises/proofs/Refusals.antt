@@ -6,7 +6,7 @@ use Rattle.model.specs.State.{State, empty}
 use Rattle.model.specs.Call.{Call, Outcome, refusal}
 use Rattle.model.specs.Step.{refuse, accept, sendStep, idleStep}
 use Rattle.model.specs.Run.{final}
-use Rattle.model.proofs.Effects.{Effect, refuses, begins, ends, offers, marks, works, levels, idles, sends, effect}
+use Rattle.model.proofs.Effects.{Effect, refuses, begins, ends, offers, marks, works, levels, idles, sends, makes, effect}
 use Rattle.model.proofs.Reached.{reached-well-formed}
 use Rattle.promises.specs.Refusals.{Unchanged, RefusedUnchanged}
 use Rattle.promises.proofs.Pairs.{none≢some}
@@ -22,6 +22,7 @@ effect-refused (works o q d r f) n e = absurd (none≢some e)
 effect-refused (levels l h) n e = absurd (none≢some e)
 effect-refused (idles t room g b) n e = absurd (none≢some e)
 effect-refused (sends t room i u g b) n e = absurd (none≢some e)
+effect-refused (makes u t d f g b m) n e = absurd (none≢some e)
 
 pub refused-unchanged : RefusedUnchanged
 refused-unchanged cs c n e = effect-refused (effect (final empty cs) (reached-well-formed cs .unique) c) n e

@@ -12,7 +12,7 @@ use Rattle.cell.specs.Fields.{fieldsOf, withCrc, resourceCell, crcRight}
 use Rattle.cell.specs.Reading.{reading}
 use Rattle.connection.specs.Parts.{fresh}
 use Rattle.connection.specs.Receiving.{offered, afterBackwardCell, afterResourceCell}
-use Rattle.connection.specs.Ready.{waits, anyWaits, lastBefore, readyFrom, readyInstant}
+use Rattle.connection.specs.Ready.{waits, backwardWaits, anyWaits, lastBefore, readyFrom, readyInstant}
 use Rattle.connection.specs.Kind.{isForward, isTurned, kindAt}
 use Rattle.connection.specs.Sending.{movedBy, paced, sentForward, sentData, after}
 use Rattle.model.specs.State.{empty, position, isFree, holds, find, put, inserted, roomLeft, withTime}
@@ -27,7 +27,7 @@ use Rattle.laws.specs.Require.{require}
 
 -- its unfolding line opens all that these calls compute with, wherever it is itself unfolded
 unfoldable pub computing : Unit {0}
-unfolding rateOf codeBelow codeOf within ratesFit codesFit numbersFit paramsFit trmTimes trmTime gap firstCell idle cut unanswered rateByMarks feedback markLevel bring divide remainder bits octetBits headerCheck payloadCheck headerRight header fieldsOf withCrc resourceCell crcRight reading fresh offered afterBackwardCell afterResourceCell waits anyWaits lastBefore readyFrom readyInstant isForward isTurned kindAt movedBy paced sentForward sentData after empty position isFree holds find put inserted roomLeft withTime candidateFrom candidate better winner goesTo accept require ofOpen openStep offerStep readStep receiveStep sendStep serveEntry serve slotStep step entryRate
+unfolding rateOf codeBelow codeOf within ratesFit codesFit numbersFit paramsFit trmTimes trmTime gap firstCell idle cut unanswered rateByMarks feedback markLevel bring divide remainder bits octetBits headerCheck payloadCheck headerRight header fieldsOf withCrc resourceCell crcRight reading fresh offered afterBackwardCell afterResourceCell waits backwardWaits anyWaits lastBefore readyFrom readyInstant isForward isTurned kindAt movedBy paced sentForward sentData after empty position isFree holds find put inserted roomLeft withTime candidateFrom candidate better winner goesTo accept require ofOpen openStep offerStep readStep receiveStep sendStep serveEntry serve slotStep step entryRate
 computing = tt
 
 backward : Backward congestedCell

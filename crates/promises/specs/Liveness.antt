@@ -60,7 +60,7 @@ slots (t ∷ ts) = slot t 53 ∷ slots ts
 
 -- In every table s that calls make from the empty one, of a connection c with the name v:
 pub record Live (s : State) (v : ℕ) (c : Connection) : Type 0 where
-  -- if data or a turned cell waits, it is ready, and no later than that
+  -- if data, a turned or a made cell waits, it is ready, and no later than that
   pub ready : anyWaits c ≡ true → ReadySoon c
   -- from its ready instant on, an accepted slot is not idle: it goes to one that does not come after it
   pub ahead : (i t room : ℕ) → readyInstant c ≡ At i → i ≤ t → IsAccepted (step s (slot t room)) → Precedes s i v (step s (slot t room))

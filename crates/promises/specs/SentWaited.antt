@@ -1,4 +1,4 @@
--- A slot sends only what there is: a turned cell if one waits, data if data waits. (Document 01, "Slots".)
+-- A slot sends only what there is: a turned cell if a turned or made one waits, data if data waits. (Document 01, "Slots".)
 use Prim.Native.Nat.{ℕ, _<_}
 use mathlib.Core.Path.{_≡_}
 use mathlib.Core.Bool.{true}
@@ -7,7 +7,7 @@ use Rattle.connection.specs.declared.parts.Connection.{Connection}
 use Rattle.connection.specs.declared.kind.Kind.{Kind}
 use Rattle.connection.specs.declared.kind.Kind.the-variants.{Forward, Turned, Data}
 use Rattle.connection.specs.Parts.{waiting}
-use Rattle.connection.specs.Ready.{waits}
+use Rattle.connection.specs.Ready.{backwardWaits}
 use Rattle.model.specs.State.{taken, empty, find}
 use Rattle.model.specs.declared.answer.Answer.the-variants.{Sent}
 use Rattle.model.specs.Call.{Call, slot}
@@ -16,7 +16,7 @@ use Rattle.model.specs.Run.{final}
 
 abbrev pub Waited : Kind → Connection → Type 0
 Waited Forward c = Unit
-Waited Turned c = waits (c .destination .turned) ≡ true
+Waited Turned c = backwardWaits (c .destination) ≡ true
 Waited Data c = 0 < waiting (c .queue)
 
 -- after any list of calls from the empty table

@@ -11,15 +11,15 @@ use Rattle.model.specs.Run.{run, final, allowed}
 use Rattle.promises.specs.Demand3.{InPlace, Comparable, SamePlace}
 
 -- a backward cell for VCI 33, with this CI and this ER
-abbrev pub backwardCell : (ci er : ℕ) → List ℕ
-backwardCell ci er = resourceCell 0 (record { vci = 33; dir = 1; bn = 0; ci = ci; ni = 0; ra = 0; er = er; ccr = 0; mcr = 0; ql = 0; sn = 0 })
+abbrev pub backwardOctets : (ci er : ℕ) → List ℕ
+backwardOctets ci er = resourceCell 0 (record { vci = 33; dir = 1; bn = 0; ci = ci; ni = 0; ra = 0; er = er; ccr = 0; mcr = 0; ql = 0; sn = 0 })
 
 -- no marks; and CI 1 with a lower ER
 abbrev pub unmarked : List ℕ
-unmarked = backwardCell 0 0x53E8
+unmarked = backwardOctets 0 0x53E8
 
 abbrev pub congestedCell : List ℕ
-congestedCell = backwardCell 1 0x4A00
+congestedCell = backwardOctets 1 0x4A00
 
 -- open, offer, a forward cell, the backward cell, a data cell
 abbrev pub calls : List ℕ → List Call

@@ -2,8 +2,8 @@
 ghost use mathlib.Core.Path.{_≡_};
 ghost use Rattle.connection.specs.Kind.{isForward, isTurned, kindAt};
 ghost use Rattle.connection.specs.Range.{InRange};
+use crate::ready::backward_waits;
 use crate::ready::last_before;
-use crate::ready::waits;
 use connection::kind::Kind;
 use connection::parts::Connection;
 use connection::parts::Pace;
@@ -45,8 +45,7 @@ fn is_turned(c: Connection) -> bool
             turned,
         } => {
             let destination = c.destination;
-            let cell = destination.turned;
-            if !waits(cell) {
+            if !backward_waits(destination) {
                 return false;
             }
             if !turned {

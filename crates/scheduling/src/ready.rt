@@ -1,9 +1,10 @@
 // When a connection may send (document 01, "Slots").
 ghost use mathlib.Core.Path.{_≡_};
 ghost use Prim.Native.Nat.{max};
-ghost use Rattle.connection.specs.Ready.{waits, anyWaits, lastBefore, readyInstant};
+ghost use Rattle.connection.specs.Ready.{waits, backwardWaits, anyWaits, lastBefore, readyInstant};
 ghost use Rattle.connection.specs.Range.{InRange, InstantBelow};
 use connection::parts::Connection;
+use connection::parts::Destination;
 use connection::parts::Pace;
 use connection::parts::Waiting;
 use connection::ready::Instant;
@@ -18,7 +19,15 @@ pub fn waits(w: Waiting) -> bool
     }
 }
 
-// Data or a turned cell waits.
+// A turned or a made cell waits.
+pub fn backward_waits(d: Destination) -> bool
+    ensures { λ r. ⌜ r ≡ backwardWaits d ⌝ }
+{
+    let turned = d.turned;
+    waits(turned) | (0 < d.made.level)
+}
+
+// Data, a turned or a made cell waits.
 pub fn any_waits(c: Connection) -> bool
     ensures { λ r. ⌜ r ≡ anyWaits c ⌝ }
 {
@@ -26,8 +35,7 @@ pub fn any_waits(c: Connection) -> bool
         return true;
     }
     let destination = c.destination;
-    let turned = destination.turned;
-    waits(turned)
+    backward_waits(destination)
 }
 
 // k = Nrm − 1. No k of 32 bits is as large as 2^n − 1 for an n of 64 or more, which only a damaged table holds.

@@ -4,8 +4,8 @@ ghost use mathlib.Core.Bool.{cond};
 ghost use Prim.Native.Nat.{_<_, _+_, _*_, _≤_};
 ghost use lib.ListN.{set, replicate};
 ghost use Rattle.laws.specs.Blocks.{put};
-ghost use Rattle.table.specs.Layout.{paceTag, paceSent, paceForward, paceK, waitTag, destinationTag, waitingPayload, sourceWords, destinationWords, fixedWords, liveWidth, fixedWidth, size};
-ghost use Rattle.connection.specs.Range.{InRange};
+ghost use Rattle.table.specs.Layout.{paceTag, paceSent, paceForward, paceK, waitTag, destinationTag, instantWord, waitingPayload, sourceWords, destinationWords, fixedWords, liveWidth, fixedWidth, size};
+ghost use Rattle.connection.specs.Range.{InRange, InstantInRange};
 ghost use Rattle.table.specs.Storing.{sourceUpdated, destinationUpdated, efciUpdated, updated, stored, cleared};
 ghost use Rattle.model.specs.State.{capacity};
 use crate::key::key_of;
@@ -13,6 +13,7 @@ use connection::parts::Connection;
 use connection::parts::Destination;
 use connection::parts::Pace;
 use connection::parts::Waiting;
+use connection::ready::Instant;
 use crc::payload::Payload;
 use names::index::flip_entry;
 use table::layout::DESTINATION;
@@ -117,14 +118,28 @@ fn destination_tag(destination: Destination) -> u64
     wait_tag(turned) + bit(destination.efci)
 }
 
+fn instant_word(i: Instant) -> u64
+    requires { ⌜ InstantInRange i ⌝ }
+    ensures { λ r. ⌜ r ≡ instantWord i ⌝ }
+{
+    match i {
+        Instant::Never => 0,
+        Instant::At(t) => t + 1,
+    }
+}
+
 // The words of the receiving side, from index b on.
 fn put_destination(t: &mut [u64; WORDS], b: usize, destination: Destination)
-    requires { ⌜ b + 7 ≤ size ⌝ }
+    requires { ⌜ (b + 9 ≤ size) × InstantInRange (destination .made .last) ⌝ }
     ensures { λ _. ⌜ now (t .exit) ≡ put (now (t .entry)) b (destinationWords destination) ⌝ }
 {
     let turned = destination.turned;
     let p = waiting_payload(turned);
     let tag = destination_tag(destination);
+    let made = destination.made;
+    let level = made.level as u64;
+    let last = made.last;
+    let made_last = instant_word(last);
     t[b] = tag;
     t[b + 1] = p.a;
     t[b + 2] = p.b;
@@ -132,6 +147,8 @@ fn put_destination(t: &mut [u64; WORDS], b: usize, destination: Destination)
     t[b + 4] = p.d;
     t[b + 5] = p.e;
     t[b + 6] = p.f;
+    t[b + 7] = level;
+    t[b + 8] = made_last;
 }
 
 // The words that its open fixed, from index b on.
@@ -232,12 +249,14 @@ fn clear_fixed(t: &mut [u64; WORDS], b: usize)
 }
 
 fn clear_live(t: &mut [u64; WORDS], b: usize)
-    requires { ⌜ b + 14 ≤ size ⌝ }
+    requires { ⌜ b + 16 ≤ size ⌝ }
     ensures { λ _. ⌜ now (t .exit) ≡ put (now (t .entry)) b (replicate liveWidth 0) ⌝ }
 {
     clear_fixed(t, b);
     t[b + 12] = 0;
     t[b + 13] = 0;
+    t[b + 14] = 0;
+    t[b + 15] = 0;
 }
 
 // An entry that a connection leaves.

@@ -1,10 +1,11 @@
 -- Loading gives back the connection that stands in the entry: no number of a connection that calls made lies outside the range it is brought into.
-use Prim.Native.Nat.{ℕ, _+_, _*_, _%_, _^_, _≤_, _<_}
-use mathlib.Core.Path.{_≡_, refl}
+use Prim.Native.Nat.{ℕ, _+_, _*_, _%_, _^_, _≤_, _<_, _-_}
+use mathlib.Core.Path.{_≡_, refl, ap, _∙_}
 use mathlib.Core.Bool.{Bool, true, false, cond}
 use mathlib.Core.List.{List, _++_}
 use native.Mathlib.Nat.{mod-eq-of-lt, add-assoc, add-zero}
 use native.Mathlib.Omega.{arith}
+use borrow.Author.Tests.{ne-eqb}
 use lib.Dec.{eqb}
 use lib.ListN.{getD, drop}
 use lib.Pow.{pow-mono}
@@ -18,11 +19,14 @@ use Rattle.connection.specs.declared.parts.Pace.the-variants.{Unsent, Running}
 use Rattle.connection.specs.declared.parts.Waiting.{Waiting}
 use Rattle.connection.specs.declared.parts.Waiting.the-variants.{Nothing, Cell}
 use Rattle.connection.specs.declared.parts.Connection.{Connection}
-use Rattle.connection.specs.Invariant.{ValidAt, PaceFits}
-use Rattle.connection.specs.Range.{InRange, PaceInRange, HasRoom}
+use Rattle.connection.specs.declared.parts.Made.{Made}
+use Rattle.connection.specs.declared.ready.Instant.{Instant}
+use Rattle.connection.specs.declared.ready.Instant.the-variants.{Never, At}
+use Rattle.connection.specs.Invariant.{ValidAt, PaceFits, NotAfter, MadeValidAt}
+use Rattle.connection.specs.Range.{InRange, PaceInRange, HasRoom, InstantInRange}
 use Rattle.connection.proofs.Reached.{in-range}
-use Rattle.table.specs.Layout.{paceTag, paceSent, paceForward, paceK, waitTag, waitingPayload, liveWords, fixedWords, liveFrom, liveWidth}
-use Rattle.table.specs.Loading.{paceOf, waitingOf, paramsAt, connectionFrom, connectionAt}
+use Rattle.table.specs.Layout.{paceTag, paceSent, paceForward, paceK, waitTag, waitingPayload, liveWords, fixedWords, liveFrom, liveWidth, instantWord}
+use Rattle.table.specs.Loading.{paceOf, waitingOf, paramsAt, connectionFrom, connectionAt, instantOf}
 
 -- Each part is what its words stand for.
 pace-back : (now n : ℕ) (p : Pace) → n ≤ 256 → PaceFits now n p → PaceInRange p → paceOf (paceTag p) (paceSent p) (paceForward p) (paceK p) ≡ p
@@ -63,6 +67,17 @@ turned-back false Nothing = refl
 turned-back true (Cell p) = refl
 turned-back false (Cell p) = refl
 
+-- the words of the cells made
+instant-back : (now : ℕ) (i : Instant) → now ≤ latestTime → NotAfter now i → instantOf (instantWord i) ≡ i
+instant-back now Never l h = refl
+instant-back now (At i) l h =
+    let less : i + 1 - 1 ≡ i = omega arith in
+    let small : i % 2 ^ 63 ≡ i = mod-eq-of-lt (omega arith) in
+    rw (ne-eqb (i + 1) 0 (λ e. omega (arith, e)), less, small)
+
+made-back : (now : ℕ) (m : Made) → now ≤ latestTime → MadeValidAt now m → _≡_ {A = Made} (record { level = m .level % 2 ^ 32; last = instantOf (instantWord (m .last)) }) m
+made-back now m l h = rw (narrow (m .level) (omega (arith, h .level)), instant-back now (m .last) l (h .past))
+
 -- a connection from its own words
 pub words-back :
     (now : ℕ) (c : Connection) (s t : List ℕ) → now ≤ latestTime → ValidAt now c → connectionFrom (c .name) (liveWords c ++ s) 0 (fixedWords c ++ t) 0 ≡ c
@@ -79,6 +94,7 @@ words-back now c s t l h =
       narrow (c .queue .cells) (omega (arith, h .1 .queued)),
       efci-back (c .destination .efci) (c .destination .turned),
       turned-back (c .destination .efci) (c .destination .turned),
+      made-back now (c .destination .made) l (h .2),
     )
 
 -- words further on in a list
@@ -96,10 +112,18 @@ pace-ranged tag sent forward k = go (eqb tag 0)
     go true = (tt, tt)
     go false = ((omega arith, omega arith, omega arith), omega arith)
 
+instant-ranged : (w : ℕ) → InstantInRange (instantOf w)
+instant-ranged w = go (eqb w 0)
+  where
+    go : (b : Bool) → InstantInRange (cond b Never (At ((w - 1) % 2 ^ 63)))
+    go true = tt
+    go false = omega arith
+
 pub load-ranged : (l : List ℕ) (i : ℕ) → InRange (connectionAt l i)
 load-ranged l i = record {
   opened = omega arith;
   trm = omega arith;
+  made = instant-ranged (getD l (liveFrom + i * liveWidth + 14 + 1) 0);
   pace = pace-ranged (getD l (liveFrom + i * liveWidth + 3) 0) (getD l (liveFrom + i * liveWidth + 3 + 1) 0) (getD l (liveFrom + i * liveWidth + 3 + 2) 0) (getD l (liveFrom + i * liveWidth + 3 + 3) 0) .0;
 }
 

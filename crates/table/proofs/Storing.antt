@@ -37,8 +37,8 @@ pub stored-by :
 stored-by l m n o i c e f g =
     g ∙ ap (λ (x : List ℕ). entryFlipped (set x (namesFrom + i) (c .name)) i (c .name)) (f ∙ ap (λ (x : List ℕ). put x (fixedFrom + i * fixedWidth) (fixedWords c)) e)
 
-pub cleared-live-by : (l m : List ℕ) (b : ℕ) → m ≡ put l b (replicate fixedWidth 0) → set (set m (b + 12) 0) (b + 13) 0 ≡ put l b (replicate liveWidth 0)
-cleared-live-by l m b e = ap (λ (x : List ℕ). set (set x (b + 12) 0) (b + 13) 0) e
+pub cleared-live-by : (l m : List ℕ) (b : ℕ) → m ≡ put l b (replicate fixedWidth 0) → set (set (set (set m (b + 12) 0) (b + 13) 0) (b + 14) 0) (b + 15) 0 ≡ put l b (replicate liveWidth 0)
+cleared-live-by l m b e = ap (λ (x : List ℕ). set (set (set (set x (b + 12) 0) (b + 13) 0) (b + 14) 0) (b + 15) 0) e
 
 pub cleared-by :
     (l m n o : List ℕ) (i : ℕ) → m ≡ put l (liveFrom + i * liveWidth) (replicate liveWidth 0) → n ≡ put m (fixedFrom + i * fixedWidth) (replicate fixedWidth 0)

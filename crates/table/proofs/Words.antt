@@ -13,12 +13,14 @@ use Rattle.laws.proofs.Rows.{length-row, row-at, row-zeros}
 use Rattle.rate.specs.Units.{latestTime}
 use Rattle.connection.specs.declared.parts.Destination.{Destination}
 use Rattle.connection.specs.declared.parts.Connection.{Connection}
-use Rattle.connection.specs.declared.parts.Waiting.{Waiting}
+use Rattle.connection.specs.declared.parts.Made.{Made}
 use Rattle.connection.specs.declared.ready.Instant.{Instant}
+use Rattle.connection.specs.declared.ready.Instant.the-variants.{Never, At}
+use Rattle.connection.specs.declared.parts.Waiting.{Waiting}
 use Rattle.connection.specs.Ready.{readyInstant}
 use Rattle.connection.specs.Invariant.{ValidAt}
 use Rattle.model.specs.State.{State, Entry, free, taken, empty, capacity}
-use Rattle.table.specs.Layout.{nameOf, keyOf, liveOf, fixedOf, destinationTag, waitingPayload, payloadWords, key, sourceWords, destinationWords, liveWords, fixedWords, columns, bitmap, isTaken, inBucket, index, header, words, usedAt, indexFrom, buckets, namesFrom, keysFrom, liveFrom, liveWidth, fixedFrom, fixedWidth, size}
+use Rattle.table.specs.Layout.{nameOf, keyOf, liveOf, fixedOf, destinationTag, waitingPayload, payloadWords, key, sourceWords, destinationWords, liveWords, fixedWords, columns, bitmap, isTaken, inBucket, index, header, words, usedAt, indexFrom, buckets, namesFrom, keysFrom, liveFrom, liveWidth, fixedFrom, fixedWidth, size, madeWords}
 use Rattle.table.specs.Loading.{connectionFrom, connectionAt}
 use Rattle.table.specs.Storing.{sourceUpdated, destinationUpdated, efciUpdated, updated, entryFlipped, stored, cleared}
 use Rattle.table.proofs.Loaded.{words-back, from-drop}
@@ -175,11 +177,11 @@ module _ (s : State) (g : length (s .entries) ≡ capacity) (i : ℕ) (h : i < c
 
     -- a key that is already there changes nothing
     pub efci-at :
-        sourceWords d ≡ sourceWords c → d .destination .turned ≡ c .destination .turned → readyInstant d ≡ readyInstant c → efciUpdated (words s) i (d .destination) ≡ words (with (taken d))
+        sourceWords d ≡ sourceWords c → d .destination .turned ≡ c .destination .turned → d .destination .made ≡ c .destination .made → readyInstant d ≡ readyInstant c → efciUpdated (words s) i (d .destination) ≡ words (with (taken d))
     unfolding words
-    efci-at f t r =
-        set-part (header s) (s .entries) (s .entries) (s .entries) (s .entries) all i h (sourceWords c) (destinationTag (c .destination) ∷ []) (destinationTag (d .destination) ∷ []) (payloadWords (waitingPayload (c .destination .turned)))
-        (taken d) (ap liveOf e) (ap (λ (y : List ℕ). y ++ destinationWords (d .destination)) f ∙ ap (λ (y : Waiting). sourceWords c ++ (destinationTag (d .destination) ∷ payloadWords (waitingPayload y))) t) refl
+    efci-at f t m r =
+        set-part (header s) (s .entries) (s .entries) (s .entries) (s .entries) all i h (sourceWords c) (destinationTag (c .destination) ∷ []) (destinationTag (d .destination) ∷ []) (payloadWords (waitingPayload (c .destination .turned)) ++ madeWords (c .destination .made))
+        (taken d) (ap liveOf e) (ap (λ (y : List ℕ). y ++ destinationWords (d .destination)) f ∙ ap₂ (λ (y : Waiting) (z : Made). sourceWords c ++ (destinationTag (d .destination) ∷ (payloadWords (waitingPayload y) ++ madeWords z))) t m) refl
         ∙ ap (λ (y : List ℕ). header s ++ (flat nameOf (s .entries) ++ (y ++ (flat liveOf (set (s .entries) i (taken d)) ++ flat fixedOf (s .entries)))))
         (sym (flat-same keyOf 1 key-wide (s .entries) i (taken d) free inside (ap (λ (x : Instant). key x ∷ []) r ∙ ap keyOf (sym e))))
         ∙ kept

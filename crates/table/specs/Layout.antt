@@ -13,6 +13,7 @@ use Rattle.connection.specs.declared.parts.Pace.{Pace}
 use Rattle.connection.specs.declared.parts.Pace.the-variants.{Unsent, Running}
 use Rattle.connection.specs.declared.parts.Waiting.{Waiting}
 use Rattle.connection.specs.declared.parts.Waiting.the-variants.{Nothing, Cell}
+use Rattle.connection.specs.declared.parts.Made.{Made}
 use Rattle.connection.specs.declared.parts.Destination.{Destination}
 use Rattle.connection.specs.declared.parts.Connection.{Connection}
 use Rattle.connection.specs.declared.ready.Instant.{Instant}
@@ -49,8 +50,11 @@ liveFrom = keysFrom + capacity
 abbrev pub sourceWidth : ℕ
 sourceWidth = 7
 
+abbrev pub destinationWidth : ℕ
+destinationWidth = 9
+
 abbrev pub liveWidth : ℕ
-liveWidth = 14
+liveWidth = sourceWidth + destinationWidth
 
 abbrev pub destinationFrom : ℕ
 destinationFrom = liveFrom + sourceWidth
@@ -64,7 +68,7 @@ fixedWidth = 12
 abbrev pub size : ℕ
 size = fixedFrom + capacity * fixedWidth
 
--- a pace in four words: 0 if no cell was sent, 1 if no turned cell went since the last forward cell, else 2; its instants; k
+-- a pace in four words: 0 if no cell was sent, 1 if no turned or made cell went since the last forward cell, else 2; its instants; k
 abbrev pub paceTag : Pace → ℕ
 paceTag Unsent = 0
 paceTag (Running sent forward k turned) = cond turned 2 1
@@ -104,8 +108,16 @@ abbrev pub sourceWords : Connection → List ℕ
 sourceWords c =
     c .rate .acr ∷ c .unacked ∷ c .queue .cells ∷ paceTag (c .pace) ∷ paceSent (c .pace) ∷ paceForward (c .pace) ∷ paceK (c .pace) ∷ []
 
+-- the last making: 0 if there was none, else its instant plus 1
+abbrev pub instantWord : Instant → ℕ
+instantWord Never = 0
+instantWord (At i) = i + 1
+
+abbrev pub madeWords : Made → List ℕ
+madeWords m = m .level ∷ instantWord (m .last) ∷ []
+
 abbrev pub destinationWords : Destination → List ℕ
-destinationWords b = destinationTag b ∷ payloadWords (waitingPayload (b .turned))
+destinationWords d = destinationTag d ∷ (payloadWords (waitingPayload (d .turned)) ++ madeWords (d .made))
 
 abbrev pub liveWords : Connection → List ℕ
 liveWords c = sourceWords c ++ destinationWords (c .destination)

@@ -1,6 +1,6 @@
 -- The connection that an entry's words stand for, whatever they are. Each number is brought into the range in which the engine adds without
 -- wrapping; that changes none of a table that calls made.
-use Prim.Native.Nat.{ℕ, _+_, _*_, _%_, _^_}
+use Prim.Native.Nat.{ℕ, _+_, _-_, _*_, _%_, _^_}
 use mathlib.Core.Bool.{cond}
 use mathlib.Core.List.{List}
 use lib.Dec.{ltb, eqb}
@@ -12,6 +12,9 @@ use Rattle.connection.specs.declared.parts.Pace.the-variants.{Unsent, Running}
 use Rattle.connection.specs.declared.parts.Waiting.the-variants.{Nothing, Cell}
 use Rattle.connection.specs.declared.parts.Waiting.{Waiting}
 use Rattle.connection.specs.declared.parts.Connection.{Connection}
+use Rattle.connection.specs.declared.parts.Made.{Made}
+use Rattle.connection.specs.declared.ready.Instant.{Instant}
+use Rattle.connection.specs.declared.ready.Instant.the-variants.{Never, At}
 use Rattle.table.specs.Layout.{namesFrom, liveFrom, liveWidth, fixedFrom, fixedWidth}
 
 abbrev pub paceOf : (tag sent forward k : ℕ) → Pace
@@ -27,6 +30,12 @@ abbrev pub waitingAt : List ℕ → ℕ → Waiting
 waitingAt l b =
     waitingOf (getD l b 0)
     (record { a = getD l (b + 1) 0; b = getD l (b + 2) 0; c = getD l (b + 3) 0; d = getD l (b + 4) 0; e = getD l (b + 5) 0; f = getD l (b + 6) 0 })
+
+abbrev pub instantOf : (word : ℕ) → Instant
+instantOf w = cond (eqb w 0) Never (At ((w - 1) % 2 ^ 63))
+
+abbrev pub madeAt : List ℕ → ℕ → Made
+madeAt l b = record { level = getD l b 0 % 2 ^ 32; last = instantOf (getD l (b + 1) 0) }
 
 abbrev pub paramsAt : List ℕ → ℕ → Params
 paramsAt l b = record {
@@ -52,7 +61,7 @@ connectionFrom name l a m b = record {
   pace = paceAt l (a + 3);
   unacked = getD l (a + 1) 0 % 2 ^ 32;
   queue = record { cells = getD l (a + 2) 0 % 2 ^ 32 };
-  destination = record { efci = eqb (getD l (a + 7) 0 % 2) 1; turned = waitingAt l (a + 7) };
+  destination = record { efci = eqb (getD l (a + 7) 0 % 2) 1; turned = waitingAt l (a + 7); made = madeAt l (a + 14) };
 }
 
 abbrev pub connectionAt : List ℕ → (entry : ℕ) → Connection

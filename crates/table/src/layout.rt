@@ -23,7 +23,9 @@ pub const LIVE: usize = KEYS + CAPACITY;
 
 pub const SOURCE_WIDTH: usize = 7;
 
-pub const LIVE_WIDTH: usize = 14;
+pub const DESTINATION_WIDTH: usize = 9;
+
+pub const LIVE_WIDTH: usize = SOURCE_WIDTH + DESTINATION_WIDTH;
 
 pub const DESTINATION: usize = LIVE + SOURCE_WIDTH;
 

@@ -30,7 +30,8 @@ pub fn after_data_cell(efci: bool, c: Connection) -> Connection
 {
     let destination = c.destination;
     let turned = destination.turned;
-    c.with_destination(Destination { efci, turned })
+    let made = destination.made;
+    c.with_destination(Destination { efci, turned, made })
 }
 
 // Feedback; the answer of a destination, BN 0, clears Y as well.
@@ -43,14 +44,16 @@ pub fn after_backward_cell(f: Fields, c: Connection) -> Connection
     if f.bn == 0 { cleared } else { moved }
 }
 
-// A forward cell, whose CRC-10 was found right, becomes the one waiting cell, from the words of its payload; the saved EFCI is used up.
+// A forward cell, whose CRC-10 was found right, becomes the one waiting turned cell, from the words of its payload; the saved EFCI is used up.
 pub fn after_forward_payload(level: u32, p: Payload, c: Connection) -> Connection
     requires { ⌜ Checked p ⌝ }
     ensures { λ r. ⌜ r ≡ afterForwardPayload level p c ⌝ }
 {
     let turned = Waiting::Cell(turn(p, level, c.destination.efci));
+    let made = c.destination.made;
     c.with_destination(Destination {
         efci: false,
         turned,
+        made,
     })
 }

@@ -2,12 +2,13 @@
 ghost use mathlib.Core.Path.{_≡_};
 ghost use Prim.Native.Nat.{_+_, _-_, min};
 ghost use Rattle.rate.specs.Code.{rateOf, codeOf};
-ghost use Rattle.connection.specs.Sending.{movedBy, paced, sentForward, sentTurned, sentData, after};
+ghost use Rattle.connection.specs.Sending.{movedBy, paced, sentForward, madeLeft, sentTurned, sentData, after};
 ghost use Rattle.connection.specs.Range.{PaceInRange, InRange, ForwardCarried};
 use cell::fields::Fields;
 use connection::kind::Kind;
 use connection::parts::Connection;
 use connection::parts::Destination;
+use connection::parts::Made;
 use connection::parts::Pace;
 use connection::parts::Queue;
 use connection::parts::Waiting;
@@ -88,17 +89,31 @@ pub fn sent_forward(t: u64, c: Connection) -> Connection
         .with_unacked(counted(c.unacked))
 }
 
+// The turned cell goes before the made one.
+fn made_left(w: Waiting, m: Made) -> Made
+    ensures { λ r. ⌜ r ≡ madeLeft w m ⌝ }
+{
+    let last = m.last;
+    match w {
+        Waiting::Nothing => Made { level: 0, last },
+        Waiting::Cell(_) => m,
+    }
+}
+
 pub fn sent_turned(t: u64, c: Connection) -> Connection
     requires { ⌜ InRange c ⌝ }
     ensures { λ r. ⌜ r ≡ sentTurned t c ⌝ }
 {
     let pace = c.pace;
-    let destination = Destination {
-        efci: c.destination.efci,
+    let destination = c.destination;
+    let turned = destination.turned;
+    let made = destination.made;
+    let left = Destination {
+        efci: destination.efci,
         turned: Waiting::Nothing,
+        made: made_left(turned, made),
     };
-    c.with_pace(paced(t, true, pace))
-        .with_destination(destination)
+    c.with_pace(paced(t, true, pace)).with_destination(left)
 }
 
 pub fn sent_data(t: u64, c: Connection) -> Connection
@@ -125,7 +140,7 @@ pub fn after(kind: Kind, t: u64, c: Connection) -> Connection
 }
 
 // The code of a code's own rate: the code without bit 15, and 0 without nz.
-fn canonical(code: u32) -> u32
+pub fn canonical(code: u32) -> u32
     ensures { λ r. ⌜ r ≡ codeOf (rateOf code) ⌝ }
 {
     if code / 16384 % 2 == 1 {

@@ -30,6 +30,10 @@ pub enum Call {
         time: u64,
         len: usize,
     },
+    Make {
+        vci: u32,
+        time: u64,
+    },
     Acr {
         vci: u32,
     },
@@ -54,13 +58,14 @@ pub enum Call {
 }
 
 /// The sorts of call, in the order of [`Call::sort`].
-pub const SORTS: [&str; 12] = [
+pub const SORTS: [&str; 13] = [
     "open",
     "close",
     "receive",
     "offer",
     "set_level",
     "slot",
+    "make",
     "acr",
     "write_rm",
     "read",
@@ -79,18 +84,19 @@ impl Call {
             Call::Offer { .. } => 3,
             Call::SetLevel { .. } => 4,
             Call::Slot { .. } => 5,
-            Call::Acr { .. } => 6,
-            Call::WriteRm { .. } => 7,
-            Call::Read { .. } => 8,
-            Call::Code { .. } => 9,
-            Call::Rate { .. } => 10,
-            Call::House { .. } => 11,
+            Call::Make { .. } => 6,
+            Call::Acr { .. } => 7,
+            Call::WriteRm { .. } => 8,
+            Call::Read { .. } => 9,
+            Call::Code { .. } => 10,
+            Call::Rate { .. } => 11,
+            Call::House { .. } => 12,
         }
     }
 
     /// Whether it writes the table when it is accepted.
     pub fn may_change_table(&self) -> bool {
-        self.sort() < 6
+        self.sort() < 7
     }
 
     /// The connection that it names, if it names one.
@@ -99,6 +105,7 @@ impl Call {
             Call::Open { vci, .. }
             | Call::Close { vci }
             | Call::Offer { vci, .. }
+            | Call::Make { vci, .. }
             | Call::Acr { vci } => Some(vci),
             Call::Receive { cell } => vci_of(cell.as_slice()),
             _ => None,

@@ -88,7 +88,7 @@ events! {
     EfciCleared,
     /// A closed VCI was opened again.
     Reopened,
-    /// A closed VCI with data, a turned cell or unanswered cells on it was
+    /// A closed VCI with data, a backward cell or unanswered cells on it was
     /// opened again.
     ReopenedLoaded,
     /// The 64th connection was opened.
@@ -97,11 +97,53 @@ events! {
     TimeMax,
     /// A cell was sent at 2^62.
     SentAtTimeMax,
+    /// A cell was made at level 1.
+    MadeLevelOne,
+    /// A cell was made at level 2.
+    MadeLevelTwo,
+    /// A cell was made at level 1, the saved EFCI being 1.
+    MadeUnderEfci,
+    /// A cell was made exactly 100 ms after the last.
+    MadeExact,
+    /// A making was refused a nanosecond less than 100 ms after the last.
+    MadeLessOne,
+    /// A cell was made before the first cell of its connection.
+    MadeBeforeFirst,
+    /// The first cell of a connection was sent, nothing but a made cell waiting.
+    MadeStarts,
+    /// A waiting made cell was replaced.
+    MadeReplaced,
+    /// A cell was made while a turned one waited.
+    MadeBesideTurned,
+    /// A forward cell was turned while a made one waited.
+    TurnedBesideMade,
+    /// A turned cell was sent while a made one waited.
+    TurnedBeforeMade,
+    /// A made cell was sent before waiting data.
+    MadeFirst,
+    /// Data was sent while a made cell waited, a backward one having been sent
+    /// since the last forward cell.
+    MadeSecond,
+    /// A made cell was sent as the second backward one, no data waiting.
+    MadeAlone,
+    /// A made cell was sent at another level than that of its making.
+    MadeLevelChanged,
+    /// A making on a VCI that was closed.
+    MadeClosed,
+    /// A cell was made on a VCI that was opened anew, less than 100 ms after one
+    /// that was made before its close.
+    MadeReopened,
+    /// An open or a slot was refused for its time, which was only before that of
+    /// a making.
+    MadeTimeCounts,
     /// Exactly 65,535 cells wait after an offer.
     OfferFills,
     /// An offer of nothing to a full connection.
     OfferNothing,
 }
+
+/// The greatest number of a refusal.
+const REFUSAL_MAX: usize = 17;
 
 /// Counts of all that was reached.
 #[derive(Debug, Clone)]
@@ -111,7 +153,7 @@ pub struct Coverage {
     /// Allowed rates compared.
     pub rates: u64,
     /// By sort of call and refusal number; 0 means accepted.
-    pub outcomes: [[u64; 16]; SORTS.len()],
+    pub outcomes: [[u64; REFUSAL_MAX + 1]; SORTS.len()],
     /// By kind of slot; 0 is idle.
     pub kinds: [u64; 4],
     /// By damaged octet of a refused cell.
@@ -124,7 +166,7 @@ impl Default for Coverage {
         Coverage {
             calls: 0,
             rates: 0,
-            outcomes: [[0; 16]; SORTS.len()],
+            outcomes: [[0; REFUSAL_MAX + 1]; SORTS.len()],
             kinds: [0; 4],
             damaged: [0; 53],
             events: [0; EVENTS.len()],
@@ -140,6 +182,7 @@ const REFUSALS: [&[usize]; SORTS.len()] = [
     &[11, 15],
     &[9],
     &[1, 8, 14],
+    &[8, 11, 14, 16, 17],
     &[11],
     &[1, 7],
     &[1, 2, 3, 4, 5, 6],

@@ -16,6 +16,7 @@ pub fn call(engine: &mut Engine, call: &Call, buffer: &mut Buffer) -> Outcome {
         Call::Receive { cell } => done(engine.receive(cell.as_slice())),
         Call::Offer { vci, cells } => done(engine.offer(vci, cells)),
         Call::SetLevel { level } => done(engine.set_level(level)),
+        Call::Make { vci, time } => done(engine.make(vci, time)),
         Call::Slot { time, len } => engine
             .slot(time, buffer.octets(len))
             .map(|sent| Answer::Sent(library_sent(sent))),

@@ -54,15 +54,16 @@ impl Generator {
                 time: self.time(seen),
                 len: self.length(),
             },
-            6 => Call::Acr {
+            6 => self.make(seen),
+            7 => Call::Acr {
                 vci: self.vci(seen),
             },
-            7 => self.write_rm(seen),
-            8 => Call::Read {
+            8 => self.write_rm(seen),
+            9 => Call::Read {
                 cell: self.cell(seen),
             },
-            9 => Call::Code { rate: self.rate() },
-            10 => Call::Rate {
+            10 => Call::Code { rate: self.rate() },
+            11 => Call::Rate {
                 code: self.code_16(),
             },
             _ => Call::House {
@@ -185,6 +186,12 @@ impl Generator {
             false => few,
         };
         Call::Offer { vci, cells }
+    }
+
+    fn make(&mut self, seen: &Observation) -> Call {
+        let vci = self.vci(seen);
+        let time = self.making_time(seen, vci);
+        Call::Make { vci, time }
     }
 
     fn level(&mut self) -> u32 {

@@ -41,6 +41,7 @@ impl Library {
             }
             Call::Offer { vci, cells } => done(unsafe { ffi::abr_offer(table, vci, cells) }),
             Call::SetLevel { level } => done(unsafe { ffi::abr_set_level(table, level) }),
+            Call::Make { vci, time } => done(unsafe { ffi::abr_make(table, vci, time) }),
             Call::Slot { time, len } => {
                 let octets = buffer.octets(len).as_mut_ptr();
                 answered(unsafe { ffi::abr_slot(table, time, octets, len) })?

@@ -2,6 +2,8 @@
 //! answers. The generator uses it to choose calls at edges, and the coverage
 //! counts come from it; no comparison of the two sides depends on it.
 
+mod made;
+
 use std::collections::{BTreeMap, BTreeSet};
 
 use abr::ffi::{abr_params, abr_sent};
@@ -31,6 +33,9 @@ pub struct Connection {
     pub sends: Option<Sends>,
     pub data: u64,
     pub turned: bool,
+    /// The level at which the made cell that waits was made.
+    pub made: Option<u32>,
+    pub last_made: Option<u64>,
     pub efci: bool,
     pub unanswered: u32,
 }
@@ -48,6 +53,8 @@ impl Connection {
             sends: None,
             data: 0,
             turned: false,
+            made: None,
+            last_made: None,
             efci: false,
             unanswered: 0,
         }
@@ -73,9 +80,9 @@ impl Connection {
         sends.last + reference::gap(self.acr)
     }
 
-    /// Whether data or a turned cell waits.
+    /// Whether data, a turned or a made cell waits.
     pub fn waits(&self) -> bool {
-        self.data > 0 || self.turned
+        self.data > 0 || self.turned || self.made.is_some()
     }
 
     /// The ready instant, if there is one.
@@ -99,9 +106,14 @@ impl Connection {
 pub struct Observation {
     pub connections: BTreeMap<u32, Connection>,
     pub closed: BTreeSet<u32>,
-    /// Closed with data, a turned cell or unanswered cells on them.
+    /// Closed with data, a backward cell or unanswered cells on them.
     loaded: BTreeSet<u32>,
+    /// The last making on each VCI, also if it was closed since.
+    makings: BTreeMap<u32, u64>,
+    /// The time of the last accepted open, slot or making.
     pub last: u64,
+    /// That of the last accepted open or slot.
+    last_sent: u64,
     pub level: u32,
 }
 
@@ -110,7 +122,10 @@ impl Observation {
     /// the connection that it concerns.
     pub fn add(&mut self, call: &Call, outcome: &Outcome, acr: u64, coverage: &mut Coverage) {
         coverage.count(call, outcome);
-        let Ok(answer) = outcome else { return };
+        let answer = match outcome {
+            Ok(answer) => answer,
+            Err(number) => return self.refused(call, *number, coverage),
+        };
         match (*call, *answer) {
             (Call::Open { vci, time, params }, _) => {
                 self.opened(vci, time, params, acr, coverage);
@@ -118,6 +133,7 @@ impl Observation {
             (Call::Close { vci }, _) => self.close(vci),
             (Call::Offer { vci, cells }, _) => self.offered(vci, cells, coverage),
             (Call::SetLevel { level }, _) => self.level = level,
+            (Call::Make { vci, time }, _) => self.made(vci, time, coverage),
             (Call::Receive { cell }, _) => self.received(cell.as_slice(), acr, coverage),
             (Call::Slot { time, .. }, Answer::Sent(sent)) => self.slot(time, &sent, coverage),
             _ => {}
@@ -132,7 +148,7 @@ impl Observation {
         acr: u64,
         coverage: &mut Coverage,
     ) {
-        self.last = time;
+        (self.last, self.last_sent) = (time, time);
         self.connections
             .insert(vci, Connection::new(params, time, acr));
         coverage.reach(Event::Reopened, self.closed.contains(&vci));
@@ -184,7 +200,7 @@ impl Observation {
     }
 
     fn slot(&mut self, time: u64, sent: &abr_sent, coverage: &mut Coverage) {
-        self.last = time;
+        (self.last, self.last_sent) = (time, time);
         coverage.kinds[sent.kind as usize] += 1;
         coverage.reach(Event::TimeMax, time == TIME_MAX);
         coverage.reach(Event::SentAtTimeMax, time == TIME_MAX && sent.kind != 0);
@@ -197,6 +213,7 @@ impl Observation {
         coverage.reach(Event::ReadyLessOne, earliest == Some(time + 1));
         self.ties(time, earliest, coverage);
         if let Some(connection) = self.connections.get_mut(&sent.vci) {
+            made::sent(connection, sent.kind, self.level, coverage);
             kind_sent(connection, time, sent.kind, coverage);
             connection.acr = sent.acr;
         }
@@ -223,6 +240,7 @@ impl Observation {
 fn forward_received(connection: &mut Connection, bits: u8, level: u32, coverage: &mut Coverage) {
     let marked = bits & 0x30 != 0;
     coverage.reach(Event::TurnedReplaced, connection.turned);
+    coverage.reach(Event::TurnedBesideMade, connection.made.is_some());
     coverage.reach(Event::MarkEfci, connection.efci && level != 2);
     coverage.reach(Event::MarkLevelOne, level == 1);
     coverage.reach(Event::MarkLevelTwo, level == 2 && !connection.efci);
@@ -278,17 +296,17 @@ fn kind_sent(connection: &mut Connection, time: u64, kind: u32, coverage: &mut C
         let passed = time - sends.forward;
         coverage.reach(Event::NrmLessOne, sends.k + 2 == nrm && passed < trm);
         coverage.reach(Event::TrmLessOne, sends.k >= 2 && passed + 1 == trm);
-        coverage.reach(Event::TurnedFirst, kind == 2 && data > 0);
-        coverage.reach(Event::TurnedAlone, kind == 2 && sends.turned);
+        coverage.reach(Event::TurnedFirst, kind == 2 && waiting && data > 0);
+        coverage.reach(Event::TurnedAlone, kind == 2 && waiting && sends.turned);
         coverage.reach(Event::TurnedSecond, kind == 3 && waiting);
         sends.turned |= kind == 2;
         sends.k += 1;
         sends.last = time;
     }
-    if kind == 2 {
-        connection.turned = false;
-    } else {
-        connection.data -= 1;
+    match kind {
+        2 if waiting => connection.turned = false,
+        2 => connection.made = None,
+        _ => connection.data -= 1,
     }
 }
 

@@ -1,6 +1,6 @@
-//! Two lists that differ in backward cells only, those of the second at least
-//! as congested (document 01, "Four moves of the allowed rate" and "The lists
-//! of demand 3"): as long as the slots go to the same connections, no allowed
+//! Two lists that differ in received backward cells only, those of the second at
+//! least as congested (document 01, "Four moves of the allowed rate" and "The
+//! lists of demand 3"; document 02, L1: makings too are the same in both): as long as the slots go to the same connections, no allowed
 //! rate of the second is above that of the first, and every allowed rate is
 //! between its minimum and its peak.
 
@@ -34,6 +34,8 @@ pub struct Tally {
     pub raised: u64,
     /// Backward cells with a lower explicit rate.
     pub lowered: u64,
+    /// Cells made in both lists.
+    pub made: u64,
 }
 
 impl Tally {
@@ -45,6 +47,7 @@ impl Tally {
         self.lower += other.lower;
         self.raised += other.raised;
         self.lowered += other.lowered;
+        self.made += other.made;
     }
 }
 
@@ -89,6 +92,7 @@ impl Pair {
         if sends(&first) != sends(&second) {
             return Err(format!("{first:?} and {second:?}"));
         }
+        tally.made += u64::from(matches!(call, Call::Make { .. }) && first.is_ok());
         let vci = concerned(call, &first).unwrap_or(0);
         let acr = number(&self.first.acr(vci)?).unwrap_or(0);
         self.seen.add(call, &first, acr, &mut Coverage::default());

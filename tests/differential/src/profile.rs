@@ -16,21 +16,21 @@ pub struct Profile {
     /// Slots are so far apart that every connection is due again.
     pub spaced: bool,
     /// How often each sort of call is made, in the order of the sorts.
-    pub weights: [u64; 12],
+    pub weights: [u64; 13],
 }
 
-const USUAL: [u64; 12] = [4, 1, 24, 8, 2, 52, 2, 2, 2, 1, 1, 1];
+const USUAL: [u64; 13] = [4, 1, 24, 8, 2, 52, 4, 2, 2, 2, 1, 1, 1];
 
 /// The profiles of the differential lists.
 pub const PROFILES: [Profile; 7] = [
     Profile::usual("one", 1, 8),
     Profile::usual("few", 3, 12),
     Profile {
-        weights: [12, 3, 24, 14, 2, 40, 1, 1, 1, 1, 1, 1],
+        weights: [12, 3, 24, 14, 2, 40, 4, 1, 1, 1, 1, 1, 1],
         ..Profile::usual("many", 80, 16)
     },
     Profile {
-        weights: [20, 1, 10, 20, 1, 30, 1, 1, 1, 1, 1, 1],
+        weights: [20, 1, 10, 20, 1, 30, 4, 1, 1, 1, 1, 1, 1],
         ..Profile::usual("full", 72, 0)
     },
     Profile::usual("ties", 6, 29),
@@ -40,7 +40,7 @@ pub const PROFILES: [Profile; 7] = [
     },
     Profile {
         fault: 3,
-        weights: [10, 2, 30, 10, 4, 30, 4, 12, 12, 4, 4, 1],
+        weights: [10, 2, 30, 10, 4, 30, 4, 4, 12, 12, 4, 4, 1],
         ..Profile::usual("faulty", 4, 10)
     },
 ];
@@ -49,7 +49,7 @@ pub const PROFILES: [Profile; 7] = [
 /// long, since all are due in every slot.
 pub const SPACED: Profile = Profile {
     spaced: true,
-    weights: [2, 0, 40, 10, 2, 46, 0, 0, 0, 0, 0, 0],
+    weights: [2, 0, 40, 10, 2, 46, 4, 0, 0, 0, 0, 0, 0],
     ..Profile::usual("spaced", 3, 20)
 };
 

@@ -35,7 +35,7 @@ const HIGHEST: u32 = 65_535;
 /// The calls between two changes of what is open: neither opens nor closes.
 const NO_CHANGE: Profile = Profile {
     name: "no change",
-    weights: [0, 0, 24, 8, 2, 46, 0, 0, 0, 0, 0, 0],
+    weights: [0, 0, 24, 8, 2, 46, 4, 0, 0, 0, 0, 0, 0],
     ..PROFILES[1]
 };
 
@@ -139,8 +139,9 @@ impl Changing {
         assert_eq!(self.count(), target);
     }
 
-    /// Refusals of every VCI, 12 or 11, and 13 if the table is full; an offer
-    /// to each, and slots for all, a millisecond apart: longer than any gap.
+    /// Refusals of every VCI, 12 or 11, and 13 if the table is full; an offer to
+    /// each and a making, and slots for all, a millisecond apart: longer than any
+    /// gap.
     fn every_vci(&mut self) {
         let full = self.count() == CONNECTIONS_MAX;
         for vci in self.vcis.clone() {
@@ -152,6 +153,8 @@ impl Changing {
                 self.step(&Call::Close { vci });
             }
             self.step(&Call::Offer { vci, cells: 1 });
+            let time = self.list.seen.last;
+            self.step(&Call::Make { vci, time });
         }
         for _ in 0..=self.count() {
             let (time, len) = (self.list.seen.last + 1_000_000, CELL_OCTETS);
@@ -191,8 +194,8 @@ fn run(name: &str, vcis: fn(&mut Rng) -> Vec<u32>) {
         total.add(&run_list(name, seed, vcis));
     }
     println!("{name}, lists from {first}: {}", total.summary());
-    let [open, close, _, offer, ..] = total.outcomes;
-    let refused = [open[12], open[13], close[11], offer[11]];
+    let [open, close, _, offer, _, _, make, ..] = total.outcomes;
+    let refused = [open[12], open[13], close[11], offer[11], make[11]];
     let mut counts = refused.iter().chain(&total.kinds);
     assert!(counts.all(|count| *count >= LEAST), "{refused:?}");
     assert!(total.reached(Event::ReopenedLoaded) >= LEAST);

@@ -35,6 +35,7 @@ fn more_congestion_never_allows_a_higher_rate() {
     assert!(tally.lower >= 2_000_000, "{tally:?}");
     assert!(tally.raised >= 200_000, "{tally:?}");
     assert!(tally.lowered >= 200_000, "{tally:?}");
+    assert!(tally.made >= 100_000, "{tally:?}");
     assert!(tally.cut_off < tally.pairs / 10, "{tally:?}");
 }
 

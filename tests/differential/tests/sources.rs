@@ -1,6 +1,6 @@
 //! The test cases and state machines of the source papers, on the library and
 //! on the reference beside it. Both must agree, and both must give the value
-//! that the paper or, where it departs from the paper, document 01 gives.
+//! that the paper or, where they depart from the paper, documents 01 and 02 give.
 //! Every expected number was computed by hand; a comment says how.
 //!
 //! # Source document 000: seven test cases (`cases`)
@@ -61,8 +61,11 @@
 //!   no mark; document 01 keeps the marks that the cell was received with.
 //!   Where the paper chooses between T5 and T6, the level decides.
 //! * T4, T7 are left out by document 01: ER is never reduced on turning.
-//! * T9, T10, T13, and T12 of the source, are left out: the engine makes no
-//!   backward cell of its own (BN 1); congestion alone sends nothing.
+//! * T9, T10: a backward cell that the destination makes (BN 1), with CI or NI.
+//!   Departures of document 02: congestion alone sends nothing, a call makes the
+//!   cell; where the paper chooses between T9 and T10, the level decides.
+//! * T13, and T12 of the source: a made cell alters no waiting turned cell.
+//!   Departure: in place of a queue one made cell waits, the last.
 //! * T12, T14, and T8, T9, T10 of the source, are one step: a forward cell
 //!   becomes the one waiting cell, replacing any other. T11 of both, which
 //!   rewrites the waiting cells and keeps them, is left out. In place of the

@@ -1,13 +1,14 @@
 use mathlib.Core.Path.{refl}
 use borrow.Author.Needs.{needs}
-use Rattle.abr.specs.Exports.{numberAlone, opens, closes, receives, offers, levels, slots, then, ended}
+use Rattle.abr.specs.Exports.{numberAlone, opens, closes, receives, offers, levels, makes, slots, then, ended}
 use Rattle.composed.proofs.each_call.Statement.{statement}
 use Rattle.composed.proofs.each_call.Tie as tie
 
 returns : tie.Need-returns
 returns c =
     let a = c .before .before in
-    let s = a .before .before .before .before in
+    let m = a .before .before in
+    let s = m .before .before .before .before in
     let r = s .before .before .before in
     let l = r .before .before in
     let f = l .before .before in
@@ -19,6 +20,7 @@ returns c =
       levelled = numberAlone (l .abr-set-level .last .0) (l .abr-set-level .result);
       taken = numberAlone (r .abr-receive .last .0) (r .abr-receive .result);
       sent = record { table = s .abr-slot .last .0; returned = s .abr-slot .result; old = start .args .cell .now; new = s .abr-slot .last .1 .1 .0 };
+      made = numberAlone (m .abr-make .last .0) (m .abr-make .result);
       closed = numberAlone (c .abr-close .last .0) (c .abr-close .result);
       rate = a .abr-acr .ensures;
       table = refl;
@@ -29,10 +31,11 @@ returns c =
           (then (levels (l .abr-set-level .ensures))
           (then (receives (r .abr-receive .ensures))
           (then (slots (s .abr-slot .ensures))
-          (then (closes (c .abr-close .ensures)) ended)))));
+          (then (makes (m .abr-make .ensures))
+          (then (closes (c .abr-close .ensures)) ended))))));
     }
 
 pub each-call-spec : {M : Type 1} → statement M
 each-call-spec =
     tie.close
-    (tie.spec (λ c κs. search needs) (λ c κs. search needs) (λ c κs. search needs) (λ c κs. search needs) (λ c κs. search needs) (λ c κs. search needs) (λ c κs. search needs) (λ c. search needs) returns)
+    (tie.spec (λ c κs. search needs) (λ c κs. search needs) (λ c κs. search needs) (λ c κs. search needs) (λ c κs. search needs) (λ c κs. search needs) (λ c κs. search needs) (λ c κs. search needs) (λ c. search needs) returns)

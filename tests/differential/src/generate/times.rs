@@ -1,6 +1,6 @@
 //! Times just before, at and after those at which a connection changes.
 
-use abr::TIME_MAX;
+use abr::{MAKE_INTERVAL, TIME_MAX};
 
 use super::Generator;
 use crate::observation::{Connection, Observation};
@@ -32,6 +32,25 @@ impl Generator {
             Some(_) if self.rng.once_in(200) => TIME_MAX,
             _ if edge > TIME_MAX => seen.last,
             _ => edge,
+        }
+    }
+
+    /// The time of a making: mostly that of the last call, sometimes the end of
+    /// the interval since the connection's last made cell, or a nanosecond before.
+    pub(super) fn making_time(&mut self, seen: &Observation, vci: u32) -> u64 {
+        if self.fault() {
+            return self.time(seen);
+        }
+        let last = seen.last;
+        let Some(made) = seen.connections.get(&vci).and_then(|c| c.last_made) else {
+            return last;
+        };
+        let end = made + MAKE_INTERVAL;
+        let time = self.rng.pick(&[last, last, last, end, end, end - 1]);
+        if time > TIME_MAX {
+            last
+        } else {
+            time.max(last)
         }
     }
 

@@ -4,7 +4,8 @@
 use abr::{Kind, Rm};
 
 use crate::station::{
-    paper, read, written, Station, BELOW_INITIAL_CODE, INITIAL_CODE, MS, THREE_HUNDRED_CODE, VCI,
+    paper, read, written, Station, BELOW_INITIAL_CODE, INITIAL_CODE, MS, PEAK_CODE,
+    THREE_HUNDRED_CODE, VCI,
 };
 
 /// A forward cell with these two marks, other fields set too.
@@ -141,6 +142,89 @@ fn t9_and_t10_congestion_alone_makes_no_cell() {
     assert_eq!(station.kind(5 * MS), Some(Kind::Data));
     station.set_level(2);
     assert_eq!(station.slot(1_000 * MS), None);
+}
+
+/// The cell that a station makes with these marks: ER is PCR, CCR and MCR are 0.
+fn made(ci: bool, ni: bool) -> Rm {
+    Rm {
+        vci: VCI,
+        backward: true,
+        bn: true,
+        ci,
+        ni,
+        er: PEAK_CODE,
+        ..Rm::default()
+    }
+}
+
+/// The octets of the backward cell that a slot sends.
+fn sent_back(station: &mut Station, time: u64) -> Rm {
+    let sent = station.slot(time).expect("a cell waits");
+    assert_eq!(sent.kind, Kind::Turned);
+    let cell = read(&sent.cell);
+    assert_eq!(sent.cell, written(&cell)); // no reserved bit
+    cell
+}
+
+#[test]
+fn t9_level_2_makes_a_cell_with_ci_and_t10_level_1_one_with_ni() {
+    for (level, ci, ni) in [(2, true, false), (1, false, true)] {
+        let mut station = Station::open(&paper());
+        station.set_level(level);
+        station.make(0);
+        station.set_level(3 - level); // a later level changes nothing
+        station.forward(0);
+        assert_eq!(sent_back(&mut station, 5 * MS), made(ci, ni));
+        assert_eq!(station.slot(10 * MS), None);
+    }
+}
+
+#[test]
+fn t9_leaves_the_saved_efci_for_the_next_turned_cell() {
+    let mut station = Station::open(&paper());
+    station.receive_data(true);
+    station.set_level(1);
+    station.make(0);
+    station.set_level(0);
+    station.forward(0);
+    assert_eq!(sent_back(&mut station, 5 * MS), made(false, true));
+    station.receive_forward(marked(false, false));
+    assert!(sent_back(&mut station, 10 * MS).ci);
+}
+
+#[test]
+fn t13_a_made_cell_goes_after_the_waiting_one_and_does_not_alter_it() {
+    for turned_first in [false, true] {
+        let mut station = Station::open(&paper());
+        if turned_first {
+            station.receive_forward(marked(false, true));
+        }
+        station.set_level(2);
+        station.make(0);
+        station.set_level(0);
+        if !turned_first {
+            station.receive_forward(marked(false, true));
+        }
+        station.forward(0);
+        assert_eq!(
+            sent_back(&mut station, 5 * MS),
+            backward(marked(false, true))
+        );
+        assert_eq!(sent_back(&mut station, 10 * MS), made(true, false));
+    }
+}
+
+#[test]
+fn t13_one_made_cell_waits_the_last() {
+    // Two cells are made 100 ms apart, before any is sent; the first with CI.
+    let mut station = Station::open(&paper());
+    station.set_level(2);
+    station.make(0);
+    station.set_level(1);
+    station.make(100 * MS);
+    station.forward(100 * MS);
+    assert_eq!(sent_back(&mut station, 105 * MS), made(false, true));
+    assert_eq!(station.slot(110 * MS), None);
 }
 
 #[test]

@@ -97,6 +97,12 @@ impl Station {
         self.reference.set_level(level).expect("reference");
     }
 
+    /// Makes a backward cell.
+    pub fn make(&mut self, time: u64) {
+        self.library.make(VCI, time).expect("library");
+        self.reference.make(VCI, time).expect("reference");
+    }
+
     pub fn receive(&mut self, cell: &Octets) {
         self.library.receive(cell).expect("library");
         self.reference.receive(cell).expect("reference");

@@ -15,9 +15,9 @@ returns c =
 returns-2 : tie.Need-returns-2
 returns-2 c =
     let p = c .before .before in
-    let k = p .before .before .before in
+    let k = p .before .before .before .before .before in
     let start = k .before .before .before in
-    subst (λ (x : Kind). Carried x (start .args .c) (start .args .next) (start .args .cell .now) (p .put-waiting .last .0)) (sym (k .enum-told2 .given .1)) (p .put-waiting .ensures)
+    subst (λ (x : Kind). Carried x (start .args .c) (start .args .next) (start .args .cell .now) (p .put-backward .last .0)) (sym (k .enum-told2 .given .1)) (p .put-backward .ensures)
 
 returns-3 : tie.Need-returns-3
 returns-3 c =

@@ -22,19 +22,23 @@ kind-at-requires c κs = in-range c
 after-requires : tie.Need-after-requires
 after-requires c κs = in-range (c .before)
 
+-- its name is one
+loaded-name : (c : tie.After-load) → c .load .result .name ≤ 65535
+loaded-name c =
+    let start = c .before .before .before in
+    subst (λ (x : Connection). x .name ≤ 65535) (sym (c .load .ensures)) (load-named (start .args .t .now) (start .args .i))
+
 -- the name stays
 named : (c : tie.After-after) → c .after .result .name ≤ 65535
 named c =
     let l = c .before .before in
     let start = l .before .before .before in
     let k = c .before .kind-at .result in
-    let n = load-named (start .args .t .now) (start .args .i) in
-    let e = ap (λ (x : Connection). x .name) (l .load .ensures) in
     let f = ap (λ (x : Connection). x .name) (c .after .ensures) ∙ after-same k (start .args .time) (l .load .result) .name in
-    omega (arith, n, e, f)
+    omega (arith, loaded-name l, f)
 
 put-cell-requires : tie.Need-put-cell-requires
-put-cell-requires c κs = (search needs, named (c .before))
+put-cell-requires c κs = (search needs, (loaded-name (c .before .before .before), named (c .before)))
 
 store-sent-requires : tie.Need-store-sent-requires
 store-sent-requires c κs =

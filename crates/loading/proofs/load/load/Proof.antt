@@ -3,7 +3,11 @@ use Rattle.loading.proofs.load.load.Statement.{statement}
 use Rattle.loading.proofs.load.load.Tie as tie
 
 returns : tie.Need-returns
-returns c = rw (c .before .before .before .before .before .before .before .before .before .params-at .ensures, c .before .before .before .before .before .before .before .before .pace-at .ensures, c .before .before .before .before .before .before .before .waiting-at .ensures)
+returns c =
+    let made = c .before .before .before .before .before .before .before in
+    let turned = made .before in
+    let pace = turned .before in
+    rw (pace .before .params-at .ensures, pace .pace-at .ensures, turned .waiting-at .ensures, made .made-at .ensures)
 
 pub load-spec : {M : Type 1} → statement M
 load-spec =
@@ -13,6 +17,8 @@ load-spec =
     (λ c. search needs)
     (λ c. search needs)
     (λ c. search needs)
+    (λ c. search needs)
+    (λ c κs. search needs)
     (λ c. search needs)
     (λ c κs. search needs)
     (λ c. search needs)

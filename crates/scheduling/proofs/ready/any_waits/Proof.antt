@@ -7,11 +7,11 @@ use Rattle.scheduling.proofs.ready.any_waits.Tie as tie
 returns : tie.Need-returns
 returns c = data-waits _ (search needs)
 
-waits-requires : tie.Need-waits-requires
-waits-requires c κs = search needs
+backward-waits-requires : tie.Need-backward-waits-requires
+backward-waits-requires c κs = search needs
 
 returns-2 : tie.Need-returns-2
-returns-2 c = cell-waits _ (search needs) (c .waits .ensures)
+returns-2 c = cell-waits _ (search needs) (c .backward-waits .ensures)
 
 pub any-waits-spec : {M : Type 1} → statement M
-any-waits-spec = tie.close (tie.spec returns waits-requires returns-2)
+any-waits-spec = tie.close (tie.spec returns backward-waits-requires returns-2)

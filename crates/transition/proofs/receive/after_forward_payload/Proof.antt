@@ -11,7 +11,7 @@ with-destination-requires : tie.Need-with-destination-requires
 with-destination-requires c κs = search needs
 
 returns : tie.Need-returns
-returns c = after-forward-cell-is _ _ _ (c .before .turn .ensures) (c .with-destination .ensures)
+returns c = after-forward-cell-is _ _ _ (c .before .before .turn .ensures) (c .with-destination .ensures)
 
 pub after-forward-payload-spec : {M : Type 1} → statement M
 after-forward-payload-spec = tie.close (tie.spec turn-requires with-destination-requires returns)

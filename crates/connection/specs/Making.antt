@@ -1,0 +1,35 @@
+-- Backward cells that a connection makes itself. (Document 02, L1.)
+use Prim.Native.Nat.{ℕ, _+_}
+use mathlib.Core.Bool.{Bool, true, cond}
+use lib.Dec.{leb, eqb}
+use Rattle.rate.specs.declared.params.Params.{Params}
+use Rattle.rate.specs.Code.{codeOf}
+use Rattle.rate.specs.Params.{peak}
+use Rattle.cell.specs.declared.fields.Fields.{Fields}
+use Rattle.connection.specs.Parts.{Connection, Instant, Never, At, withDestination}
+
+-- 100 ms or more have passed at t since the last making, if there was one
+unfoldable pub mayMake : ℕ → (last : Instant) → Bool
+mayMake t Never = true
+mayMake t (At m) = leb (m + 100_000_000) t
+
+-- a cell made at t, at this congestion level, which refusal 16 keeps from being 0, waits in the place of an earlier made one
+unfoldable pub withMade : (t level : ℕ) → Connection → Connection
+withMade t level c =
+    withDestination c (record { efci = c .destination .efci; turned = c .destination .turned; made = record { level = level; last = At t } })
+
+-- its fields: DIR and BN 1, CI at level 2, NI at level 1, the code of PCR as ER; RA, CCR, MCR, QL and SN 0
+unfoldable pub madeFields : (name : ℕ) → Params → (level : ℕ) → Fields
+madeFields v p level = record {
+  vci = v;
+  dir = 1;
+  bn = 1;
+  ci = cond (eqb level 2) 1 0;
+  ni = cond (eqb level 1) 1 0;
+  ra = 0;
+  er = codeOf (peak p);
+  ccr = 0;
+  mcr = 0;
+  ql = 0;
+  sn = 0;
+}

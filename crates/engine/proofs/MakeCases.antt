@@ -1,0 +1,66 @@
+-- One lemma for each way out of making a backward cell.
+use Prim.Native.Nat.{ℕ, _≤_, _<_}
+use mathlib.Core.Path.{_≡_, refl, ap, _∙_}
+use mathlib.Core.Bool.{true, false}
+use mathlib.Core.List.{List}
+use lib.ListN.{set}
+use borrow.Author.Tests.{le-leb, lt-leb, lt-ltb, le-ltb}
+use Rattle.laws.specs.Require.{require}
+use Rattle.rate.specs.Units.{latestTime}
+use Rattle.connection.specs.declared.parts.Connection.{Connection}
+use Rattle.connection.specs.Making.{mayMake, withMade}
+use Rattle.connection.proofs.Keeps.{made-same}
+use Rattle.model.specs.State.{State, free, taken, find, put, withTime}
+use Rattle.model.specs.Invariant.{WellFormed}
+use Rattle.model.specs.Step.{refuse, accept, ofOpen, makeStep}
+use Rattle.table.specs.Layout.{words, sourceWords, lastAt}
+use Rattle.table.specs.Storing.{destinationUpdated}
+use Rattle.names.specs.Finding.{Located}
+use Rattle.model.specs.State.{capacity}
+use Rattle.engine.proofs.Outcomes.{time-word, destination-is}
+
+module _ (s : State) (v t : ℕ) where
+  pub make-late : latestTime < t → makeStep s v t ≡ refuse s 8
+  unfolding makeStep require
+  make-late h = rw (lt-leb t latestTime h)
+
+  module _ (u : t ≤ latestTime) where
+    pub make-missing : find v (s .entries) ≡ free → makeStep s v t ≡ refuse s 11
+    unfolding makeStep require ofOpen
+    make-missing e = rw (le-leb t latestTime u, e)
+
+    module _ (c : Connection) (e : find v (s .entries) ≡ taken c) where
+      pub make-early : t < s .last → makeStep s v t ≡ refuse s 14
+      unfolding makeStep require ofOpen
+      make-early h = rw (le-leb t latestTime u, e, lt-leb (s .last) t h)
+
+      module _ (h : s .last ≤ t) where
+        pub make-uncongested : s .level ≤ 0 → makeStep s v t ≡ refuse s 16
+        unfolding makeStep require ofOpen
+        make-uncongested l = rw (le-leb t latestTime u, e, le-leb (s .last) t h, le-ltb 0 (s .level) l)
+
+        pub make-soon : 0 < s .level → mayMake t (c .destination .made .last) ≡ false → makeStep s v t ≡ refuse s 17
+        unfolding makeStep require ofOpen
+        make-soon l m = rw (le-leb t latestTime u, e, le-leb (s .last) t h, lt-ltb 0 (s .level) l, m)
+
+        pub make-done :
+            0 < s .level → mayMake t (c .destination .made .last) ≡ true → makeStep s v t ≡ accept (put v (taken (withMade t (s .level) c)) (withTime t s))
+        unfolding makeStep require ofOpen
+        make-done l m = rw (le-leb t latestTime u, e, le-leb (s .last) t h, lt-ltb 0 (s .level) l, m)
+
+-- the time and the entry are stored one after the other
+later-put : (s : State) (v t : ℕ) (d : Connection) → withTime t (put v (taken d) s) ≡ put v (taken d) (withTime t s)
+unfolding withTime put
+later-put s v t d = refl
+
+made-source : (t level : ℕ) (c : Connection) → sourceWords (withMade t level c) ≡ sourceWords c
+unfolding withMade
+made-source t level c = refl
+
+pub made-words :
+    (s : State) (w : WellFormed s) {l m : List ℕ} → l ≡ words s → {v i : ℕ} → i < capacity → (p : Located (s .entries) v i) (t : ℕ)
+    → m ≡ destinationUpdated l i (withMade t (s .level) (p .holder)) → set m lastAt t ≡ words (put v (taken (withMade t (s .level) (p .holder))) (withTime t s))
+made-words s w e {v} h p t q =
+    let d : Connection = withMade t (s .level) (p .holder) in
+    ap (λ (x : List ℕ). set x lastAt t) (destination-is s w e h p d (made-same t (s .level) (p .holder)) (made-source t (s .level) (p .holder)) q)
+    ∙ time-word (put v (taken d) s) t ∙ ap words (later-put s v t d)

@@ -1,0 +1,27 @@
+-- Making a backward cell, computed.
+use mathlib.Core.Path.{refl}
+use Rattle.rate.specs.Code.{rateOf}
+use Rattle.crc.specs.Remainder.{remainder}
+use Rattle.cell.specs.Turning.{turnedMarks, turnedPayload, turnedCell}
+use Rattle.connection.specs.Making.{mayMake, withMade, madeFields}
+use Rattle.connection.specs.Receiving.{afterForwardCell}
+use Rattle.connection.specs.Sending.{madeLeft, sentTurned, backwardCell, bufferAfter}
+use Rattle.model.specs.State.{withLevel}
+use Rattle.model.specs.Step.{refuse, levelStep, makeStep}
+use Rattle.promises.specs.Makings.{Makings}
+use Rattle.promises.proofs.Witness.{computing}
+
+pub makings : Makings
+unfolding computing turnedMarks turnedPayload turnedCell mayMake withMade madeFields afterForwardCell madeLeft sentTurned backwardCell bufferAfter withLevel refuse levelStep makeStep
+makings = record {
+  notOpen = refl;
+  uncongested = refl;
+  accepted = refl;
+  earlier = refl;
+  soon = refl;
+  rested = refl;
+  slotEarlier = refl;
+  firstCell = refl;
+  turnedFirst = (refl, refl);
+  madeNext = (refl, refl);
+}

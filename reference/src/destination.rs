@@ -1,0 +1,78 @@
+//! The receiving side of a connection: the saved EFCI and the backward cells
+//! that wait (document 01, "Turning cells round"; document 02, L1).
+
+use crate::cell::{self, Octets, Rm};
+use crate::rate::code_within;
+use crate::refusal::{self, Refusal};
+
+/// The least time from one made cell of a connection to the next.
+pub const MAKE_INTERVAL: u64 = 100_000_000;
+
+/// What a connection's receiving side keeps.
+#[derive(Debug, Clone, PartialEq, Eq, Default)]
+pub struct Destination {
+    /// The saved EFCI.
+    efci: bool,
+    /// The waiting turned cell.
+    turned: Option<Octets>,
+    /// The waiting made cell.
+    made: Option<Octets>,
+    /// When a cell was last made, sent since or not.
+    last_made: Option<u64>,
+}
+
+impl Destination {
+    /// A data cell arrived: its mark replaces the saved one.
+    pub fn receive_data(&mut self, efci: bool) {
+        self.efci = efci;
+    }
+
+    /// A forward cell arrived: it is turned at once, under the present congestion
+    /// level, and replaces the one that waited. The saved mark becomes 0.
+    pub fn receive_forward(&mut self, vci: u32, cell: &Octets, level: u32) {
+        let ci = self.efci || level == 2;
+        let ni = level == 1;
+        self.turned = Some(cell::turn(cell, vci, ci, ni));
+        self.efci = false;
+    }
+
+    /// Makes a backward cell under this congestion level, in place of a made one
+    /// that waits. Refusals: 16, 17.
+    pub fn make(&mut self, vci: u32, time: u64, level: u32, pcr: u64) -> Result<(), Refusal> {
+        if level == 0 {
+            return Err(refusal::NOT_CONGESTED);
+        }
+        if self
+            .last_made
+            .is_some_and(|last| time - last < MAKE_INTERVAL)
+        {
+            return Err(refusal::TOO_SOON);
+        }
+        self.last_made = Some(time);
+        self.made = Some(cell::rm_octets(&Rm {
+            vci,
+            dir: 1,
+            bn: 1,
+            ci: u32::from(level == 2),
+            ni: u32::from(level == 1),
+            er: code_within(pcr),
+            ..Rm::default()
+        }));
+        Ok(())
+    }
+
+    /// Whether a turned or a made cell waits.
+    pub fn waits(&self) -> bool {
+        self.turned.is_some() || self.made.is_some()
+    }
+
+    /// The next cell to send, which then no longer waits: the turned one, else
+    /// the made one.
+    pub fn take(&mut self) -> Option<Octets> {
+        self.turned.take().or_else(|| self.made.take())
+    }
+}
+
+#[cfg(test)]
+#[path = "destination_tests.rs"]
+mod tests;

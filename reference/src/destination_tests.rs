@@ -1,0 +1,129 @@
+//! Tests of the saved mark and of the cells that wait, without an engine.
+
+use super::*;
+
+const VCI: u32 = 32;
+
+/// The code and the rate of 1,000 cells per second.
+const THOUSAND: u32 = 0x53E8;
+const RATE: u64 = 512_000;
+
+/// Octet 7 of the next cell to send, which then no longer waits.
+fn bits(destination: &mut Destination) -> u8 {
+    destination.take().expect("a cell waits")[6]
+}
+
+/// A forward cell without marks.
+fn plain() -> Rm {
+    Rm {
+        vci: VCI,
+        ..Rm::default()
+    }
+}
+
+#[test]
+fn the_saved_mark_is_replaced_and_then_cleared() {
+    let mut destination = Destination::default();
+    let mut turned = |marks: &[bool]| {
+        marks
+            .iter()
+            .for_each(|mark| destination.receive_data(*mark));
+        destination.receive_forward(VCI, &cell::rm_octets(&plain()), 0);
+        bits(&mut destination)
+    };
+    assert_eq!(turned(&[]), 0x80);
+    assert_eq!(turned(&[true]), 0xA0);
+    assert_eq!(turned(&[]), 0x80);
+    assert_eq!(turned(&[true, false]), 0x80);
+    assert_eq!(turned(&[false, true]), 0xA0);
+}
+
+#[test]
+fn the_level_sets_one_mark_only() {
+    let mut destination = Destination::default();
+    let mut turned = |level, received: &Rm| {
+        destination.receive_forward(VCI, &cell::rm_octets(received), level);
+        bits(&mut destination)
+    };
+    assert_eq!(turned(0, &plain()), 0x80);
+    assert_eq!(turned(1, &plain()), 0x90);
+    assert_eq!(turned(2, &plain()), 0xA0);
+    let marked = Rm {
+        ci: 1,
+        ni: 1,
+        bn: 1,
+        ..plain()
+    };
+    for level in 0..3 {
+        assert_eq!(turned(level, &marked), 0xB0);
+    }
+}
+
+#[test]
+fn a_made_cell_octet_by_octet() {
+    for (level, bits) in [(1, 0xD0), (2, 0xE0)] {
+        let mut destination = Destination::default();
+        assert_eq!(destination.make(VCI, 0, level, RATE), Ok(()));
+        let cell = destination.take().expect("a cell waits");
+        assert_eq!(cell[..4], [0x00, 0x00, 0x02, 0x0C]);
+        assert_eq!(cell[4], cell::header_check(&cell[..4]));
+        assert_eq!(cell[5..7], [0x01, bits]);
+        assert_eq!(cell[7..13], [0x53, 0xE8, 0, 0, 0, 0]);
+        assert_eq!(cell[13..21], [0; 8]);
+        assert_eq!(cell[21..51], [0x6A; 30]);
+        assert!(matches!(cell::read(&cell), Ok(cell::Cell::Rm(rm)) if rm.er == THOUSAND));
+        assert!(!destination.waits());
+    }
+}
+
+#[test]
+fn a_made_cell_neither_takes_nor_uses_up_the_saved_mark() {
+    let mut destination = Destination::default();
+    destination.receive_data(true);
+    destination.make(VCI, 0, 1, RATE).unwrap();
+    assert_eq!(bits(&mut destination), 0xD0);
+    destination.receive_forward(VCI, &cell::rm_octets(&plain()), 0);
+    assert_eq!(bits(&mut destination), 0xA0);
+}
+
+#[test]
+fn a_turned_cell_takes_nothing_from_a_made_one() {
+    let mut destination = Destination::default();
+    destination.make(VCI, 0, 2, RATE).unwrap();
+    destination.receive_forward(VCI, &cell::rm_octets(&plain()), 0);
+    assert_eq!(bits(&mut destination), 0x80); // turned, which goes first
+    assert_eq!(bits(&mut destination), 0xE0);
+    assert_eq!(destination.take(), None);
+}
+
+#[test]
+fn a_later_made_cell_replaces_the_earlier() {
+    let mut destination = Destination::default();
+    destination.make(VCI, 0, 2, RATE).unwrap();
+    destination.make(VCI, MAKE_INTERVAL, 1, RATE).unwrap();
+    assert_eq!(bits(&mut destination), 0xD0); // no mark of the replaced one
+    assert_eq!(destination.take(), None);
+}
+
+#[test]
+fn the_interval_counts_from_the_last_accepted_making() {
+    let mut destination = Destination::default();
+    let start = 7;
+    assert_eq!(destination.make(VCI, start, 1, RATE), Ok(()));
+    for time in [start, start + MAKE_INTERVAL - 1] {
+        assert_eq!(destination.make(VCI, time, 1, RATE), Err(17));
+        assert_eq!(destination.make(VCI, time, 0, RATE), Err(16));
+    }
+    destination.take(); // sent or not
+    let refused = destination.make(VCI, start + MAKE_INTERVAL - 1, 2, RATE);
+    assert_eq!(refused, Err(17));
+    assert!(!destination.waits());
+    let next = start + MAKE_INTERVAL;
+    assert_eq!(destination.make(VCI, next, 0, RATE), Err(16));
+    assert_eq!(destination.make(VCI, next, 1, RATE), Ok(()));
+    assert_eq!(
+        destination.make(VCI, next + MAKE_INTERVAL - 1, 1, RATE),
+        Err(17)
+    );
+    assert_eq!(destination.make(VCI, next + MAKE_INTERVAL, 1, RATE), Ok(()));
+}
