@@ -1,8 +1,8 @@
 /*
  * Every call in its costliest known case, accepted: 64 connections are open whose VCIs share one bucket of the table's
  * index, the one concerned has the last entry and so is compared last, in a slot the ready instants fall from the first
- * entry to the last, and a forward cell makes both of its moves. bench/worst.c counts the instructions of these calls,
- * tests/c/stack.c measures their stack.
+ * entry to the last, a forward cell makes both of its moves, and a received one replaces another. bench/worst.c counts
+ * the instructions of these calls, tests/c/stack.c measures their stack.
  */
 #ifndef CASES_H
 #define CASES_H
@@ -58,7 +58,7 @@ static const abr_case cases[] = {
     {"slot, turned cell", TURNED_WAITS, call_slot, ABR_SENT_TURNED},
     {"slot, made cell", MADE_WAITS, call_slot, ABR_SENT_TURNED},
     {"slot, data", NOTHING, call_slot, ABR_SENT_DATA},
-    {"receive, forward cell", FORWARD_CELL, call_receive, 0},
+    {"receive, forward cell", TURNED_WAITS, call_receive, 0},
     {"receive, backward cell", BACKWARD_CELL, call_receive, 0},
     {"receive, data", DATA_CELL, call_receive, 0},
     {"open", LAST_CLOSED, call_open, 0},

@@ -4,8 +4,8 @@
  * A transmitter asks once per cell slot which of up to 64 connections of one
  * link sends, what kind of cell, and what rate it is allowed afterwards. The
  * sections named below are those of document 01, "The ABR end-system rate
- * engine", which says what every call does but abr_make: that is request L1 of
- * document 02.
+ * engine", which says what every call does, with requests L1 (abr_make) and L2
+ * (marks of a replaced cell) of document 02.
  *
  * Language. C99 or later, C++11 or later, or C++98 with <stdint.h>.
  *
@@ -59,8 +59,8 @@ extern "C" {
 
 /* ---- Version ------------------------------------------------------------ */
 
-/* 0.3.0: major, minor and patch number, eight bits each. */
-#define ABR_VERSION 0x000300u
+/* 0.4.0: major, minor and patch number, eight bits each. */
+#define ABR_VERSION 0x000400u
 
 /* The words of a table. */
 #define ABR_TABLE_WORDS 1987u
@@ -282,7 +282,8 @@ ABR_MUST_USE abr_allowed abr_acr(const abr_table *table, uint32_t vci);
  * Receives a cell (sections "Four moves of the allowed rate" and "Turning cells
  * round"). A backward RM cell moves the allowed rate of its connection; a
  * forward RM cell is turned round and waits to be sent back, in place of any
- * that waited; of a data cell the congestion mark is saved and the payload not
+ * turned one that waited, and has CI 1 also if that one had (document 02, L2);
+ * of a data cell the congestion mark is saved and the payload not
  * used.
  * Refusals in order:
  *    1  len is not 53

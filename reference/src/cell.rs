@@ -255,6 +255,11 @@ fn double_word(cell: &Octets, at: usize) -> u32 {
     u32::from_be_bytes([cell[at], cell[at + 1], cell[at + 2], cell[at + 3]])
 }
 
+/// Whether CI is 1 in an RM cell.
+pub fn has_ci(cell: &Octets) -> bool {
+    cell[BITS] & CI_BIT != 0
+}
+
 /// The backward cell made of a forward RM cell: DIR set, BN cleared, CI and NI
 /// set if `ci` and `ni` say so and else as received, new header and CRC. All
 /// other bits of the payload are unchanged, the reserved ones too.

@@ -1,5 +1,5 @@
 //! The receiving side of a connection: the saved EFCI and the backward cells
-//! that wait (document 01, "Turning cells round"; document 02, L1).
+//! that wait (document 01, "Turning cells round"; document 02, L1 and L2).
 
 use crate::cell::{self, Octets, Rm};
 use crate::rate::code_within;
@@ -28,9 +28,10 @@ impl Destination {
     }
 
     /// A forward cell arrived: it is turned at once, under the present congestion
-    /// level, and replaces the one that waited. The saved mark becomes 0.
+    /// level, and replaces the turned one that waited, whose CI it keeps. The
+    /// saved mark becomes 0.
     pub fn receive_forward(&mut self, vci: u32, cell: &Octets, level: u32) {
-        let ci = self.efci || level == 2;
+        let ci = self.efci || level == 2 || self.turned.as_ref().is_some_and(cell::has_ci);
         let ni = level == 1;
         self.turned = Some(cell::turn(cell, vci, ci, ni));
         self.efci = false;

@@ -127,3 +127,53 @@ fn the_interval_counts_from_the_last_accepted_making() {
     );
     assert_eq!(destination.make(VCI, next + MAKE_INTERVAL, 1, RATE), Ok(()));
 }
+
+/// Octet 7 of the last of these forward cells, turned at level 0 one after the
+/// other, none being sent before.
+fn last_of(destination: &mut Destination, received: &[Rm]) -> u8 {
+    for rm in received {
+        destination.receive_forward(VCI, &cell::rm_octets(rm), 0);
+    }
+    let last = bits(destination);
+    assert_eq!(destination.turned, None);
+    last
+}
+
+#[test]
+fn ci_of_a_replaced_cell_is_kept_and_ni_is_not() {
+    let ci = Rm { ci: 1, ..plain() };
+    let ni = Rm { ni: 1, ..plain() };
+    let both = Rm { ci: 1, ..ni };
+    let mut destination = Destination::default();
+    let mut last = |received: &[Rm]| last_of(&mut destination, received);
+    assert_eq!(last(&[ci, plain()]), 0xA0);
+    assert_eq!(last(&[plain()]), 0x80); // the one before was sent
+    assert_eq!(last(&[ci, plain(), plain()]), 0xA0); // replaced twice
+    assert_eq!(last(&[ni, plain()]), 0x80);
+    assert_eq!(last(&[both, plain()]), 0xA0);
+    assert_eq!(last(&[ci, ni]), 0xB0);
+    assert_eq!(last(&[plain(), plain()]), 0x80);
+}
+
+#[test]
+fn ci_is_kept_wherever_it_came_from() {
+    let mut destination = Destination::default();
+    destination.receive_data(true);
+    assert_eq!(last_of(&mut destination, &[plain(), plain()]), 0xA0);
+    destination.receive_forward(VCI, &cell::rm_octets(&plain()), 2);
+    assert_eq!(last_of(&mut destination, &[plain()]), 0xA0);
+    destination.receive_forward(VCI, &cell::rm_octets(&plain()), 1);
+    assert_eq!(last_of(&mut destination, &[plain()]), 0x80);
+}
+
+#[test]
+fn a_made_cell_beside_it_neither_gives_nor_takes_a_mark() {
+    let mut destination = Destination::default();
+    destination.make(VCI, 0, 2, RATE).unwrap();
+    assert_eq!(last_of(&mut destination, &[plain(), plain()]), 0x80);
+    let ci = Rm { ci: 1, ..plain() };
+    destination.receive_forward(VCI, &cell::rm_octets(&ci), 0);
+    destination.make(VCI, MAKE_INTERVAL, 1, RATE).unwrap();
+    assert_eq!(last_of(&mut destination, &[plain()]), 0xA0);
+    assert_eq!(bits(&mut destination), 0xD0);
+}

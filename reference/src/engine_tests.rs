@@ -478,6 +478,7 @@ fn a_later_forward_cell_replaces_the_waiting_one() {
         rm,
         Rm {
             sn: 2,
+            ci: 1,
             ni: 1,
             dir: 1,
             ..forward(32)
@@ -487,13 +488,22 @@ fn a_later_forward_cell_replaces_the_waiting_one() {
 }
 
 #[test]
-fn the_mark_of_a_replaced_cell_is_lost() {
+fn the_mark_of_a_replaced_cell_is_kept_on_its_connection() {
     let mut engine = engine_with(&params());
+    engine.open(33, 0, &params()).unwrap();
     engine.receive(&data(32, true)).unwrap();
-    engine.receive(&octets(&forward(32))).unwrap();
-    engine.receive(&octets(&forward(32))).unwrap();
-    assert_eq!(kind(&mut engine, 0), Some(Kind::Forward));
-    assert_eq!(slot_rm(&mut engine, MS).1.ci, 0);
+    for vci in [32, 33, 32, 33] {
+        engine.receive(&octets(&forward(vci))).unwrap();
+    }
+    for _ in [32, 33] {
+        assert_eq!(kind(&mut engine, 0), Some(Kind::Forward));
+    }
+    for (vci, ci) in [(32, 1), (33, 0)] {
+        let (sent, rm) = slot_rm(&mut engine, MS);
+        assert_eq!((sent.vci, rm.ci), (vci, ci));
+    }
+    engine.receive(&octets(&forward(32))).unwrap(); // replaces nothing
+    assert_eq!(slot_rm(&mut engine, 2 * MS).1.ci, 0);
 }
 
 #[test]

@@ -92,13 +92,16 @@ static void feedback_moves_the_rates(void)
     CHECK(acr_is(32, 512000));
 }
 
+/* It is received twice before it is sent: the first is marked by the level, and its CI is kept. */
 static void a_cell_is_turned(void)
 {
     abr_rm rm = {32, 0, 0, 0, 0, 0, thousand, thousand, slowest, 0, 0};
     uint8_t octets[ABR_CELL_OCTETS];
     CHECK(abr_set_level(&table, 3) == ABR_REFUSED_TOO_LARGE);
-    CHECK(abr_set_level(&table, 2) == ABR_OK);
     CHECK(abr_write_rm(rm, octets, sizeof octets) == ABR_OK);
+    CHECK(abr_set_level(&table, 2) == ABR_OK);
+    CHECK(abr_receive(&table, octets, sizeof octets) == ABR_OK);
+    CHECK(abr_set_level(&table, 0) == ABR_OK);
     CHECK(abr_receive(&table, octets, sizeof octets) == ABR_OK);
     CHECK(slot_is(20 * MS, 32, ABR_SENT_TURNED, 512000));
     rm = rm_in_cell();
@@ -113,6 +116,7 @@ static void cells_are_made(void)
     CHECK(abr_make(&table, 33, ABR_TIME_MAX + 1) == ABR_REFUSED_TIME);
     CHECK(abr_make(&table, 34, 21 * MS) == ABR_REFUSED_NOT_OPEN);
     CHECK(abr_make(&table, 33, 20 * MS - 1) == ABR_REFUSED_TIME_BACKWARD);
+    CHECK(abr_set_level(&table, 2) == ABR_OK);
     CHECK(abr_make(&table, 33, 21 * MS) == ABR_OK);
     CHECK(abr_slot(&table, 21 * MS - 1, cell, sizeof cell).refusal == ABR_REFUSED_TIME_BACKWARD);
     CHECK(abr_set_level(&table, 1) == ABR_OK);

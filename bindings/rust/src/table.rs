@@ -102,8 +102,8 @@ impl Table {
     }
 
     /// Receives a cell: a backward RM cell moves the rate of its connection, a
-    /// forward one is turned and waits, the congestion mark of a data cell is
-    /// saved.
+    /// forward one is turned and waits in place of any turned one, whose CI it
+    /// keeps, the congestion mark of a data cell is saved.
     ///
     /// # Errors
     /// In this order: [`Refusal::Length`], [`Refusal::HeaderCheck`],

@@ -3,12 +3,12 @@ ghost use mathlib.Core.Path.{_≡_};
 ghost use Rattle.table.specs.Layout.{size};
 use table::layout::WORDS;
 
-// 0.3.0: sixteen bits, eight and eight.
-const VERSION: u32 = 0x000300;
+// 0.4.0: sixteen bits, eight and eight.
+const VERSION: u32 = 0x000400;
 
 #[no_mangle]
 pub extern "C" fn abr_version() -> u32
-    ensures { λ r. ⌜ r ≡ 0x000300 ⌝ }
+    ensures { λ r. ⌜ r ≡ 0x000400 ⌝ }
 {
     VERSION
 }

@@ -1,8 +1,9 @@
 -- What a received cell, or an offer, makes of its connection. (Document 01, "Opening", "Four moves of the allowed rate" and "Turning cells round".)
-use Prim.Native.Nat.{ℕ}
-use mathlib.Core.Bool.{Bool, false, cond}
+use Prim.Native.Nat.{ℕ, _/_, _%_}
+use mathlib.Core.Bool.{Bool, false, cond, _||_}
 use mathlib.Core.List.{List}
 use lib.Dec.{eqb}
+use lib.ListN.{getD}
 use Rattle.rate.specs.Code.{rateOf}
 use Rattle.rate.specs.Moves.{feedback}
 use Rattle.crc.specs.declared.payload.Payload.{Payload}
@@ -10,7 +11,7 @@ use Rattle.crc.specs.Payload.{octetsOf, payloadOf}
 use Rattle.cell.specs.declared.fields.Fields.{Fields}
 use Rattle.cell.specs.Octets.{payload}
 use Rattle.cell.specs.Turning.{turnedPayload}
-use Rattle.connection.specs.Parts.{Connection, Cell, withRate, withUnacked, withQueue, withDestination, enqueued}
+use Rattle.connection.specs.Parts.{Connection, Destination, Waiting, Nothing, Cell, withRate, withUnacked, withQueue, withDestination, enqueued}
 
 -- an offer adds to the waiting data
 unfoldable pub offered : ℕ → Connection → Connection
@@ -25,15 +26,24 @@ unfoldable pub afterBackwardCell : Fields → Connection → Connection
 afterBackwardCell f c =
     withUnacked (withRate c (feedback (eqb (f .ci) 1) (eqb (f .ni) 1) (rateOf (f .er)) (c .rate))) (cond (eqb (f .bn) 0) 0 (c .unacked))
 
+-- the CI of a turned cell that waits: bit 5 of octet 7, which is the second of its payload
+unfoldable pub waitingCi : Waiting → Bool
+waitingCi Nothing = false
+waitingCi (Cell p) = eqb (getD (octetsOf p) 1 0 / 32 % 2) 1
+
+-- what marks a cell that is turned now, besides its own CI and the level: the saved EFCI, and the CI of the turned cell that it replaces (document 02, L2)
+unfoldable pub markKept : Destination → Bool
+markKept d = d .efci || waitingCi (d .turned)
+
 -- a forward cell becomes the one waiting turned cell, at this congestion level; the saved EFCI is used up
 unfoldable pub afterForwardCell : (level : ℕ) → List ℕ → Connection → Connection
 afterForwardCell level o c =
-    withDestination c (record { efci = false; turned = Cell (payloadOf (turnedPayload level (c .destination .efci) (payload o))); made = c .destination .made })
+    withDestination c (record { efci = false; turned = Cell (payloadOf (turnedPayload level (markKept (c .destination)) (payload o))); made = c .destination .made })
 
 -- the same, from the words of the received payload
 unfoldable pub afterForwardPayload : (level : ℕ) → Payload → Connection → Connection
 afterForwardPayload level p c =
-    withDestination c (record { efci = false; turned = Cell (payloadOf (turnedPayload level (c .destination .efci) (octetsOf p))); made = c .destination .made })
+    withDestination c (record { efci = false; turned = Cell (payloadOf (turnedPayload level (markKept (c .destination)) (octetsOf p))); made = c .destination .made })
 
 -- a backward RM cell moves the rate, a forward one is turned round
 unfoldable pub afterResourceCell : (level : ℕ) → List ℕ → Fields → Connection → Connection

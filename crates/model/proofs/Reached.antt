@@ -56,7 +56,7 @@ effect-well-formed {s} w (makes u t d f g h m) =
 pub step-well-formed : {s : State} → WellFormed s → (c : Call) → WellFormed (step s c .state)
 step-well-formed {s} w c = effect-well-formed w (effect s (w .unique) c)
 
-final-well-formed : {s : State} → WellFormed s → (cs : List Call) → WellFormed (final s cs)
+pub final-well-formed : {s : State} → WellFormed s → (cs : List Call) → WellFormed (final s cs)
 final-well-formed w [] = w
 final-well-formed w (c ∷ cs) = final-well-formed (step-well-formed w c) cs
 

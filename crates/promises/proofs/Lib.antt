@@ -10,5 +10,6 @@ pub mod Makings
 pub mod Refusals
 pub mod Interference
 pub mod Moves
+pub mod Marks
 pub mod SentWaited
 pub mod Liveness

@@ -8,6 +8,7 @@ pub mod Makings
 pub mod Refusals
 pub mod Interference
 pub mod Moves
+pub mod Marks
 pub mod Spacing
 pub mod SentWaited
 pub mod Liveness

@@ -3,7 +3,7 @@ ghost use mathlib.Core.Path.{_≡_};
 ghost use Prim.Native.Nat.{_+_, _≤_};
 ghost use Rattle.cell.specs.Fields.{Checked};
 ghost use Rattle.connection.specs.Parts.{waiting};
-ghost use Rattle.connection.specs.Receiving.{offered, afterDataCell, afterBackwardCell, afterForwardPayload};
+ghost use Rattle.connection.specs.Receiving.{offered, afterDataCell, afterBackwardCell, waitingCi, afterForwardPayload};
 use crate::feedback::with_feedback;
 use cell::fields::Fields;
 use connection::parts::Connection;
@@ -44,13 +44,26 @@ pub fn after_backward_cell(f: Fields, c: Connection) -> Connection
     if f.bn == 0 { cleared } else { moved }
 }
 
+// The CI of a turned cell that waits: octet 7 is the second of its first word.
+fn waiting_ci(w: Waiting) -> bool
+    ensures { λ r. ⌜ r ≡ waitingCi w ⌝ }
+{
+    match w {
+        Waiting::Nothing => false,
+        Waiting::Cell(p) => p.a / 0x20000000000000 % 2 == 1,
+    }
+}
+
 // A forward cell, whose CRC-10 was found right, becomes the one waiting turned cell, from the words of its payload; the saved EFCI is used up.
 pub fn after_forward_payload(level: u32, p: Payload, c: Connection) -> Connection
     requires { ⌜ Checked p ⌝ }
     ensures { λ r. ⌜ r ≡ afterForwardPayload level p c ⌝ }
 {
-    let turned = Waiting::Cell(turn(p, level, c.destination.efci));
-    let made = c.destination.made;
+    let destination = c.destination;
+    let replaced = destination.turned;
+    let made = destination.made;
+    let kept = destination.efci | waiting_ci(replaced);
+    let turned = Waiting::Cell(turn(p, level, kept));
     c.with_destination(Destination {
         efci: false,
         turned,

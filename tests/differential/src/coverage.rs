@@ -84,6 +84,23 @@ events! {
     MarkLevelTwo,
     /// A forward cell was received with a mark and turned without a new one.
     MarkKept,
+    /// A turned cell had CI 1 only because the one that it replaced had it.
+    Carried,
+    /// A turned cell replaced one whose CI was carried so, and carried it on.
+    CarriedTwice,
+    /// CI was carried while a made cell waited.
+    CarriedBesideMade,
+    /// CI was carried from a cell with NI 1, and NI was not.
+    CarriedNiLost,
+    /// A turned cell replaced one with NI 1, and had NI 0.
+    NiLost,
+    /// A cell was turned without CI after one with CI had been sent.
+    UnmarkedAfterSent,
+    /// A cell was turned without CI while one with CI waited on another
+    /// connection.
+    UnmarkedElsewhere,
+    /// A cell was turned without CI while a made one with CI waited.
+    UnmarkedBesideMade,
     /// A data cell cleared a saved EFCI.
     EfciCleared,
     /// A closed VCI was opened again.
@@ -115,6 +132,8 @@ events! {
     MadeReplaced,
     /// A cell was made while a turned one waited.
     MadeBesideTurned,
+    /// A cell was made at level 1 while a turned one with CI 1 waited.
+    MadeBesideMarked,
     /// A forward cell was turned while a made one waited.
     TurnedBesideMade,
     /// A turned cell was sent while a made one waited.

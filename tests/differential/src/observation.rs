@@ -3,6 +3,7 @@
 //! counts come from it; no comparison of the two sides depends on it.
 
 mod made;
+mod turned;
 
 use std::collections::{BTreeMap, BTreeSet};
 
@@ -11,6 +12,7 @@ use abr::{CONNECTIONS_MAX, TIME_MAX, WAITING_MAX};
 
 use crate::call::{Answer, Call, Outcome};
 use crate::coverage::{Coverage, Event};
+use turned::Turned;
 
 /// What a connection has sent, from its first cell on.
 #[derive(Debug, Clone, Copy)]
@@ -32,7 +34,9 @@ pub struct Connection {
     pub acr: u64,
     pub sends: Option<Sends>,
     pub data: u64,
-    pub turned: bool,
+    pub turned: Option<Turned>,
+    /// Whether the last turned cell that was sent had CI 1.
+    sent_ci: bool,
     /// The level at which the made cell that waits was made.
     pub made: Option<u32>,
     pub last_made: Option<u64>,
@@ -52,7 +56,8 @@ impl Connection {
             acr,
             sends: None,
             data: 0,
-            turned: false,
+            turned: None,
+            sent_ci: false,
             made: None,
             last_made: None,
             efci: false,
@@ -82,7 +87,7 @@ impl Connection {
 
     /// Whether data, a turned or a made cell waits.
     pub fn waits(&self) -> bool {
-        self.data > 0 || self.turned || self.made.is_some()
+        self.data > 0 || self.turned.is_some() || self.made.is_some()
     }
 
     /// The ready instant, if there is one.
@@ -181,17 +186,18 @@ impl Observation {
 
     fn received(&mut self, cell: &[u8], acr: u64, coverage: &mut Coverage) {
         let header = u32::from_be_bytes([cell[0], cell[1], cell[2], cell[3]]);
-        let level = self.level;
-        let Some(connection) = self.connections.get_mut(&((header >> 4) & 0xFFFF)) else {
+        let (vci, bits) = ((header >> 4) & 0xFFFF, cell[6]);
+        let rm = header >> 1 & 7 == 6;
+        if rm && bits & 0x80 == 0 {
+            return self.forward_received(vci, bits, coverage);
+        }
+        let Some(connection) = self.connections.get_mut(&vci) else {
             return;
         };
-        let bits = cell[6];
-        if header >> 1 & 7 != 6 {
+        if !rm {
             let efci = header >> 2 & 1 == 1;
             coverage.reach(Event::EfciCleared, connection.efci && !efci);
             connection.efci = efci;
-        } else if bits & 0x80 == 0 {
-            forward_received(connection, bits, level, coverage);
         } else {
             let er = reference::rate_of(u32::from(cell[7]) << 8 | u32::from(cell[8]));
             backward_received(connection, bits, er, coverage);
@@ -236,19 +242,6 @@ impl Observation {
     }
 }
 
-/// A forward cell came in.
-fn forward_received(connection: &mut Connection, bits: u8, level: u32, coverage: &mut Coverage) {
-    let marked = bits & 0x30 != 0;
-    coverage.reach(Event::TurnedReplaced, connection.turned);
-    coverage.reach(Event::TurnedBesideMade, connection.made.is_some());
-    coverage.reach(Event::MarkEfci, connection.efci && level != 2);
-    coverage.reach(Event::MarkLevelOne, level == 1);
-    coverage.reach(Event::MarkLevelTwo, level == 2 && !connection.efci);
-    coverage.reach(Event::MarkKept, marked && level == 0 && !connection.efci);
-    connection.turned = true;
-    connection.efci = false;
-}
-
 /// A backward cell came in; `acr` is still the rate before it.
 fn backward_received(connection: &mut Connection, bits: u8, er: u64, coverage: &mut Coverage) {
     let (ci, ni, bn) = (bits & 0x20 != 0, bits & 0x10 != 0, bits & 0x40 != 0);
@@ -291,7 +284,7 @@ fn kind_sent(connection: &mut Connection, time: u64, kind: u32, coverage: &mut C
         return;
     }
     let (nrm, trm) = (connection.nrm(), connection.trm());
-    let (data, waiting) = (connection.data, connection.turned);
+    let (data, waiting) = (connection.data, connection.turned.is_some());
     if let Some(sends) = &mut connection.sends {
         let passed = time - sends.forward;
         coverage.reach(Event::NrmLessOne, sends.k + 2 == nrm && passed < trm);
@@ -304,7 +297,7 @@ fn kind_sent(connection: &mut Connection, time: u64, kind: u32, coverage: &mut C
         sends.last = time;
     }
     match kind {
-        2 if waiting => connection.turned = false,
+        2 if waiting => connection.sent_ci = connection.turned.take().is_some_and(|cell| cell.ci),
         2 => connection.made = None,
         _ => connection.data -= 1,
     }

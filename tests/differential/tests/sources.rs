@@ -69,7 +69,8 @@
 //! * T12, T14, and T8, T9, T10 of the source, are one step: a forward cell
 //!   becomes the one waiting cell, replacing any other. T11 of both, which
 //!   rewrites the waiting cells and keeps them, is left out. In place of the
-//!   paper's two queues one cell waits.
+//!   paper's two queues one cell waits. Departure of document 02: CI of the
+//!   replaced cell stays, where the paper drops it with the cell.
 //!
 //! `scheduler_machine`:
 //! * T1: counts from 0. T2: forward cells by time and by count, CCR = ACR.

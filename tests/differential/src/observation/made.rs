@@ -24,7 +24,9 @@ impl Observation {
         coverage.reach(Event::MadeUnderEfci, level == 1 && connection.efci);
         coverage.reach(Event::MadeBeforeFirst, connection.sends.is_none());
         coverage.reach(Event::MadeReplaced, connection.made.is_some());
-        coverage.reach(Event::MadeBesideTurned, connection.turned);
+        coverage.reach(Event::MadeBesideTurned, connection.turned.is_some());
+        let marked = connection.turned.is_some_and(|cell| cell.ci);
+        coverage.reach(Event::MadeBesideMarked, level == 1 && marked);
         connection.made = Some(level);
         connection.last_made = Some(time);
     }
@@ -53,7 +55,7 @@ pub(super) fn sent(connection: &Connection, kind: u32, level: u32, coverage: &mu
     let Some(made_at) = connection.made else {
         return;
     };
-    let (data, turned) = (connection.data > 0, connection.turned);
+    let (data, turned) = (connection.data > 0, connection.turned.is_some());
     let since = connection.sends.is_some_and(|sends| sends.turned);
     let started = connection.sends.is_some();
     coverage.reach(Event::MadeStarts, !started && !data && !turned);

@@ -237,20 +237,33 @@ fn t14_an_empty_queue_takes_the_cell() {
 
 #[test]
 fn t12_a_new_cell_drops_the_waiting_one() {
-    // The waiting cell was marked by EFCI; the new one is received without, and
-    // neither its marks nor its SN are those of the first.
+    // The waiting cell was marked by EFCI and received with NI; the new one is
+    // received without marks. CI stays (document 02), NI and SN are its own.
     let mut station = Station::open(&paper());
     station.receive_data(true);
-    station.receive_forward(marked(false, false));
+    station.receive_forward(marked(false, true));
     let sn = 10;
-    let second = Rm {
+    let second = |ci| Rm {
         sn,
-        ..marked(false, false)
+        ..marked(ci, false)
     };
-    station.receive_forward(second);
-    assert_eq!(turned(&mut station), backward(second));
+    station.receive_forward(second(false));
+    assert_eq!(turned(&mut station), backward(second(true)));
     // One cell waited, not two as after the rewriting of T11.
     assert_eq!(station.slot(1_000 * MS), None);
+}
+
+#[test]
+fn t12_ci_outlives_two_replaced_cells_and_ends_with_the_sent_one() {
+    let mut station = Station::open(&paper());
+    station.set_level(2);
+    station.receive_forward(marked(false, false));
+    station.set_level(0);
+    station.receive_forward(marked(false, false));
+    station.receive_forward(marked(false, false));
+    assert!(turned(&mut station).ci);
+    station.receive_forward(marked(false, false)); // replaces nothing
+    assert!(!sent_back(&mut station, 10 * MS).ci);
 }
 
 #[test]

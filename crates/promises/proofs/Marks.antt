@@ -1,0 +1,214 @@
+-- No congestion mark is lost between a received forward cell and the next turned cell that is sent.
+use Prim.Native.Nat.{ℕ, _≤_}
+use mathlib.Core.Path.{_≡_, refl, sym, ap, subst, _∙_}
+use mathlib.Core.Logic.{_≢_}
+use mathlib.Core.Bool.{Bool, true, false, cond, _||_}
+use mathlib.Core.List.{List, [], _∷_}
+use native.Mathlib.Omega.{arith}
+use lib.Dec.{eqb}
+use borrow.Author.Tests.{eq-eqb, ne-eqb}
+use Rattle.rate.specs.declared.params.Params.{Params}
+use Rattle.crc.specs.declared.payload.Payload.{Payload}
+use Rattle.crc.specs.Payload.{payloadOf}
+use Rattle.cell.specs.Octets.{AreOctets, payload}
+use Rattle.cell.specs.Header.{header}
+use Rattle.cell.specs.Fields.{fieldsOf}
+use Rattle.cell.specs.Reading.{reading}
+use Rattle.cell.specs.Turning.{turnedPayload, turnedCell}
+use Rattle.cell.specs.Returned.{returned}
+use Rattle.cell.specs.declared.fields.Fields.{Fields}
+use Rattle.cell.specs.declared.read.Reading.the-variants.{Resource}
+use Rattle.cell.proofs.Admits.{resource-received}
+use Rattle.cell.proofs.Turned.{turned-read, turned-words}
+use Rattle.connection.specs.declared.parts.Connection.{Connection}
+use Rattle.connection.specs.declared.parts.Waiting.{Waiting}
+use Rattle.connection.specs.declared.parts.Waiting.the-variants.{Nothing, Cell}
+use Rattle.connection.specs.declared.kind.Kind.{Kind}
+use Rattle.connection.specs.declared.kind.Kind.the-variants.{Forward, Turned, Data}
+use Rattle.connection.specs.Making.{withMade}
+use Rattle.connection.specs.Parts.{fresh}
+use Rattle.connection.specs.Receiving.{offered, afterDataCell, waitingCi, markKept, afterBackwardCell, afterForwardCell, afterResourceCell}
+use Rattle.connection.specs.Kind.{kindAt}
+use Rattle.connection.specs.Sending.{after, sentForward, sentTurned, sentData, bufferAfter, backwardCell, written}
+use Rattle.connection.proofs.Keeps.{work-same, after-same}
+use Rattle.model.specs.State.{State, Entry, free, taken, empty, find, put, withTime, withLevel}
+use Rattle.model.specs.Invariant.{WellFormed, NamesUnique}
+use Rattle.model.specs.declared.answer.Answer.{Answer}
+use Rattle.model.specs.declared.answer.Answer.the-variants.{Refused, Idle, Sent}
+use Rattle.model.specs.Call.{Call, receiving, slot, Outcome}
+use Rattle.model.specs.Step.{refuse, accept, ofOpen, readStep, receiveStep, idleStep, sendStep, step}
+use Rattle.model.specs.Run.{final}
+use Rattle.model.proofs.Entries.{Case, same, other, case}
+use Rattle.model.proofs.Frames.{name-of, put-read, inserted-read, freed-read}
+use Rattle.model.proofs.Preserved.{valid-at}
+use Rattle.model.proofs.Effects.{Effect, refuses, begins, ends, offers, marks, works, levels, idles, sends, makes, effect}
+use Rattle.model.proofs.Reached.{step-well-formed, final-well-formed, reached-well-formed}
+use Rattle.promises.specs.Marks.{MarkCame, withCi, withEfci, Quiet, AllQuiet, MarkWritten, NoMarkLost}
+
+-- the turned cell that waits, as it will be written, is read as a backward cell of v with CI 1
+record Marked (v : ℕ) (w : Waiting) : Type 0 where
+  payload : Payload
+  waits : w ≡ Cell payload
+  fields : Fields
+  read : reading (turnedCell v payload) ≡ Resource fields
+  vci : fields .vci ≡ v
+  backward : fields .dir ≡ 1
+  ci : fields .ci ≡ 1
+
+abbrev HasMark : ℕ → Entry → Type 0
+HasMark v free = ⊥
+HasMark v (taken c) = Marked v (c .destination .turned)
+
+-- its CI stands in the words that a later cell takes it from
+marked-ci : (v : ℕ) (w : Waiting) → Marked v w → waitingCi w ≡ true
+unfolding waitingCi turnedCell header fieldsOf
+marked-ci v w m =
+    let f = resource-received (turnedCell v (m .payload)) (m .fields) (m .read) .fields in
+    rw (m .waits) (eq-eqb _ 1 (ap (λ (x : Fields). x .ci) (sym f) ∙ m .ci))
+
+-- a forward cell that is turned with a mark
+turned-marked :
+    (level : ℕ) (b : Bool) (o : List ℕ) (f : Fields) (v : ℕ) → AreOctets o → reading o ≡ Resource f → v ≤ 65535 → cond (b || eqb level 2) 1 (f .ci) ≡ 1
+    → Marked v (Cell (payloadOf (turnedPayload level b (payload o))))
+unfolding returned
+turned-marked level b o f v a e l m = record {
+  payload = payloadOf (turnedPayload level b (payload o));
+  waits = refl;
+  fields = returned level b v f;
+  read = ap reading (turned-words level b v o (resource-received o f e .size) a) ∙ turned-read level b v o (resource-received o f e .size) f e l;
+  vci = refl;
+  backward = refl;
+  ci = m;
+}
+
+kept-marks : (a b : Bool) (level : ℕ) (x : ℕ) → b ≡ true → cond ((a || b) || eqb level 2) 1 x ≡ 1
+kept-marks true b level x e = refl
+kept-marks false true level x e = refl
+kept-marks false false level x e = let z : _≡_ {A = ℕ} 0 1 = cc in absurd (omega arith)
+
+own-marks : (b : Bool) (x : ℕ) → x ≡ 1 → cond b 1 x ≡ 1
+own-marks true x e = refl
+own-marks false x e = e
+
+-- Each call: what it makes of a connection keeps the mark.
+work-mark :
+    (v level : ℕ) (o : List ℕ) (f : Fields) (d : Connection) → AreOctets o → reading o ≡ Resource f → v ≤ 65535 → Marked v (d .destination .turned)
+    → Marked v (afterResourceCell level o f d .destination .turned)
+unfolding afterResourceCell afterBackwardCell afterForwardCell markKept
+work-mark v level o f d a e l m = go (eqb (f .dir) 1)
+  where
+    go : (t : Bool) → Marked v (cond t (afterBackwardCell f d) (afterForwardCell level o d) .destination .turned)
+    go true = m
+    go false =
+        turned-marked level (d .destination .efci || waitingCi (d .destination .turned)) o f v a e l
+        (kept-marks (d .destination .efci) (waitingCi (d .destination .turned)) level (f .ci) (marked-ci v (d .destination .turned) m))
+
+sent-mark : (v t : ℕ) (k : Kind) (d : Connection) → (k ≡ Turned → ⊥) → Marked v (d .destination .turned) → Marked v (after k t d .destination .turned)
+unfolding after sentForward sentData
+sent-mark v t Forward d n m = m
+sent-mark v t Turned d n m = absurd (n refl)
+sent-mark v t Data d n m = m
+
+self : Entry → Entry
+self x = x
+
+changed-mark :
+    (v u : ℕ) (s : State) → NamesUnique (s .entries) → (d e : Connection) → find u (s .entries) ≡ taken d → e .name ≡ d .name
+    → (u ≡ v → Marked v (d .destination .turned) → Marked v (e .destination .turned)) → HasMark v (find v (s .entries)) → HasMark v (find v (put u (taken e) s .entries))
+unfolding self
+changed-mark v u s a d e f n m h = rw (put-read self v u s a d e f n) (go (case u v))
+  where
+    go : Case u v → HasMark v (cond (eqb u v) (taken e) (find v (s .entries)))
+    go (same q) = rw (eq-eqb u v q) (m q (subst (HasMark v) (ap (λ (w : ℕ). find w (s .entries)) (sym q) ∙ f) h))
+    go (other q) = rw (ne-eqb u v q) h
+
+effect-mark :
+    (v : ℕ) {s : State} → WellFormed s → {c : Call} {o : Outcome} → Effect s c o → Quiet v c (o .answer) → HasMark v (find v (s .entries))
+    → HasMark v (find v (o .state .entries))
+unfolding self refuse accept sendStep idleStep withTime withLevel fresh offered afterDataCell withMade
+effect-mark v w (refuses c n h) q m = m
+effect-mark v {s} w (begins u t p g) q m = rw (inserted-read self v s (fresh u t p) (g .new) (g .room)) (go (case u v))
+  where
+    go : Case u v → HasMark v (cond (eqb u v) (taken (fresh u t p)) (find v (s .entries)))
+    go (same z) = absurd (subst (HasMark v) (ap (λ (x : ℕ). find x (s .entries)) (sym z) ∙ g .new) m)
+    go (other z) = rw (ne-eqb u v z) m
+effect-mark v {s} w (ends u d f) q m = rw (freed-read self v u s (w .unique), ne-eqb u v q) m
+effect-mark v {s} w (offers u n d f b) q m = changed-mark v u s (w .unique) d (offered n d) f refl (λ _ k. k) m
+effect-mark v {s} w (marks o u e d r f) q m = changed-mark v u s (w .unique) d (afterDataCell e d) f refl (λ _ k. k) m
+effect-mark v {s} w (works o g d r f) q m =
+    changed-mark v (g .vci) s (w .unique) d (afterResourceCell (s .level) o g d) f (work-same (s .level) o g d .name)
+    (λ z k. work-mark v (s .level) o g d q r (rw (← z, ← name-of (g .vci) s d f) (valid-at w (g .vci) d f .0 .coded)) k) m
+effect-mark v w (levels l b) q m = m
+effect-mark v w (idles t room g b) q m = m
+effect-mark v {s} w (sends t room i u g b) q m =
+    let k = kindAt t (b .holder) in
+    changed-mark v u (withTime t s) (w .unique) (b .holder) (after k t (b .holder)) (b .found) (after-same k t (b .holder) .name)
+    (λ z h. sent-mark v t k (b .holder) (λ e. q (after k t (b .holder) .rate .acr) (rw (z, e) refl)) h) m
+effect-mark v {s} w (makes u t d f g b z) q m = changed-mark v u (withTime t s) (w .unique) d (withMade t (s .level) d) f refl (λ _ k. k) m
+
+all-mark : (v : ℕ) (s : State) → WellFormed s → (cs : List Call) → AllQuiet v s cs → HasMark v (find v (s .entries)) → HasMark v (find v (final s cs .entries))
+all-mark v s w [] q m = m
+all-mark v s w (c ∷ cs) q m = all-mark v (step s c .state) (step-well-formed w c) cs (q .1) (effect-mark v w (effect s (w .unique) c) (q .0) m)
+
+-- The cell that brings the mark.
+came-marks : (f : Fields) (c : Connection) (level : ℕ) → MarkCame f c → cond (markKept (c .destination) || eqb level 2) 1 (f .ci) ≡ 1
+unfolding markKept
+came-marks f c level (withCi e) = own-marks (markKept (c .destination) || eqb level 2) (f .ci) e
+came-marks f c level (withEfci e) = rw e refl
+
+step-works :
+    (s : State) (o : List ℕ) (f : Fields) (c : Connection) → reading o ≡ Resource f → find (f .vci) (s .entries) ≡ taken c
+    → step s (receiving o) ≡ accept (put (f .vci) (taken (afterResourceCell (s .level) o f c)) s)
+unfolding step receiveStep readStep ofOpen
+step-works s o f c e q = rw (e, q)
+
+received-mark :
+    (s : State) → WellFormed s → (o : List ℕ) (f : Fields) (c : Connection) → AreOctets o → reading o ≡ Resource f → f .dir ≡ 0 → find (f .vci) (s .entries) ≡ taken c
+    → MarkCame f c → HasMark (f .vci) (find (f .vci) (step s (receiving o) .state .entries))
+unfolding self accept afterResourceCell afterForwardCell
+received-mark s w o f c a e d q m =
+    rw (
+      step-works s o f c e q,
+      put-read self (f .vci) (f .vci) s (w .unique) c (afterResourceCell (s .level) o f c) q (work-same (s .level) o f c .name),
+      eq-eqb (f .vci) (f .vci) refl,
+      d,
+    )
+    (turned-marked (s .level) (markKept (c .destination)) o f (f .vci) a e (rw (← name-of (f .vci) s c q) (valid-at w (f .vci) c q .0 .coded)) (came-marks f c (s .level) m))
+
+-- The slot that sends it.
+backward-octets : (n : ℕ) (p : Params) (w : Waiting) (level v : ℕ) (x : Payload) → w ≡ Cell x → n ≡ v → backwardCell n p w level ≡ turnedCell v x
+unfolding backwardCell
+backward-octets n p w level v x e q = rw (e, q)
+
+written-mark : (v : ℕ) (d e : Connection) (k : Kind) → k ≡ Turned → d .name ≡ v → Marked v (d .destination .turned) → MarkWritten v (bufferAfter k d e)
+unfolding bufferAfter
+written-mark v d e Forward q n m = let z : _≡_ {A = ℕ} 0 1 = cc in absurd (omega arith)
+written-mark v d e Turned q n m = record {
+  octets = turnedCell v (m .payload);
+  buffer = ap written (backward-octets (d .name) (d .rate .params) (d .destination .turned) (d .destination .made .level) v (m .payload) (m .waits) n);
+  fields = m .fields;
+  read = m .read;
+  vci = m .vci;
+  backward = m .backward;
+  ci = m .ci;
+}
+written-mark v d e Data q n m = let z : _≡_ {A = ℕ} 0 1 = cc in absurd (omega arith)
+
+slot-mark :
+    (v : ℕ) {s : State} {t room acr : ℕ} {o : Outcome} → Effect s (slot t room) o → HasMark v (find v (s .entries)) → o .answer ≡ Sent v Turned acr → MarkWritten v (o .buffer)
+unfolding refuse sendStep idleStep
+slot-mark v (refuses _ n h) m e = let z : _≡_ {A = ℕ} 0 1 = cc in absurd (omega arith)
+slot-mark v (idles _ _ g b) m e = let z : _≡_ {A = ℕ} 0 1 = cc in absurd (omega arith)
+slot-mark v {s} {t} (sends _ _ i u g b) m e =
+    let q : u ≡ v = cc in
+    let k : kindAt t (b .holder) ≡ Turned = cc in
+    written-mark v (b .holder) (after (kindAt t (b .holder)) t (b .holder)) (kindAt t (b .holder)) k (name-of u s (b .holder) (b .found) ∙ q)
+    (subst (HasMark v) (ap (λ (w : ℕ). find w (s .entries)) (sym q) ∙ b .found) m)
+
+pub no-mark-lost : NoMarkLost
+no-mark-lost cs o f c ds t room acr a e d q m quiet sent =
+    let w = reached-well-formed cs in
+    let s : State = step (final empty cs) (receiving o) .state in
+    let x : WellFormed s = step-well-formed w (receiving o) in
+    let h = all-mark (f .vci) s x ds quiet (received-mark (final empty cs) w o f c a e d q m) in
+    slot-mark (f .vci) (effect (final s ds) (final-well-formed x ds .unique) (slot t room)) h sent

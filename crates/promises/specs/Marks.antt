@@ -1,0 +1,58 @@
+-- No congestion mark is lost between a received forward cell and the next turned cell that is sent on its connection. (Document 01, "Turning cells round";
+-- document 02, L2.)
+use Prim.Native.Nat.{ℕ}
+use mathlib.Core.Path.{_≡_}
+use mathlib.Core.Logic.{_≢_}
+use mathlib.Core.Bool.{true}
+use mathlib.Core.List.{List, [], _∷_}
+use Rattle.cell.specs.Octets.{AreOctets}
+use Rattle.cell.specs.Reading.{reading}
+use Rattle.cell.specs.declared.fields.Fields.{Fields}
+use Rattle.cell.specs.declared.read.Reading.the-variants.{Resource}
+use Rattle.connection.specs.declared.parts.Connection.{Connection}
+use Rattle.connection.specs.declared.kind.Kind.the-variants.{Turned}
+use Rattle.connection.specs.Sending.{Buffer, written}
+use Rattle.model.specs.State.{State, taken, empty, find}
+use Rattle.model.specs.declared.answer.Answer.{Answer}
+use Rattle.model.specs.declared.answer.Answer.the-variants.{Sent}
+use Rattle.model.specs.Call.{Call, opening, closing, receiving, offering, levelling, slot, making}
+use Rattle.model.specs.Step.{step}
+use Rattle.model.specs.Run.{final}
+
+-- a mark came with a forward cell: its CI, or the saved EFCI of the data cell before it
+pub data MarkCame (f : Fields) (c : Connection) : Type 0 where
+  withCi : f .ci ≡ 1 → MarkCame f c
+  withEfci : c .destination .efci ≡ true → MarkCame f c
+
+-- a call that neither closes v nor sends a turned cell of it; a received cell consists of octets
+abbrev pub Quiet : ℕ → Call → Answer → Type 0
+Quiet v (opening u t p) a = Unit
+Quiet v (closing u) a = u ≢ v
+Quiet v (receiving o) a = AreOctets o
+Quiet v (offering u n) a = Unit
+Quiet v (levelling l) a = Unit
+Quiet v (slot t room) a = (acr : ℕ) → a ≢ Sent v Turned acr
+Quiet v (making u t) a = Unit
+
+abbrev pub AllQuiet : ℕ → State → List Call → Type 0
+AllQuiet v s [] = Unit
+AllQuiet v s (c ∷ cs) = Quiet v c (step s c .answer) × AllQuiet v (step s c .state) cs
+
+-- what was written is read as a backward cell of v with CI 1
+pub record MarkWritten (v : ℕ) (b : Buffer) : Type 0 where
+  pub octets : List ℕ
+  pub buffer : b ≡ written octets
+  pub fields : Fields
+  pub read : reading octets ≡ Resource fields
+  pub vci : fields .vci ≡ v
+  pub backward : fields .dir ≡ 1
+  pub ci : fields .ci ≡ 1
+
+-- after any list of calls cs from the empty table a marked forward cell of an open connection, then any calls ds that neither close it nor send a turned cell
+-- of it, then a slot that does
+abbrev pub NoMarkLost : Type 0
+NoMarkLost =
+    (cs : List Call) (o : List ℕ) (f : Fields) (c : Connection) (ds : List Call) (t room acr : ℕ) → AreOctets o → reading o ≡ Resource f → f .dir ≡ 0
+    → find (f .vci) (final empty cs .entries) ≡ taken c → MarkCame f c
+    → let s = step (final empty cs) (receiving o) .state in
+    AllQuiet (f .vci) s ds → step (final s ds) (slot t room) .answer ≡ Sent (f .vci) Turned acr → MarkWritten (f .vci) (step (final s ds) (slot t room) .buffer)
