@@ -10,7 +10,7 @@ use lib.ListN.{replicate}
 use lib.Pow.{pow-pos}
 use Rattle.crc.specs.Remainder.{bring, divide, remainder, bits, octetBits}
 use Rattle.crc.specs.Checks.{headerCheck}
-use Rattle.crc.specs.Carrying.{times, foldedOctet}
+use Rattle.crc.specs.Formula.{times, foldedOctet}
 use Rattle.crc.proofs.Below.{agree}
 use Rattle.crc.proofs.Bits.{bits-binary, octets-binary}
 use Rattle.crc.proofs.Division.{divide-append, divide-low, remainder-lt}
@@ -20,7 +20,7 @@ use Rattle.crc.proofs.Fold.{apart, rem, rem-lt, rem-more, rem-up, rem-x
 abbrev pub X8 : ℕ → ℕ
 X8 b = remainder 8 0x107 (bits 8 b)
 
-X8-lt : (b : ℕ) → X8 b < 256
+pub X8-lt : (b : ℕ) → X8 b < 256
 X8-lt b = remainder-lt 8 0x107 refl (bits 8 b) (bits-binary 8 b)
 
 low8 : (b : ℕ) → b < 256 → divide 8 0x107 0 (bits 8 b) ≡ b
@@ -69,7 +69,7 @@ pub header-lt : (os : List ℕ) → headerCheck os < 256
 unfolding headerCheck
 header-lt os = xor-lt 8 (remainder 8 0x107 (octetBits os)) 0x55 (remainder-lt 8 0x107 refl (octetBits os) (octets-binary os)) (lit< tt)
 
--- ---- the octets carried, and folded down only at the end
+-- ---- the formula
 
 -- the remainder of a number of 16 bits
 abbrev by8 : ℕ → ℕ
@@ -102,46 +102,24 @@ fold-lt : (n v : ℕ) → 2 ^ 8 ≤ 2 ^ n → v / 256 * 4 < 2 ^ n → foldedOcte
 fold-lt n v hn h = xor-lt n (v % 256) (times (v / 256)) (lt-of-lt-of-le (mod-lt v (pow-pos 8)) hn) (times-lt n (v / 256) h)
 
 -- an octet times x^2 + x + 1, and the two bits that then stand above the octet times that again, is the remainder of the octet times x^8
+pub product-lt : (b : ℕ) → b < 256 → times b < 2 ^ 10
+product-lt b h = times-lt 10 b (omega arith)
+
 pub octet-formula : (b : ℕ) → b < 256 → foldedOctet (times b) ≡ remainder 8 0x107 (bits 8 b)
 octet-formula b h =
-    let l : times b < 2 ^ 10 = times-lt 10 b (omega arith) in
+    let l = product-lt b h in
     sym (octet-own (foldedOctet (times b)) (fold-lt 8 (times b) (lit≤ tt) (omega arith)))
     ∙ fold-keeps (times b) (omega arith)
     ∙ times-up b (omega arith)
     ∙ ap (up 8 0x107 refl 8) (octet-own b h)
     ∙ sym (X8-is b h)
 
--- an octet more is added to what is carried, which goes up by x ^ 8 and has two bits more
-pub record Carried (n v r : ℕ) : Type 0 where
-  pub size : v < 2 ^ n
-  pub same : by8 v ≡ r
-  pub low : r < 256
+-- the same, as the code computes it
+pub formula-is : (b : ℕ) {p q : ℕ} → b < 256 → p ≡ times b → q ≡ times (p / 256) → bitXor (p % 256) q ≡ X8 b
+formula-is b {p} h e f = ap (bitXor (p % 256)) f ∙ ap foldedOctet e ∙ octet-formula b h
 
-pub carried-lt : {n v r : ℕ} (o : ℕ) → Carried n v r → 2 ^ 8 ≤ 2 ^ n → o < 256 → bitXor v o < 2 ^ n
-carried-lt {n} {v} o c hn ho = xor-lt n v o (c .size) (lt-of-lt-of-le ho hn)
-
-pub carry : {n v r : ℕ} (k o : ℕ) {u : ℕ} → Carried n v r → 2 ^ 8 ≤ 2 ^ n → 2 ^ n ≤ 2 ^ 14 → 2 ^ n * 4 ≤ 2 ^ k → o < 256 → u ≡ times (bitXor v o)
-    → Carried k u (X8 (bitXor r o))
-carry {n} {v} {r} k o {u} c hn h14 hk ho e =
-    let l : bitXor v o < 2 ^ n = carried-lt o c hn ho in
-    record {
-      size = subst (λ (z : ℕ). z < 2 ^ k) (sym e) (times-lt k (bitXor v o) (omega arith));
-      same =
-          ap by8 e
-          ∙ times-up (bitXor v o) (omega arith)
-          ∙ ap (up 8 0x107 refl 8) (rem-xor 8 0x107 refl 16 v o ∙ ap₂ bitXor (c .same) (octet-own o ho))
-          ∙ sym (X8-is (bitXor r o) (xor-lt 8 r o (c .low) ho));
-      low = X8-lt (bitXor r o);
-    }
-
--- the first octet
-pub carried : (a : ℕ) {u : ℕ} → a < 256 → u ≡ times a → Carried 10 u (X8 a)
-carried a h e = carry {n = 8} 10 a (record { size = lit< tt; same = octet-own 0 (lit< tt); low = lit< tt }) (lit≤ tt) (lit≤ tt) (lit≤ tt) h e
-
--- all four, folded twice
-pub folded-down : {v r f g : ℕ} → Carried 16 v r → f ≡ foldedOctet v → g ≡ foldedOctet f → (g ≡ r) × (g < 256)
-folded-down {v} {r} {f} {g} c ef eg =
-    let hv : v < 2 ^ 16 = c .size in
-    let hf : f < 2 ^ 10 = subst (λ (z : ℕ). z < 2 ^ 10) (sym ef) (fold-lt 10 v (lit≤ tt) (omega arith)) in
-    let hg : g < 2 ^ 8 = subst (λ (z : ℕ). z < 2 ^ 8) (sym eg) (fold-lt 8 f (lit≤ tt) (omega arith)) in
-    (sym (octet-own g hg) ∙ ap by8 eg ∙ fold-keeps f (omega arith) ∙ ap by8 ef ∙ fold-keeps v hv ∙ c .same, hg)
+-- the four octets, one after the other
+pub header-by-octets :
+    (a b c d : ℕ) {p q r s : ℕ} → a < 256 → b < 256 → c < 256 → d < 256 → p ≡ X8 a → q ≡ X8 (bitXor p b) → r ≡ X8 (bitXor q c) → s ≡ X8 (bitXor r d)
+    → bitXor s 0x55 ≡ headerCheck (a ∷ b ∷ c ∷ d ∷ [])
+header-by-octets a b c d ha hb hc hd ep eq er es = rw (es, er, eq, ep) (sym (header-is a b c d ha hb hc hd))

@@ -7,4 +7,4 @@ pub mod Payload
 pub mod Multiple
 -- For the code's own functions:
 pub mod Folding
-pub mod Carrying
+pub mod Formula
