@@ -153,7 +153,7 @@ extern "C" {
 #define ABR_REFUSED_TIME_BACKWARD 14u /* time is before the last accepted open, slot or made cell */
 #define ABR_REFUSED_TOO_MUCH_DATA 15u /* waiting data would pass 65,535 cells */
 #define ABR_REFUSED_NOT_CONGESTED 16u /* congestion level is 0 */
-#define ABR_REFUSED_TOO_SOON 17u      /* less than 100 ms since the last made cell */
+#define ABR_REFUSED_TOO_SOON 17u      /* less than 100 ms since the last cell made on this VCI */
 
 /* ---- Types -------------------------------------------------------------- */
 
@@ -398,7 +398,7 @@ static inline const char *abr_refusal_text(uint32_t refusal)
     case ABR_REFUSED_TIME_BACKWARD: return "time is before the last accepted open, slot or made cell";
     case ABR_REFUSED_TOO_MUCH_DATA: return "waiting data would pass 65,535 cells";
     case ABR_REFUSED_NOT_CONGESTED: return "congestion level is 0";
-    case ABR_REFUSED_TOO_SOON: return "less than 100 ms since the last made cell";
+    case ABR_REFUSED_TOO_SOON: return "less than 100 ms since the last cell made on this VCI";
     default: return "not an answer of this library";
     }
 }

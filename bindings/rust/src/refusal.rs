@@ -99,7 +99,7 @@ impl Refusal {
             Refusal::TimeBackward => "time is before the last accepted open, slot or made cell",
             Refusal::TooMuchData => "waiting data would pass 65,535 cells",
             Refusal::NotCongested => "congestion level is 0",
-            Refusal::TooSoon => "less than 100 ms since the last made cell",
+            Refusal::TooSoon => "less than 100 ms since the last cell made on this VCI",
         }
     }
 

@@ -55,8 +55,8 @@ last-changed w k h =
     ∙ xor-block 10 (w / 1024) 0 (w % 1024) k (mod-lt w (pow-pos 10)) h
     ∙ ap (λ (z : ℕ). z * 1024 + bitXor (w % 1024) k) (xor-zero-r (w / 1024))
 
-pub turn-changes : (p : Payload) (level : ℕ) (efci : Bool) {m k : ℕ} → Six (p .a) (p .b) (p .c) (p .d) (p .e) (p .f) → Checked p
-    → m ≡ turnedMarks level efci (p .a / 0x1000000000000 % 256) → m < 256
+pub turn-changes : (p : Payload) (level : ℕ) (mark : Bool) {m k : ℕ} → Six (p .a) (p .b) (p .c) (p .d) (p .e) (p .f) → Checked p
+    → m ≡ turnedMarks level mark (p .a / 0x1000000000000 % 256) → m < 256
     → k ≡ payloadCheck (octetsOf (marksAlone (bitXor (p .a / 0x1000000000000 % 256) m / 16))) → k < 1024
     → _≡_ {A = Payload}
     (record {
@@ -67,11 +67,11 @@ pub turn-changes : (p : Payload) (level : ℕ) (efci : Bool) {m k : ℕ} → Six
       e = p .e;
       f = bitXor (p .f) k;
     })
-    (payloadOf (turnedPayload level efci (octetsOf p)))
-turn-changes p level efci {m} {k} six right em hm ek hk =
+    (payloadOf (turnedPayload level mark (octetsOf p)))
+turn-changes p level mark {m} {k} six right em hm ek hk =
     (λ i. record { a = first i; b = p .b; c = p .c; d = p .d; e = p .e; f = last-changed (p .f) k hk i })
     ∙ crc-words (remarked p m) first-lt (six .1) (six .2) (six .3) (six .4) (six .5) check
-    ∙ turn-words p level efci m em hm
+    ∙ turn-words p level mark m em hm
   where
     x : ℕ
     x = p .a / 0x1000000000000 % 256
@@ -83,7 +83,7 @@ turn-changes p level efci {m} {k} six right em hm ek hk =
     first-lt = let h : p .a < 2 ^ 64 = six .0 in omega arith
 
     first : bitXor (p .a) (n * 0x10000000000000) ≡ remarked p m .a
-    first = second-changed (p .a) m hm (ap (λ (z : ℕ). z % 16) em ∙ marks-low level efci x)
+    first = second-changed (p .a) m hm (ap (λ (z : ℕ). z % 16) em ∙ marks-low level mark x)
 
     sum : both p (marksAlone n) ≡ remarked p m
     sum = λ i. record {

@@ -54,10 +54,10 @@ crc-words p {k} ha hb hc hd he hf e = λ i. record {
 
 -- ---- turning
 
-pub marks-are : (level : ℕ) (efci : Bool) (x : ℕ) {ci ni : ℕ} → ci ≡ cond (efci || eqb level 2) 1 (x / 32 % 2) → ni ≡ cond (eqb level 1) 1 (x / 16 % 2)
-    → 128 + ci * 32 + ni * 16 + x % 16 ≡ turnedMarks level efci x
+pub marks-are : (level : ℕ) (mark : Bool) (x : ℕ) {ci ni : ℕ} → ci ≡ cond (mark || eqb level 2) 1 (x / 32 % 2) → ni ≡ cond (eqb level 1) 1 (x / 16 % 2)
+    → 128 + ci * 32 + ni * 16 + x % 16 ≡ turnedMarks level mark x
 unfolding turnedMarks
-marks-are level efci x e k = ap₂ (λ (c n : ℕ). 128 + c * 32 + n * 16 + x % 16) e k
+marks-are level mark x e k = ap₂ (λ (c n : ℕ). 128 + c * 32 + n * 16 + x % 16) e k
 
 -- the six low octets of a word
 low-octets : (h l : ℕ) → drop 2 (wordOctets (h * 0x1000000000000 + l)) ≡ drop 2 (wordOctets l)
@@ -99,10 +99,10 @@ remarked p m = record {
   f = p .f;
 }
 
-pub turn-words : (p : Payload) (level : ℕ) (efci : Bool) (m : ℕ) → m ≡ turnedMarks level efci (p .a / 0x1000000000000 % 256) → m < 256
-    → payloadOf (withCrc (octetsOf (remarked p m))) ≡ payloadOf (turnedPayload level efci (octetsOf p))
+pub turn-words : (p : Payload) (level : ℕ) (mark : Bool) (m : ℕ) → m ≡ turnedMarks level mark (p .a / 0x1000000000000 % 256) → m < 256
+    → payloadOf (withCrc (octetsOf (remarked p m))) ≡ payloadOf (turnedPayload level mark (octetsOf p))
 unfolding turnedPayload
-turn-words p level efci m e h =
+turn-words p level mark m e h =
     let w : ℕ = p .a in
     let rest : List ℕ = wordOctets (p .b) ++ (wordOctets (p .c) ++ (wordOctets (p .d) ++ (wordOctets (p .e) ++ wordOctets (p .f)))) in
     ap (λ (l : List ℕ). payloadOf (withCrc (l ++ rest))) (second-octet w m h)

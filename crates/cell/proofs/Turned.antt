@@ -24,38 +24,38 @@ mark-le : (t : Bool) (x : ℕ) → cond t 1 (x % 2) ≤ 1
 mark-le true x = lit≤ tt
 mark-le false x = omega arith
 
-module _ (level : ℕ) (efci : Bool) (x : ℕ) where
-  marks-lt : turnedMarks level efci x < 256
+module _ (level : ℕ) (mark : Bool) (x : ℕ) where
+  marks-lt : turnedMarks level mark x < 256
   unfolding turnedMarks
-  marks-lt = omega (arith, mark-le (efci || eqb level 2) (x / 32), mark-le (eqb level 1) (x / 16))
+  marks-lt = omega (arith, mark-le (mark || eqb level 2) (x / 32), mark-le (eqb level 1) (x / 16))
 
-  marks-dir : turnedMarks level efci x / 128 % 2 ≡ 1
+  marks-dir : turnedMarks level mark x / 128 % 2 ≡ 1
   unfolding turnedMarks
-  marks-dir = omega (arith, mark-le (efci || eqb level 2) (x / 32), mark-le (eqb level 1) (x / 16))
+  marks-dir = omega (arith, mark-le (mark || eqb level 2) (x / 32), mark-le (eqb level 1) (x / 16))
 
-  marks-bn : turnedMarks level efci x / 64 % 2 ≡ 0
+  marks-bn : turnedMarks level mark x / 64 % 2 ≡ 0
   unfolding turnedMarks
-  marks-bn = omega (arith, mark-le (efci || eqb level 2) (x / 32), mark-le (eqb level 1) (x / 16))
+  marks-bn = omega (arith, mark-le (mark || eqb level 2) (x / 32), mark-le (eqb level 1) (x / 16))
 
-  marks-ci : turnedMarks level efci x / 32 % 2 ≡ cond (efci || eqb level 2) 1 (x / 32 % 2)
+  marks-ci : turnedMarks level mark x / 32 % 2 ≡ cond (mark || eqb level 2) 1 (x / 32 % 2)
   unfolding turnedMarks
-  marks-ci = omega (arith, mark-le (efci || eqb level 2) (x / 32), mark-le (eqb level 1) (x / 16))
+  marks-ci = omega (arith, mark-le (mark || eqb level 2) (x / 32), mark-le (eqb level 1) (x / 16))
 
-  marks-ni : turnedMarks level efci x / 16 % 2 ≡ cond (eqb level 1) 1 (x / 16 % 2)
+  marks-ni : turnedMarks level mark x / 16 % 2 ≡ cond (eqb level 1) 1 (x / 16 % 2)
   unfolding turnedMarks
-  marks-ni = omega (arith, mark-le (efci || eqb level 2) (x / 32), mark-le (eqb level 1) (x / 16))
+  marks-ni = omega (arith, mark-le (mark || eqb level 2) (x / 32), mark-le (eqb level 1) (x / 16))
 
-  pub marks-low : turnedMarks level efci x % 16 ≡ x % 16
+  pub marks-low : turnedMarks level mark x % 16 ≡ x % 16
   unfolding turnedMarks
-  marks-low = omega (arith, mark-le (efci || eqb level 2) (x / 32), mark-le (eqb level 1) (x / 16))
+  marks-low = omega (arith, mark-le (mark || eqb level 2) (x / 32), mark-le (eqb level 1) (x / 16))
 
-module _ (level : ℕ) (efci : Bool) (vci : ℕ) (o : List ℕ) (n : length o ≡ 53) where
+module _ (level : ℕ) (mark : Bool) (vci : ℕ) (o : List ℕ) (n : length o ≡ 53) where
   -- the payload before its CRC-10 is written
   abbrev marked : List ℕ
-  marked = getD (payload o) 0 0 ∷ turnedMarks level efci (getD (payload o) 1 0) ∷ drop 2 (payload o)
+  marked = getD (payload o) 0 0 ∷ turnedMarks level mark (getD (payload o) 1 0) ∷ drop 2 (payload o)
 
   abbrev turned : List ℕ
-  turned = header 0 vci ++ turnedPayload level efci (payload o)
+  turned = header 0 vci ++ turnedPayload level mark (payload o)
 
   marked-size : length marked ≡ 48
   marked-size = simp length-drop (omega arith)
@@ -67,15 +67,15 @@ module _ (level : ℕ) (efci : Bool) (vci : ℕ) (o : List ℕ) (n : length o �
   marked-octets : AreOctets o → AreOctets marked
   marked-octets a =
       let p : AreOctets (payload o) = octets-drop 5 o a in
-      octets-cons (p .each 0) (octets-cons (marks-lt level efci (getD (payload o) 1 0)) (octets-drop 2 (payload o) p))
+      octets-cons (p .each 0) (octets-cons (marks-lt level mark (getD (payload o) 1 0)) (octets-drop 2 (payload o) p))
 
   pub turned-octets : AreOctets o → AreOctets turned
   unfolding turnedPayload
   turned-octets a = carried-octets marked marked-size 0 vci (lit≤ tt) (marked-octets a)
 
-  marks-at : octet 7 turned ≡ turnedMarks level efci (octet 7 o)
+  marks-at : octet 7 turned ≡ turnedMarks level mark (octet 7 o)
   unfolding header turnedPayload
-  marks-at = withCrc-at marked marked-size 1 (omega arith) ∙ ap (turnedMarks level efci) (getD-drop 5 o 1 0)
+  marks-at = withCrc-at marked marked-size 1 (omega arith) ∙ ap (turnedMarks level mark) (getD-drop 5 o 1 0)
 
   rest-at : (j : ℕ) → j < 44 → getD turned (suc (suc (suc (suc (suc (suc (suc j))))))) 0 ≡ getD o (5 + (2 + j)) 0
   unfolding header turnedPayload
@@ -92,7 +92,7 @@ module _ (level : ℕ) (efci : Bool) (vci : ℕ) (o : List ℕ) (n : length o �
   pub turned-kept : Kept o turned
   unfolding header turnedPayload
   turned-kept = record {
-    low = ap (λ (x : ℕ). x % 16) marks-at ∙ marks-low level efci (octet 7 o);
+    low = ap (λ (x : ℕ). x % 16) marks-at ∙ marks-low level mark (octet 7 o);
     middle = middle;
     six = withCrc-six marked marked-size ∙ ap (λ (x : ℕ). x / 4) (getD-drop 2 (payload o) 44 0 ∙ getD-drop 5 o 46 0);
   }
@@ -103,7 +103,7 @@ module _ (level : ℕ) (efci : Bool) (vci : ℕ) (o : List ℕ) (n : length o �
       let b : octet (i + 1) turned ≡ octet (i + 1) o = middle (i + 1) (omega arith) (omega arith) in
       cc
 
-  turned-fields : vci ≤ 65535 → fieldsOf turned ≡ returned level efci vci (fieldsOf o)
+  turned-fields : vci ≤ 65535 → fieldsOf turned ≡ returned level mark vci (fieldsOf o)
   unfolding fieldsOf returned turnedPayload
   turned-fields l = λ i. record {
     vci = p-vci i;
@@ -123,16 +123,16 @@ module _ (level : ℕ) (efci : Bool) (vci : ℕ) (o : List ℕ) (n : length o �
       p-vci = carried-vci marked marked-size 0 vci (lit≤ tt) l
 
       p-dir : octet 7 turned / 128 % 2 ≡ 1
-      p-dir = rw marks-at (marks-dir level efci (octet 7 o))
+      p-dir = rw marks-at (marks-dir level mark (octet 7 o))
 
       p-bn : octet 7 turned / 64 % 2 ≡ 0
-      p-bn = rw marks-at (marks-bn level efci (octet 7 o))
+      p-bn = rw marks-at (marks-bn level mark (octet 7 o))
 
-      p-ci : octet 7 turned / 32 % 2 ≡ cond (efci || eqb level 2) 1 (octet 7 o / 32 % 2)
-      p-ci = rw marks-at (marks-ci level efci (octet 7 o))
+      p-ci : octet 7 turned / 32 % 2 ≡ cond (mark || eqb level 2) 1 (octet 7 o / 32 % 2)
+      p-ci = rw marks-at (marks-ci level mark (octet 7 o))
 
       p-ni : octet 7 turned / 16 % 2 ≡ cond (eqb level 1) 1 (octet 7 o / 16 % 2)
-      p-ni = rw marks-at (marks-ni level efci (octet 7 o))
+      p-ni = rw marks-at (marks-ni level mark (octet 7 o))
 
       p-ra : octet 7 turned / 8 % 2 ≡ octet 7 o / 8 % 2
       p-ra = omega (arith, turned-kept .low)
@@ -147,14 +147,14 @@ module _ (level : ℕ) (efci : Bool) (vci : ℕ) (o : List ℕ) (n : length o �
           cc
 
   -- the turned cell reads as the received one, but for the VCI, DIR, BN and the marks set here
-  pub turned-read : (f : Fields) → reading o ≡ Resource f → vci ≤ 65535 → reading turned ≡ Resource (returned level efci vci f)
+  pub turned-read : (f : Fields) → reading o ≡ Resource f → vci ≤ 65535 → reading turned ≡ Resource (returned level mark vci f)
   unfolding turnedPayload
   turned-read f e l =
       carried-read marked marked-size 0 vci (lit≤ tt) l (getD-drop 5 o 0 0 ∙ resource-received o f e .protocol)
-      ∙ ap Resource (turned-fields l ∙ ap (returned level efci vci) (sym (resource-received o f e .fields)))
+      ∙ ap Resource (turned-fields l ∙ ap (returned level mark vci) (sym (resource-received o f e .fields)))
 
   -- the same cell, from the words of its payload
-  pub turned-words : AreOctets o → turnedCell vci (payloadOf (turnedPayload level efci (payload o))) ≡ turned
+  pub turned-words : AreOctets o → turnedCell vci (payloadOf (turnedPayload level mark (payload o))) ≡ turned
   unfolding turnedCell turnedPayload
   turned-words a =
       ap (λ (l : List ℕ). header 0 vci ++ l)

@@ -8,12 +8,12 @@ use Rattle.cell.specs.Octets.{octet}
 use Rattle.cell.specs.Fields.{Fields}
 
 -- the fields: DIR 1, BN 0, a mark set here or on the way is set; the rest as received
-unfoldable pub returned : (level : ℕ) (efci : Bool) (vci : ℕ) → Fields → Fields
-returned level efci vci f = record {
+unfoldable pub returned : (level : ℕ) (mark : Bool) (vci : ℕ) → Fields → Fields
+returned level mark vci f = record {
   vci = vci;
   dir = 1;
   bn = 0;
-  ci = cond (efci || eqb level 2) 1 (f .ci);
+  ci = cond (mark || eqb level 2) 1 (f .ci);
   ni = cond (eqb level 1) 1 (f .ni);
   ra = f .ra;
   er = f .er;

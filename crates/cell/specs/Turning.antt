@@ -1,4 +1,4 @@
--- A received forward cell turned round. (Document 01, "Turning cells round".)
+-- A received forward cell turned round. (Document 01, "Turning cells round"; document 02, L2.)
 use Prim.Native.Nat.{ℕ, _+_, _*_, _/_, _%_}
 use mathlib.Core.Bool.{Bool, cond, _||_}
 use mathlib.Core.List.{List, _∷_, _++_}
@@ -9,17 +9,18 @@ use Rattle.crc.specs.declared.payload.Payload.{Payload}
 use Rattle.cell.specs.Header.{header}
 use Rattle.cell.specs.Fields.{withCrc}
 
--- octet 7: DIR 1 and BN 0; CI 1 with a saved EFCI or at level 2, NI 1 at level 1; every other bit as received, so that no mark is lost
-unfoldable pub turnedMarks : (level : ℕ) (efci : Bool) → ℕ → ℕ
-turnedMarks level efci x = 128 + cond (efci || eqb level 2) 1 (x / 32 % 2) * 32 + cond (eqb level 1) 1 (x / 16 % 2) * 16 + x % 16
+-- octet 7: DIR 1 and BN 0; CI 1 with a mark of the connection (the saved EFCI, or CI of the turned cell that is replaced) or at level 2, NI 1 at level 1;
+-- every other bit as received, so that no mark is lost on the way
+unfoldable pub turnedMarks : (level : ℕ) (mark : Bool) → ℕ → ℕ
+turnedMarks level mark x = 128 + cond (mark || eqb level 2) 1 (x / 32 % 2) * 32 + cond (eqb level 1) 1 (x / 16 % 2) * 16 + x % 16
 
 -- a payload with no bits set but these four, the high ones of octet 7
 abbrev pub marksAlone : ℕ → Payload
 marksAlone n = record { a = n * 0x10000000000000; b = 0; c = 0; d = 0; e = 0; f = 0 }
 
 -- the payload of 48 octets, received and then turned
-unfoldable pub turnedPayload : (level : ℕ) (efci : Bool) → List ℕ → List ℕ
-turnedPayload level efci p = withCrc (getD p 0 0 ∷ turnedMarks level efci (getD p 1 0) ∷ drop 2 p)
+unfoldable pub turnedPayload : (level : ℕ) (mark : Bool) → List ℕ → List ℕ
+turnedPayload level mark p = withCrc (getD p 0 0 ∷ turnedMarks level mark (getD p 1 0) ∷ drop 2 p)
 
 -- the cell that carries a waiting payload
 unfoldable pub turnedCell : (vci : ℕ) → Payload → List ℕ

@@ -1,4 +1,4 @@
--- No congestion mark is lost between a received forward cell and the next turned cell that is sent.
+-- No CI is lost between a received forward cell and the next turned cell that is sent.
 use Prim.Native.Nat.{ℕ, _≤_}
 use mathlib.Core.Path.{_≡_, refl, sym, ap, subst, _∙_}
 use mathlib.Core.Logic.{_≢_}
@@ -43,9 +43,9 @@ use Rattle.model.proofs.Frames.{name-of, put-read, inserted-read, freed-read}
 use Rattle.model.proofs.Preserved.{valid-at}
 use Rattle.model.proofs.Effects.{Effect, refuses, begins, ends, offers, marks, works, levels, idles, sends, makes, effect}
 use Rattle.model.proofs.Reached.{step-well-formed, final-well-formed, reached-well-formed}
-use Rattle.promises.specs.Marks.{MarkCame, withCi, withEfci, Quiet, AllQuiet, MarkWritten, NoMarkLost}
+use Rattle.promises.specs.Marks.{MarkCame, withCi, withEfci, atLevel2, Quiet, AllQuiet, MarkWritten, NoMarkLost}
 
--- the turned cell that waits, as it will be written, is read as a backward cell of v with CI 1
+-- the turned cell that waits, as it will be written, is read as a turned cell of v with CI 1
 record Marked (v : ℕ) (w : Waiting) : Type 0 where
   payload : Payload
   waits : w ≡ Cell payload
@@ -53,6 +53,7 @@ record Marked (v : ℕ) (w : Waiting) : Type 0 where
   read : reading (turnedCell v payload) ≡ Resource fields
   vci : fields .vci ≡ v
   backward : fields .dir ≡ 1
+  bn : fields .bn ≡ 0
   ci : fields .ci ≡ 1
 
 abbrev HasMark : ℕ → Entry → Type 0
@@ -78,13 +79,20 @@ turned-marked level b o f v a e l m = record {
   read = ap reading (turned-words level b v o (resource-received o f e .size) a) ∙ turned-read level b v o (resource-received o f e .size) f e l;
   vci = refl;
   backward = refl;
+  bn = refl;
   ci = m;
 }
 
-kept-marks : (a b : Bool) (level : ℕ) (x : ℕ) → b ≡ true → cond ((a || b) || eqb level 2) 1 x ≡ 1
-kept-marks true b level x e = refl
-kept-marks false true level x e = refl
-kept-marks false false level x e = let z : _≡_ {A = ℕ} 0 1 = cc in absurd (omega arith)
+-- a mark on either side sets CI
+either : (a b : Bool) → a ≡ true → (a || b) ≡ true
+either a b e = rw e refl
+
+or-else : (a b : Bool) → b ≡ true → (a || b) ≡ true
+or-else true b e = refl
+or-else false b e = e
+
+set-marks : (b : Bool) (x : ℕ) → b ≡ true → cond b 1 x ≡ 1
+set-marks b x e = rw e refl
 
 own-marks : (b : Bool) (x : ℕ) → x ≡ 1 → cond b 1 x ≡ 1
 own-marks true x e = refl
@@ -100,8 +108,10 @@ work-mark v level o f d a e l m = go (eqb (f .dir) 1)
     go : (t : Bool) → Marked v (cond t (afterBackwardCell f d) (afterForwardCell level o d) .destination .turned)
     go true = m
     go false =
-        turned-marked level (d .destination .efci || waitingCi (d .destination .turned)) o f v a e l
-        (kept-marks (d .destination .efci) (waitingCi (d .destination .turned)) level (f .ci) (marked-ci v (d .destination .turned) m))
+        let w : Bool = waitingCi (d .destination .turned) in
+        let b : Bool = d .destination .efci || w in
+        turned-marked level b o f v a e l
+        (set-marks (b || eqb level 2) (f .ci) (either b (eqb level 2) (or-else (d .destination .efci) w (marked-ci v (d .destination .turned) m))))
 
 sent-mark : (v t : ℕ) (k : Kind) (d : Connection) → (k ≡ Turned → ⊥) → Marked v (d .destination .turned) → Marked v (after k t d .destination .turned)
 unfolding after sentForward sentData
@@ -151,10 +161,13 @@ all-mark v s w [] q m = m
 all-mark v s w (c ∷ cs) q m = all-mark v (step s c .state) (step-well-formed w c) cs (q .1) (effect-mark v w (effect s (w .unique) c) (q .0) m)
 
 -- The cell that brings the mark.
-came-marks : (f : Fields) (c : Connection) (level : ℕ) → MarkCame f c → cond (markKept (c .destination) || eqb level 2) 1 (f .ci) ≡ 1
+came-marks : (f : Fields) (c : Connection) (level : ℕ) → MarkCame f c level → cond (markKept (c .destination) || eqb level 2) 1 (f .ci) ≡ 1
 unfolding markKept
 came-marks f c level (withCi e) = own-marks (markKept (c .destination) || eqb level 2) (f .ci) e
 came-marks f c level (withEfci e) = rw e refl
+came-marks f c level (atLevel2 e) =
+    let k : Bool = markKept (c .destination) in
+    set-marks (k || eqb level 2) (f .ci) (or-else k (eqb level 2) (eq-eqb level 2 e))
 
 step-works :
     (s : State) (o : List ℕ) (f : Fields) (c : Connection) → reading o ≡ Resource f → find (f .vci) (s .entries) ≡ taken c
@@ -164,7 +177,7 @@ step-works s o f c e q = rw (e, q)
 
 received-mark :
     (s : State) → WellFormed s → (o : List ℕ) (f : Fields) (c : Connection) → AreOctets o → reading o ≡ Resource f → f .dir ≡ 0 → find (f .vci) (s .entries) ≡ taken c
-    → MarkCame f c → HasMark (f .vci) (find (f .vci) (step s (receiving o) .state .entries))
+    → MarkCame f c (s .level) → HasMark (f .vci) (find (f .vci) (step s (receiving o) .state .entries))
 unfolding self accept afterResourceCell afterForwardCell
 received-mark s w o f c a e d q m =
     rw (
@@ -190,6 +203,7 @@ written-mark v d e Turned q n m = record {
   read = m .read;
   vci = m .vci;
   backward = m .backward;
+  turned = m .bn;
   ci = m .ci;
 }
 written-mark v d e Data q n m = let z : _≡_ {A = ℕ} 0 1 = cc in absurd (omega arith)

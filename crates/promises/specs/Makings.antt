@@ -24,6 +24,10 @@ made = opening 33 0 house ∷ levelling 1 ∷ making 33 5 ∷ []
 abbrev pub rm : (dir bn ni er : ℕ) → List ℕ
 rm dir bn ni er = resourceCell 0 (record { vci = 33; dir = dir; bn = bn; ci = 0; ni = ni; ra = 0; er = er; ccr = 0; mcr = 0; ql = 0; sn = 0 })
 
+-- and the level falls to 0
+abbrev pub relieved : List Call
+relieved = opening 33 0 house ∷ levelling 1 ∷ making 33 5 ∷ levelling 0 ∷ []
+
 -- the level falls to 0, and a forward cell comes, so that a turned and a made cell wait; then the first cell, which is a forward one
 abbrev pub bothWait : List Call
 bothWait = opening 33 0 house ∷ levelling 1 ∷ making 33 5 ∷ levelling 0 ∷ receiving (rm 0 0 0 0x4A00) ∷ slot 5 53 ∷ []
@@ -43,6 +47,11 @@ pub record Makings : Type 0 where
   pub earlier : next made (making 33 4) ≡ Refused 14
   pub soon : next made (making 33 100_000_004) ≡ Refused 17
   pub rested : next made (making 33 100_000_005) ≡ Accepted
+  -- their order, where two apply
+  pub lateNotOpen : next [] (making 33 4_611_686_018_427_387_905) ≡ Refused 8
+  pub notOpenEarlier : next made (making 34 4) ≡ Refused 11
+  pub earlierUncongested : next relieved (making 33 4) ≡ Refused 14
+  pub uncongestedSoon : next relieved (making 33 6) ≡ Refused 16
   -- its time counts for a slot; only a made cell waits, and the connection is ready from its opening on, with a forward cell first
   pub slotEarlier : next made (slot 4 53) ≡ Refused 14
   pub firstCell : next made (slot 5 53) ≡ Sent 33 Forward 512_000

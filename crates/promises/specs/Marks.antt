@@ -1,4 +1,4 @@
--- No congestion mark is lost between a received forward cell and the next turned cell that is sent on its connection. (Document 01, "Turning cells round";
+-- No CI is lost between a received forward cell and the next turned cell that is sent on its connection. (Document 01, "Turning cells round";
 -- document 02, L2.)
 use Prim.Native.Nat.{ℕ}
 use mathlib.Core.Path.{_≡_}
@@ -19,10 +19,11 @@ use Rattle.model.specs.Call.{Call, opening, closing, receiving, offering, level
 use Rattle.model.specs.Step.{step}
 use Rattle.model.specs.Run.{final}
 
--- a mark came with a forward cell: its CI, or the saved EFCI of the data cell before it
-pub data MarkCame (f : Fields) (c : Connection) : Type 0 where
-  withCi : f .ci ≡ 1 → MarkCame f c
-  withEfci : c .destination .efci ≡ true → MarkCame f c
+-- a forward cell is turned with CI 1: its own CI, the saved EFCI of the data cell before it, or level 2
+pub data MarkCame (f : Fields) (c : Connection) (level : ℕ) : Type 0 where
+  withCi : f .ci ≡ 1 → MarkCame f c level
+  withEfci : c .destination .efci ≡ true → MarkCame f c level
+  atLevel2 : level ≡ 2 → MarkCame f c level
 
 -- a call that neither closes v nor sends a turned cell of it; a received cell consists of octets
 abbrev pub Quiet : ℕ → Call → Answer → Type 0
@@ -38,7 +39,7 @@ abbrev pub AllQuiet : ℕ → State → List Call → Type 0
 AllQuiet v s [] = Unit
 AllQuiet v s (c ∷ cs) = Quiet v c (step s c .answer) × AllQuiet v (step s c .state) cs
 
--- what was written is read as a backward cell of v with CI 1
+-- what was written is read as a turned cell of v with CI 1: a made cell has BN 1
 pub record MarkWritten (v : ℕ) (b : Buffer) : Type 0 where
   pub octets : List ℕ
   pub buffer : b ≡ written octets
@@ -46,6 +47,7 @@ pub record MarkWritten (v : ℕ) (b : Buffer) : Type 0 where
   pub read : reading octets ≡ Resource fields
   pub vci : fields .vci ≡ v
   pub backward : fields .dir ≡ 1
+  pub turned : fields .bn ≡ 0
   pub ci : fields .ci ≡ 1
 
 -- after any list of calls cs from the empty table a marked forward cell of an open connection, then any calls ds that neither close it nor send a turned cell
@@ -53,6 +55,6 @@ pub record MarkWritten (v : ℕ) (b : Buffer) : Type 0 where
 abbrev pub NoMarkLost : Type 0
 NoMarkLost =
     (cs : List Call) (o : List ℕ) (f : Fields) (c : Connection) (ds : List Call) (t room acr : ℕ) → AreOctets o → reading o ≡ Resource f → f .dir ≡ 0
-    → find (f .vci) (final empty cs .entries) ≡ taken c → MarkCame f c
+    → find (f .vci) (final empty cs .entries) ≡ taken c → MarkCame f c (final empty cs .level)
     → let s = step (final empty cs) (receiving o) .state in
     AllQuiet (f .vci) s ds → step (final s ds) (slot t room) .answer ≡ Sent (f .vci) Turned acr → MarkWritten (f .vci) (step (final s ds) (slot t room) .buffer)

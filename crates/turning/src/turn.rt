@@ -19,10 +19,10 @@ fn raised(mark: bool, x: u64) -> u64
 }
 
 // Octet 7.
-fn turned_marks(level: u32, efci: bool, x: u64) -> u64
-    ensures { λ r. ⌜ (r ≡ turnedMarks level efci x) × (r < 256) ⌝ }
+fn turned_marks(level: u32, mark: bool, x: u64) -> u64
+    ensures { λ r. ⌜ (r ≡ turnedMarks level mark x) × (r < 256) ⌝ }
 {
-    let ci = raised(efci | (level == 2), x / 32);
+    let ci = raised(mark | (level == 2), x / 32);
     let ni = raised(level == 1, x / 16);
     128 + ci * 32 + ni * 16 + x % 16
 }
@@ -37,12 +37,12 @@ fn marks_check(n: u64) -> u64
 
 // The payload to send back, from the received one. Octet 7 is the second of the first word. The CRC-10 is linear, so that what changes in octet 7 says what
 // changes in the CRC-10 received, which was found right.
-pub fn turn(p: Payload, level: u32, efci: bool) -> Payload
+pub fn turn(p: Payload, level: u32, mark: bool) -> Payload
     requires { ⌜ Checked p ⌝ }
-    ensures { λ r. ⌜ r ≡ payloadOf (turnedPayload level efci (octetsOf p)) ⌝ }
+    ensures { λ r. ⌜ r ≡ payloadOf (turnedPayload level mark (octetsOf p)) ⌝ }
 {
     let x = p.a / 0x1000000000000 % 256;
-    let changed = (x ^ turned_marks(level, efci, x)) / 16;
+    let changed = (x ^ turned_marks(level, mark, x)) / 16;
     Payload {
         a: p.a ^ (changed * 0x10000000000000),
         b: p.b,

@@ -30,7 +30,7 @@ returns c =
     let s = m .before .before in
     let p = s .args .p in
     let six : Six (p .a) (p .b) (p .c) (p .d) (p .e) (p .f) = search (needs, m .before .struct-known .given) in
-    turn-changes p (s .args .level) (s .args .efci) six (s .pre) (m .turned-marks .ensures .0) (m .turned-marks .ensures .1) (k .marks-check .ensures .0)
+    turn-changes p (s .args .level) (s .args .mark) six (s .pre) (m .turned-marks .ensures .0) (m .turned-marks .ensures .1) (k .marks-check .ensures .0)
     (k .marks-check .ensures .1)
 
 pub turn-spec : {M : Type 1} → statement M

@@ -29,7 +29,7 @@ add-result-3 c = search needs
 returns : tie.Need-returns
 returns c =
     let s = c .before .before in
-    (marks-are (s .args .level) (s .args .efci) (s .args .x) (c .before .raised .ensures .0) (c .raised2 .ensures .0), omega arith)
+    (marks-are (s .args .level) (s .args .mark) (s .args .x) (c .before .raised .ensures .0) (c .raised2 .ensures .0), omega arith)
 
 pub turned-marks-spec : {M : Type 1} → statement M
 turned-marks-spec =
