@@ -102,7 +102,7 @@ fold-lt : (n v : ℕ) → 2 ^ 8 ≤ 2 ^ n → v / 256 * 4 < 2 ^ n → foldedOcte
 fold-lt n v hn h = xor-lt n (v % 256) (times (v / 256)) (lt-of-lt-of-le (mod-lt v (pow-pos 8)) hn) (times-lt n (v / 256) h)
 
 -- an octet times x^2 + x + 1, and the two bits that then stand above the octet times that again, is the remainder of the octet times x^8
-pub product-lt : (b : ℕ) → b < 256 → times b < 2 ^ 10
+product-lt : (b : ℕ) → b < 256 → times b < 2 ^ 10
 product-lt b h = times-lt 10 b (omega arith)
 
 pub octet-formula : (b : ℕ) → b < 256 → foldedOctet (times b) ≡ remainder 8 0x107 (bits 8 b)
@@ -114,9 +114,16 @@ octet-formula b h =
     ∙ ap (up 8 0x107 refl 8) (octet-own b h)
     ∙ sym (X8-is b h)
 
--- the same, as the code computes it
-pub formula-is : (b : ℕ) {p q : ℕ} → b < 256 → p ≡ times b → q ≡ times (p / 256) → bitXor (p % 256) q ≡ X8 b
-formula-is b {p} h e f = ap (bitXor (p % 256)) f ∙ ap foldedOctet e ∙ octet-formula b h
+-- the two products made at once, of the octet and the two bits above its product added
+at-once : (b : ℕ) → b < 256 → times (bitXor b (times b / 256)) % 256 ≡ foldedOctet (times b)
+at-once b h = agree (λ b. times (bitXor b (times b / 256)) % 256) (λ b. foldedOctet (times b)) 256 tt b h
+
+pub sum-lt : (b : ℕ) {p : ℕ} → b < 256 → p ≡ times b → bitXor b (p / 256) < 0x4000
+sum-lt b {p} h e = let l = product-lt b h in xor-lt 14 b (p / 256) (omega arith) (omega arith)
+
+-- as the code computes it
+pub formula-is : (b : ℕ) {p q : ℕ} → b < 256 → p ≡ times b → q ≡ times (bitXor b (p / 256)) → q % 256 ≡ X8 b
+formula-is b h e f = ap (λ (z : ℕ). z % 256) (f ∙ ap (λ (z : ℕ). times (bitXor b (z / 256))) e) ∙ at-once b h ∙ octet-formula b h
 
 -- the four octets, one after the other
 pub header-by-octets :

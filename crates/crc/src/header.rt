@@ -14,12 +14,13 @@ fn times(v: u16) -> u16
     v ^ (v * 2) ^ (v * 4)
 }
 
-// The remainder of an octet times x^8: the octet times x^2 + x + 1; then the two bits above the octet times x^2 + x + 1, added to the low eight.
+// The remainder of an octet times x^8: the octet times x^2 + x + 1; then the two bits above the octet times x^2 + x + 1, added to the low eight. Both products
+// are made at once, of the octet and those two bits added.
 fn octet_remainder(b: u8) -> u8
     ensures { λ r. ⌜ r ≡ remainder 8 0x107 (bits 8 b) ⌝ }
 {
-    let product = times(b as u16);
-    ((product % 256) ^ times(product / 256)) as u8
+    let above = times(b as u16) / 256;
+    (times(b as u16 ^ above) % 256) as u8
 }
 
 // Octet 5 of a header, from octets 1 to 4: each octet is added to the remainder of those before it, and the sum goes up by x^8.
