@@ -1,8 +1,10 @@
 /*
- * Every call in its costliest known case, accepted: 64 connections are open whose VCIs share one bucket of the table's
- * index, the one concerned has the last entry and so is compared last, in a slot the ready instants fall from the first
- * entry to the last, a forward cell makes both of its moves, and a received one replaces another. bench/worst.c counts
- * the instructions of these calls, tests/c/stack.c measures their stack.
+ * Every call in its costliest known case, accepted: 1,024 connections are open, the one concerned has the last leaf of
+ * the tournament and wins at every level, so that all ten matches are replayed (an open replays one), and its VCI is at
+ * an end of the directory of names. Where the directory moves, it is the highest VCI, with all other words behind its own, and its ready
+ * instant is the earliest; elsewhere the lowest VCI, and all ready instants are equal. A forward cell makes both of its
+ * moves, and a received one replaces another. bench/worst.c counts the instructions of these calls, tests/c/stack.c
+ * measures their stack.
  */
 #ifndef CASES_H
 #define CASES_H
@@ -11,28 +13,32 @@
 
 #include "abr.h"
 
-/* The VCI of an entry; (v % 64 + v / 64) % 64 is 40 for each such v. */
-#define VCI(entry) (64 * (entry) + (104 - (entry)) % 64)
-#define LAST VCI(63u)
 #define SECOND UINT64_C(1000000000)
+#define OTHERS (ABR_CONNECTIONS_MAX - 1)
 
-/* What a case needs beside the 64 connections. */
-enum need { NOTHING, NRM_2, TURNED_WAITS, MADE_WAITS, FORWARD_CELL, BACKWARD_CELL, DATA_CELL, LAST_CLOSED };
+/* What a case needs beside the connections. */
+enum need { NOTHING, NRM_2, TURNED_WAITS, MADE_WAITS, FORWARD_CELL, BACKWARD_CELL, DATA_CELL, CLOSED };
+
+/* The VCI concerned. */
+enum name { LOWEST = ABR_VCI_MIN, HIGHEST = ABR_VCI_MAX };
 
 typedef struct {
     const char *name;
     enum need need;
+    enum name vci;
     void (*call)(void);
     uint32_t kind; /* of a slot or of a cell that is read, else 0 */
 } abr_case;
 
 static abr_table table;
 static uint8_t cell[ABR_CELL_OCTETS];
-static abr_rm rm = {LAST, 0, 0, 1, 0, 0, 0x53E8, 0x5000, 0x4000, 7, 9};
+static abr_rm rm = {0, 0, 0, 1, 0, 0, 0x53E8, 0x5000, 0x4000, 7, 9};
 static abr_params params;
+static uint32_t vci; /* the one concerned */
 
 /* The answers of the calls. */
 static uint32_t refusal;
+static abr_answer answer;
 static abr_sent sent;
 static abr_cell content;
 static abr_allowed allowed;
@@ -40,13 +46,14 @@ static abr_coded coded;
 static abr_rated rated;
 
 static void call_slot(void) { sent = abr_slot(&table, 3 * SECOND, cell, sizeof cell); }
-static void call_receive(void) { refusal = abr_receive(&table, cell, sizeof cell); }
-static void call_open(void) { refusal = abr_open(&table, LAST, 3 * SECOND, params); }
-static void call_close(void) { refusal = abr_close(&table, LAST); }
-static void call_offer(void) { refusal = abr_offer(&table, LAST, 1); }
+static void call_idle(void) { sent = abr_slot(&table, SECOND, cell, sizeof cell); }
+static void call_receive(void) { answer = abr_receive(&table, cell, sizeof cell); }
+static void call_open(void) { answer = abr_open(&table, vci, 3 * SECOND, params); }
+static void call_close(void) { answer = abr_close(&table, vci); }
+static void call_offer(void) { answer = abr_offer(&table, vci, 1); }
 static void call_set_level(void) { refusal = abr_set_level(&table, 2); }
-static void call_make(void) { refusal = abr_make(&table, LAST, 3 * SECOND); }
-static void call_acr(void) { allowed = abr_acr(&table, LAST); }
+static void call_make(void) { answer = abr_make(&table, vci, 3 * SECOND); }
+static void call_acr(void) { allowed = abr_acr(&table, vci); }
 static void call_write_rm(void) { refusal = abr_write_rm(rm, cell, sizeof cell); }
 static void call_read(void) { content = abr_read(cell, sizeof cell); }
 static void call_code(void) { coded = abr_code(ABR_RATE_MAX); }
@@ -54,64 +61,67 @@ static void call_rate(void) { rated = abr_rate(ABR_CODE_MAX); }
 static void call_house(void) { params = abr_house(ABR_CODE_MAX, 0x4000, 0x53E8); }
 
 static const abr_case cases[] = {
-    {"slot, forward cell", NRM_2, call_slot, ABR_SENT_FORWARD},
-    {"slot, turned cell", TURNED_WAITS, call_slot, ABR_SENT_TURNED},
-    {"slot, made cell", MADE_WAITS, call_slot, ABR_SENT_TURNED},
-    {"slot, data", NOTHING, call_slot, ABR_SENT_DATA},
-    {"receive, forward cell", TURNED_WAITS, call_receive, 0},
-    {"receive, backward cell", BACKWARD_CELL, call_receive, 0},
-    {"receive, data", DATA_CELL, call_receive, 0},
-    {"open", LAST_CLOSED, call_open, 0},
-    {"close", NOTHING, call_close, 0},
-    {"offer", NOTHING, call_offer, 0},
-    {"set level", NOTHING, call_set_level, 0},
-    {"make", MADE_WAITS, call_make, 0},
-    {"acr", NOTHING, call_acr, 0},
-    {"write", NOTHING, call_write_rm, 0},
-    {"read, RM cell", FORWARD_CELL, call_read, ABR_CELL_RM},
-    {"read, data", DATA_CELL, call_read, ABR_CELL_DATA},
-    {"code", NOTHING, call_code, 0},
-    {"rate", NOTHING, call_rate, 0},
-    {"house", NOTHING, call_house, 0},
+    {"slot, forward cell", NRM_2, LOWEST, call_slot, ABR_SENT_FORWARD},
+    {"slot, turned cell", TURNED_WAITS, LOWEST, call_slot, ABR_SENT_TURNED},
+    {"slot, made cell", MADE_WAITS, LOWEST, call_slot, ABR_SENT_TURNED},
+    {"slot, data", NOTHING, LOWEST, call_slot, ABR_SENT_DATA},
+    {"slot, idle", NOTHING, LOWEST, call_idle, ABR_SENT_IDLE},
+    {"receive, forward cell", TURNED_WAITS, LOWEST, call_receive, 0},
+    {"receive, backward cell", BACKWARD_CELL, LOWEST, call_receive, 0},
+    {"receive, data", DATA_CELL, LOWEST, call_receive, 0},
+    {"open", CLOSED, HIGHEST, call_open, 0},
+    {"close", NOTHING, HIGHEST, call_close, 0},
+    {"offer", NOTHING, LOWEST, call_offer, 0},
+    {"set level", NOTHING, LOWEST, call_set_level, 0},
+    {"make", MADE_WAITS, LOWEST, call_make, 0},
+    {"acr", NOTHING, LOWEST, call_acr, 0},
+    {"write", NOTHING, LOWEST, call_write_rm, 0},
+    {"read, RM cell", FORWARD_CELL, LOWEST, call_read, ABR_CELL_RM},
+    {"read, data", DATA_CELL, LOWEST, call_read, ABR_CELL_DATA},
+    {"code", NOTHING, LOWEST, call_code, 0},
+    {"rate", NOTHING, LOWEST, call_rate, 0},
+    {"house", NOTHING, LOWEST, call_house, 0},
 };
 
 #define CASES (sizeof cases / sizeof cases[0])
 
-/*
- * Entries 0 to 63, each with a higher rate than the one before it, so that it is due earlier after a cell at one time.
- * One unanswered cell and 10 ms are enough for the moves of a forward cell.
- */
+/* Opens a connection with data. One unanswered cell and 10 ms are enough for the moves of a forward cell. */
+static int open_busy(uint32_t other, uint32_t icr, uint32_t n)
+{
+    params = abr_house(ABR_CODE_MAX, 0x4000, icr);
+    params.n = n;
+    params.crm = params.adtf = 1;
+    return abr_open(&table, other, 0, params).refusal != ABR_OK || abr_offer(&table, other, 100).refusal != ABR_OK;
+}
+
+/* The others, and last the one concerned; as the highest VCI with a higher rate, and so due earlier than all others. */
 static int fill(uint32_t n)
 {
     int wrong = 0;
-    for (uint32_t entry = 0; entry < 64; entry++) {
-        params = abr_house(ABR_CODE_MAX, 0x4000, 0x5000 + 64 * entry);
-        params.n = n;
-        params.crm = params.adtf = 1;
-        wrong |= abr_open(&table, VCI(entry), 0, params) != ABR_OK;
-        wrong |= abr_offer(&table, VCI(entry), 100) != ABR_OK;
+    for (uint32_t i = 0; i < OTHERS; i++) {
+        wrong |= open_busy(vci == HIGHEST ? LOWEST + i : HIGHEST - i, 0x5000, n);
     }
-    return wrong;
+    return wrong | open_busy(vci, vci == HIGHEST ? 0x6000 : 0x5000, n);
 }
 
 /* Every connection sends one cell at this time. */
 static int round_at(uint64_t time)
 {
     int wrong = 0;
-    for (int slot = 0; slot < 64; slot++) {
+    for (unsigned slot = 0; slot < ABR_CONNECTIONS_MAX; slot++) {
         sent = abr_slot(&table, time, cell, sizeof cell);
         wrong |= sent.refusal != ABR_OK || sent.kind == ABR_SENT_IDLE;
     }
     return wrong;
 }
 
-/* A data cell for the last entry, its octet 5 found by trying all. */
+/* A data cell for the VCI concerned, its octet 5 found by trying all. */
 static int make_data_cell(void)
 {
     cell[0] = 0;
-    cell[1] = LAST >> 12;
-    cell[2] = LAST >> 4 & 0xFF;
-    cell[3] = (LAST & 0xF) << 4;
+    cell[1] = (uint8_t)(vci >> 12);
+    cell[2] = vci >> 4 & 0xFF;
+    cell[3] = (uint8_t)((vci & 0xF) << 4);
     for (unsigned octet = 0; octet < 256; octet++) {
         cell[4] = (uint8_t)octet;
         if (abr_read(cell, sizeof cell).refusal == ABR_OK) {
@@ -128,19 +138,20 @@ static int make_rm_cell(uint32_t dir)
 }
 
 /* Prepares table and cell for a case; 0 if every call of it was accepted. */
-static int prepare(enum need need)
+static int prepare(const abr_case *which)
 {
+    rm.vci = vci = which->vci;
     memset(&table, 0, sizeof table);
-    if (fill(need == NRM_2 ? 1 : 5) || round_at(0) || round_at(SECOND)) {
+    if (fill(which->need == NRM_2 ? 1 : 5) || round_at(0) || round_at(SECOND)) {
         return 1;
     }
-    switch (need) {
-    case TURNED_WAITS: return make_rm_cell(0) || abr_receive(&table, cell, sizeof cell) != ABR_OK;
-    case MADE_WAITS: return abr_set_level(&table, 2) != ABR_OK || abr_make(&table, LAST, SECOND) != ABR_OK;
+    switch (which->need) {
+    case TURNED_WAITS: return make_rm_cell(0) || abr_receive(&table, cell, sizeof cell).refusal != ABR_OK;
+    case MADE_WAITS: return abr_set_level(&table, 2) != ABR_OK || abr_make(&table, vci, SECOND).refusal != ABR_OK;
     case FORWARD_CELL: return make_rm_cell(0);
     case BACKWARD_CELL: return make_rm_cell(1);
     case DATA_CELL: return make_data_cell();
-    case LAST_CLOSED: return abr_close(&table, LAST) != ABR_OK;
+    case CLOSED: return abr_close(&table, vci).refusal != ABR_OK;
     default: return 0;
     }
 }
@@ -149,12 +160,12 @@ static int prepare(enum need need)
 static int accepted(const abr_case *which)
 {
     if (which->call == call_slot) {
-        return sent.refusal == ABR_OK && sent.kind == which->kind && sent.vci == LAST;
+        return sent.refusal == ABR_OK && sent.kind == which->kind && sent.vci == vci;
     }
     if (which->call == call_read) {
         return content.refusal == ABR_OK && content.kind == which->kind;
     }
-    return (refusal | allowed.refusal | coded.refusal | rated.refusal) == ABR_OK;
+    return (refusal | answer.refusal | sent.refusal | allowed.refusal | coded.refusal | rated.refusal) == ABR_OK;
 }
 
 #endif

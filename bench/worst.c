@@ -19,7 +19,7 @@ int main(int argc, char **argv)
         if (argc < 2) {
             puts(cases[i].name);
         } else if (strcmp(argv[1], cases[i].name) == 0) {
-            if (prepare(cases[i].need)) {
+            if (prepare(&cases[i])) {
                 return 1;
             }
             measured(&cases[i]);

@@ -35,7 +35,7 @@ static void feedback(uint32_t vci, uint64_t cells)
     uint8_t cell[ABR_CELL_OCTETS];
     abr_rm rm = {.vci = vci, .dir = 1, .er = code(cells)};
     accepted(abr_write_rm(rm, cell, sizeof cell));
-    accepted(abr_receive(&table, cell, sizeof cell));
+    accepted(abr_receive(&table, cell, sizeof cell).refusal);
     printf("          VCI %u receives ER %u\n", (unsigned)vci, (unsigned)cells);
 }
 
@@ -50,8 +50,8 @@ int main(void)
     }
     abr_params params = abr_house(code(2000), code(100), code(2000));
     for (uint32_t vci = 32; vci <= 33; vci++) {
-        accepted(abr_open(&table, vci, 0, params));
-        accepted(abr_offer(&table, vci, 1000)); /* data cells that wait */
+        accepted(abr_open(&table, vci, 0, params).refusal);
+        accepted(abr_offer(&table, vci, 1000).refusal); /* data cells that wait */
     }
     printf("  time    VCI      kind     allowed\n");
     for (uint64_t time = 0; time <= 14 * MS; time += MS / 4) {

@@ -1,20 +1,22 @@
 /*
  * abr.h: the ABR end-system rate engine.
  *
- * A transmitter asks once per cell slot which of up to 64 connections of one
+ * A transmitter asks once per cell slot which of up to 1,024 connections of one
  * link sends, what kind of cell, and what rate it is allowed afterwards. The
  * sections named below are those of document 01, "The ABR end-system rate
- * engine", which says what every call does, with requests L1 (abr_make) and L2
- * (marks of a replaced cell) of document 02.
+ * engine", which says what every call does, with requests L1 (abr_make), L2
+ * (marks of a replaced cell) and L4 (1,024 connections, comparisons) of
+ * document 02.
  *
  * Language. C99 or later, C++11 or later, or C++98 with <stdint.h>.
  *
  * Memory. The library has no heap, no globals and no start-up call. All state
  * is in an abr_table that the caller lends. A table of zeros is the empty one,
- * so `static abr_table table;` is ready for use. Only these calls may write a
- * table that is in use. One table is used by one thread at a time; different
- * tables are independent of each other. A table may be moved or copied as a
- * whole, octet by octet, between calls.
+ * so `static abr_table table;` is ready for use. It has 262,296 octets, too many
+ * for most stacks. Only these calls may write a table that is in use. One table
+ * is used by one thread at a time; different tables are independent of each
+ * other. A table may be moved or copied as a whole, octet by octet, between
+ * calls.
  *
  * Pointers. The only ones are to tables and to octets. None may be null. The
  * length given with a pointer to octets is that of the memory there. The
@@ -26,6 +28,13 @@
  * (0) or the first one that applies in the order given at the call. A refused
  * call has written nothing, and every other field of its answer is 0. An answer
  * with a refusal must not be ignored; compilers that can warn of it do.
+ *
+ * Comparisons. The ready instants of the connections play a tournament of ten
+ * levels, neighbours paired at each (document 02, L4). An accepted open, close,
+ * receive, offer or make, and a slot that sends, replays the matches of its own
+ * connection upwards, as far as their winners may have changed. It answers how
+ * many it replayed, one comparison each: 1 to 10. Refused calls, idle slots and
+ * all other calls replay none.
  *
  * Rates are whole numbers of 1/512 cell per second, times are nanoseconds
  * (section "Units and the 16-bit rate code").
@@ -59,11 +68,11 @@ extern "C" {
 
 /* ---- Version ------------------------------------------------------------ */
 
-/* 0.4.0: major, minor and patch number, eight bits each. */
-#define ABR_VERSION 0x000400u
+/* 0.5.0: major, minor and patch number, eight bits each. */
+#define ABR_VERSION 0x000500u
 
-/* The words of a table. */
-#define ABR_TABLE_WORDS 1987u
+/* The words of a table, which has 262,296 octets. */
+#define ABR_TABLE_WORDS 32787u
 
 /* ---- Limits ------------------------------------------------------------- */
 
@@ -71,7 +80,10 @@ extern "C" {
 #define ABR_CELL_OCTETS 53u
 
 /* The connections that may be open at once. */
-#define ABR_CONNECTIONS_MAX 64u
+#define ABR_CONNECTIONS_MAX 1024u
+
+/* The most comparisons of a call. */
+#define ABR_COMPARISONS_MAX 10u
 
 /* The least and the greatest VCI that can be opened. */
 #define ABR_VCI_MIN 32u
@@ -149,7 +161,7 @@ extern "C" {
 /* Because of the state. */
 #define ABR_REFUSED_NOT_OPEN 11u      /* VCI is not open */
 #define ABR_REFUSED_ALREADY_OPEN 12u  /* VCI is already open */
-#define ABR_REFUSED_FULL 13u          /* 64 connections are open */
+#define ABR_REFUSED_FULL 13u          /* 1,024 connections are open */
 #define ABR_REFUSED_TIME_BACKWARD 14u /* time is before the last accepted open, slot or made cell */
 #define ABR_REFUSED_TOO_MUCH_DATA 15u /* waiting data would pass 65,535 cells */
 #define ABR_REFUSED_NOT_CONGESTED 16u /* congestion level is 0 */
@@ -192,12 +204,19 @@ typedef struct {
     uint32_t sn;  /* carried only */
 } abr_rm;
 
-/* The answer of a slot. An idle slot has 0 in all four. */
+/* The answer of an open, a close, an offer, a received and a made cell. */
 typedef struct {
     uint32_t refusal;
-    uint32_t kind; /* ABR_SENT_... */
-    uint32_t vci;  /* the connection that sends */
-    uint64_t acr;  /* its allowed rate afterwards */
+    uint32_t comparisons; /* 1 to ABR_COMPARISONS_MAX; 0 if it is refused */
+} abr_answer;
+
+/* The answer of a slot. An idle slot has 0 in all five. */
+typedef struct {
+    uint32_t refusal;
+    uint32_t comparisons; /* ABR_COMPARISONS_MAX if a cell is sent */
+    uint32_t kind;        /* ABR_SENT_... */
+    uint32_t vci;         /* the connection that sends */
+    uint64_t acr;         /* its allowed rate afterwards */
 } abr_sent;
 
 /* The answer of abr_acr. */
@@ -243,32 +262,36 @@ static inline int abr_matches(void)
 
 /*
  * Opens a connection at a time (section "Opening"). It starts at its initial
- * rate with nothing sent and nothing waiting, also if the VCI was open before.
+ * rate with nothing sent and nothing waiting, also if the VCI was open before, and
+ * takes the lowest free place of the tournament. Nothing waits yet, so that the
+ * winners stay and 1 comparison is made.
  * Refusals in order:
  *   10  vci under 32
  *    7  vci over 65,535, or a parameter out of its range: a rate code over 16
  *       bits, 512 <= MCR <= ICR <= PCR broken, or any other of abr_params
  *    8  time over 2^62
  *   12  vci is open
- *   13  64 connections are open
+ *   13  1,024 connections are open
  *   14  time before that of the last accepted open, slot or made cell
  */
-ABR_MUST_USE uint32_t abr_open(abr_table *table, uint32_t vci, uint64_t time, abr_params params);
+ABR_MUST_USE abr_answer abr_open(abr_table *table, uint32_t vci, uint64_t time, abr_params params);
 
 /*
  * Closes a connection and drops all that waits on it (section "Opening").
+ * Comparisons: 1 to 10.
  * Refusal: 11 vci is not open.
  */
-ABR_MUST_USE uint32_t abr_close(abr_table *table, uint32_t vci);
+ABR_MUST_USE abr_answer abr_close(abr_table *table, uint32_t vci);
 
 /*
  * Adds data cells to those that wait on a connection (section "Opening").
  * The cells themselves stay with the caller. Offering 0 is accepted.
+ * Comparisons: 1 to 10.
  * Refusals in order:
  *   11  vci is not open
  *   15  more than 65,535 cells would wait
  */
-ABR_MUST_USE uint32_t abr_offer(abr_table *table, uint32_t vci, uint64_t cells);
+ABR_MUST_USE abr_answer abr_offer(abr_table *table, uint32_t vci, uint64_t cells);
 
 /*
  * Reads the allowed rate of a connection (section "Slots", last line).
@@ -283,8 +306,8 @@ ABR_MUST_USE abr_allowed abr_acr(const abr_table *table, uint32_t vci);
  * round"). A backward RM cell moves the allowed rate of its connection; a
  * forward RM cell is turned round and waits to be sent back, in place of any
  * turned one that waited, and has CI 1 also if that one had (document 02, L2);
- * of a data cell the congestion mark is saved and the payload not
- * used.
+ * of a data cell the congestion mark is saved and the payload not used.
+ * Comparisons: 1 to 10, for a data cell too.
  * Refusals in order:
  *    1  len is not 53
  *    2  octet 5 is wrong
@@ -294,7 +317,7 @@ ABR_MUST_USE abr_allowed abr_acr(const abr_table *table, uint32_t vci);
  *    6  an RM cell with a protocol other than 1
  *   11  its VCI is not open
  */
-ABR_MUST_USE uint32_t abr_receive(abr_table *table, const uint8_t *cell, size_t len);
+ABR_MUST_USE abr_answer abr_receive(abr_table *table, const uint8_t *cell, size_t len);
 
 /*
  * Sets the congestion level of the whole engine, which marks the cells that
@@ -313,6 +336,7 @@ ABR_MUST_USE uint32_t abr_set_level(abr_table *table, uint32_t level);
  * waits, and neither takes nor clears a saved congestion mark. A slot sends it by
  * the rules for a turned cell and answers ABR_SENT_TURNED. Its time then counts
  * for refusal 14 as a slot's does.
+ * Comparisons: 1 to 10.
  * Refusals in order:
  *    8  time over 2^62
  *   11  vci is not open
@@ -321,7 +345,7 @@ ABR_MUST_USE uint32_t abr_set_level(abr_table *table, uint32_t level);
  *   17  less than 100 ms since the last cell made on this connection, sent or
  *       not; one that is opened anew starts without
  */
-ABR_MUST_USE uint32_t abr_make(abr_table *table, uint32_t vci, uint64_t time);
+ABR_MUST_USE abr_answer abr_make(abr_table *table, uint32_t vci, uint64_t time);
 
 /* ---- The slot ----------------------------------------------------------- */
 
@@ -332,6 +356,8 @@ ABR_MUST_USE uint32_t abr_make(abr_table *table, uint32_t vci, uint64_t time);
  * are written to the buffer. For data the buffer is unchanged and the caller sends
  * a data cell of that VCI. If no connection is ready, the answer is all 0 and
  * the buffer unchanged; the slot counts as accepted at its time.
+ * Comparisons: 10 if a cell is sent, since the connection that sends wins at every
+ * level; 0 if the slot is idle.
  * Refusals in order:
  *    1  len is not 53
  *    8  time over 2^62
@@ -394,7 +420,7 @@ static inline const char *abr_refusal_text(uint32_t refusal)
     case ABR_REFUSED_LOW_VCI: return "VCI is under 32";
     case ABR_REFUSED_NOT_OPEN: return "VCI is not open";
     case ABR_REFUSED_ALREADY_OPEN: return "VCI is already open";
-    case ABR_REFUSED_FULL: return "64 connections are open";
+    case ABR_REFUSED_FULL: return "1,024 connections are open";
     case ABR_REFUSED_TIME_BACKWARD: return "time is before the last accepted open, slot or made cell";
     case ABR_REFUSED_TOO_MUCH_DATA: return "waiting data would pass 65,535 cells";
     case ABR_REFUSED_NOT_CONGESTED: return "congestion level is 0";
@@ -419,8 +445,11 @@ ABR_LAYOUT(params_trm, offsetof(abr_params, trm) == 36);
 ABR_LAYOUT(rm_size, sizeof(abr_rm) == 44);
 ABR_LAYOUT(rm_er, offsetof(abr_rm, er) == 24);
 ABR_LAYOUT(rm_sn, offsetof(abr_rm, sn) == 40);
+ABR_LAYOUT(answer_size, sizeof(abr_answer) == 8);
+ABR_LAYOUT(answer_comparisons, offsetof(abr_answer, comparisons) == 4);
 ABR_LAYOUT(sent_size, sizeof(abr_sent) == 24);
-ABR_LAYOUT(sent_vci, offsetof(abr_sent, vci) == 8);
+ABR_LAYOUT(sent_comparisons, offsetof(abr_sent, comparisons) == 4);
+ABR_LAYOUT(sent_vci, offsetof(abr_sent, vci) == 12);
 ABR_LAYOUT(sent_acr, offsetof(abr_sent, acr) == 16);
 ABR_LAYOUT(allowed_size, sizeof(abr_allowed) == 16);
 ABR_LAYOUT(allowed_acr, offsetof(abr_allowed, acr) == 8);

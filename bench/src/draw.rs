@@ -5,48 +5,60 @@ use std::fmt::Write;
 const WIDTH: f64 = 820.0;
 const HEIGHT: f64 = 420.0;
 const LEFT: f64 = 76.0;
-const RIGHT: f64 = 110.0;
+const RIGHT: f64 = 150.0;
 const TOP: f64 = 60.0;
 const BOTTOM: f64 = 62.0;
-const MOST: u32 = 64;
+/// The lower end of the axis.
+const FLOOR: f64 = HEIGHT - BOTTOM;
+const MOST: u32 = 1_024;
 const LIBRARY: &str = "#1f5fa8";
 const REFERENCE: &str = "#c4511a";
 
-/// A scale for the costs: its top and its step.
+/// The costs that the axis may name. Both axes are logarithmic: the scan's cost
+/// grows with the connections, and the library's would be a line at the bottom.
+const COSTS: [f64; 14] = [
+    1.0, 2.0, 5.0, 10.0, 20.0, 50.0, 100.0, 200.0, 500.0, 1_000.0, 2_000.0, 5_000.0, 10_000.0,
+    20_000.0,
+];
+
+/// A scale for the costs: those that it names.
 struct Scale {
-    top: f64,
-    step: f64,
+    costs: Vec<f64>,
 }
 
 impl Scale {
-    /// A scale of round numbers with at most eight steps.
-    fn for_most(most: f64) -> Self {
-        let steps = [5.0, 10.0, 20.0, 50.0, 100.0, 200.0, 500.0, 1_000.0, 2_000.0];
-        let step = steps
-            .into_iter()
-            .find(|step| most <= 8.0 * step)
-            .unwrap_or(5_000.0);
+    /// From a cost of the axis well below the least one to the lowest that is not
+    /// below the greatest.
+    fn of(least: f64, most: f64) -> Self {
+        let low = COSTS
+            .partition_point(|cost| 2.0 * *cost <= least)
+            .saturating_sub(1);
+        let high = COSTS
+            .partition_point(|cost| *cost < most)
+            .min(COSTS.len() - 1);
         Scale {
-            top: (most / step).ceil() * step,
-            step,
+            costs: COSTS[low..=high].to_vec(),
         }
     }
 
     fn y(&self, nanoseconds: f64) -> f64 {
-        HEIGHT - BOTTOM - (HEIGHT - TOP - BOTTOM) * nanoseconds / self.top
+        let (low, high) = (self.costs[0], self.costs[self.costs.len() - 1]);
+        let share = (nanoseconds / low).ln() / (high / low).ln();
+        FLOOR - (FLOOR - TOP) * share
     }
 }
 
 fn x(connections: u32) -> f64 {
-    LEFT + (WIDTH - LEFT - RIGHT) * f64::from(connections) / f64::from(MOST)
+    LEFT + (WIDTH - LEFT - RIGHT) * f64::from(connections).ln() / f64::from(MOST).ln()
 }
 
 /// The whole picture of (connections, library, reference).
 pub fn svg(points: &[(u32, f64, f64)]) -> String {
-    let most = points
-        .iter()
-        .fold(0.0_f64, |most, point| most.max(point.1).max(point.2));
-    let scale = Scale::for_most(most);
+    let costs = || points.iter().flat_map(|point| [point.1, point.2]);
+    let scale = Scale::of(
+        costs().fold(f64::MAX, f64::min),
+        costs().fold(0.0, f64::max),
+    );
     let mut out = format!(
         "<svg xmlns=\"http://www.w3.org/2000/svg\" viewBox=\"0 0 {WIDTH} {HEIGHT}\" \
          width=\"{WIDTH}\" height=\"{HEIGHT}\" \
@@ -73,16 +85,16 @@ fn put(out: &mut String, words: std::fmt::Arguments<'_>) {
 /// Both axes with their grid and names.
 fn axes(out: &mut String, scale: &Scale) {
     costs(out, scale);
-    connections(out, scale.y(0.0));
-    let (left, right, floor) = (x(0), x(MOST), scale.y(0.0));
-    let path = format!("M{left} {TOP}V{floor}H{right}");
+    connections(out);
+    let (left, right) = (x(1), x(MOST));
+    let path = format!("M{left} {TOP}V{FLOOR}H{right}");
     put(
         out,
         format_args!("<path d=\"{path}\" fill=\"none\" stroke=\"#333\" stroke-width=\"1.5\"/>\n"),
     );
     let (middle, bottom) = ((left + right) / 2.0, HEIGHT - 14.0);
     text(out, (middle, bottom), "middle", "busy connections");
-    let middle = (TOP + floor) / 2.0;
+    let middle = (TOP + FLOOR) / 2.0;
     put(
         out,
         format_args!(
@@ -94,11 +106,9 @@ fn axes(out: &mut String, scale: &Scale) {
 
 /// The grid of the costs.
 fn costs(out: &mut String, scale: &Scale) {
-    let (left, right) = (x(0), x(MOST));
-    let steps = (scale.top / scale.step).round() as u32;
-    for step in 0..=steps {
-        let value = f64::from(step) * scale.step;
-        let at = scale.y(value);
+    let (left, right) = (x(1), x(MOST));
+    for value in &scale.costs {
+        let at = scale.y(*value);
         put(
             out,
             format_args!("<path d=\"M{left} {at:.1}H{right}\" stroke=\"#ccc\"/>\n"),
@@ -108,14 +118,14 @@ fn costs(out: &mut String, scale: &Scale) {
 }
 
 /// The numbers of connections.
-fn connections(out: &mut String, floor: f64) {
-    for connections in [1, 8, 16, 24, 32, 40, 48, 56, 64] {
+fn connections(out: &mut String) {
+    for connections in [1, 2, 4, 8, 16, 32, 64, 128, 256, 512, 1_024] {
         let at = x(connections);
         put(
             out,
-            format_args!("<path d=\"M{at:.1} {floor}v6\" stroke=\"#333\"/>\n"),
+            format_args!("<path d=\"M{at:.1} {FLOOR}v6\" stroke=\"#333\"/>\n"),
         );
-        text(out, (at, floor + 24.0), "middle", &connections.to_string());
+        text(out, (at, FLOOR + 24.0), "middle", &connections.to_string());
     }
 }
 
@@ -159,7 +169,10 @@ fn names(out: &mut String, scale: &Scale, points: &[(u32, f64, f64)]) {
         (ours, theirs) = (ours + apart, theirs - apart);
     }
     let x = x(*connections) + 10.0;
-    for (y, name, colour) in [(ours, "library", LIBRARY), (theirs, "reference", REFERENCE)] {
+    for (y, name, colour) in [
+        (ours, "library", LIBRARY),
+        (theirs, "reference, a scan", REFERENCE),
+    ] {
         let anchor = format!("start\" font-weight=\"bold\" fill=\"{colour}");
         text(out, (x, y), &anchor, name);
     }

@@ -7,12 +7,15 @@ use reference::{Params, Rm};
 use crate::engines::{Engine, Octets};
 use crate::workload::{Sort, Workload};
 
-/// The first VCI.
-const FIRST: u32 = 32;
+/// The first VCI; one below it can be opened.
+const FIRST: u32 = 33;
 /// A rate code of about 100,000 cells per second.
 const CODE: u32 = 0x6121;
 /// The rate code of one cell per second.
 const SLOW: u32 = 0x4000;
+
+/// Longer than the gap at any rate at which data is sent.
+const ROUND: u64 = 1_000_000;
 
 /// A workload prepared on one side.
 pub struct Fixture<E: Engine> {
@@ -51,6 +54,9 @@ impl<E: Engine> Fixture<E> {
         if workload.sort() == Some(Sort::Moving) {
             fixture.first_cells();
         }
+        if workload.sends() && workload != Workload::LastFirst {
+            fixture.spread(params_of(FIRST, workload).n);
+        }
         if workload == Workload::Make {
             fixture.engine.set_level(2);
         }
@@ -63,6 +69,24 @@ impl<E: Engine> Fixture<E> {
         self.offer_all(1);
         for _ in 0..self.connections {
             self.engine.slot(self.time, &mut buffer);
+        }
+    }
+
+    /// Brings the connections to different places between two forward cells, the
+    /// i-th to k = i mod Nrm, so that any stretch of slots has its share of them: in
+    /// each round some more begin to send, and all that have begun send a cell, at
+    /// one time. Afterwards all are due.
+    fn spread(&mut self, n: u32) {
+        let mut buffer = [0; abr::CELL_OCTETS];
+        let nrm = 1 << n;
+        for round in 0..nrm {
+            for i in (0..self.connections).filter(|i| i % nrm >= nrm - 1 - round) {
+                self.engine.offer(FIRST + i, 1);
+            }
+            for _ in 0..self.connections {
+                self.engine.slot(self.time, &mut buffer);
+            }
+            self.time += ROUND;
         }
     }
 
@@ -97,11 +121,8 @@ impl<E: Engine> Fixture<E> {
             Workload::Read(_) => repeat(times, |i| E::read(black_box(&self.cells[i % 2]))),
             Workload::Write => repeat(times, |_| E::write_rm(black_box(&self.rm), &mut buffer)),
             Workload::Offer => repeat(times, |_| self.engine.offer(black_box(self.last), 0)),
-            Workload::OpenClose => repeat(times, |_| {
-                let vci = black_box(self.last + 1);
-                self.engine.open(vci, self.time, &self.params);
-                self.engine.close(vci);
-            }),
+            Workload::OpenClose => self.open_close(times, self.last + 1),
+            Workload::OpenCloseLow => self.open_close(times, FIRST - 1),
             Workload::Make => repeat(times, |_| {
                 self.time += self.step;
                 self.engine.make(black_box(self.last), self.time);
@@ -113,6 +134,14 @@ impl<E: Engine> Fixture<E> {
             Workload::House => repeat(times, |_| E::house(black_box(CODE))),
         }
         black_box(buffer);
+    }
+
+    /// Opens and closes one more connection so many times.
+    fn open_close(&mut self, times: u64, vci: u32) {
+        repeat(times, |_| {
+            self.engine.open(black_box(vci), self.time, &self.params);
+            self.engine.close(black_box(vci));
+        });
     }
 
     /// Runs it so many times in the function whose instructions are counted.
@@ -161,7 +190,7 @@ fn params_of(vci: u32, workload: Workload) -> Params {
     match workload {
         Workload::Turns { n } => Params { n, ..steady(CODE) },
         // Rates between a quarter of one and the whole of it.
-        Workload::Mixed => steady(CODE - vci * 37 % 64 * 16),
+        Workload::Mixed => steady(CODE - vci * 37 % 1_024),
         // One cell lowers the rate by a sixteenth, the next raises it to its peak.
         Workload::Receive(Sort::Moving) => Params::house(CODE, SLOW, CODE),
         _ => steady(CODE),

@@ -34,8 +34,21 @@ fn busy_slots_are_not_idle() {
             _ => Params::HOUSE_N,
         };
         let expected = SLOTS as usize >> n;
-        let all = expected..=expected + 64;
+        let connections = row.connections as usize;
+        let all = expected - connections / 16..=expected + connections;
         assert!(all.contains(&forward), "{}: {forward}", row.name);
+    }
+}
+
+/// Any stretch of slots has its share of forward cells, however many connections
+/// there are.
+#[test]
+fn forward_cells_are_spread() {
+    let sent = sent(1_024, Workload::Turns { n: 5 });
+    for stretch in sent.chunks(256) {
+        let kinds = stretch.iter().map(|sent| sent.expect("a busy slot").kind);
+        let forward = kinds.filter(|kind| *kind == Kind::Forward).count();
+        assert!((6..=10).contains(&forward), "{forward}");
     }
 }
 
@@ -78,7 +91,7 @@ fn both_sides_answer_the_same() {
             let table = &mut *library.engine.table;
             // SAFETY: both pointers are live and the length is the cell's own.
             let answer = unsafe { ffi::abr_receive(table, cell.as_ptr(), cell.len()) };
-            assert_eq!(answer, expected, "{}", row.name);
+            assert_eq!(answer.refusal, expected, "{}", row.name);
             let answer = reference.engine.engine.receive(&cell).err().unwrap_or(0);
             assert_eq!(answer, expected, "{}", row.name);
         }
@@ -106,17 +119,21 @@ fn makings_are_accepted() {
     for time in (1..10).map(|i| library.time + i * library.step) {
         let table = &mut *library.engine.table;
         // SAFETY: the pointer is live.
-        assert_eq!(unsafe { ffi::abr_make(table, vci, time) }, 0);
-        assert_eq!(reference.engine.engine.make(vci, time), Ok(()));
+        let ours = unsafe { ffi::abr_make(table, vci, time) };
+        assert_eq!(ours.refusal, 0);
+        let theirs = reference.engine.engine.make(vci, time);
+        assert_eq!(theirs, Ok(ours.comparisons));
     }
 }
 
 /// The measured opens and closes are accepted.
 #[test]
 fn opens_are_accepted() {
-    let mut fixture = Fixture::<Reference>::new(63, Workload::OpenClose);
-    let (vci, time) = (fixture.last + 1, fixture.time);
+    let mut fixture = Fixture::<Reference>::new(1_023, Workload::OpenClose);
+    let time = fixture.time;
     let engine = &mut fixture.engine.engine;
-    assert_eq!(engine.open(vci, time, &fixture.params), Ok(()));
-    assert_eq!(engine.close(vci), Ok(()));
+    for vci in [fixture.last + 1, FIRST - 1] {
+        assert_eq!(engine.open(vci, time, &fixture.params), Ok(1));
+        assert_eq!(engine.close(vci), Ok(1));
+    }
 }

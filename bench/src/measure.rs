@@ -83,7 +83,7 @@ pub fn columns() {
 
 /// Slots by the number of busy connections: the number, library, reference.
 pub fn by_connections() -> Vec<(u32, f64, f64)> {
-    let numbers = [1, 2, 4, 8, 12, 16, 24, 32, 40, 48, 56, 64];
+    let numbers = [1, 2, 4, 8, 16, 32, 64, 128, 256, 512, 1_024];
     let times = best(numbers.into_iter().map(|n| (n, Workload::Turns { n: 5 })));
     let points = numbers.into_iter().zip(times);
     points

@@ -36,8 +36,10 @@ pub enum Workload {
     Write,
     /// No data offered, which costs what any offer costs.
     Offer,
-    /// An open and the close of it.
+    /// An open and the close of it, of a VCI above all others.
     OpenClose,
+    /// The same of a VCI below all others.
+    OpenCloseLow,
     /// A backward cell made on the last connection, replacing the one before.
     Make,
     /// The rate of the last connection.
@@ -89,17 +91,11 @@ const fn row(name: &'static str, text: &'static str, connections: u32, workload:
 }
 
 /// All rows.
-pub static ROWS: [Row; 29] = [
+pub static ROWS: [Row; 45] = [
     row(
         "slot-1",
         "slot, 1 busy connection",
         1,
-        Workload::Turns { n: 5 },
-    ),
-    row(
-        "slot-8",
-        "slot, 8 busy connections",
-        8,
         Workload::Turns { n: 5 },
     ),
     row(
@@ -109,15 +105,33 @@ pub static ROWS: [Row; 29] = [
         Workload::Turns { n: 5 },
     ),
     row(
+        "slot-1024",
+        "slot, 1,024 busy connections",
+        1_024,
+        Workload::Turns { n: 5 },
+    ),
+    row(
         "slot-64-rm",
         "slot, 64 busy, every second cell forward",
         64,
         Workload::Turns { n: 1 },
     ),
     row(
+        "slot-1024-rm",
+        "slot, 1,024 busy, every second cell forward",
+        1_024,
+        Workload::Turns { n: 1 },
+    ),
+    row(
         "slot-64-mixed",
         "slot, 64 busy, each at a rate of its own",
         64,
+        Workload::Mixed,
+    ),
+    row(
+        "slot-1024-mixed",
+        "slot, 1,024 busy, each at a rate of its own",
+        1_024,
         Workload::Mixed,
     ),
     row(
@@ -139,6 +153,12 @@ pub static ROWS: [Row; 29] = [
         Workload::Idle,
     ),
     row(
+        "slot-idle-1024",
+        "slot, 1,024 open, nothing waits",
+        1_024,
+        Workload::Idle,
+    ),
+    row(
         "backward-1",
         "receive backward RM cell, 1 open",
         1,
@@ -151,9 +171,21 @@ pub static ROWS: [Row; 29] = [
         Workload::Receive(Sort::Backward),
     ),
     row(
+        "backward-1024",
+        "receive backward RM cell, last of 1,024",
+        1_024,
+        Workload::Receive(Sort::Backward),
+    ),
+    row(
         "moving-64",
         "receive backward RM cells that move the rate, last of 64",
         64,
+        Workload::Receive(Sort::Moving),
+    ),
+    row(
+        "moving-1024",
+        "receive backward RM cells that move the rate, last of 1,024",
+        1_024,
         Workload::Receive(Sort::Moving),
     ),
     row(
@@ -169,6 +201,12 @@ pub static ROWS: [Row; 29] = [
         Workload::Receive(Sort::Forward),
     ),
     row(
+        "forward-1024",
+        "receive forward RM cell, last of 1,024",
+        1_024,
+        Workload::Receive(Sort::Forward),
+    ),
+    row(
         "data-1",
         "receive data cell, 1 open",
         1,
@@ -181,40 +219,80 @@ pub static ROWS: [Row; 29] = [
         Workload::Receive(Sort::Data),
     ),
     row(
+        "data-1024",
+        "receive data cell, last of 1,024",
+        1_024,
+        Workload::Receive(Sort::Data),
+    ),
+    row(
         "crc-64",
         "receive RM cell with a wrong CRC-10, 64 open",
         64,
         Workload::Receive(Sort::Damaged),
     ),
     row(
-        "unknown-rm-64",
-        "receive backward RM cell, none of 64",
-        64,
+        "unknown-rm-1024",
+        "receive backward RM cell, none of 1,024",
+        1_024,
         Workload::Unknown(Sort::Backward),
     ),
     row(
-        "unknown-data-64",
-        "receive data cell, none of 64",
-        64,
+        "unknown-data-1024",
+        "receive data cell, none of 1,024",
+        1_024,
         Workload::Unknown(Sort::Data),
     ),
     row("write", "write RM cell", 0, Workload::Write),
     row("read", "read RM cell", 0, Workload::Read(Sort::Backward)),
     row("read-data", "read data cell", 0, Workload::Read(Sort::Data)),
-    row("offer", "offer, last of 64", 64, Workload::Offer),
+    row("offer-1", "offer, 1 open", 1, Workload::Offer),
+    row("offer-64", "offer, last of 64", 64, Workload::Offer),
+    row("offer-1024", "offer, last of 1,024", 1_024, Workload::Offer),
     row(
-        "open-close",
-        "open and close, 63 others open",
+        "open-close-0",
+        "open and close, no other open",
+        0,
+        Workload::OpenClose,
+    ),
+    row(
+        "open-close-63",
+        "open and close a VCI above 63 others",
         63,
         Workload::OpenClose,
     ),
     row(
-        "make",
+        "open-close-1023",
+        "open and close a VCI above 1,023 others",
+        1_023,
+        Workload::OpenClose,
+    ),
+    row(
+        "open-close-low-1023",
+        "open and close a VCI below 1,023 others",
+        1_023,
+        Workload::OpenCloseLow,
+    ),
+    row("make-1", "make a backward cell, 1 open", 1, Workload::Make),
+    row(
+        "make-64",
         "make a backward cell, last of 64",
         64,
         Workload::Make,
     ),
-    row("acr", "ask for the rate, last of 64", 64, Workload::Acr),
+    row(
+        "make-1024",
+        "make a backward cell, last of 1,024",
+        1_024,
+        Workload::Make,
+    ),
+    row("acr-1", "ask for the rate, 1 open", 1, Workload::Acr),
+    row("acr-64", "ask for the rate, last of 64", 64, Workload::Acr),
+    row(
+        "acr-1024",
+        "ask for the rate, last of 1,024",
+        1_024,
+        Workload::Acr,
+    ),
     row("level", "set the congestion level", 64, Workload::Level),
     row("code", "code of a rate", 0, Workload::Code),
     row("rate", "rate of a code", 0, Workload::Rate),

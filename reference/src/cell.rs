@@ -82,6 +82,16 @@ pub enum Cell {
     Rm(Rm),
 }
 
+impl Cell {
+    /// The connection of either sort.
+    pub fn vci(&self) -> u32 {
+        match self {
+            Cell::Data { vci, .. } => *vci,
+            Cell::Rm(rm) => rm.vci,
+        }
+    }
+}
+
 /// The remainders of each octet times x^8 by x^8+x^2+x+1.
 const CRC8_TABLE: [u8; 256] = {
     let mut table = [0; 256];

@@ -22,17 +22,6 @@ pub enum Kind {
     Data,
 }
 
-/// The answer of a slot that goes to a connection.
-#[derive(Debug, Clone, Copy, PartialEq, Eq)]
-pub struct Sent {
-    /// The connection.
-    pub vci: u32,
-    /// What it sends.
-    pub kind: Kind,
-    /// Its allowed rate, after the moves of a forward cell.
-    pub acr: u64,
-}
-
 /// The allowed rate and the contract that it moves under. Each move takes the
 /// record and returns the moved one.
 #[derive(Debug, Clone, Copy, PartialEq, Eq)]
@@ -217,8 +206,9 @@ impl Connection {
         }
     }
 
-    /// Sends a cell at this time, on a connection that is ready.
-    pub fn send(&mut self, time: u64, buffer: &mut Octets) -> Sent {
+    /// Sends a cell at this time, on a connection that is ready, and says of which
+    /// kind.
+    pub fn send(&mut self, time: u64, buffer: &mut Octets) -> Kind {
         let kind = self.next_kind(time);
         match kind {
             Kind::Forward => *buffer = self.forward_cell(time),
@@ -230,11 +220,7 @@ impl Connection {
             Kind::Data => self.data -= 1,
         }
         self.record(kind, time);
-        Sent {
-            vci: self.vci,
-            kind,
-            acr: self.rate.acr,
-        }
+        kind
     }
 
     /// Makes the moves that go before a forward cell, counts the cell as

@@ -1,16 +1,18 @@
 //! The table of connections and the calls on it (document 01, from "Opening"
 //! to "Slots"; the orders of refusals are in "Refused because of the state", that
-//! of a made cell in document 02's L1).
+//! of a made cell in document 02's L1). Calls that replay matches answer the
+//! comparisons (document 02, L4).
 
 use std::collections::BTreeMap;
 
 use crate::cell::{self, Cell, Octets, VCI_MAX};
-use crate::connection::{Connection, Sent};
+use crate::connection::{Connection, Kind};
 use crate::params::Params;
 use crate::refusal::{self, Refusal};
+use crate::tournament::{Tournament, LEAVES};
 
 /// The connections that may be open at once.
-pub const CONNECTIONS_MAX: usize = 64;
+pub const CONNECTIONS_MAX: usize = LEAVES;
 
 /// The latest time.
 pub const TIME_MAX: u64 = 1 << 62;
@@ -21,14 +23,33 @@ pub const LEVEL_MAX: u32 = 2;
 /// The least VCI that may be opened.
 pub const VCI_MIN: u32 = 32;
 
-/// The open connections by VCI.
-type Table = BTreeMap<u32, Connection>;
+/// The answer of a slot that goes to a connection.
+#[derive(Debug, Clone, Copy, PartialEq, Eq)]
+pub struct Sent {
+    /// The connection.
+    pub vci: u32,
+    /// What it sends.
+    pub kind: Kind,
+    /// Its allowed rate, after the moves of a forward cell.
+    pub acr: u64,
+    /// The comparisons made.
+    pub comparisons: u32,
+}
 
-/// The whole engine: the table, the congestion level, and the time of the last
-/// accepted open, slot or making (0 before any, which refuses nothing).
+/// An open connection and its leaf in the tournament.
+#[derive(Debug, Clone, PartialEq, Eq)]
+struct Entry {
+    leaf: usize,
+    connection: Connection,
+}
+
+/// The whole engine: the open connections by VCI, the tournament, the congestion
+/// level, and the time of the last accepted open, slot or making (0 before any,
+/// which refuses nothing).
 #[derive(Debug, Clone, PartialEq, Eq, Default)]
 pub struct Engine {
-    table: Table,
+    table: BTreeMap<u32, Entry>,
+    tournament: Tournament,
     level: u32,
     last: u64,
 }
@@ -39,8 +60,9 @@ impl Engine {
         Self::default()
     }
 
-    /// Opens a connection. Refusals: 10, 7, 8, 12, 13, 14.
-    pub fn open(&mut self, vci: u32, time: u64, params: &Params) -> Result<(), Refusal> {
+    /// Opens a connection on the lowest free leaf and answers the comparisons.
+    /// Refusals: 10, 7, 8, 12, 13, 14.
+    pub fn open(&mut self, vci: u32, time: u64, params: &Params) -> Result<u32, Refusal> {
         if vci < VCI_MIN {
             return Err(refusal::LOW_VCI);
         }
@@ -56,34 +78,40 @@ impl Engine {
             return Err(refusal::FULL);
         }
         self.advance(time)?;
-        self.table.insert(vci, Connection::new(vci, time, contract));
-        Ok(())
+        let leaf = self.tournament.take().ok_or(refusal::FULL)?;
+        let connection = Connection::new(vci, time, contract);
+        self.table.insert(vci, Entry { leaf, connection });
+        self.replay(vci)
     }
 
-    /// Closes a connection and drops all that waits on it. Refusal: 11.
-    pub fn close(&mut self, vci: u32) -> Result<(), Refusal> {
-        match self.table.remove(&vci) {
-            Some(_) => Ok(()),
-            None => Err(refusal::NOT_OPEN),
-        }
+    /// Closes a connection, drops all that waits on it and answers the
+    /// comparisons. Refusal: 11.
+    pub fn close(&mut self, vci: u32) -> Result<u32, Refusal> {
+        let entry = self.table.remove(&vci).ok_or(refusal::NOT_OPEN)?;
+        Ok(self.tournament.release(entry.leaf))
     }
 
-    /// Receives a cell. Refusals: 1, 2, 3, 4, for RM cells 5 and 6, then 11.
-    pub fn receive(&mut self, cell: &[u8]) -> Result<(), Refusal> {
+    /// Receives a cell and answers the comparisons. Refusals: 1, 2, 3, 4, for RM
+    /// cells 5 and 6, then 11.
+    pub fn receive(&mut self, cell: &[u8]) -> Result<u32, Refusal> {
         let content = cell::read(cell)?;
         let octets: &Octets = cell.try_into().map_err(|_| refusal::LENGTH)?;
         let level = self.level;
+        let vci = content.vci();
+        let connection = self.connection(vci)?;
         match content {
-            Cell::Data { vci, efci } => self.connection(vci)?.receive_data(efci),
-            Cell::Rm(rm) if rm.dir == 0 => self.connection(rm.vci)?.receive_forward(octets, level),
-            Cell::Rm(rm) => self.connection(rm.vci)?.receive_backward(&rm),
+            Cell::Data { efci, .. } => connection.receive_data(efci),
+            Cell::Rm(rm) if rm.dir == 0 => connection.receive_forward(octets, level),
+            Cell::Rm(rm) => connection.receive_backward(&rm),
         }
-        Ok(())
+        self.replay(vci)
     }
 
-    /// Adds data to what waits on a connection. Refusals: 11, 15.
-    pub fn offer(&mut self, vci: u32, cells: u64) -> Result<(), Refusal> {
-        self.connection(vci)?.offer(cells)
+    /// Adds data to what waits on a connection and answers the comparisons.
+    /// Refusals: 11, 15.
+    pub fn offer(&mut self, vci: u32, cells: u64) -> Result<u32, Refusal> {
+        self.connection(vci)?.offer(cells)?;
+        self.replay(vci)
     }
 
     /// Sets the congestion level of the whole engine. Refusal: 9.
@@ -95,15 +123,16 @@ impl Engine {
         Ok(())
     }
 
-    /// Makes a backward cell on a connection. Refusals: 8, 11, 14, 16, 17.
-    pub fn make(&mut self, vci: u32, time: u64) -> Result<(), Refusal> {
+    /// Makes a backward cell on a connection and answers the comparisons.
+    /// Refusals: 8, 11, 14, 16, 17.
+    pub fn make(&mut self, vci: u32, time: u64) -> Result<u32, Refusal> {
         check_range(time)?;
         let (level, order) = (self.level, self.in_order(time));
         let connection = self.connection(vci)?;
         order?;
         connection.make(time, level)?;
         self.last = time;
-        Ok(())
+        self.replay(vci)
     }
 
     /// Gives a slot to a connection; nothing when the slot is idle. A forward,
@@ -113,23 +142,45 @@ impl Engine {
         let buffer: &mut Octets = buffer.try_into().map_err(|_| refusal::LENGTH)?;
         check_range(time)?;
         self.advance(time)?;
-        match self.winner(time) {
-            Some(vci) => Ok(Some(self.connection(vci)?.send(time, buffer))),
-            None => Ok(None),
-        }
+        let Some(vci) = self.winner(time) else {
+            return Ok(None);
+        };
+        let connection = self.connection(vci)?;
+        let kind = connection.send(time, buffer);
+        let acr = connection.acr();
+        let comparisons = self.replay(vci)?;
+        Ok(Some(Sent {
+            vci,
+            kind,
+            acr,
+            comparisons,
+        }))
     }
 
     /// The allowed rate of a connection. Refusal: 11.
     pub fn acr(&self, vci: u32) -> Result<u64, Refusal> {
-        self.table
-            .get(&vci)
-            .map(Connection::acr)
-            .ok_or(refusal::NOT_OPEN)
+        let entry = self.table.get(&vci).ok_or(refusal::NOT_OPEN)?;
+        Ok(entry.connection.acr())
+    }
+
+    /// Who wins the tournament, whatever the time: ready instant and VCI.
+    #[cfg(test)]
+    pub(crate) fn top(&self) -> Option<(u64, u32)> {
+        self.tournament.top()
     }
 
     /// The connection under this VCI. Refusal: 11.
     fn connection(&mut self, vci: u32) -> Result<&mut Connection, Refusal> {
-        self.table.get_mut(&vci).ok_or(refusal::NOT_OPEN)
+        let entry = self.table.get_mut(&vci).ok_or(refusal::NOT_OPEN)?;
+        Ok(&mut entry.connection)
+    }
+
+    /// Replays the matches of a connection, whose ready instant may have changed,
+    /// and gives the comparisons. Refusal: 11.
+    fn replay(&mut self, vci: u32) -> Result<u32, Refusal> {
+        let entry = self.table.get(&vci).ok_or(refusal::NOT_OPEN)?;
+        let entrant = entry.connection.ready().map(|ready| (ready, vci));
+        Ok(self.tournament.replay(entry.leaf, entrant))
     }
 
     /// Refuses a time before the last accepted one with 14.
@@ -152,7 +203,7 @@ impl Engine {
     fn winner(&self, time: u64) -> Option<u32> {
         self.table
             .iter()
-            .filter_map(|(vci, connection)| Some((connection.ready()?, *vci)))
+            .filter_map(|(vci, entry)| Some((entry.connection.ready()?, *vci)))
             .filter(|(ready, _)| *ready <= time)
             .min()
             .map(|(_, vci)| vci)

@@ -34,7 +34,7 @@ pub(crate) fn octets(rm: &Rm) -> [u8; LENGTH] {
 }
 
 /// A backward cell that leaves the rate as it is.
-fn backward(vci: u32) -> Rm {
+pub(crate) fn backward(vci: u32) -> Rm {
     Rm {
         vci,
         dir: 1,
@@ -56,7 +56,7 @@ pub(crate) fn forward(vci: u32) -> Rm {
 }
 
 /// A data cell.
-fn data(vci: u32, efci: bool) -> [u8; LENGTH] {
+pub(crate) fn data(vci: u32, efci: bool) -> [u8; LENGTH] {
     let mut cell = [0x77; LENGTH];
     let word = vci << 4 | u32::from(efci) << 2;
     cell[..4].copy_from_slice(&word.to_be_bytes());
@@ -116,7 +116,8 @@ fn the_first_cell_is_forward() {
         Sent {
             vci: 32,
             kind: Kind::Forward,
-            acr: RATE
+            acr: RATE,
+            comparisons: 10
         }
     );
     let expected = Rm {
@@ -415,7 +416,8 @@ fn a_turned_cell_alone_makes_a_connection_ready() {
         Sent {
             vci: 32,
             kind: Kind::Turned,
-            acr: RATE
+            acr: RATE,
+            comparisons: 10
         }
     );
     assert_eq!(
@@ -544,6 +546,7 @@ fn data_and_idle_slots_do_not_write_the_buffer() {
         vci: 32,
         kind: Kind::Data,
         acr: RATE,
+        comparisons: 10,
     };
     assert_eq!(engine.slot(MS, &mut buffer), Ok(Some(sent)));
     assert_eq!(buffer, [0xA5; LENGTH]);
@@ -599,10 +602,10 @@ fn offers_up_to_65_535() {
     let mut engine = engine_with(&params());
     refused(&engine, 15, |engine| engine.offer(32, 65_536));
     refused(&engine, 15, |engine| engine.offer(32, u64::MAX));
-    assert_eq!(engine.offer(32, 0), Ok(()));
+    assert!(engine.offer(32, 0).is_ok());
     assert_eq!(engine, engine_with(&params()));
-    assert_eq!(engine.offer(32, 65_535), Ok(()));
-    assert_eq!(engine.offer(32, 0), Ok(()));
+    assert!(engine.offer(32, 65_535).is_ok());
+    assert!(engine.offer(32, 0).is_ok());
     refused(&engine, 15, |engine| engine.offer(32, 1));
     refused(&engine, 15, |engine| engine.offer(32, u64::MAX));
     refused(&engine, 11, |engine| engine.offer(33, u64::MAX));
@@ -635,7 +638,7 @@ fn levels_over_2_are_refused_with_9() {
 fn vcis_that_open() {
     for vci in [32, 65_535] {
         let mut engine = Engine::new();
-        assert_eq!(engine.open(vci, 0, &params()), Ok(()));
+        assert!(engine.open(vci, 0, &params()).is_ok());
         assert_eq!(engine.acr(vci), Ok(RATE));
     }
     let engine = Engine::new();
@@ -657,27 +660,27 @@ fn the_latest_time() {
         engine.slot(TIME_MAX + 1, &mut [0; LENGTH])
     });
     assert_eq!(TIME_MAX, 4_611_686_018_427_387_904);
-    assert_eq!(engine.open(32, TIME_MAX, &params()), Ok(()));
+    assert!(engine.open(32, TIME_MAX, &params()).is_ok());
     engine.offer(32, 1).unwrap();
     assert_eq!(kind(&mut engine, TIME_MAX), Some(Kind::Forward));
     assert_eq!(kind(&mut engine, TIME_MAX), None);
 }
 
 #[test]
-fn sixty_four_may_be_open() {
+fn a_thousand_and_24_may_be_open() {
     let mut engine = Engine::new();
-    for vci in 32..96 {
-        assert_eq!(engine.open(vci, 0, &params()), Ok(()));
+    for vci in 32..32 + 1_024 {
+        assert!(engine.open(vci, 0, &params()).is_ok());
     }
-    refused(&engine, 13, |engine| engine.open(96, 0, &params()));
+    refused(&engine, 13, |engine| engine.open(1_056, 0, &params()));
     engine.close(40).unwrap();
-    assert_eq!(engine.open(96, 0, &params()), Ok(()));
+    assert!(engine.open(1_056, 0, &params()).is_ok());
 }
 
 #[test]
 fn the_order_of_refusals_when_opening() {
     let mut engine = Engine::new();
-    for vci in 32..96 {
+    for vci in 32..1_056 {
         engine.open(vci, 9, &params()).unwrap();
     }
     let bad = Params { n: 0, ..params() };
@@ -687,10 +690,10 @@ fn the_order_of_refusals_when_opening() {
     refused(&engine, 7, |engine| engine.open(65_536, late, &params()));
     refused(&engine, 8, |engine| engine.open(32, late, &params()));
     refused(&engine, 12, |engine| engine.open(32, 8, &params()));
-    refused(&engine, 13, |engine| engine.open(96, 8, &params()));
+    refused(&engine, 13, |engine| engine.open(1_056, 8, &params()));
     engine.close(95).unwrap();
-    refused(&engine, 14, |engine| engine.open(96, 8, &params()));
-    assert_eq!(engine.open(96, 9, &params()), Ok(()));
+    refused(&engine, 14, |engine| engine.open(1_056, 8, &params()));
+    assert!(engine.open(1_056, 9, &params()).is_ok());
 }
 
 #[test]
@@ -740,7 +743,7 @@ fn an_idle_slots_time_counts_and_a_refused_ones_does_not() {
     refused(&engine, 14, |engine| engine.open(33, 9, &params()));
     refused(&engine, 1, |engine| engine.slot(20, &mut []));
     assert_eq!(kind(&mut engine, 10), None);
-    assert_eq!(engine.open(33, 10, &params()), Ok(()));
+    assert!(engine.open(33, 10, &params()).is_ok());
 }
 
 #[test]
@@ -751,14 +754,19 @@ fn closing_does_not_reset_the_last_time() {
     refused(&engine, 14, |engine| engine.open(32, 9, &params()));
 }
 
-/// A random call on the engine; on VCIs 32 to 35, accepted or refused.
-fn random_call(engine: &mut Engine, time: &mut u64, mut draw: impl FnMut(u32) -> u32) {
+/// A random call on the engine; on VCIs 32 to 35, accepted or refused. Its
+/// comparisons, 0 for a set level and an idle slot.
+fn random_call(
+    engine: &mut Engine,
+    time: &mut u64,
+    mut draw: impl FnMut(u32) -> u32,
+) -> Result<u32, u32> {
     let vci = 32 + draw(4);
-    let _accepted_or_refused = match draw(9) {
+    match draw(9) {
         0 if draw(8) == 0 => engine.close(vci),
         0 => engine.open(vci, *time, &Params::house(0x53E8, 0x4000, 0x4A00)),
         1 => engine.offer(vci, u64::from(draw(9))),
-        2 => engine.set_level(draw(4)),
+        2 => engine.set_level(draw(4)).map(|()| 0),
         3 => engine.receive(&data(vci, draw(2) == 1)),
         6 => engine.make(vci, *time),
         4 | 5 => {
@@ -776,22 +784,34 @@ fn random_call(engine: &mut Engine, time: &mut u64, mut draw: impl FnMut(u32) ->
         }
         _ => {
             *time += u64::from(draw(40_000_000));
-            engine.slot(*time, &mut [0; LENGTH]).map(drop)
+            slot_of_the_top(engine, *time)
         }
-    };
+    }
+}
+
+/// A slot, which goes to the winner of the tournament with ten comparisons if
+/// that one is ready, and else is idle.
+fn slot_of_the_top(engine: &mut Engine, time: u64) -> Result<u32, u32> {
+    let top = engine.top().filter(|(ready, _)| *ready <= time);
+    let sent = engine.slot(time, &mut [0; LENGTH])?;
+    assert_eq!(sent.map(|sent| sent.vci), top.map(|(_, vci)| vci));
+    let comparisons = sent.map_or(0, |sent| sent.comparisons);
+    assert_eq!(comparisons, if sent.is_some() { 10 } else { 0 });
+    Ok(comparisons)
 }
 
 #[test]
-fn rates_stay_in_bounds_in_long_lists() {
+fn rates_and_comparisons_stay_in_bounds_in_long_lists() {
     let mut engine = Engine::new();
     let (mut state, mut time, mut moved) = (1u64, 0, 0);
     for _ in 0..200_000 {
         let before = engine.acr(33);
-        random_call(&mut engine, &mut time, |limit| {
+        let answer = random_call(&mut engine, &mut time, |limit| {
             state = state.wrapping_mul(6_364_136_223_846_793_005);
             state = state.wrapping_add(1_442_695_040_888_963_407);
             (state >> 33) as u32 % limit
         });
+        assert!(answer.is_err() || answer.is_ok_and(|comparisons| comparisons <= 10));
         moved += u32::from(engine.acr(33) != before);
         for acr in (32..36).filter_map(|vci| engine.acr(vci).ok()) {
             assert!((512..=512_000).contains(&acr));

@@ -2,13 +2,15 @@
 //! 01 and 02 alone.
 //!
 //! It follows the document's text before speed: nothing is cached, every slot
-//! computes every ready instant again and compares them all.
+//! computes every ready instant again and compares them all. The tournament of
+//! document 02 only counts comparisons.
 //!
 //! * [`rate`]: rate codes and the gap between cells;
 //! * [`params`]: the parameters of an open, their ranges, the house set;
 //! * [`cell`]: header check, CRC-10, writing, reading and turning cells;
 //! * [`destination`]: the saved EFCI, turned and made cells;
 //! * [`connection`]: the four moves of the allowed rate, and pacing;
+//! * [`tournament`]: the matches between ready instants, and their count;
 //! * [`engine`]: the table of connections and the calls on it;
 //! * [`refusal`]: the numbers of the refusals.
 
@@ -21,15 +23,18 @@ pub mod engine;
 pub mod params;
 pub mod rate;
 pub mod refusal;
+pub mod tournament;
 
+#[cfg(test)]
+mod comparison_tests;
 #[cfg(test)]
 mod engine_tests;
 #[cfg(test)]
 mod make_tests;
 
 pub use cell::{read, write_rm, Cell, Rm};
-pub use connection::{Kind, Sent};
-pub use engine::Engine;
+pub use connection::Kind;
+pub use engine::{Engine, Sent};
 pub use params::Params;
 pub use rate::{code_of, gap, rate, rate_of};
 pub use refusal::Refusal;

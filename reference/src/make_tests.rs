@@ -52,7 +52,7 @@ fn the_order_of_refusals_when_making() {
     refused(&engine, 16, |engine| engine.make(33, 9));
     engine.set_level(1).unwrap();
     refused(&engine, 17, |engine| engine.make(33, 9));
-    assert_eq!(engine.make(32, 9), Ok(())); // another connection
+    assert!(engine.make(32, 9).is_ok()); // another connection
 }
 
 #[test]
@@ -63,8 +63,8 @@ fn its_time_counts_for_opens_and_slots_and_a_refused_ones_does_not() {
     refused(&engine, 11, |engine| engine.make(33, 30));
     refused(&engine, 14, |engine| engine.slot(9, &mut [0; LENGTH]));
     refused(&engine, 14, |engine| engine.open(33, 9, &params()));
-    assert_eq!(engine.open(33, 10, &params()), Ok(()));
-    assert_eq!(engine.make(33, TIME_MAX), Ok(()));
+    assert!(engine.open(33, 10, &params()).is_ok());
+    assert!(engine.make(33, TIME_MAX).is_ok());
     refused(&engine, 8, |engine| engine.make(33, TIME_MAX + 1));
 }
 
@@ -87,6 +87,7 @@ fn a_made_cell_alone_makes_a_connection_ready_from_its_opening_on() {
         vci: 32,
         kind: Kind::Turned,
         acr: RATE,
+        comparisons: 10,
     };
     assert_eq!((sent, rm), (expected, made(2)));
 }
@@ -180,7 +181,7 @@ fn a_vci_opened_again_has_no_made_cell_and_no_last_making() {
     refused(&engine, 11, |engine| engine.make(32, 0));
     engine.open(32, 0, &params()).unwrap();
     assert_eq!(engine, engine_at(1, &params()));
-    assert_eq!(engine.make(32, 0), Ok(()));
+    assert!(engine.make(32, 0).is_ok());
 }
 
 #[test]
@@ -190,6 +191,6 @@ fn each_connection_has_its_own_made_cell_and_interval() {
     engine.make(32, 0).unwrap();
     engine.make(33, MS).unwrap();
     refused(&engine, 17, |engine| engine.make(33, MAKE_INTERVAL));
-    assert_eq!(engine.make(32, MAKE_INTERVAL), Ok(()));
-    assert_eq!(engine.make(33, MAKE_INTERVAL + MS), Ok(()));
+    assert!(engine.make(32, MAKE_INTERVAL).is_ok());
+    assert!(engine.make(33, MAKE_INTERVAL + MS).is_ok());
 }

@@ -6,6 +6,33 @@
 
 #include "abr.h"
 
+/*
+ * Where the words of a table stand that find connections and winners; no caller
+ * may rely on it.
+ */
+enum {
+    LEAVES = 1024,
+    USED = 2,                        /* a bit for each leaf that is taken */
+    DIRECTORY = USED + LEAVES / 64,  /* (VCI + 1) * 1024 + leaf, falling, then zeros */
+    NODES = DIRECTORY + LEAVES,      /* at place p the winner's leaf + 1, or 0; places 2p and 2p + 1 play match p */
+    NONE = NODES + LEAVES,           /* 0 */
+    KEYS = NONE + 1,                 /* 2^64 - 1 - ready instant, or 0 */
+    NAMES = KEYS + LEAVES,           /* the VCI of each leaf */
+    LIVE = NAMES + LEAVES,           /* 16 words a leaf */
+    FIXED = LIVE + 16 * LEAVES,      /* 12 words a leaf */
+    LAYOUT_WORDS = FIXED + 12 * LEAVES
+};
+
+typedef char layout_is_that_of_the_table[LAYOUT_WORDS == ABR_TABLE_WORDS ? 1 : -1];
+
+/* A part of a table. */
+typedef struct {
+    unsigned first, count;
+} part;
+
+static const part parts[] = {{USED, LEAVES / 64}, {DIRECTORY, LEAVES}, {NODES, LEAVES}, {NONE, 1},
+                             {KEYS, LEAVES},      {NAMES, LEAVES},     {LIVE, 16 * LEAVES}};
+
 static uint64_t state; /* of the generator, xorshift64* (Vigna); never 0 */
 
 static uint64_t next(void)
@@ -19,86 +46,111 @@ static uint64_t next(void)
 /* A random word, often at the edge of some field's range. */
 static uint64_t edge_word(void)
 {
-    static const uint64_t edges[] = {0, 1, 2, 31, 32, 53, 63, 64, 65, 255, 256, 65535, 65536,
-                                     ABR_TABLE_WORDS - 1, ABR_TABLE_WORDS, UINT64_C(1) << 32,
+    static const uint64_t edges[] = {0, 1, 2, 31, 32, 53, 63, 64, 65, 255, 256, 1023, 1024, 1025, 65535, 65536,
+                                     65536 * 1024, ABR_TABLE_WORDS - 1, ABR_TABLE_WORDS, UINT64_C(1) << 32,
                                      UINT64_C(1) << 62, UINT64_C(1) << 63};
     uint64_t word = next();
     switch (word & 7) {
     case 0: return ~UINT64_C(0) - (next() & 63);
     case 1: return next() & 0xFFFF;
-    case 2: return next() & 0xFF;
+    case 2: return next() & 0x3FF;
     case 3: return next() >> (next() & 63);
     case 4: return next();
     default: return edges[next() % (sizeof edges / sizeof edges[0])];
     }
 }
 
-/* A table that calls made: some open connections, perhaps with free entries between, data, cells made and sent. */
+/* The VCIs of a table are 32 and those that follow it in this step, rising or falling. */
+static uint32_t step, falling;
+
+static uint32_t vci_of(uint32_t place)
+{
+    return falling ? 65535 - step * place : 32 + step * place;
+}
+
+/* A table that calls made: some open connections, perhaps with free leaves between, data, cells made and sent. */
 static void reached_table(abr_table *table)
 {
     uint8_t cell[ABR_CELL_OCTETS];
-    uint32_t count = (uint32_t)(next() % 70), closes = (uint32_t)next() & 1, refused = 0;
+    uint32_t count = (uint32_t)(next() % (next() % 4 ? 70 : 1040)), closes = (uint32_t)next() & 1, refused = 0;
     abr_params params = abr_house(0x7FFF, 0x4000, 0x53E8 + (uint32_t)(next() & 0xFF));
+    step = next() % 2 ? 1 : 63; /* side by side, or over all VCIs */
+    falling = next() % 2;
     memset(table, 0, sizeof *table);
     for (uint32_t i = 0; i < count; i++) {
-        refused |= abr_open(table, 32 + i, i, params);
-        refused |= abr_offer(table, 32 + i, next() & 0xFF);
+        refused |= abr_open(table, vci_of(i), i, params).refusal;
+        refused |= abr_offer(table, vci_of(i), next() & 0xFF).refusal;
         refused |= abr_set_level(table, (uint32_t)(next() % 3));
-        refused |= abr_make(table, 32 + i, i);
+        refused |= abr_make(table, vci_of(i), i).refusal;
         refused |= abr_slot(table, i, cell, sizeof cell).refusal;
         if (closes && next() % 4 == 0) {
-            refused |= abr_close(table, 32 + (uint32_t)(next() % count));
+            refused |= abr_close(table, vci_of((uint32_t)(next() % count))).refusal;
         }
     }
-    (void)refused; /* more than 64 opens, closes of what is not open and makings at level 0 are among them */
+    (void)refused; /* more than 1,024 opens, closes of what is not open and makings at level 0 are among them */
 }
 
-/*
- * A word with a bit for each of some entries, made wrong: all, none, the others,
- * more, those of another word; or as it was.
- */
-static uint64_t wrong_entries(uint64_t how, uint64_t entries, uint64_t another)
+/* A word for a place of the directory or of the tournament, in range but by chance only the right one. */
+static uint64_t wrong_entry(void)
 {
-    switch (how % 6) {
-    case 0: return ~UINT64_C(0);
-    case 1: return 0;
-    case 2: return ~entries;
-    case 3: return entries | next();
-    case 4: return another;
-    default: return entries;
+    uint64_t leaf = next() % LEAVES;
+    return next() % 2 ? leaf + 1 : (vci_of((uint32_t)(next() % 1040)) + 1) * LEAVES + leaf;
+}
+
+/* One word of a part of a table made wrong; the words before are those of the part as calls left it. */
+static uint64_t wrong_word(uint64_t how, const uint64_t *before, unsigned place, unsigned count)
+{
+    switch (how) {
+    case 0: return 0;
+    case 1: return ~UINT64_C(0);
+    case 2: return ~before[place];
+    case 3: return before[count - 1 - place];                    /* the other way round: a rising directory */
+    case 4: return before[(place + 1) % count];                  /* moved by one */
+    case 5: return before[place ^ (count > 1 && place % 3 == 0)]; /* twice what stands beside it */
+    case 6: return next() % 8 ? before[place] : 0;               /* holes */
+    case 7: return next() % 8 ? before[place] : wrong_entry();
+    case 8: return wrong_entry();
+    case 9: return before[place] | next();
+    default: return edge_word();
     }
 }
 
-/*
- * A table that calls made, then with wrong words where entries are looked up:
- * word 2 has a bit for each entry in use, the 64 words after it are the buckets
- * of the index.
- */
-static void wrong_index(abr_table *table)
+/* A table that calls made, with one or more parts wrong, each in its own way. */
+static void wrong_parts(abr_table *table)
 {
-    uint64_t how = next(), how_used = next(), any = next(), old[64];
-    unsigned away = 1 + (unsigned)(next() % 63);
+    static uint64_t before[16 * LEAVES];
+    uint64_t times = 1 + next() % 3;
     reached_table(table);
-    memcpy(old, table->words + 3, sizeof old);
-    table->words[2] = wrong_entries(how_used, table->words[2], any);
-    for (unsigned i = 0; i < 64; i++) {
-        table->words[3 + i] = wrong_entries(how, old[i], old[(i + away) % 64]);
+    while (times--) {
+        const part *p = &parts[next() % (sizeof parts / sizeof parts[0])];
+        uint64_t how = next() % 11, *words = table->words + p->first;
+        memcpy(before, words, p->count * sizeof *words);
+        for (unsigned i = 0; i < p->count; i++) {
+            words[i] = wrong_word(how, before, i, p->count);
+        }
     }
 }
 
-/* All random, all of one word, mostly zero, or made by calls and then with some words or the index wrong. */
+/* All random, all at edges, or all of one word. */
+static void random_table(abr_table *table, uint64_t kind)
+{
+    uint64_t one = edge_word();
+    for (unsigned i = 0; i < ABR_TABLE_WORDS; i++) {
+        table->words[i] = kind == 0 ? next() : kind == 1 ? edge_word() : one;
+    }
+}
+
+/* All random, mostly zero, or made by calls and then with some words or whole parts wrong. */
 static void arbitrary_table(abr_table *table)
 {
-    uint64_t kind = next() % 8, one = edge_word();
+    uint64_t kind = next() % 12;
     uint64_t wrong = 1 + next() % (kind == 5 ? 400 : 20);
     if (kind < 3) {
-        for (unsigned i = 0; i < ABR_TABLE_WORDS; i++) {
-            table->words[i] = kind == 0 ? next() : kind == 1 ? edge_word() : one;
-        }
+        random_table(table, kind);
         return;
     }
     if (kind > 5) {
-        wrong_index(table);
+        wrong_parts(table);
         return;
     }
     if (kind == 3) {
@@ -107,7 +159,7 @@ static void arbitrary_table(abr_table *table)
         reached_table(table);
     }
     while (wrong--) {
-        uint64_t place = next() % 3 ? next() % ABR_TABLE_WORDS : next() % 200;
+        uint64_t place = next() % 3 ? next() % ABR_TABLE_WORDS : next() % LIVE;
         uint64_t bit = UINT64_C(1) << (next() & 63);
         table->words[place] = next() % 3 ? edge_word() : table->words[place] ^ bit;
     }

@@ -46,9 +46,12 @@ static void offsets_of_rm(void)
 
 static void offsets_of_answers(void)
 {
+    AT(abr_answer, refusal, 0, 4);
+    AT(abr_answer, comparisons, 4, 4);
     AT(abr_sent, refusal, 0, 4);
-    AT(abr_sent, kind, 4, 4);
-    AT(abr_sent, vci, 8, 4);
+    AT(abr_sent, comparisons, 4, 4);
+    AT(abr_sent, kind, 8, 4);
+    AT(abr_sent, vci, 12, 4);
     AT(abr_sent, acr, 16, 8);
     AT(abr_allowed, refusal, 0, 4);
     AT(abr_allowed, acr, 8, 8);
@@ -95,7 +98,7 @@ static void every_parameter(void)
             words[field] = bad[field];
         }
         memcpy(&params, words, sizeof params);
-        CHECK(abr_open(&table, 32, 0, params) == (field < 10 ? ABR_REFUSED_RANGE : ABR_OK));
+        CHECK(abr_open(&table, 32, 0, params).refusal == (field < 10 ? ABR_REFUSED_RANGE : ABR_OK));
     }
 }
 
@@ -112,14 +115,14 @@ static void every_house_field(void)
 static void all_send(abr_table *table, uint64_t time, uint32_t kind)
 {
     uint8_t octets[ABR_CELL_OCTETS];
-    for (uint32_t vci = 32; vci < 96; vci++) {
+    for (uint32_t vci = 32; vci < 32 + ABR_CONNECTIONS_MAX; vci++) {
         abr_sent sent = abr_slot(table, time, octets, sizeof octets);
-        CHECK(sent.refusal == ABR_OK && sent.vci == vci);
+        CHECK(sent.refusal == ABR_OK && sent.vci == vci && sent.comparisons == ABR_COMPARISONS_MAX);
         CHECK(sent.kind == kind && sent.acr == 512000);
     }
 }
 
-/* A table uses words up to the last and none after it: 64 busy connections, on each a made cell. */
+/* A table uses words up to the last and none after it: 1,024 busy connections, on each a made cell. */
 static void the_whole_table(void)
 {
     static struct {
@@ -128,13 +131,13 @@ static void the_whole_table(void)
     } lent;
     abr_params params = abr_house(0x7FFF, 0x4000, 0x53E8);
     CHECK(abr_set_level(&lent.table, 1) == ABR_OK);
-    for (uint32_t vci = 32; vci < 96; vci++) {
-        CHECK(abr_open(&lent.table, vci, 0, params) == ABR_OK);
-        CHECK(abr_offer(&lent.table, vci, 1) == ABR_OK);
-        CHECK(abr_make(&lent.table, vci, 0) == ABR_OK);
-        CHECK(abr_make(&lent.table, vci, 0) == ABR_REFUSED_TOO_SOON);
+    for (uint32_t vci = 32; vci < 32 + ABR_CONNECTIONS_MAX; vci++) {
+        CHECK(abr_open(&lent.table, vci, 0, params).refusal == ABR_OK);
+        CHECK(abr_offer(&lent.table, vci, 1).refusal == ABR_OK);
+        CHECK(abr_make(&lent.table, vci, 0).refusal == ABR_OK);
+        CHECK(abr_make(&lent.table, vci, 0).refusal == ABR_REFUSED_TOO_SOON);
     }
-    CHECK(abr_open(&lent.table, 96, 0, params) == ABR_REFUSED_FULL);
+    CHECK(abr_open(&lent.table, 32 + ABR_CONNECTIONS_MAX, 0, params).refusal == ABR_REFUSED_FULL);
     all_send(&lent.table, 0, ABR_SENT_FORWARD);
     all_send(&lent.table, 1000000, ABR_SENT_TURNED);
     all_send(&lent.table, 2000000, ABR_SENT_DATA);
@@ -149,8 +152,8 @@ static void any_alignment(void)
     static uint64_t space[16];
     static abr_table table;
     abr_rm rm = {32, 1, 0, 1, 0, 0, 0x7FFF, 0, 0, 0, 0};
-    CHECK(abr_open(&table, 32, 0, abr_house(0x7FFF, 0x4000, 0x53E8)) == ABR_OK);
-    CHECK(abr_offer(&table, 32, 100) == ABR_OK);
+    CHECK(abr_open(&table, 32, 0, abr_house(0x7FFF, 0x4000, 0x53E8)).refusal == ABR_OK);
+    CHECK(abr_offer(&table, 32, 100).refusal == ABR_OK);
     for (size_t shift = 0; shift < 16; shift++) {
         uint8_t *octets = (uint8_t *)space + shift;
         abr_cell cell;
@@ -158,7 +161,7 @@ static void any_alignment(void)
         CHECK(abr_write_rm(rm, octets, ABR_CELL_OCTETS) == ABR_OK);
         cell = abr_read(octets, ABR_CELL_OCTETS);
         CHECK(cell.refusal == ABR_OK && cell.rm.er == 0x7FFF);
-        CHECK(abr_receive(&table, octets, ABR_CELL_OCTETS) == ABR_OK);
+        CHECK(abr_receive(&table, octets, ABR_CELL_OCTETS).refusal == ABR_OK);
         sent = abr_slot(&table, shift << 40, octets, ABR_CELL_OCTETS);
         CHECK(sent.refusal == ABR_OK && sent.vci == 32);
     }
@@ -167,7 +170,8 @@ static void any_alignment(void)
 /* Two slots' answers, field by field: padding may differ. */
 static int same(abr_sent a, abr_sent b)
 {
-    return a.refusal == b.refusal && a.kind == b.kind && a.vci == b.vci && a.acr == b.acr;
+    return a.refusal == b.refusal && a.comparisons == b.comparisons && a.kind == b.kind && a.vci == b.vci &&
+           a.acr == b.acr;
 }
 
 /* A table may be copied as a whole: the copy answers as the first one does. */
@@ -179,8 +183,8 @@ static void a_copy_answers_the_same(void)
     uint8_t octets[ABR_CELL_OCTETS] = {0}, others[ABR_CELL_OCTETS] = {0};
     abr_params params = abr_house(0x7FFF, 0x4000, 0x53E8);
     for (uint32_t vci = 32; vci < 40; vci++) {
-        CHECK(abr_open(&first, vci, 0, params) == ABR_OK);
-        CHECK(abr_offer(&first, vci, 100) == ABR_OK);
+        CHECK(abr_open(&first, vci, 0, params).refusal == ABR_OK);
+        CHECK(abr_offer(&first, vci, 100).refusal == ABR_OK);
     }
     for (uint64_t slot = 0; slot < 400; slot++) {
         abr_sent sent, other;

@@ -26,7 +26,8 @@ static void zeros(uint8_t *octets, size_t len)
     abr_sent sent = abr_slot(&table, 1000, octets, len);
     CHECK(read.refusal == ABR_REFUSED_LENGTH && read.kind == 0 && read.efci == 0);
     CHECK(memcmp(&read.rm, &no_rm, sizeof no_rm) == 0);
-    CHECK(sent.refusal == ABR_REFUSED_LENGTH && sent.kind == 0 && sent.vci == 0 && sent.acr == 0);
+    CHECK(sent.refusal == ABR_REFUSED_LENGTH && sent.comparisons == 0 && sent.kind == 0);
+    CHECK(sent.vci == 0 && sent.acr == 0);
 }
 
 static void refused(uint8_t *octets, size_t len)
@@ -36,7 +37,8 @@ static void refused(uint8_t *octets, size_t len)
     abr_rm rm = {33, 0, 0, 0, 0, 0, 0, 0, 0, 0, 0};
     memcpy(&before, &table, sizeof before);
     memcpy(kept, octets, sizeof kept);
-    CHECK(abr_receive(&table, octets, len) == ABR_REFUSED_LENGTH);
+    abr_answer answer = abr_receive(&table, octets, len);
+    CHECK(answer.refusal == ABR_REFUSED_LENGTH && answer.comparisons == 0);
     CHECK(abr_write_rm(rm, octets, len) == ABR_REFUSED_LENGTH);
     zeros(octets, len);
     CHECK(memcmp(kept, octets, sizeof kept) == 0);
@@ -53,14 +55,14 @@ int main(void)
         perror("mmap");
         return 1;
     }
-    CHECK(abr_open(&table, 32, 0, abr_house(0x7FFF, 0x4000, 0x53E8)) == ABR_OK);
-    CHECK(abr_offer(&table, 32, 1) == ABR_OK);
+    CHECK(abr_open(&table, 32, 0, abr_house(0x7FFF, 0x4000, 0x53E8)).refusal == ABR_OK);
+    CHECK(abr_offer(&table, 32, 1).refusal == ABR_OK);
     put_cell(octets);
     refused(octets, 0);
     for (size_t i = 0; i < sizeof widths / sizeof widths[0]; i++) {
         refused(octets, ((size_t)1 << widths[i]) + ABR_CELL_OCTETS);
     }
-    CHECK(abr_receive(&table, octets, ABR_CELL_OCTETS) == ABR_OK);
+    CHECK(abr_receive(&table, octets, ABR_CELL_OCTETS).refusal == ABR_OK);
     printf("lengths: %s\n", checks_failed ? "FAILED" : "ok");
     return checks_failed != 0;
 }

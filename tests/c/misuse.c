@@ -44,7 +44,7 @@ static void make_objects(void)
 
 static uint32_t any_vci(void)
 {
-    return next() % 4 ? 32 + (uint32_t)(next() % 70) : (uint32_t)edge_word();
+    return next() % 4 ? vci_of((uint32_t)(next() % (next() % 4 ? 70 : 1040))) : (uint32_t)edge_word();
 }
 
 static uint64_t any_time(void)
@@ -117,44 +117,59 @@ static uint32_t without_table(int call)
     }
 }
 
-/* Makes one call; its refusal. */
+/* Makes one call; its refusal. The comparisons of a table that no call made may be any. */
 static uint32_t one_call(int call)
 {
     switch (call) {
-    case OPEN: return abr_open(at(TABLE), any_vci(), any_time(), any_params());
-    case CLOSE: return abr_close(at(TABLE), any_vci());
-    case RECEIVE: return abr_receive(at(TABLE), at(CELL), any_length());
-    case OFFER: return abr_offer(at(TABLE), any_vci(), edge_word());
+    case OPEN: return abr_open(at(TABLE), any_vci(), any_time(), any_params()).refusal;
+    case CLOSE: return abr_close(at(TABLE), any_vci()).refusal;
+    case RECEIVE: return abr_receive(at(TABLE), at(CELL), any_length()).refusal;
+    case OFFER: return abr_offer(at(TABLE), any_vci(), edge_word()).refusal;
     case SET_LEVEL: return abr_set_level(at(TABLE), (uint32_t)(next() % 4));
-    case MAKE: return abr_make(at(TABLE), any_vci(), any_time());
+    case MAKE: return abr_make(at(TABLE), any_vci(), any_time()).refusal;
     case SLOT: return abr_slot(at(TABLE), any_time(), at(CELL), any_length()).refusal;
     case ACR: return abr_acr(at(TABLE), any_vci()).refusal;
     default: return without_table(call);
     }
 }
 
-/* The objects that a call may write, as a set. On a table that no call made a refusal may write it. */
-static unsigned may_write(int call, uint32_t refusal)
+/*
+ * Whether a call may write an object. On a table that no call made a refusal may
+ * write it. A call that is given no table cannot, and it is not compared then: a
+ * table is long.
+ */
+static int may_write(int which, int call, uint32_t refusal)
 {
-    if (call == SLOT) {
-        return 1 << TABLE | 1 << CELL;
+    if (which == TABLE) {
+        return call != ACR;
     }
-    if (call == WRITE_RM) {
-        return refusal == ABR_OK ? 1 << CELL : 0;
-    }
-    return call < ACR ? 1 << TABLE : 0;
+    return call == SLOT || (call == WRITE_RM && refusal == ABR_OK);
 }
 
-/* Everything that the call may not write must be unchanged. */
-static int unchanged(unsigned written)
+/* Copies what a call may not write: always the octets before and behind an object. */
+static void copy(int call)
 {
     for (int i = 0; i < OBJECTS; i++) {
         const object *o = &objects[i];
         size_t back = guard + sizes[i];
-        int whole = memcmp(o->block, o->copy, o->size) == 0;
+        if (may_write(i, call, ABR_OK) && i == TABLE) {
+            memcpy(o->copy, o->block, guard);
+            memcpy(o->copy + back, o->block + back, guard);
+        } else {
+            memcpy(o->copy, o->block, o->size);
+        }
+    }
+}
+
+/* Everything that the call may not write must be unchanged. */
+static int unchanged(int call, uint32_t refusal)
+{
+    for (int i = 0; i < OBJECTS; i++) {
+        const object *o = &objects[i];
+        size_t back = guard + sizes[i];
         int outside = memcmp(o->block, o->copy, guard) == 0 &&
                       memcmp(o->block + back, o->copy + back, guard) == 0;
-        if (!(written >> i & 1 ? outside : whole)) {
+        if (!outside || (!may_write(i, call, refusal) && memcmp(o->block, o->copy, o->size) != 0)) {
             printf("object %d: octets changed that the call may not write\n", i);
             return 0;
         }
@@ -162,19 +177,41 @@ static int unchanged(unsigned written)
     return 1;
 }
 
+/*
+ * The places that arbitrary.h names are those of the archive: else the wrong
+ * parts would be others than meant. Also, an open takes the lowest free leaf:
+ * the answers do not show it, since the highest would be the mirror image.
+ */
+static int places_are_right(void)
+{
+    const uint64_t *words = ((abr_table *)at(TABLE))->words;
+    abr_params params = abr_house(0x7FFF, 0x4000, 0x53E8);
+    uint32_t refused = 0;
+    memset(at(TABLE), 0, sizes[TABLE]);
+    refused |= abr_open(at(TABLE), 40, 7, params).refusal;
+    refused |= abr_open(at(TABLE), 50, 8, params).refusal;
+    refused |= abr_open(at(TABLE), 45, 9, params).refusal;
+    refused |= abr_close(at(TABLE), 50).refusal;
+    refused |= abr_open(at(TABLE), 60, 9, params).refusal;
+    refused |= abr_offer(at(TABLE), 60, 1).refusal;
+    return refused == ABR_OK && words[USED] == 7 && words[DIRECTORY] == 61 * LEAVES + 1 &&
+           words[DIRECTORY + 1] == 46 * LEAVES + 2 && words[DIRECTORY + 2] == 41 * LEAVES &&
+           words[DIRECTORY + 3] == 0 && words[NODES + 1] == 2 && words[NODES + LEAVES / 2] == 2 &&
+           words[NODES + LEAVES / 2 + 1] == 0 && words[NONE] == 0 && words[KEYS] == 0 &&
+           words[KEYS + 1] == ~UINT64_C(9) && words[NAMES] == 40 && words[NAMES + 1] == 60;
+}
+
 static int round_of_calls(unsigned long round)
 {
     arbitrary_table(at(TABLE));
-    for (int i = 0; i < 24; i++) {
+    for (int i = 0; i < 48; i++) {
         int call = (int)(next() % CALLS);
         any_cell();
-        for (int j = 0; j < OBJECTS; j++) {
-            memcpy(objects[j].copy, objects[j].block, objects[j].size);
-        }
+        copy(call);
         alarm(20);
         uint32_t refusal = one_call(call);
         alarm(0);
-        if (refusal == ~0u || !unchanged(may_write(call, refusal))) {
+        if (refusal == ~0u || !unchanged(call, refusal)) {
             printf("round %lu, call %d, number %d: refusal %u\n", round, i, call, (unsigned)refusal);
             return 1;
         }
@@ -192,7 +229,12 @@ int main(int argc, char **argv)
     guard = strtoul(argv[2], NULL, 10);
     unsigned long seed = argc > 3 ? strtoul(argv[3], NULL, 10) : 1;
     state = seed * UINT64_C(0x9E3779B97F4A7C15) | 1;
+    step = 1;
     make_objects();
+    if (!places_are_right()) {
+        printf("misuse: the words of a table stand elsewhere than arbitrary.h says\n");
+        return 1;
+    }
     for (unsigned long round = 0; round < rounds; round++) {
         if (round_of_calls(round)) {
             printf("misuse, seed %lu: FAILED\n", seed);

@@ -22,16 +22,24 @@ static uint8_t cell[ABR_CELL_OCTETS];
 static int slot_is(uint64_t time, uint32_t vci, uint32_t kind, uint64_t acr)
 {
     abr_sent sent = abr_slot(&table, time, cell, sizeof cell);
-    return sent.refusal == ABR_OK && sent.vci == vci && sent.kind == kind && sent.acr == acr;
+    uint32_t comparisons = kind == ABR_SENT_IDLE ? 0 : ABR_COMPARISONS_MAX;
+    return sent.refusal == ABR_OK && sent.comparisons == comparisons && sent.vci == vci && sent.kind == kind &&
+           sent.acr == acr;
+}
+
+/* Refusal and comparisons of an answer. VCI 33 has leaf 0 of the tournament and VCI 32 leaf 1. */
+static int is(abr_answer answer, uint32_t refusal, uint32_t comparisons)
+{
+    return answer.refusal == refusal && answer.comparisons == comparisons;
 }
 
 /* A backward cell for vci is received. */
-static uint32_t feedback(uint32_t vci, uint32_t ci, uint32_t er)
+static abr_answer feedback(uint32_t vci, uint32_t ci, uint32_t er)
 {
     abr_rm rm = {vci, 1, 0, ci, 0, 0, er, 0, 0, 0, 0};
     uint8_t octets[ABR_CELL_OCTETS];
-    uint32_t refusal = abr_write_rm(rm, octets, sizeof octets);
-    return refusal != ABR_OK ? refusal : abr_receive(&table, octets, sizeof octets);
+    CHECK(abr_write_rm(rm, octets, sizeof octets) == ABR_OK);
+    return abr_receive(&table, octets, sizeof octets);
 }
 
 static int acr_is(uint32_t vci, uint64_t acr)
@@ -47,14 +55,14 @@ static void opens(void)
     CHECK(params.n == ABR_HOUSE_N && params.r == ABR_HOUSE_R && params.d == ABR_HOUSE_D);
     CHECK(params.c == ABR_HOUSE_C && params.crm == ABR_HOUSE_CRM);
     CHECK(params.adtf == ABR_HOUSE_ADTF && params.trm == ABR_HOUSE_TRM);
-    CHECK(abr_open(&table, 31, 0, params) == ABR_REFUSED_LOW_VCI);
-    CHECK(abr_open(&table, 33, 0, params) == ABR_OK);
-    CHECK(abr_open(&table, 32, 0, params) == ABR_OK);
-    CHECK(abr_open(&table, 32, 0, params) == ABR_REFUSED_ALREADY_OPEN);
-    CHECK(abr_offer(&table, 32, 100) == ABR_OK);
-    CHECK(abr_offer(&table, 33, 100) == ABR_OK);
-    CHECK(abr_offer(&table, 34, 100) == ABR_REFUSED_NOT_OPEN);
-    CHECK(abr_offer(&table, 33, ABR_WAITING_MAX) == ABR_REFUSED_TOO_MUCH_DATA);
+    CHECK(is(abr_open(&table, 31, 0, params), ABR_REFUSED_LOW_VCI, 0));
+    CHECK(is(abr_open(&table, 33, 0, params), ABR_OK, 1));
+    CHECK(is(abr_open(&table, 32, 0, params), ABR_OK, 1));
+    CHECK(is(abr_open(&table, 32, 0, params), ABR_REFUSED_ALREADY_OPEN, 0));
+    CHECK(is(abr_offer(&table, 32, 100), ABR_OK, 10));
+    CHECK(is(abr_offer(&table, 33, 100), ABR_OK, 1));
+    CHECK(is(abr_offer(&table, 34, 100), ABR_REFUSED_NOT_OPEN, 0));
+    CHECK(is(abr_offer(&table, 33, ABR_WAITING_MAX), ABR_REFUSED_TOO_MUCH_DATA, 0));
 }
 
 /* The slot's cell, read. */
@@ -80,15 +88,15 @@ static void both_send(void)
 
 static void feedback_moves_the_rates(void)
 {
-    CHECK(feedback(32, 1, ABR_CODE_MAX) == ABR_OK);
+    CHECK(is(feedback(32, 1, ABR_CODE_MAX), ABR_OK, 10));
     CHECK(acr_is(32, 480000) && acr_is(33, 512000));
-    CHECK(feedback(33, 0, 0x4E00) == ABR_OK); /* 128 cells per second */
+    CHECK(is(feedback(33, 0, 0x4E00), ABR_OK, 10)); /* 128 cells per second */
     CHECK(acr_is(33, 65536));
     CHECK(slot_is(2 * MS + 66666, 0, ABR_SENT_IDLE, 0)); /* the gap is 1,066,667 */
     CHECK(slot_is(2 * MS + 66667, 32, ABR_SENT_DATA, 480000));
     CHECK(slot_is(8 * MS + 812500, 32, ABR_SENT_DATA, 480000));
     CHECK(slot_is(8 * MS + 812501, 33, ABR_SENT_DATA, 65536)); /* 7,812,500 */
-    CHECK(feedback(32, 0, ABR_CODE_MAX) == ABR_OK);
+    CHECK(is(feedback(32, 0, ABR_CODE_MAX), ABR_OK, 10));
     CHECK(acr_is(32, 512000));
 }
 
@@ -100,9 +108,9 @@ static void a_cell_is_turned(void)
     CHECK(abr_set_level(&table, 3) == ABR_REFUSED_TOO_LARGE);
     CHECK(abr_write_rm(rm, octets, sizeof octets) == ABR_OK);
     CHECK(abr_set_level(&table, 2) == ABR_OK);
-    CHECK(abr_receive(&table, octets, sizeof octets) == ABR_OK);
+    CHECK(is(abr_receive(&table, octets, sizeof octets), ABR_OK, 10));
     CHECK(abr_set_level(&table, 0) == ABR_OK);
-    CHECK(abr_receive(&table, octets, sizeof octets) == ABR_OK);
+    CHECK(is(abr_receive(&table, octets, sizeof octets), ABR_OK, 10));
     CHECK(slot_is(20 * MS, 32, ABR_SENT_TURNED, 512000));
     rm = rm_in_cell();
     CHECK(rm.vci == 32 && rm.dir == 1 && rm.ci == 1 && rm.ni == 0);
@@ -113,21 +121,21 @@ static void a_cell_is_turned(void)
 static void cells_are_made(void)
 {
     abr_rm rm;
-    CHECK(abr_make(&table, 33, ABR_TIME_MAX + 1) == ABR_REFUSED_TIME);
-    CHECK(abr_make(&table, 34, 21 * MS) == ABR_REFUSED_NOT_OPEN);
-    CHECK(abr_make(&table, 33, 20 * MS - 1) == ABR_REFUSED_TIME_BACKWARD);
+    CHECK(is(abr_make(&table, 33, ABR_TIME_MAX + 1), ABR_REFUSED_TIME, 0));
+    CHECK(is(abr_make(&table, 34, 21 * MS), ABR_REFUSED_NOT_OPEN, 0));
+    CHECK(is(abr_make(&table, 33, 20 * MS - 1), ABR_REFUSED_TIME_BACKWARD, 0));
     CHECK(abr_set_level(&table, 2) == ABR_OK);
-    CHECK(abr_make(&table, 33, 21 * MS) == ABR_OK);
+    CHECK(is(abr_make(&table, 33, 21 * MS), ABR_OK, 10));
     CHECK(abr_slot(&table, 21 * MS - 1, cell, sizeof cell).refusal == ABR_REFUSED_TIME_BACKWARD);
     CHECK(abr_set_level(&table, 1) == ABR_OK);
     CHECK(slot_is(21 * MS, 33, ABR_SENT_TURNED, 65536));
     rm = rm_in_cell();
     CHECK(rm.vci == 33 && rm.dir == 1 && rm.bn == 1 && rm.ci == 1 && rm.ni == 0 && rm.ra == 0);
     CHECK(rm.er == thousand && rm.ccr == 0 && rm.mcr == 0 && rm.ql == 0 && rm.sn == 0);
-    CHECK(abr_make(&table, 33, 121 * MS - 1) == ABR_REFUSED_TOO_SOON);
-    CHECK(abr_make(&table, 33, 121 * MS) == ABR_OK);
+    CHECK(is(abr_make(&table, 33, 121 * MS - 1), ABR_REFUSED_TOO_SOON, 0));
+    CHECK(is(abr_make(&table, 33, 121 * MS), ABR_OK, 1));
     CHECK(abr_set_level(&table, 0) == ABR_OK);
-    CHECK(abr_make(&table, 33, 300 * MS) == ABR_REFUSED_NOT_CONGESTED);
+    CHECK(is(abr_make(&table, 33, 300 * MS), ABR_REFUSED_NOT_CONGESTED, 0));
 }
 
 /* 1,000 cells per second and its code; beside a refusal there is 0. */
@@ -146,11 +154,11 @@ static void codes(void)
 static void closes(void)
 {
     abr_allowed allowed;
-    CHECK(abr_close(&table, 32) == ABR_OK);
-    CHECK(abr_close(&table, 32) == ABR_REFUSED_NOT_OPEN);
+    CHECK(is(abr_close(&table, 32), ABR_OK, 10));
+    CHECK(is(abr_close(&table, 32), ABR_REFUSED_NOT_OPEN, 0));
     allowed = abr_acr(&table, 32);
     CHECK(allowed.refusal == ABR_REFUSED_NOT_OPEN && allowed.acr == 0);
-    CHECK(abr_close(&table, 33) == ABR_OK);
+    CHECK(is(abr_close(&table, 33), ABR_OK, 10));
     CHECK(slot_is(ABR_TIME_MAX, 0, ABR_SENT_IDLE, 0));
     CHECK(strcmp(abr_refusal_text(ABR_OK), "accepted") == 0);
     CHECK(strcmp(abr_refusal_text(17), abr_refusal_text(18)) != 0);

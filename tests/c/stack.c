@@ -54,7 +54,7 @@ static int measure(const abr_case *which, size_t most)
     static const int patterns[] = {0xC3, 0x3C};
     size_t used = 0;
     for (int i = 0; i < 2; i++) {
-        if (prepare(which->need)) {
+        if (prepare(which)) {
             printf("  %s: not prepared\n", which->name);
             return 1;
         }

@@ -1,9 +1,10 @@
 //! Safe Rust binding of the ABR end-system rate engine.
 //!
-//! A transmitter asks once per cell slot which of up to 64 connections of one
+//! A transmitter asks once per cell slot which of up to 1,024 connections of one
 //! link sends, what kind of cell, and what rate it is allowed afterwards. All
 //! state is in a [`Table`]. Rates are whole numbers of 1/512 cell per second,
-//! times are nanoseconds.
+//! times are nanoseconds. An accepted open, close, receive, offer or make answers
+//! the comparisons that it made between ready instants, 1 to [`COMPARISONS_MAX`].
 //!
 //! ```
 //! use abr::{Kind, Params, Table, CELL_OCTETS};
@@ -39,6 +40,6 @@ pub use params::Params;
 pub use rate::{code, rate, RATE_MAX, RATE_ONE};
 pub use refusal::Refusal;
 pub use table::{
-    Kind, Sent, Table, CONNECTIONS_MAX, LEVEL_MAX, MAKE_INTERVAL, TIME_MAX, VCI_MAX, VCI_MIN,
-    WAITING_MAX,
+    Kind, Sent, Table, COMPARISONS_MAX, CONNECTIONS_MAX, LEVEL_MAX, MAKE_INTERVAL, TIME_MAX,
+    VCI_MAX, VCI_MIN, WAITING_MAX,
 };

@@ -12,7 +12,7 @@ use std::fmt;
 /// assert_eq!(Refusal::Range.number(), 7);
 /// assert_eq!(Refusal::try_from(7), Ok(Refusal::Range));
 /// assert_eq!(Refusal::try_from(18), Err(18));
-/// assert_eq!(Refusal::Full.to_string(), "64 connections are open");
+/// assert_eq!(Refusal::Full.to_string(), "1,024 connections are open");
 /// ```
 #[derive(Debug, Clone, Copy, PartialEq, Eq, Hash)]
 #[repr(u32)]
@@ -41,7 +41,7 @@ pub enum Refusal {
     NotOpen = 11,
     /// The VCI is already open.
     AlreadyOpen = 12,
-    /// 64 connections are open.
+    /// 1,024 connections are open.
     Full = 13,
     /// The time is before that of the last accepted open, slot or made cell.
     TimeBackward = 14,
@@ -95,7 +95,7 @@ impl Refusal {
             Refusal::LowVci => "VCI is under 32",
             Refusal::NotOpen => "VCI is not open",
             Refusal::AlreadyOpen => "VCI is already open",
-            Refusal::Full => "64 connections are open",
+            Refusal::Full => "1,024 connections are open",
             Refusal::TimeBackward => "time is before the last accepted open, slot or made cell",
             Refusal::TooMuchData => "waiting data would pass 65,535 cells",
             Refusal::NotCongested => "congestion level is 0",

@@ -6,7 +6,9 @@ use crate::ffi;
 use crate::{Params, Refusal};
 
 /// The connections that may be open at once.
-pub const CONNECTIONS_MAX: usize = 64;
+pub const CONNECTIONS_MAX: usize = 1_024;
+/// The most comparisons of a call.
+pub const COMPARISONS_MAX: u32 = 10;
 /// The least VCI that can be opened.
 pub const VCI_MIN: u32 = 32;
 /// The greatest VCI that can be opened.
@@ -41,12 +43,14 @@ pub struct Sent {
     pub kind: Kind,
     /// Its allowed rate afterwards.
     pub acr: u64,
+    /// The comparisons made: [`COMPARISONS_MAX`].
+    pub comparisons: u32,
 }
 
 /// The connections of one link. A refused call leaves it as it was.
 #[derive(Clone, PartialEq, Eq)]
 pub struct Table {
-    raw: Box<ffi::abr_table>,
+    words: Box<[u64; ffi::ABR_TABLE_WORDS]>,
 }
 
 impl Table {
@@ -57,13 +61,19 @@ impl Table {
     /// table could then be too short for its calls.
     pub fn new() -> Self {
         assert!(ffi::abr_matches(), "the archive is of another version");
-        let words = [0; ffi::ABR_TABLE_WORDS];
+        // Made on the heap: a table is too large to pass through the stack.
+        let words = vec![0; ffi::ABR_TABLE_WORDS].into_boxed_slice();
         Table {
-            raw: Box::new(ffi::abr_table { words }),
+            words: words.try_into().expect("it has this length"),
         }
     }
 
-    /// Opens a connection.
+    /// The table as the calls take it, which has these words and nothing else.
+    fn raw(&mut self) -> *mut ffi::abr_table {
+        self.words.as_mut_ptr().cast()
+    }
+
+    /// Opens a connection and answers the comparisons.
     ///
     /// # Errors
     /// In this order: [`Refusal::LowVci`], [`Refusal::Range`],
@@ -75,16 +85,17 @@ impl Table {
     /// let mut table = Table::new();
     /// let params = Params::house(0x53E8, 0x4000, 0x53E8);
     /// assert_eq!(table.open(31, 0, &params), Err(Refusal::LowVci));
-    /// assert_eq!(table.open(32, 0, &params), Ok(()));
+    /// assert_eq!(table.open(32, 0, &params), Ok(1));
     /// assert_eq!(table.open(32, 0, &params), Err(Refusal::AlreadyOpen));
     /// assert_eq!(table.acr(32), Ok(512_000));
     /// ```
-    pub fn open(&mut self, vci: u32, time: u64, params: &Params) -> Result<(), Refusal> {
+    pub fn open(&mut self, vci: u32, time: u64, params: &Params) -> Result<u32, Refusal> {
         // SAFETY: the pointer is live for the call.
-        Refusal::outcome(unsafe { ffi::abr_open(&mut *self.raw, vci, time, *params) })
+        comparisons(unsafe { ffi::abr_open(self.raw(), vci, time, *params) })
     }
 
-    /// Closes a connection and drops all that waits on it.
+    /// Closes a connection, drops all that waits on it and answers the
+    /// comparisons.
     ///
     /// # Errors
     /// [`Refusal::NotOpen`].
@@ -93,17 +104,17 @@ impl Table {
     /// # use abr::{Params, Refusal, Table};
     /// # let mut table = Table::new();
     /// # table.open(32, 0, &Params::house(0x53E8, 0x4000, 0x53E8)).unwrap();
-    /// assert_eq!(table.close(32), Ok(()));
+    /// assert_eq!(table.close(32), Ok(1));
     /// assert_eq!(table.close(32), Err(Refusal::NotOpen));
     /// ```
-    pub fn close(&mut self, vci: u32) -> Result<(), Refusal> {
+    pub fn close(&mut self, vci: u32) -> Result<u32, Refusal> {
         // SAFETY: the pointer is live for the call.
-        Refusal::outcome(unsafe { ffi::abr_close(&mut *self.raw, vci) })
+        comparisons(unsafe { ffi::abr_close(self.raw(), vci) })
     }
 
     /// Receives a cell: a backward RM cell moves the rate of its connection, a
     /// forward one is turned and waits in place of any turned one, whose CI it
-    /// keeps, the congestion mark of a data cell is saved.
+    /// keeps, the congestion mark of a data cell is saved. Answers the comparisons.
     ///
     /// # Errors
     /// In this order: [`Refusal::Length`], [`Refusal::HeaderCheck`],
@@ -121,26 +132,28 @@ impl Table {
     /// assert_eq!(table.acr(32), Ok(480_000)); // a sixteenth less
     /// # Ok::<(), abr::Refusal>(())
     /// ```
-    pub fn receive(&mut self, cell: &[u8]) -> Result<(), Refusal> {
+    pub fn receive(&mut self, cell: &[u8]) -> Result<u32, Refusal> {
         // SAFETY: both pointers are live and the length is the cell's own.
-        Refusal::outcome(unsafe { ffi::abr_receive(&mut *self.raw, cell.as_ptr(), cell.len()) })
+        comparisons(unsafe { ffi::abr_receive(self.raw(), cell.as_ptr(), cell.len()) })
     }
 
-    /// Adds data cells to those that wait on a connection; 0 is accepted.
+    /// Adds data cells to those that wait on a connection, and answers the
+    /// comparisons; 0 is accepted.
     ///
     /// # Errors
     /// In this order: [`Refusal::NotOpen`], [`Refusal::TooMuchData`].
     ///
     /// ```
-    /// # use abr::{Params, Refusal, Table, WAITING_MAX};
+    /// # use abr::{Params, Refusal, Table, COMPARISONS_MAX, WAITING_MAX};
     /// # let mut table = Table::new();
     /// # table.open(32, 0, &Params::house(0x53E8, 0x4000, 0x53E8)).unwrap();
-    /// assert_eq!(table.offer(32, WAITING_MAX), Ok(()));
+    /// // It becomes ready, and wins at every level.
+    /// assert_eq!(table.offer(32, WAITING_MAX), Ok(COMPARISONS_MAX));
     /// assert_eq!(table.offer(32, 1), Err(Refusal::TooMuchData));
     /// ```
-    pub fn offer(&mut self, vci: u32, cells: u64) -> Result<(), Refusal> {
+    pub fn offer(&mut self, vci: u32, cells: u64) -> Result<u32, Refusal> {
         // SAFETY: the pointer is live for the call.
-        Refusal::outcome(unsafe { ffi::abr_offer(&mut *self.raw, vci, cells) })
+        comparisons(unsafe { ffi::abr_offer(self.raw(), vci, cells) })
     }
 
     /// Sets the congestion level, which marks the cells turned or made from now
@@ -157,13 +170,14 @@ impl Table {
     /// ```
     pub fn set_level(&mut self, level: u32) -> Result<(), Refusal> {
         // SAFETY: the pointer is live for the call.
-        Refusal::outcome(unsafe { ffi::abr_set_level(&mut *self.raw, level) })
+        Refusal::outcome(unsafe { ffi::abr_set_level(self.raw(), level) })
     }
 
     /// Makes a backward RM cell with BN 1 on a connection, for a receiver that is
     /// congested while no forward cell arrives. It waits beside the turned cell
     /// and is sent after it, as a cell of kind [`Kind::Turned`]. It replaces an
     /// earlier made cell that still waits. Its marks are those of the level now.
+    /// Answers the comparisons.
     ///
     /// # Errors
     /// In this order: [`Refusal::Time`], [`Refusal::NotOpen`],
@@ -189,9 +203,9 @@ impl Table {
     /// assert_eq!(abr::read(&cell)?, Cell::Rm(made));
     /// # Ok::<(), Refusal>(())
     /// ```
-    pub fn make(&mut self, vci: u32, time: u64) -> Result<(), Refusal> {
+    pub fn make(&mut self, vci: u32, time: u64) -> Result<u32, Refusal> {
         // SAFETY: the pointer is live for the call.
-        Refusal::outcome(unsafe { ffi::abr_make(&mut *self.raw, vci, time) })
+        comparisons(unsafe { ffi::abr_make(self.raw(), vci, time) })
     }
 
     /// Gives the slot at a time to the connection with the earliest ready
@@ -212,7 +226,7 @@ impl Table {
     /// ```
     pub fn slot(&mut self, time: u64, cell: &mut [u8]) -> Result<Option<Sent>, Refusal> {
         // SAFETY: the pointers are live and the length is the buffer's own.
-        let sent = unsafe { ffi::abr_slot(&mut *self.raw, time, cell.as_mut_ptr(), cell.len()) };
+        let sent = unsafe { ffi::abr_slot(self.raw(), time, cell.as_mut_ptr(), cell.len()) };
         Refusal::outcome(sent.refusal)?;
         Ok(sent.into())
     }
@@ -227,10 +241,16 @@ impl Table {
     /// ```
     pub fn acr(&self, vci: u32) -> Result<u64, Refusal> {
         // SAFETY: the pointer is live for the call.
-        let allowed = unsafe { ffi::abr_acr(&*self.raw, vci) };
+        let allowed = unsafe { ffi::abr_acr(self.words.as_ptr().cast(), vci) };
         Refusal::outcome(allowed.refusal)?;
         Ok(allowed.acr)
     }
+}
+
+/// The comparisons of an accepted call.
+fn comparisons(answer: ffi::abr_answer) -> Result<u32, Refusal> {
+    Refusal::outcome(answer.refusal)?;
+    Ok(answer.comparisons)
 }
 
 impl Default for Table {
@@ -259,6 +279,7 @@ impl From<ffi::abr_sent> for Option<Sent> {
             vci: sent.vci,
             kind,
             acr: sent.acr,
+            comparisons: sent.comparisons,
         })
     }
 }

@@ -40,6 +40,7 @@ fn the_limits_are_those_of_the_header() {
     assert_eq!(value("ABR_TABLE_WORDS"), ffi::ABR_TABLE_WORDS as u64);
     assert_eq!(value("ABR_CELL_OCTETS"), abr::CELL_OCTETS as u64);
     assert_eq!(value("ABR_CONNECTIONS_MAX"), abr::CONNECTIONS_MAX as u64);
+    assert_eq!(value("ABR_COMPARISONS_MAX"), abr::COMPARISONS_MAX.into());
     assert_eq!(value("ABR_VCI_MIN"), u64::from(abr::VCI_MIN));
     assert_eq!(value("ABR_VCI_MAX"), u64::from(abr::VCI_MAX));
     assert_eq!(value("ABR_WAITING_MAX"), abr::WAITING_MAX);
@@ -116,8 +117,11 @@ fn the_layouts_are_those_of_the_header() {
     assert_eq!(offset_of!(ffi::abr_params, trm), 36);
     assert_eq!(size_of::<ffi::abr_rm>(), 44);
     assert_eq!(offset_of!(ffi::abr_rm, sn), 40);
+    assert_eq!(size_of::<ffi::abr_answer>(), 8);
+    assert_eq!(offset_of!(ffi::abr_answer, comparisons), 4);
     assert_eq!(size_of::<ffi::abr_sent>(), 24);
-    assert_eq!(offset_of!(ffi::abr_sent, vci), 8);
+    assert_eq!(offset_of!(ffi::abr_sent, comparisons), 4);
+    assert_eq!(offset_of!(ffi::abr_sent, vci), 12);
     assert_eq!(offset_of!(ffi::abr_sent, acr), 16);
     assert_eq!(size_of::<ffi::abr_allowed>(), 16);
     assert_eq!(offset_of!(ffi::abr_allowed, acr), 8);
@@ -127,6 +131,16 @@ fn the_layouts_are_those_of_the_header() {
     assert_eq!(offset_of!(ffi::abr_coded, code), 4);
     assert_eq!(size_of::<ffi::abr_rated>(), 16);
     assert_eq!(offset_of!(ffi::abr_rated, rate), 8);
+}
+
+/// Header and INTEGRATION.md say how many octets a table has.
+#[test]
+fn the_size_of_a_table_is_said() {
+    let octets = size_of::<ffi::abr_table>();
+    let words = format!("{},{:03} octets", octets / 1_000, octets % 1_000);
+    assert_eq!(HEADER.matches(&words).count(), 2, "{words} in abr.h");
+    let page = include_str!("../../../docs/INTEGRATION.md");
+    assert!(page.contains(&words), "{words} in INTEGRATION.md");
 }
 
 /// The names of the functions that lines declare, each the word before its

@@ -8,13 +8,19 @@ use Rattle.model.specs.declared.answer.Answer.the-variants.{Refused, Accepted, 
 use Rattle.model.specs.declared.acr.Acr.{Acr}
 use Rattle.model.specs.declared.acr.Acr.the-variants.{NotOpen, Rate}
 pub use Rattle.abr.specs.declared.connections.AcrAnswer.{AcrAnswer}
+pub use Rattle.abr.specs.declared.connections.CallAnswer.{CallAnswer}
 pub use Rattle.abr.specs.declared.link.SlotAnswer.{SlotAnswer}
 
-abbrev pub number : Answer → ℕ
-number (Refused n) = n
-number Accepted = 0
-number Idle = 0
-number (Sent v k a) = 0
+-- a call that makes no comparisons
+abbrev pub refusalAlone : (refusal : ℕ) → CallAnswer
+refusalAlone n = record { refusal = n; comparisons = 0 }
+
+-- a call that is no slot: its refusal, and the comparisons that it made (document 02, L4)
+abbrev pub callAnswer : Answer → CallAnswer
+callAnswer (Refused n) = refusalAlone n
+callAnswer (Accepted n) = record { refusal = 0; comparisons = n }
+callAnswer Idle = refusalAlone 0
+callAnswer (Sent v k a n) = record { refusal = 0; comparisons = n }
 
 -- the kinds of cell that a slot sends; 0 is none
 abbrev pub kindNumber : Kind → ℕ
@@ -22,15 +28,15 @@ kindNumber Forward = 1
 kindNumber Turned = 2
 kindNumber Data = 3
 
-abbrev pub noCell : (refusal : ℕ) → SlotAnswer
-noCell n = record { refusal = n; kind = 0; vci = 0; acr = 0 }
+abbrev pub noCell : (refusal comparisons : ℕ) → SlotAnswer
+noCell n k = record { refusal = n; comparisons = k; kind = 0; vci = 0; acr = 0 }
 
 -- no slot answers Accepted
 abbrev pub slotAnswer : Answer → SlotAnswer
-slotAnswer (Refused n) = noCell n
-slotAnswer Accepted = noCell 0
-slotAnswer Idle = noCell 0
-slotAnswer (Sent v k a) = record { refusal = 0; kind = kindNumber k; vci = v; acr = a }
+slotAnswer (Refused n) = noCell n 0
+slotAnswer (Accepted n) = noCell 0 n
+slotAnswer Idle = noCell 0 0
+slotAnswer (Sent v k a n) = record { refusal = 0; comparisons = n; kind = kindNumber k; vci = v; acr = a }
 
 abbrev pub acrAnswer : Acr → AcrAnswer
 acrAnswer NotOpen = record { refusal = 11; acr = 0 }

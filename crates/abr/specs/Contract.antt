@@ -8,11 +8,15 @@ use Rattle.model.specs.Call.{Outcome}
 use Rattle.model.specs.Queries.{acrOf}
 use Rattle.table.specs.Layout.{words}
 use Rattle.engine.specs.Contract.{bufferContent}
-use Rattle.abr.specs.Answers.{SlotAnswer, AcrAnswer, number, slotAnswer, acrAnswer}
+use Rattle.abr.specs.Answers.{SlotAnswer, AcrAnswer, CallAnswer, refusalAlone, callAnswer, slotAnswer, acrAnswer}
 
--- a call that returns a number
+-- a call that returns its refusal and the comparisons it made
+pub record Answers (f : State → Outcome) (before after : List ℕ) (r : CallAnswer) : Type 0 where
+  pub meets : (s : State) → WellFormed s → before ≡ words s → (after ≡ words (f s .state)) × (r ≡ callAnswer (f s .answer))
+
+-- a call that returns its refusal alone: it makes no comparisons
 pub record Numbered (f : State → Outcome) (before after : List ℕ) (r : ℕ) : Type 0 where
-  pub meets : (s : State) → WellFormed s → before ≡ words s → (after ≡ words (f s .state)) × (r ≡ number (f s .answer))
+  pub meets : (s : State) → WellFormed s → before ≡ words s → (after ≡ words (f s .state)) × (refusalAlone r ≡ callAnswer (f s .answer))
 
 -- a slot, with its buffer before and after
 pub record AnswersSlot (f : State → Outcome) (before after : List ℕ) (r : SlotAnswer) (old new : List ℕ) : Type 0 where

@@ -13,8 +13,8 @@ use Rattle.model.specs.Queries.{acrOf}
 use Rattle.model.specs.Run.{run, final}
 use Rattle.table.specs.Layout.{words, size}
 use Rattle.engine.specs.Contract.{bufferContent}
-use Rattle.abr.specs.Answers.{SlotAnswer, AcrAnswer, noCell, slotAnswer, acrAnswer}
-use Rattle.abr.specs.Contract.{Numbered, AnswersSlot, AnswersAcr}
+use Rattle.abr.specs.Answers.{SlotAnswer, AcrAnswer, CallAnswer, refusalAlone, noCell, slotAnswer, acrAnswer}
+use Rattle.abr.specs.Contract.{Answers, Numbered, AnswersSlot, AnswersAcr}
 
 -- what a caller sees of one call: the words of the table after it, what it returned, and the lent buffer before and after it
 pub record Observation : Type 0 where
@@ -23,19 +23,19 @@ pub record Observation : Type 0 where
   pub old : List ℕ
   pub new : List ℕ
 
--- a call that returns its number alone and is lent no buffer to write
-abbrev pub numberAlone : (table : List ℕ) → (number : ℕ) → Observation
-numberAlone l r = record { table = l; returned = noCell r; old = []; new = [] }
+-- a call that is no slot, which is lent no buffer to write
+abbrev pub noSlot : (table : List ℕ) → CallAnswer → Observation
+noSlot l r = record { table = l; returned = noCell (r .refusal) (r .comparisons); old = []; new = [] }
 
 -- One exported call on these words. What each case holds is the ensures of abr_open, abr_close, abr_receive, abr_offer, abr_set_level, abr_make or abr_slot, so that
 -- every such call makes one of these.
 pub data Performs : Call → (before : List ℕ) → Observation → Type 0 where
-  opens : {v t : ℕ} {p : Params} {l m : List ℕ} {r : ℕ} → Numbered (λ s. openStep s v t p) l m r → Performs (opening v t p) l (numberAlone m r)
-  closes : {v : ℕ} {l m : List ℕ} {r : ℕ} → Numbered (λ s. closeStep s v) l m r → Performs (closing v) l (numberAlone m r)
-  receives : {o : List ℕ} {l m : List ℕ} {r : ℕ} → Numbered (λ s. receiveStep s o) l m r → Performs (receiving o) l (numberAlone m r)
-  offers : {v n : ℕ} {l m : List ℕ} {r : ℕ} → Numbered (λ s. offerStep s v n) l m r → Performs (offering v n) l (numberAlone m r)
-  levels : {k : ℕ} {l m : List ℕ} {r : ℕ} → Numbered (λ s. levelStep s k) l m r → Performs (levelling k) l (numberAlone m r)
-  makes : {v t : ℕ} {l m : List ℕ} {r : ℕ} → Numbered (λ s. makeStep s v t) l m r → Performs (making v t) l (numberAlone m r)
+  opens : {v t : ℕ} {p : Params} {l m : List ℕ} {r : CallAnswer} → Answers (λ s. openStep s v t p) l m r → Performs (opening v t p) l (noSlot m r)
+  closes : {v : ℕ} {l m : List ℕ} {r : CallAnswer} → Answers (λ s. closeStep s v) l m r → Performs (closing v) l (noSlot m r)
+  receives : {o : List ℕ} {l m : List ℕ} {r : CallAnswer} → Answers (λ s. receiveStep s o) l m r → Performs (receiving o) l (noSlot m r)
+  offers : {v n : ℕ} {l m : List ℕ} {r : CallAnswer} → Answers (λ s. offerStep s v n) l m r → Performs (offering v n) l (noSlot m r)
+  levels : {k : ℕ} {l m : List ℕ} {r : ℕ} → Numbered (λ s. levelStep s k) l m r → Performs (levelling k) l (noSlot m (refusalAlone r))
+  makes : {v t : ℕ} {l m : List ℕ} {r : CallAnswer} → Answers (λ s. makeStep s v t) l m r → Performs (making v t) l (noSlot m r)
   slots :
       {t : ℕ} {l m old new : List ℕ} {r : SlotAnswer} → AnswersSlot (λ s. slotStep s t (length old)) l m r old new
       → Performs (slot t (length old)) l (record { table = m; returned = r; old = old; new = new })

@@ -1,8 +1,8 @@
 // The calls that name a connection (document 01, "Opening" and "Slots"; document 02, L1).
 ghost use mathlib.Core.Path.{_≡_};
 ghost use Rattle.model.specs.Step.{openStep, closeStep, offerStep, makeStep};
-ghost use Rattle.abr.specs.Answers.{number, acrAnswer};
-ghost use Rattle.abr.specs.Contract.{Numbered, AnswersAcr};
+ghost use Rattle.abr.specs.Answers.{callAnswer, acrAnswer};
+ghost use Rattle.abr.specs.Contract.{Answers, AnswersAcr};
 use engine::acr::read_acr;
 use engine::close::close;
 use engine::make::make;
@@ -13,52 +13,76 @@ use model::answer::Answer;
 use rate::params::Params;
 use table::layout::WORDS;
 
-// The documents' number for an answer; 0 if it is no refusal.
-pub fn number(a: Answer) -> u32
-    ensures { λ r. ⌜ r ≡ number a ⌝ }
+// The documents' number for an answer, 0 if it is no refusal, and the comparisons that the call made (document 02, L4).
+#[repr(C)]
+pub struct CallAnswer {
+    pub refusal: u32,
+    pub comparisons: u32,
+}
+
+pub fn call_answer(a: Answer) -> CallAnswer
+    ensures { λ r. ⌜ r ≡ callAnswer a ⌝ }
 {
     match a {
-        Answer::Refused(n) => n,
-        Answer::Accepted => 0,
-        Answer::Idle => 0,
+        Answer::Refused(n) => CallAnswer {
+            refusal: n,
+            comparisons: 0,
+        },
+        Answer::Accepted { comparisons } => CallAnswer {
+            refusal: 0,
+            comparisons,
+        },
+        Answer::Idle => CallAnswer {
+            refusal: 0,
+            comparisons: 0,
+        },
         Answer::Sent {
             name: _,
             kind: _,
             acr: _,
-        } => 0,
+            comparisons,
+        } => CallAnswer {
+            refusal: 0,
+            comparisons,
+        },
     }
 }
 
 // Refusals 10, 7, 8, 12, 13, 14.
 #[no_mangle]
-pub extern "C" fn abr_open(table: &mut [u64; WORDS], vci: u32, time: u64, params: Params) -> u32
-    ensures { λ r. ⌜ Numbered (λ s. openStep s vci time params) (now (table .entry)) (now (table .exit)) r ⌝ }
+pub extern "C" fn abr_open(
+    table: &mut [u64; WORDS],
+    vci: u32,
+    time: u64,
+    params: Params,
+) -> CallAnswer
+    ensures { λ r. ⌜ Answers (λ s. openStep s vci time params) (now (table .entry)) (now (table .exit)) r ⌝ }
 {
-    number(open(table, vci, time, params))
+    call_answer(open(table, vci, time, params))
 }
 
 // Refusal 11.
 #[no_mangle]
-pub extern "C" fn abr_close(table: &mut [u64; WORDS], vci: u32) -> u32
-    ensures { λ r. ⌜ Numbered (λ s. closeStep s vci) (now (table .entry)) (now (table .exit)) r ⌝ }
+pub extern "C" fn abr_close(table: &mut [u64; WORDS], vci: u32) -> CallAnswer
+    ensures { λ r. ⌜ Answers (λ s. closeStep s vci) (now (table .entry)) (now (table .exit)) r ⌝ }
 {
-    number(close(table, vci))
+    call_answer(close(table, vci))
 }
 
 // Refusals 11, 15.
 #[no_mangle]
-pub extern "C" fn abr_offer(table: &mut [u64; WORDS], vci: u32, cells: u64) -> u32
-    ensures { λ r. ⌜ Numbered (λ s. offerStep s vci cells) (now (table .entry)) (now (table .exit)) r ⌝ }
+pub extern "C" fn abr_offer(table: &mut [u64; WORDS], vci: u32, cells: u64) -> CallAnswer
+    ensures { λ r. ⌜ Answers (λ s. offerStep s vci cells) (now (table .entry)) (now (table .exit)) r ⌝ }
 {
-    number(offer(table, vci, cells))
+    call_answer(offer(table, vci, cells))
 }
 
 // Refusals 8, 11, 14, 16, 17.
 #[no_mangle]
-pub extern "C" fn abr_make(table: &mut [u64; WORDS], vci: u32, time: u64) -> u32
-    ensures { λ r. ⌜ Numbered (λ s. makeStep s vci time) (now (table .entry)) (now (table .exit)) r ⌝ }
+pub extern "C" fn abr_make(table: &mut [u64; WORDS], vci: u32, time: u64) -> CallAnswer
+    ensures { λ r. ⌜ Answers (λ s. makeStep s vci time) (now (table .entry)) (now (table .exit)) r ⌝ }
 {
-    number(make(table, vci, time))
+    call_answer(make(table, vci, time))
 }
 
 #[repr(C)]

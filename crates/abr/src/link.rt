@@ -3,8 +3,9 @@ ghost use mathlib.Core.Path.{_≡_};
 ghost use lib.ListN.{length};
 ghost use Rattle.model.specs.Step.{receiveStep, levelStep, slotStep};
 ghost use Rattle.abr.specs.Answers.{kindNumber, noCell, slotAnswer};
-ghost use Rattle.abr.specs.Contract.{Numbered, AnswersSlot};
-use crate::connections::number;
+ghost use Rattle.abr.specs.Contract.{Answers, Numbered, AnswersSlot};
+use crate::connections::CallAnswer;
+use crate::connections::call_answer;
 use connection::kind::Kind;
 use engine::level::set_level;
 use engine::receive::receive;
@@ -14,10 +15,10 @@ use table::layout::WORDS;
 
 // Refusals 1, 2, 3, 4, then 5 and 6 for RM cells, 11.
 #[no_mangle]
-pub extern "C" fn abr_receive(table: &mut [u64; WORDS], cell: &[u8]) -> u32
-    ensures { λ r. ⌜ Numbered (λ s. receiveStep s (now (cell .entry))) (now (table .entry)) (now (table .exit)) r ⌝ }
+pub extern "C" fn abr_receive(table: &mut [u64; WORDS], cell: &[u8]) -> CallAnswer
+    ensures { λ r. ⌜ Answers (λ s. receiveStep s (now (cell .entry))) (now (table .entry)) (now (table .exit)) r ⌝ }
 {
-    number(receive(table, cell))
+    call_answer(receive(table, cell))
 }
 
 // Refusal 9.
@@ -25,13 +26,15 @@ pub extern "C" fn abr_receive(table: &mut [u64; WORDS], cell: &[u8]) -> u32
 pub extern "C" fn abr_set_level(table: &mut [u64; WORDS], level: u32) -> u32
     ensures { λ r. ⌜ Numbered (λ s. levelStep s level) (now (table .entry)) (now (table .exit)) r ⌝ }
 {
-    number(set_level(table, level))
+    let answer = call_answer(set_level(table, level));
+    answer.refusal
 }
 
 // kind 0: an idle slot.
 #[repr(C)]
 pub struct SlotAnswer {
     pub refusal: u32,
+    pub comparisons: u32,
     pub kind: u32,
     pub vci: u32,
     pub acr: u64,
@@ -48,11 +51,12 @@ fn kind_number(k: Kind) -> u32
 }
 
 // A slot that sent no cell.
-fn no_cell(refusal: u32) -> SlotAnswer
-    ensures { λ r. ⌜ r ≡ noCell refusal ⌝ }
+fn no_cell(refusal: u32, comparisons: u32) -> SlotAnswer
+    ensures { λ r. ⌜ r ≡ noCell refusal comparisons ⌝ }
 {
     SlotAnswer {
         refusal,
+        comparisons,
         kind: 0,
         vci: 0,
         acr: 0,
@@ -63,11 +67,17 @@ fn slot_answer(a: Answer) -> SlotAnswer
     ensures { λ r. ⌜ r ≡ slotAnswer a ⌝ }
 {
     match a {
-        Answer::Refused(n) => no_cell(n),
-        Answer::Accepted => no_cell(0),
-        Answer::Idle => no_cell(0),
-        Answer::Sent { name, kind, acr } => SlotAnswer {
+        Answer::Refused(n) => no_cell(n, 0),
+        Answer::Accepted { comparisons } => no_cell(0, comparisons),
+        Answer::Idle => no_cell(0, 0),
+        Answer::Sent {
+            name,
+            kind,
+            acr,
+            comparisons,
+        } => SlotAnswer {
             refusal: 0,
+            comparisons,
             kind: kind_number(kind),
             vci: name,
             acr,

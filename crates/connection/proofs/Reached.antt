@@ -1,16 +1,21 @@
 -- A connection in a table that calls made lies in the ranges in which nothing wraps, and its allowed rate is a rate.
-use Prim.Native.Nat.{ℕ, _^_, _≤_}
+use Prim.Native.Nat.{ℕ, _+_, _^_, _≤_, max}
+use mathlib.Core.Bool.{Bool, true, false, cond, _||_}
 use native.Mathlib.Nat.{le-trans}
 use native.Mathlib.Omega.{arith}
+use lib.Dec.{leb}
 use lib.Pow.{pow-mono}
 use Rattle.rate.specs.declared.moves.Rate.{Rate}
 use Rattle.rate.specs.Units.{largestRate, latestTime}
 use Rattle.rate.specs.Bounds.{RateInBounds}
+use Rattle.rate.specs.Gap.{gap}
 use Rattle.rate.proofs.Codes.{rate-le}
+use Rattle.rate.proofs.Gaps.{gap-le}
 use Rattle.rate.proofs.Ranges.{fits, trm-le}
 use Rattle.connection.specs.Parts.{Connection, Pace, Unsent, Running, Instant, Never, At}
 use Rattle.connection.specs.Invariant.{PaceFits, ValidAt, NotAfter}
-use Rattle.connection.specs.Range.{PaceInRange, InRange, InstantInRange}
+use Rattle.connection.specs.Range.{PaceInRange, InRange, InstantInRange, InstantBelow}
+use Rattle.connection.specs.Ready.{anyWaits, lastBefore, readyFrom, readyInstant}
 
 pace-in-range : (now n : ℕ) (p : Pace) → now ≤ latestTime → n ≤ 256 → PaceFits now n p → PaceInRange p
 pace-in-range now n Unsent l m h = tt
@@ -30,3 +35,22 @@ in-range now c l h = record {
 
 pub acr-is-rate : (q : Rate) → RateInBounds q → q .acr ≤ largestRate
 acr-is-rate q h = le-trans (h .below) (rate-le (q .params .pcr))
+
+-- its ready instant has room in a word
+from-below : (c : Connection) → InRange c → (p : Pace) → PaceInRange p → InstantBelow (readyFrom c p)
+unfolding readyFrom
+from-below c r Unsent h = go (anyWaits c)
+  where
+    go : (a : Bool) → InstantBelow (cond a (At (c .opened)) Never)
+    go true = omega (arith, r .opened)
+    go false = tt
+from-below c r (Running sent forward k turned) h = go (anyWaits c || lastBefore c k) (leb 2 k)
+  where
+    go : (a b : Bool) → InstantBelow (cond a (At (sent + gap (c .rate .acr))) (cond b (At (max (sent + gap (c .rate .acr)) (forward + c .trm))) Never))
+    go true b = omega (arith, h .0, gap-le (c .rate .acr))
+    go false true = omega (arith, h .0, h .1, r .trm, gap-le (c .rate .acr))
+    go false false = tt
+
+pub ready-below : (c : Connection) → InRange c → InstantBelow (readyInstant c)
+unfolding readyInstant
+ready-below c r = from-below c r (c .pace) (r .pace)

@@ -7,19 +7,20 @@ use Rattle.connection.specs.declared.parts.Connection.{Connection}
 use Rattle.connection.specs.Parts.{waiting}
 use Rattle.connection.specs.Receiving.{offered}
 use Rattle.connection.proofs.Keeps.{Same}
-use Rattle.model.specs.State.{State, free, taken, find, put, withLevel, capacity}
+use Rattle.model.specs.State.{State, free, taken, find, leafOf, put, withLevel, capacity}
 use Rattle.model.specs.Invariant.{WellFormed}
 use Rattle.table.specs.Layout.{words}
 use Rattle.table.specs.Loading.{connectionAt}
-use Rattle.table.specs.Storing.{sourceUpdated, cleared}
-use Rattle.table.proofs.Words.{clear-at}
 use Rattle.names.specs.Finding.{Located}
 use Rattle.names.proofs.Found.{found-at}
 use Rattle.model.specs.declared.answer.Answer.the-variants.{Refused, Accepted}
-use Rattle.model.specs.Step.{refuse, accept, ofOpen, closeStep, offerStep, levelStep}
+use Rattle.model.specs.Call.{closing, offering}
+use Rattle.model.specs.Step.{refuse, accept, replay, ofOpen, closeStep, offerStep, levelStep, step}
+use Rattle.storing.specs.Updates.{Updates, SourceMoved, Leaves}
+use Rattle.tournament.specs.Replaying.{Ordered}
 use Rattle.model.specs.declared.acr.Acr.the-variants.{NotOpen, Rate}
 use Rattle.model.specs.Queries.{acrOf, entryAcr}
-use Rattle.engine.proofs.Outcomes.{refused-out, accepted-out, loaded-is, put-at, source-is}
+use Rattle.engine.proofs.Outcomes.{refused-out, replayed-out, replay-well-formed, ordered, loaded-is, put-at, put-becomes, updated-is}
 use Rattle.laws.specs.Require.{require}
 
 -- Set level.
@@ -27,7 +28,7 @@ pub level-over : (s : State) (l : ℕ) → 2 < l → levelStep s l ≡ refuse s 
 unfolding levelStep require
 level-over s l h = rw (lt-leb l 2 h)
 
-pub level-set : (s : State) (l : ℕ) → l ≤ 2 → levelStep s l ≡ accept (withLevel l s)
+pub level-set : (s : State) (l : ℕ) → l ≤ 2 → levelStep s l ≡ accept 0 (withLevel l s)
 unfolding levelStep require
 level-set s l h = rw (le-leb l 2 h)
 
@@ -36,12 +37,20 @@ pub close-missing : (s : State) (v : ℕ) → find v (s .entries) ≡ free → c
 unfolding closeStep ofOpen
 close-missing s v e = rw e
 
-pub close-done : (s : State) (v : ℕ) (c : Connection) → find v (s .entries) ≡ taken c → closeStep s v ≡ accept (put v free s)
+pub close-done : (s : State) (v : ℕ) (c : Connection) → find v (s .entries) ≡ taken c → closeStep s v ≡ replay (leafOf v s) s (put v free s)
 unfolding closeStep ofOpen
 close-done s v c e = rw e
 
-pub cleared-is : (s : State) → WellFormed s → {l m : List ℕ} → l ≡ words s → {v i : ℕ} → i < capacity → Located (s .entries) v i → m ≡ cleared l i → m ≡ words (put v free s)
-cleared-is s w e {v} {i} h p q = q ∙ ap (λ (x : List ℕ). cleared x i) e ∙ clear-at s (w .size) i h (p .holder) (p .here) ∙ ap words (sym (put-at s v (p .place) free))
+pub close-out :
+    (s : State) → WellFormed s → {l m : List ℕ} {n : ℕ} → l ≡ words s → {v i : ℕ} → Located (s .entries) v i → Leaves l m i v n
+    → (m ≡ words (closeStep s v .state)) × (Accepted n ≡ closeStep s v .answer)
+unfolding step
+close-out s w e {v} {i} p u =
+    let done = close-done s v (p .holder) (found-at p) in
+    let z = replay-well-formed w (closing v) (leafOf v s) (put v free s) done in
+    replayed-out (leafOf v s) s (put v free s)
+    (put-becomes s v (p .place) free
+    (u .is s w e (p .holder) (p .here) (p .named) (subst (λ (r : State). Ordered (r .entries)) (put-at s v (p .place) free) (ordered z)))) done
 
 -- Reading an ACR.
 pub acr-missing : (s : State) (v : ℕ) → find v (s .entries) ≡ free → NotOpen ≡ acrOf s v
@@ -62,7 +71,7 @@ unfolding offerStep ofOpen require
 over-step s v n c e g = rw (e, lt-leb (waiting (c .queue) + n) 65535 g)
 
 done-step :
-    (s : State) (v n : ℕ) (c : Connection) → find v (s .entries) ≡ taken c → waiting (c .queue) + n ≤ 65535 → offerStep s v n ≡ accept (put v (taken (offered n c)) s)
+    (s : State) (v n : ℕ) (c : Connection) → find v (s .entries) ≡ taken c → waiting (c .queue) + n ≤ 65535 → offerStep s v n ≡ replay (leafOf v s) s (put v (taken (offered n c)) s)
 unfolding offerStep ofOpen require
 done-step s v n c e g = rw (e, le-leb (waiting (c .queue) + n) 65535 g)
 
@@ -84,10 +93,12 @@ module _ (s : State) (w : WellFormed s) {l : List ℕ} (e : l ≡ words s) (v n 
       refused-out s 15 e (over-step s v n (p .holder) (found-at p) (subst (λ (x : Connection). 65535 < waiting (x .queue) + n) is g))
 
   pub offer-done :
-      {m : List ℕ} (x : Connection) → x ≡ offered n d → m ≡ sourceUpdated l i x → waiting (d .queue) + n ≤ 65535
-      → (m ≡ words (offerStep s v n .state)) × (Accepted ≡ offerStep s v n .answer)
-  offer-done x a b g =
-      let y : x ≡ offered n (p .holder) = a ∙ ap (offered n) is in
-      accepted-out (put v (taken (offered n (p .holder))) s)
-      (source-is s w e h p (offered n (p .holder)) (offered-same n (p .holder)) (offered-destination n (p .holder)) (b ∙ ap (sourceUpdated l i) y))
-      (done-step s v n (p .holder) (found-at p) (subst (λ (c : Connection). waiting (c .queue) + n ≤ 65535) is g))
+      {m : List ℕ} {k : ℕ} (x : Connection) → x ≡ offered n d → Updates SourceMoved l m i x k → waiting (d .queue) + n ≤ 65535
+      → (m ≡ words (offerStep s v n .state)) × (Accepted k ≡ offerStep s v n .answer)
+  unfolding step
+  offer-done {m} {k} x a u g =
+      let c : Connection = offered n (p .holder) in
+      let done = done-step s v n (p .holder) (found-at p) (subst (λ (z : Connection). waiting (z .queue) + n ≤ 65535) is g) in
+      replayed-out (leafOf v s) s (put v (taken c) s)
+      (updated-is s w e h p c (offered-same n (p .holder)) (subst (λ (z : Connection). Updates SourceMoved l m i z k) (a ∙ ap (offered n) is) u) (offered-destination n (p .holder))
+      (replay-well-formed w (offering v n) (leafOf v s) (put v (taken c) s) done)) done

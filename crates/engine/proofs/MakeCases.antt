@@ -1,6 +1,6 @@
 -- One lemma for each way out of making a backward cell.
 use Prim.Native.Nat.{ℕ, _≤_, _<_}
-use mathlib.Core.Path.{_≡_, refl, ap, _∙_}
+use mathlib.Core.Path.{_≡_, refl, sym, ap, subst, _∙_}
 use mathlib.Core.Bool.{true, false}
 use mathlib.Core.List.{List}
 use lib.ListN.{set}
@@ -10,14 +10,18 @@ use Rattle.rate.specs.Units.{latestTime}
 use Rattle.connection.specs.declared.parts.Connection.{Connection}
 use Rattle.connection.specs.Making.{mayMake, withMade}
 use Rattle.connection.proofs.Keeps.{made-same}
-use Rattle.model.specs.State.{State, free, taken, find, put, withTime}
+use Rattle.model.specs.State.{State, free, taken, find, leafOf, put, withTime}
 use Rattle.model.specs.Invariant.{WellFormed}
-use Rattle.model.specs.Step.{refuse, accept, ofOpen, makeStep}
+use Rattle.model.specs.Call.{making}
+use Rattle.model.specs.Step.{refuse, replay, ofOpen, makeStep, step}
+use Rattle.model.specs.Tournament.{replayed}
+use Rattle.model.specs.declared.answer.Answer.the-variants.{Accepted}
+use Rattle.storing.specs.Updates.{Updates, DestinationMoved}
+use Rattle.tournament.specs.Replaying.{Ordered}
 use Rattle.table.specs.Layout.{words, sourceWords, lastAt}
-use Rattle.table.specs.Storing.{destinationUpdated}
 use Rattle.names.specs.Finding.{Located}
 use Rattle.model.specs.State.{capacity}
-use Rattle.engine.proofs.Outcomes.{time-word, destination-is}
+use Rattle.engine.proofs.Outcomes.{replayed-out, replay-well-formed, ordered, time-word, put-at, put-becomes, same-fixed}
 
 module _ (s : State) (v t : ℕ) where
   pub make-late : latestTime < t → makeStep s v t ≡ refuse s 8
@@ -44,7 +48,7 @@ module _ (s : State) (v t : ℕ) where
         make-soon l m = rw (le-leb t latestTime u, e, le-leb (s .last) t h, lt-ltb 0 (s .level) l, m)
 
         pub make-done :
-            0 < s .level → mayMake t (c .destination .made .last) ≡ true → makeStep s v t ≡ accept (put v (taken (withMade t (s .level) c)) (withTime t s))
+            0 < s .level → mayMake t (c .destination .made .last) ≡ true → makeStep s v t ≡ replay (leafOf v s) s (put v (taken (withMade t (s .level) c)) (withTime t s))
         unfolding makeStep require ofOpen
         make-done l m = rw (le-leb t latestTime u, e, le-leb (s .last) t h, lt-ltb 0 (s .level) l, m)
 
@@ -57,10 +61,18 @@ made-source : (t level : ℕ) (c : Connection) → sourceWords (withMade t level
 unfolding withMade
 made-source t level c = refl
 
-pub made-words :
-    (s : State) (w : WellFormed s) {l m : List ℕ} → l ≡ words s → {v i : ℕ} → i < capacity → (p : Located (s .entries) v i) (t : ℕ)
-    → m ≡ destinationUpdated l i (withMade t (s .level) (p .holder)) → set m lastAt t ≡ words (put v (taken (withMade t (s .level) (p .holder))) (withTime t s))
-made-words s w e {v} h p t q =
+-- the entry stored, then the time
+pub make-out :
+    (s : State) (w : WellFormed s) {l m : List ℕ} {n : ℕ} → l ≡ words s → {v i : ℕ} → i < capacity → (p : Located (s .entries) v i) (t : ℕ)
+    → makeStep s v t ≡ replay (leafOf v s) s (put v (taken (withMade t (s .level) (p .holder))) (withTime t s)) → Updates DestinationMoved l m i (withMade t (s .level) (p .holder)) n
+    → (set m lastAt t ≡ words (makeStep s v t .state)) × (Accepted n ≡ makeStep s v t .answer)
+unfolding step put withTime
+make-out s w e {v} {i} h p t done u =
     let d : Connection = withMade t (s .level) (p .holder) in
-    ap (λ (x : List ℕ). set x lastAt t) (destination-is s w e h p d (made-same t (s .level) (p .holder)) (made-source t (s .level) (p .holder)) q)
-    ∙ time-word (put v (taken d) s) t ∙ ap words (later-put s v t d)
+    let z = replay-well-formed w (making v t) (leafOf v s) (put v (taken d) (withTime t s)) done in
+    let b =
+    put-becomes s v (p .place) (taken d)
+    (u .is s w e (p .holder) (p .here) (made-same t (s .level) (p .holder) .name) (same-fixed (p .holder) d (made-same t (s .level) (p .holder))) (made-source t (s .level) (p .holder))
+    (subst (λ (r : State). Ordered (r .entries)) (put-at s v (p .place) (taken d)) (ordered z))) in
+    replayed-out (leafOf v s) s (put v (taken d) (withTime t s))
+    (ap (λ (x : List ℕ). set x lastAt t) (b .0) ∙ time-word (put v (taken d) s) t ∙ ap words (later-put s v t d), b .1) done

@@ -11,17 +11,20 @@ use Rattle.rate.specs.Units.{latestTime}
 use Rattle.rate.specs.Params.{paramsFit}
 use Rattle.connection.specs.declared.parts.Connection.{Connection}
 use Rattle.connection.specs.Parts.{fresh}
-use Rattle.model.specs.State.{State, free, taken, find, inserted, roomLeft, withTime, isFree, position, capacity}
+use Rattle.model.specs.State.{State, Entry, free, taken, find, inserted, roomLeft, withTime, isFree, position, capacity}
 use Rattle.model.specs.Invariant.{WellFormed}
 use Rattle.table.specs.Layout.{words, lastAt}
-use Rattle.table.specs.Storing.{stored}
 use Rattle.names.specs.Finding.{FoundInRange, Vacant, FindsFree}
 use Rattle.names.specs.declared.find.Found.{Found}
 use Rattle.names.specs.declared.find.Found.the-variants.{At, Nothing}
-use Rattle.table.proofs.Words.{store-at}
 use Rattle.model.proofs.Entries.{lowest-free}
-use Rattle.model.specs.Step.{refuse, accept, openStep}
-use Rattle.engine.proofs.Outcomes.{time-word, last-word}
+use Rattle.model.specs.Call.{opening}
+use Rattle.model.specs.Step.{refuse, replay, openStep, step}
+use Rattle.model.specs.Tournament.{replayed}
+use Rattle.model.specs.declared.answer.Answer.the-variants.{Accepted}
+use Rattle.storing.specs.Updates.{withEntry, Takes}
+use Rattle.tournament.specs.Replaying.{Ordered}
+use Rattle.engine.proofs.Outcomes.{replayed-out, replay-well-formed, ordered, time-word, last-word}
 use Rattle.laws.specs.Require.{require}
 
 module _ (s : State) (v t : ℕ) (p : Params) where
@@ -51,7 +54,7 @@ pub record Passed (v t : ℕ) (p : Params) : Type 0 where
 module _ (s : State) {v t : ℕ} {p : Params} (i : Passed v t p) where
   rest :
       openStep s v t p
-      ≡ require (refuse s 12) (isFree (find v (s .entries))) (require (refuse s 13) (roomLeft s) (require (refuse s 14) (leb (s .last) t) (accept (withTime t (inserted (fresh v t p) s)))))
+      ≡ require (refuse s 12) (isFree (find v (s .entries))) (require (refuse s 13) (roomLeft s) (require (refuse s 14) (leb (s .last) t) (replay (position isFree (s .entries)) s (withTime t (inserted (fresh v t p) s)))))
   unfolding openStep require
   rest = rw (le-leb 32 v (i .low), le-leb v 65535 (i .high), i .fits, le-leb t latestTime (i .timely))
 
@@ -68,7 +71,7 @@ module _ (s : State) {v t : ℕ} {p : Params} (i : Passed v t p) where
     unfolding require isFree
     open-early e h = rest ∙ rw (new, e, lt-leb (s .last) t h)
 
-    pub open-done : roomLeft s ≡ true → s .last ≤ t → openStep s v t p ≡ accept (withTime t (inserted (fresh v t p) s))
+    pub open-done : roomLeft s ≡ true → s .last ≤ t → openStep s v t p ≡ replay (position isFree (s .entries)) s (withTime t (inserted (fresh v t p) s))
     unfolding require isFree
     open-done e h = rest ∙ rw (new, e, le-leb (s .last) t h)
 
@@ -88,13 +91,29 @@ module _ {l : List ℕ} {r : Found} (h : FindsFree l r) where
 pub last-at : (s : State) {l : List ℕ} → l ≡ words s → getD l lastAt 0 ≡ s .last
 last-at s e = ap (λ (x : List ℕ). getD x lastAt 0) e ∙ last-word s
 
--- the entry stored, and the time
-pub opened-words :
-    (s : State) → WellFormed s → {l m : List ℕ} → l ≡ words s → (t i : ℕ) → i < capacity → position isFree (s .entries) ≡ i → (c d : Connection) → d ≡ c → m ≡ stored l i d
-    → set m lastAt t ≡ words (withTime t (inserted c s))
+inserted-at : (s : State) (c : Connection) {i : ℕ} → position isFree (s .entries) ≡ i → inserted c s ≡ withEntry s i (taken c)
 unfolding inserted
-opened-words s w {l} e t i h q c d a b =
-    ap (λ (x : List ℕ). set x lastAt t)
-    (b ∙ ap (λ (x : Connection). stored l i x) a ∙ ap (λ (x : List ℕ). stored x i c) e ∙ store-at s (w .size) i h c (ap (λ (k : ℕ). getD (s .entries) k free) (sym q) ∙ lowest-free (s .entries))
-    ∙ ap (λ (k : ℕ). words (record { level = s .level; last = s .last; entries = set (s .entries) k (taken c) })) (sym q))
-    ∙ time-word (inserted c s) t
+inserted-at s c q = rw q
+
+later : (t : ℕ) (s r : State) → s ≡ r → withTime t s .entries ≡ r .entries
+unfolding withTime
+later t s r q = rw q
+
+-- the entry stored, then the time
+pub open-out :
+    (s : State) → WellFormed s → {l m : List ℕ} {n : ℕ} → l ≡ words s → (v t : ℕ) (p : Params) (i : ℕ) → position isFree (s .entries) ≡ i
+    → openStep s v t p ≡ replay (position isFree (s .entries)) s (withTime t (inserted (fresh v t p) s)) → Takes l m i (fresh v t p) n
+    → (set m lastAt t ≡ words (openStep s v t p .state)) × (Accepted n ≡ openStep s v t p .answer)
+unfolding step
+open-out s w e v t p i q done u =
+    let c : Connection = fresh v t p in
+    let at : inserted c s ≡ withEntry s i (taken c) = inserted-at s c q in
+    let z = replay-well-formed w (opening v t p) (position isFree (s .entries)) (withTime t (inserted c s)) done in
+    let b =
+    u .is s w e (ap (λ (k : ℕ). getD (s .entries) k free) (sym q) ∙ lowest-free (s .entries))
+    (subst Ordered (later t (inserted c s) (withEntry s i (taken c)) at) (ordered z)) in
+    replayed-out (position isFree (s .entries)) s (withTime t (inserted c s)) (
+      ap (λ (x : List ℕ). set x lastAt t) (b .0 ∙ ap words (sym at)) ∙ time-word (inserted c s) t,
+      b .1 ∙ ap (λ (k : ℕ). replayed k (s .entries) (set (s .entries) i (taken c))) (sym q)
+          ∙ ap (λ (x : List Entry). replayed (position isFree (s .entries)) (s .entries) x) (sym (later t (inserted c s) (withEntry s i (taken c)) at)),
+    ) done

@@ -11,27 +11,53 @@ use Rattle.connection.specs.Ready.{readyInstant}
 use Rattle.connection.proofs.Keeps.{Same}
 use Rattle.names.specs.declared.find.Found.{Found}
 use Rattle.names.specs.declared.find.Found.the-variants.{At, Nothing}
-use Rattle.model.specs.State.{State, Entry, free, taken, find, put, position, holds, withTime, withLevel, capacity}
+use Rattle.model.specs.State.{State, Entry, free, taken, find, leafOf, put, position, holds, withTime, withLevel, capacity}
 use Rattle.model.specs.Invariant.{WellFormed, OnEntry}
 use Rattle.table.specs.Layout.{words, sourceWords, fixedWords, levelAt, lastAt}
 use Rattle.table.specs.Loading.{connectionAt}
-use Rattle.table.specs.Storing.{sourceUpdated, destinationUpdated, efciUpdated, updated}
+use Rattle.table.specs.Storing.{efciUpdated}
 use Rattle.names.specs.Finding.{FoundInRange, Located, Names, Finds}
-use Rattle.model.proofs.Entries.{each-get}
+use Rattle.model.proofs.Entries.{each-get, each-map}
+use Rattle.connection.proofs.Reached.{in-range, ready-below}
 use Rattle.table.proofs.Loaded.{load-ranged, load-room}
-use Rattle.table.proofs.Words.{load-at, update-at, source-at, destination-at, efci-at}
+use Rattle.table.proofs.Words.{lead-same, load-at, efci-at}
 use Rattle.model.specs.declared.answer.Answer.the-variants.{Refused, Accepted}
-use Rattle.model.specs.Call.{Outcome}
-use Rattle.model.specs.Step.{refuse, accept}
+use Rattle.model.specs.Call.{Call, Outcome}
+use Rattle.model.specs.Step.{refuse, accept, replay, step}
+use Rattle.model.specs.Tournament.{leafLead, replayed}
+use Rattle.model.proofs.Replays.{replayed-same}
+use Rattle.model.proofs.Reached.{step-well-formed}
+use Rattle.storing.specs.Updates.{Becomes, Updates}
+use Rattle.tournament.specs.Replaying.{Ordered, Leads}
 
 -- The two plain ways out.
 pub refused-out : {l : List ℕ} {o : Outcome} (s : State) (n : ℕ) → l ≡ words s → o ≡ refuse s n → (l ≡ words (o .state)) × (Refused n ≡ o .answer)
 unfolding refuse
 refused-out s n e q = rw q (e, refl)
 
-pub accepted-out : {l : List ℕ} {o : Outcome} (r : State) → l ≡ words r → o ≡ accept r → (l ≡ words (o .state)) × (Accepted ≡ o .answer)
+pub accepted-out : {l : List ℕ} {o : Outcome} (n : ℕ) (r : State) → l ≡ words r → o ≡ accept n r → (l ≡ words (o .state)) × (Accepted n ≡ o .answer)
 unfolding accept
-accepted-out r e q = rw q (e, refl)
+accepted-out n r e q = rw q (e, refl)
+
+-- a leaf's matches were replayed
+pub replayed-out :
+    {m : List ℕ} {n : ℕ} {o : Outcome} (x : ℕ) (s r : State) → (m ≡ words r) × (n ≡ replayed x (s .entries) (r .entries)) → o ≡ replay x s r
+    → (m ≡ words (o .state)) × (Accepted n ≡ o .answer)
+unfolding replay accept
+replayed-out x s r h q = rw q (h .0, ap Accepted (h .1))
+
+-- the state that such a call leaves is well-formed
+pub replay-well-formed : {s : State} → WellFormed s → (c : Call) (x : ℕ) (r : State) → step s c ≡ replay x s r → WellFormed r
+unfolding replay accept
+replay-well-formed w c x r q = subst (λ (o : Outcome). WellFormed (o .state)) q (step-well-formed w c)
+
+-- its entries are those that a tournament orders
+pub ordered : {r : State} → WellFormed r → Ordered (r .entries)
+ordered {r} w = record {
+  size = w .size;
+  unique = w .unique;
+  below = each-map (ValidAt (r .last)) _ (λ c v. ready-below c (in-range (r .last) c (w .timely) v)) (r .entries) (w .each);
+}
 
 -- The header's first two words: the level and the last accepted time.
 pub level-word : (s : State) (l : ℕ) → set (words s) levelAt l ≡ words (withLevel l s)
@@ -85,26 +111,33 @@ pub put-at : (s : State) (v : ℕ) {i : ℕ} → position (holds v) (s .entries)
 unfolding put
 put-at s v q x = rw q
 
-same-fixed : (c d : Connection) → Same c d → fixedWords d ≡ fixedWords c
+pub same-fixed : (c d : Connection) → Same c d → fixedWords d ≡ fixedWords c
 same-fixed c d h = rw (h .opened, h .trm, h .params)
 
--- a connection that keeps its entry, with what was stored of it
-kept :
-    (s : State) {v i : ℕ} (p : Located (s .entries) v i) (d : Connection) {m : List ℕ} → m ≡ words (record { level = s .level; last = s .last; entries = set (s .entries) i (taken d) })
-    → m ≡ words (put v (taken d) s)
-kept s {v} p d q = q ∙ ap words (sym (put-at s v (p .place) (taken d)))
+-- the same of the words and the count that storing an entry gives
+pub put-becomes :
+    (s : State) (v : ℕ) {i : ℕ} → position (holds v) (s .entries) ≡ i → (x : Entry) {m : List ℕ} {n : ℕ} → Becomes s m i x n
+    → (m ≡ words (put v x s)) × (n ≡ replayed (leafOf v s) (s .entries) (put v x s .entries))
+put-becomes s v {i} q x {m} {n} h =
+    let e = put-at s v q x in
+    (h .0 ∙ ap words (sym e), h .1 ∙ ap (λ (k : ℕ). replayed k (s .entries) (set (s .entries) i x)) (sym q) ∙ ap (λ (r : State). replayed (leafOf v s) (s .entries) (r .entries)) (sym e))
 
 module _ (s : State) (w : WellFormed s) {l : List ℕ} (e : l ≡ words s) {v i : ℕ} (h : i < capacity) (p : Located (s .entries) v i) (d : Connection) (k : Same (p .holder) d) where
-  pub updated-is : {m : List ℕ} → m ≡ updated l i d → m ≡ words (put v (taken d) s)
-  updated-is q = kept s p d (q ∙ ap (λ (x : List ℕ). updated x i d) e ∙ update-at s (w .size) i h (p .holder) d (p .here) (k .name) (same-fixed (p .holder) d k))
-
-  pub source-is : {m : List ℕ} → d .destination ≡ p .holder .destination → m ≡ sourceUpdated l i d → m ≡ words (put v (taken d) s)
-  source-is b q = kept s p d (q ∙ ap (λ (x : List ℕ). sourceUpdated x i d) e ∙ source-at s (w .size) i h (p .holder) d (p .here) (k .name) (same-fixed (p .holder) d k) b)
-
-  pub destination-is : {m : List ℕ} → sourceWords d ≡ sourceWords (p .holder) → m ≡ destinationUpdated l i d → m ≡ words (put v (taken d) s)
-  destination-is f q = kept s p d (q ∙ ap (λ (x : List ℕ). destinationUpdated x i d) e ∙ destination-at s (w .size) i h (p .holder) d (p .here) (k .name) (same-fixed (p .holder) d k) f)
+  -- a connection that keeps its entry, with what was stored of it
+  pub updated-is :
+      {Moved : Connection → Connection → Type 0} {m : List ℕ} {n : ℕ} → Updates Moved l m i d n → Moved (p .holder) d → WellFormed (put v (taken d) s)
+      → (m ≡ words (put v (taken d) s)) × (n ≡ replayed (leafOf v s) (s .entries) (put v (taken d) s .entries))
+  updated-is u b z =
+      put-becomes s v (p .place) (taken d)
+      (u .is s w e (p .holder) (p .here) (k .name) (same-fixed (p .holder) d k) b (subst (λ (r : State). Ordered (r .entries)) (put-at s v (p .place) (taken d)) (ordered z)))
 
   pub efci-is :
-      {m : List ℕ} → sourceWords d ≡ sourceWords (p .holder) → d .destination .turned ≡ p .holder .destination .turned → d .destination .made ≡ p .holder .destination .made → readyInstant d ≡ readyInstant (p .holder) → m ≡ efciUpdated l i (d .destination)
-      → m ≡ words (put v (taken d) s)
-  efci-is f t b r q = kept s p d (q ∙ ap (λ (x : List ℕ). efciUpdated x i (d .destination)) e ∙ efci-at s (w .size) i h (p .holder) d (p .here) (k .name) (same-fixed (p .holder) d k) f t b r)
+      {m : List ℕ} {n : ℕ} → sourceWords d ≡ sourceWords (p .holder) → d .destination .turned ≡ p .holder .destination .turned → d .destination .made ≡ p .holder .destination .made
+      → readyInstant d ≡ readyInstant (p .holder) → m ≡ efciUpdated l i (d .destination) → Leads l i n
+      → (m ≡ words (put v (taken d) s)) × (n ≡ replayed (leafOf v s) (s .entries) (put v (taken d) s .entries))
+  efci-is f t b r q g =
+      put-becomes s v (p .place) (taken d) (
+        q ∙ ap (λ (x : List ℕ). efciUpdated x i (d .destination)) e ∙ efci-at s (w .size) i h (p .holder) d (p .here) (k .name) (same-fixed (p .holder) d k) f t b r,
+        g .is s w e
+            ∙ sym (replayed-same i (s .entries) (taken d) (subst (λ (x : ℕ). i < x) (sym (w .size)) h) (lead-same i (p .holder) d (k .name) r ∙ ap (leafLead i) (sym (p .here)))),
+      )

@@ -1,6 +1,6 @@
 -- What a received cell makes of a table: the ways out of receiving.
 use Prim.Native.Nat.{ℕ, _%_, _<_}
-use mathlib.Core.Path.{_≡_, refl, sym, ap, _∙_}
+use mathlib.Core.Path.{_≡_, refl, sym, ap, subst, _∙_}
 use mathlib.Core.Bool.{Bool}
 use mathlib.Core.List.{List, []}
 use native.Mathlib.Omega.{arith}
@@ -17,21 +17,25 @@ use Rattle.connection.specs.declared.parts.Pace.{Pace}
 use Rattle.connection.specs.declared.parts.Pace.the-variants.{Unsent, Running}
 use Rattle.connection.specs.Receiving.{afterDataCell, afterBackwardCell, afterForwardCell, afterForwardPayload, afterResourceCell}
 use Rattle.connection.specs.Ready.{anyWaits, backwardWaits, lastBefore, readyFrom, readyInstant}
-use Rattle.connection.proofs.Keeps.{Same, work-same}
+use Rattle.connection.proofs.Keeps.{Same, work-same, work-valid}
 use Rattle.connection.proofs.Turnings.{after-forward-cell-words}
-use Rattle.model.specs.State.{State, free, taken, find, put, capacity}
+use Rattle.model.specs.State.{State, free, taken, find, leafOf, put, capacity}
 use Rattle.model.specs.Invariant.{WellFormed}
 use Rattle.table.specs.Layout.{sourceWords, words, levelAt}
 use Rattle.table.specs.Loading.{connectionAt}
-use Rattle.table.specs.Storing.{sourceUpdated, destinationUpdated, efciUpdated}
+use Rattle.table.specs.Storing.{efciUpdated}
+use Rattle.storing.specs.Updates.{Updates, SourceMoved, DestinationMoved}
+use Rattle.tournament.specs.Replaying.{Leads}
+use Rattle.model.specs.Tournament.{replayed}
+use Rattle.model.proofs.Preserved.{put-well-formed}
 use Rattle.names.specs.Finding.{Located}
 use Rattle.names.proofs.Found.{found-at}
 use Rattle.model.specs.declared.answer.Answer.{Answer}
 use Rattle.model.specs.declared.answer.Answer.the-variants.{Accepted}
 use Rattle.model.specs.Call.{Outcome}
-use Rattle.model.specs.Step.{refuse, accept, ofOpen, readStep, receiveStep}
+use Rattle.model.specs.Step.{refuse, replay, ofOpen, readStep, receiveStep}
 use Rattle.engine.specs.Contract.{Meets}
-use Rattle.engine.proofs.Outcomes.{accepted-out, level-of, loaded-is, source-is, destination-is, efci-is}
+use Rattle.engine.proofs.Outcomes.{replayed-out, level-of, valid-in, loaded-is, updated-is, efci-is}
 
 -- The connection: a backward cell moves the rate, a forward one is turned round from the words of its payload.
 module _ (level : ℕ) (o : List ℕ) (f : Fields) (c : Connection) where
@@ -56,7 +60,7 @@ after-data-cell-same e c = record { name = refl; opened = refl; trm = refl; para
 
 -- The step of a cell that changes its connection by g.
 abbrev changing : State → ℕ → (Connection → Connection) → Outcome
-changing s v g = ofOpen s (find v (s .entries)) λ c. accept (put v (taken (g c)) s)
+changing s v g = ofOpen s (find v (s .entries)) λ c. replay (leafOf v s) s (put v (taken (g c)) s)
 
 data-step : (s : State) (v : ℕ) (e : Bool) → readStep s [] (User v e) ≡ changing s v (afterDataCell e)
 unfolding readStep
@@ -70,7 +74,7 @@ missed : (s : State) (v : ℕ) (g : Connection → Connection) → find v (s .en
 unfolding ofOpen
 missed s v g q = rw q
 
-met : (s : State) (v : ℕ) (g : Connection → Connection) (c : Connection) → find v (s .entries) ≡ taken c → changing s v g ≡ accept (put v (taken (g c)) s)
+met : (s : State) (v : ℕ) (g : Connection → Connection) (c : Connection) → find v (s .entries) ≡ taken c → changing s v g ≡ replay (leafOf v s) s (put v (taken (g c)) s)
 unfolding ofOpen
 met s v g c q = rw q
 
@@ -81,9 +85,15 @@ pub work-missing : (s : State) (o : List ℕ) (f : Fields) → find (f .vci) (s 
 work-missing s o f q = work-step s o f ∙ missed s (f .vci) (afterResourceCell (s .level) o f) q
 
 -- the step's outcome, where the words are those of the changed connection
-changed : (s : State) {v i : ℕ} (p : Located (s .entries) v i) {m : List ℕ} {o : Outcome} (g : Connection → Connection) → o ≡ changing s v g
-    → m ≡ words (put v (taken (g (p .holder))) s) → (m ≡ words (o .state)) × (Accepted ≡ o .answer)
-changed s {v} p g r q = accepted-out (put v (taken (g (p .holder))) s) q (r ∙ met s v g (p .holder) (found-at p))
+changed : (s : State) {v i : ℕ} (p : Located (s .entries) v i) {m : List ℕ} {n : ℕ} {o : Outcome} (g : Connection → Connection) → o ≡ changing s v g
+    → (m ≡ words (put v (taken (g (p .holder))) s)) × (n ≡ replayed (leafOf v s) (s .entries) (put v (taken (g (p .holder))) s .entries)) → (m ≡ words (o .state)) × (Accepted n ≡ o .answer)
+changed s {v} p g r q = replayed-out (leafOf v s) s (put v (taken (g (p .holder))) s) q (r ∙ met s v g (p .holder) (found-at p))
+
+-- a connection whose name and validity stay leaves a well-formed table
+work-well-formed :
+    (s : State) (w : WellFormed s) {v i : ℕ} (p : Located (s .entries) v i) (o : List ℕ) (f : Fields) → f .vci ≡ v → WellFormed (put v (taken (afterResourceCell (s .level) o f (p .holder))) s)
+work-well-formed s w {v} p o f q =
+    put-well-formed w v (taken (afterResourceCell (s .level) o f (p .holder))) (work-valid (s .level) o f (p .holder) (valid-in s w p)) (work-same (s .level) o f (p .holder) .name ∙ p .named)
 
 -- the saved EFCI moves no ready instant, and nothing else of the connection
 after-data-cell-kept : (t : Bool) (c : Connection) → (sourceWords (afterDataCell t c) ≡ sourceWords c) × (afterDataCell t c .destination .turned ≡ c .destination .turned) × (afterDataCell t c .destination .made ≡ c .destination .made)
@@ -109,31 +119,39 @@ after-forward-cell-source level o c = refl
 
 -- the entry's connection, as it was loaded
 module _ (s : State) (w : WellFormed s) {l : List ℕ} (e : l ≡ words s) {v : ℕ} (i : ℕ) (h : i < capacity) (p : Located (s .entries) v i) (d : Connection) (q : d ≡ connectionAt l i) (x : Connection) where
-  pub data-done : {m : List ℕ} → m ≡ efciUpdated l i (x .destination) → (t : Bool) → x ≡ afterDataCell t d → (m ≡ words (readStep s [] (User v t) .state)) × (Accepted ≡ readStep s [] (User v t) .answer)
-  data-done b t a =
+  pub data-done :
+      {m : List ℕ} {n : ℕ} → m ≡ efciUpdated l i (x .destination) → Leads l i n → (t : Bool) → x ≡ afterDataCell t d
+      → (m ≡ words (readStep s [] (User v t) .state)) × (Accepted n ≡ readStep s [] (User v t) .answer)
+  data-done b u t a =
       let k = after-data-cell-kept t (p .holder) in
       changed s p (afterDataCell t) (data-step s v t)
-      (efci-is s w e h p (afterDataCell t (p .holder)) (after-data-cell-same t (p .holder)) (k .0) (k .1) (k .2) (after-data-cell-ready t (p .holder)) (b ∙ ap (λ (y : Connection). efciUpdated l i (y .destination)) (a ∙ ap (afterDataCell t) (loaded-is s w p e h q))))
+      (efci-is s w e h p (afterDataCell t (p .holder)) (after-data-cell-same t (p .holder)) (k .0) (k .1) (k .2) (after-data-cell-ready t (p .holder))
+      (b ∙ ap (λ (y : Connection). efciUpdated l i (y .destination)) (a ∙ ap (afterDataCell t) (loaded-is s w p e h q))) u)
 
 module _ (s : State) (w : WellFormed s) {l : List ℕ} (e : l ≡ words s) (o : List ℕ) (f : Fields) (i : ℕ) (h : i < capacity) (p : Located (s .entries) (f .vci) i) (d : Connection) (q : d ≡ connectionAt l i) (x : Connection) where
-  pub answer-done : {m : List ℕ} → f .dir ≡ 1 → x ≡ afterBackwardCell f d → m ≡ sourceUpdated l i x → (m ≡ words (readStep s o (Resource f) .state)) × (Accepted ≡ readStep s o (Resource f) .answer)
-  answer-done c a b =
+  pub answer-done :
+      {m : List ℕ} {n : ℕ} → f .dir ≡ 1 → x ≡ afterBackwardCell f d → Updates SourceMoved l m i x n
+      → (m ≡ words (readStep s o (Resource f) .state)) × (Accepted n ≡ readStep s o (Resource f) .answer)
+  answer-done {m} {n} c a u =
       let work : Connection = afterResourceCell (s .level) o f (p .holder) in
       let y : x ≡ work = work-answers (s .level) o f (p .holder) c (a ∙ ap (afterBackwardCell f) (loaded-is s w p e h q)) in
       changed s p (afterResourceCell (s .level) o f) (work-step s o f)
-      (source-is s w e h p work (work-same (s .level) o f (p .holder)) (ap (λ (z : Connection). z .destination) (sym (work-answers (s .level) o f (p .holder) c refl)) ∙ after-backward-cell-destination f (p .holder)) (b ∙ ap (sourceUpdated l i) y))
+      (updated-is s w e h p work (work-same (s .level) o f (p .holder)) (subst (λ (z : Connection). Updates SourceMoved l m i z n) y u)
+      (ap (λ (z : Connection). z .destination) (sym (work-answers (s .level) o f (p .holder) c refl)) ∙ after-backward-cell-destination f (p .holder))
+      (work-well-formed s w p o f refl))
 
   pub turn-done :
-      {m : List ℕ} → (f .dir ≡ 1 → ⊥) → length o ≡ 53 → ((k : ℕ) → getD o k 0 < 256) → (g : Payload) → g ≡ payloadOf (payload o) → x ≡ afterForwardPayload (getD l levelAt 0 % 4294967296) g d → m ≡ destinationUpdated l i x
-      → (m ≡ words (readStep s o (Resource f) .state)) × (Accepted ≡ readStep s o (Resource f) .answer)
-  turn-done c n z g r a b =
+      {m : List ℕ} {k : ℕ} → (f .dir ≡ 1 → ⊥) → length o ≡ 53 → ((k : ℕ) → getD o k 0 < 256) → (g : Payload) → g ≡ payloadOf (payload o) → x ≡ afterForwardPayload (getD l levelAt 0 % 4294967296) g d
+      → Updates DestinationMoved l m i x k → (m ≡ words (readStep s o (Resource f) .state)) × (Accepted k ≡ readStep s o (Resource f) .answer)
+  turn-done {m} {k} c n z g r a u =
       let work : Connection = afterResourceCell (s .level) o f (p .holder) in
       let y : x ≡ work =
       work-turns (s .level) o f (p .holder) g n z c r
       (a ∙ ap (λ (u : ℕ). afterForwardPayload u g d) (level-of s w e) ∙ ap (afterForwardPayload (s .level) g) (loaded-is s w p e h q)) in
       let t : work ≡ afterForwardCell (s .level) o (p .holder) = is-turning (s .level) o f (p .holder) c in
       changed s p (afterResourceCell (s .level) o f) (work-step s o f)
-      (destination-is s w e h p work (work-same (s .level) o f (p .holder)) (ap sourceWords t ∙ after-forward-cell-source (s .level) o (p .holder)) (b ∙ ap (destinationUpdated l i) y))
+      (updated-is s w e h p work (work-same (s .level) o f (p .holder)) (subst (λ (z : Connection). Updates DestinationMoved l m i z k) y u)
+      (ap sourceWords t ∙ after-forward-cell-source (s .level) o (p .holder)) (work-well-formed s w p o f refl))
 
 -- What was read: a refusal, or a cell of 53 octets whose step is the rest.
 pub unread : (s : State) (o : List ℕ) (n : ℕ) → reading o ≡ Unread n → receiveStep s o ≡ refuse s n

@@ -11,9 +11,9 @@ use Rattle.model.specs.State.{State, free, taken, position, holds, find, withTi
 use Rattle.model.specs.Invariant.{WellFormed}
 use Rattle.table.specs.Layout.{words, lastAt}
 use Rattle.model.specs.Choice.{Winner, noneReady, wins, winner}
-use Rattle.choice.specs.declared.choose.Choice.{Choice}
-use Rattle.choice.specs.declared.choose.Choice.the-variants.{Entry, NoneReady}
-use Rattle.choice.specs.Choosing.{Picks, Chooses, ChoiceInRange}
+use Rattle.tournament.specs.declared.choose.Choice.{Choice}
+use Rattle.tournament.specs.declared.choose.Choice.the-variants.{Entry, NoneReady}
+use Rattle.tournament.specs.Choosing.{Picks, Chooses, ChoiceInRange}
 use Rattle.model.proofs.Preserved.{withTime-well-formed}
 use Rattle.model.specs.declared.answer.Answer.{Answer}
 use Rattle.model.specs.declared.answer.Answer.the-variants.{Refused, Idle}

@@ -14,7 +14,7 @@ use Rattle.connection.specs.Sending.{forwardFields, backwardCell}
 use Rattle.model.specs.State.{State, free, taken, position, holds}
 use Rattle.model.specs.Invariant.{WellFormed}
 use Rattle.table.specs.Layout.{words}
-use Rattle.table.specs.Storing.{sourceUpdated, updated}
+use Rattle.storing.specs.Updates.{SourceMoved, BothMoved}
 use Rattle.model.specs.declared.answer.Answer.{Answer}
 use Rattle.model.specs.Step.{sendStep}
 use Rattle.engine.specs.Contract.{bufferContent}
@@ -29,11 +29,11 @@ Carried Forward before now old new = ForwardIn (now .name) (now .rate) new
 Carried Turned before now old new = new ≡ backwardCell (before .name) (before .rate .params) (before .destination .turned) (before .destination .made .level)
 Carried Data before now old new = new ≡ old
 
--- what a cell of this kind leaves of the table's words: only a turned or made cell changes the receiving side
-abbrev pub storedSent : List ℕ → (entry : ℕ) → Kind → Connection → List ℕ
-storedSent l i Forward c = sourceUpdated l i c
-storedSent l i Turned c = updated l i c
-storedSent l i Data c = sourceUpdated l i c
+-- what a cell of this kind moves: only a turned or made cell changes the receiving side
+abbrev pub MovedBy : Kind → (before now : Connection) → Type 0
+MovedBy Forward = SourceMoved
+MovedBy Turned = BothMoved
+MovedBy Data = SourceMoved
 
 -- a slot at t that goes to entry i, in a state whose last accepted time is t
 pub record Sends (t i : ℕ) (before after : List ℕ) (r : Answer) (old new : List ℕ) : Type 0 where

@@ -14,6 +14,6 @@ pub fn close(t: &mut [u64; WORDS], name: u32) -> Answer
     let Found::At(i) = find(t, name) else {
         return Answer::Refused(11);
     };
-    clear(t, i);
-    Answer::Accepted
+    let comparisons = clear(t, i, name);
+    Answer::Accepted { comparisons }
 }

@@ -37,7 +37,7 @@ pub fn make(t: &mut [u64; WORDS], name: u32, time: u64) -> Answer
     if !may_make(time, last) {
         return Answer::Refused(17);
     }
-    update_destination(t, i, with_made(time, level, c));
+    let comparisons = update_destination(t, i, with_made(time, level, c));
     t[LAST] = time;
-    Answer::Accepted
+    Answer::Accepted { comparisons }
 }

@@ -24,6 +24,6 @@ pub fn offer(t: &mut [u64; WORDS], name: u32, cells: u64) -> Answer
     if 65535 - waiting < cells {
         return Answer::Refused(15);
     }
-    update_source(t, i, offered(cells as u32, c));
-    Answer::Accepted
+    let comparisons = update_source(t, i, offered(cells as u32, c));
+    Answer::Accepted { comparisons }
 }

@@ -5,7 +5,7 @@ use connection::parts::Connection;
 use model::answer::Answer;
 use names::find::Found;
 use names::find::find;
-use names::find::find_free;
+use names::used::find_free;
 use rate::params::Params;
 use rate::units::LATEST_TIME;
 use storing::store::store;
@@ -37,7 +37,7 @@ pub fn open(t: &mut [u64; WORDS], name: u32, time: u64, params: Params) -> Answe
     if time < t[LAST] {
         return Answer::Refused(14);
     }
-    store(t, i, Connection::fresh(name, time, params));
+    let comparisons = store(t, i, Connection::fresh(name, time, params));
     t[LAST] = time;
-    Answer::Accepted
+    Answer::Accepted { comparisons }
 }

@@ -25,6 +25,7 @@ use storing::store::update_efci;
 use storing::store::update_source;
 use table::layout::LEVEL;
 use table::layout::WORDS;
+use tournament::replay::levels_led;
 use transition::receive::after_backward_cell;
 use transition::receive::after_data_cell;
 use transition::receive::after_forward_payload;
@@ -39,8 +40,9 @@ fn receive_data(t: &mut [u64; WORDS], vci: u32, efci: bool) -> Answer
     let c = load(t, i);
     let next = after_data_cell(efci, c);
     let destination = next.destination;
+    let comparisons = levels_led(t, i);
     update_efci(t, i, destination);
-    Answer::Accepted
+    Answer::Accepted { comparisons }
 }
 
 // An RM cell of these fields: a backward cell moves the rate, a forward one is turned round. Refusal 11.
@@ -54,13 +56,13 @@ fn receive_resource(t: &mut [u64; WORDS], cell: &[u8], f: Fields) -> Answer
     let c = load(t, i);
     if f.dir == 1 {
         let next = after_backward_cell(f, c);
-        update_source(t, i, next);
-        return Answer::Accepted;
+        let comparisons = update_source(t, i, next);
+        return Answer::Accepted { comparisons };
     }
     let level = (t[LEVEL] % 4294967296) as u32;
     let next = after_forward_payload(level, payload_at(cell), c);
-    update_destination(t, i, next);
-    Answer::Accepted
+    let comparisons = update_destination(t, i, next);
+    Answer::Accepted { comparisons }
 }
 
 // Refusals 1, 2, 3, 4, then 5 and 6 for RM cells, 11. The steps are those of `read`, taken one by one so that a data cell makes no fields.

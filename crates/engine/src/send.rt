@@ -5,8 +5,9 @@ ghost use lib.ListN.{length};
 ghost use Rattle.rate.specs.Units.{latestTime};
 ghost use Rattle.connection.specs.Range.{InRange};
 ghost use Rattle.connection.specs.Sending.{backwardCell};
-ghost use Rattle.engine.specs.Slots.{ForwardIn, Carried, storedSent, Sends};
+ghost use Rattle.engine.specs.Slots.{ForwardIn, Carried, MovedBy, Sends};
 ghost use Rattle.model.specs.State.{capacity};
+ghost use Rattle.storing.specs.Updates.{Updates};
 use connection::kind::Kind;
 use connection::parts::Connection;
 use connection::parts::Waiting;
@@ -64,9 +65,9 @@ fn put_cell(cell: &mut [u8], kind: Kind, c: Connection, next: Connection)
 }
 
 // Only a turned or made cell changes the receiving side: it no longer waits.
-fn store_sent(t: &mut [u64; WORDS], i: usize, kind: Kind, next: Connection)
+fn store_sent(t: &mut [u64; WORDS], i: usize, kind: Kind, next: Connection) -> u32
     requires { ⌜ (i < capacity) × InRange next ⌝ }
-    ensures { λ _. ⌜ now (t .exit) ≡ storedSent (now (t .entry)) i kind next ⌝ }
+    ensures { λ n. ⌜ Updates (MovedBy kind) (now (t .entry)) (now (t .exit)) i next n ⌝ }
 {
     match kind {
         Kind::Forward => update_source(t, i, next),
@@ -83,10 +84,11 @@ pub fn send(t: &mut [u64; WORDS], time: u64, i: usize, cell: &mut [u8]) -> Answe
     let kind = kind_at(time, c);
     let next = after(kind, time, c);
     put_cell(cell, kind, c, next);
-    store_sent(t, i, kind, next);
+    let comparisons = store_sent(t, i, kind, next);
     Answer::Sent {
         name: c.name,
         kind,
         acr: next.rate.acr,
+        comparisons,
     }
 }

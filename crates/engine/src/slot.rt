@@ -1,14 +1,14 @@
-// A slot: whom it goes to, what it sends, and the allowed rate it leaves (document 01, "Slots").
+// A slot: the connection it goes to, what it sends, and the allowed rate it leaves (document 01, "Slots").
 ghost use lib.ListN.{length};
 ghost use Rattle.model.specs.Step.{slotStep};
 ghost use Rattle.engine.specs.Contract.{MeetsWriting};
 use crate::send::send;
-use choice::choose::Choice;
-use choice::choose::choose;
 use model::answer::Answer;
 use rate::units::LATEST_TIME;
 use table::layout::LAST;
 use table::layout::WORDS;
+use tournament::choose::Choice;
+use tournament::choose::choose;
 
 // Refusals 1, 8, 14. An idle slot's time counts too.
 pub fn slot(t: &mut [u64; WORDS], time: u64, cell: &mut [u8]) -> Answer

@@ -1,6 +1,6 @@
--- The lowest set digit of a number that is not 0: it is among its digits, and no greater than the number.
+-- The lowest set digit of a number that is not 0 is among its digits.
 use mathlib.Core.Path.{_≡_, refl}
-use Prim.Native.Nat.{ℕ, zero, suc, _/_, _%_, _^_, _≤_, _<_}
+use Prim.Native.Nat.{ℕ, zero, suc, _/_, _%_, _^_, _<_}
 use native.Mathlib.Nat.{pow-suc}
 use native.Mathlib.Omega.{arith}
 use lib.Count.{trailingZeros, under}
@@ -13,12 +13,3 @@ trailing-lt (suc k) n p h = go (λ q. trailing-lt k (n / 2) q (omega (arith, pow
     go : (0 < n / 2 → trailingZeros k (n / 2) < k) → (d : ℕ) → n % 2 ≡ d → under d (trailingZeros k (n / 2)) < suc k
     go rest zero e = let l : trailingZeros k (n / 2) < k = rest (omega (arith, e)) in omega arith
     go rest (suc d) e = omega arith
-
-pub trailing-le : (k n : ℕ) → 0 < n → 2 ^ trailingZeros k n ≤ n
-unfolding trailingZeros
-trailing-le zero n p = p
-trailing-le (suc k) n p = go (λ q. trailing-le k (n / 2) q) (n % 2) refl
-  where
-    go : (0 < n / 2 → 2 ^ trailingZeros k (n / 2) ≤ n / 2) → (d : ℕ) → n % 2 ≡ d → 2 ^ under d (trailingZeros k (n / 2)) ≤ n
-    go rest zero e = omega (arith, rest (omega (arith, e)), pow-suc 2 (trailingZeros k (n / 2)))
-    go rest (suc d) e = p

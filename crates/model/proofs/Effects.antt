@@ -18,12 +18,12 @@ use Rattle.connection.specs.Parts.{fresh, waiting}
 use Rattle.connection.specs.Making.{mayMake, withMade}
 use Rattle.connection.specs.Receiving.{offered, afterDataCell, afterResourceCell}
 use Rattle.connection.specs.Kind.{kindAt}
-use Rattle.model.specs.State.{State, Entry, free, taken, find, put, inserted, roomLeft, withTime, withLevel, isFree}
+use Rattle.model.specs.State.{State, Entry, free, taken, position, isFree, find, leafOf, put, inserted, roomLeft, withTime, withLevel}
 use Rattle.model.specs.Invariant.{NamesUnique}
 use Rattle.model.specs.Choice.{Winner, noneReady, wins, winner, Chosen, Best}
 use Rattle.model.proofs.Winners.{winner-best}
 use Rattle.model.specs.Call.{Call, opening, closing, receiving, offering, levelling, slot, making, Outcome}
-use Rattle.model.specs.Step.{refuse, accept, ofOpen, openStep, closeStep, offerStep, readStep, receiveStep, levelStep, sendStep, idleStep, serveEntry, serve, slotStep, makeStep, step}
+use Rattle.model.specs.Step.{refuse, accept, replay, ofOpen, openStep, closeStep, offerStep, readStep, receiveStep, levelStep, sendStep, idleStep, serveEntry, serve, slotStep, makeStep, step}
 use Rattle.laws.specs.Require.{require}
 
 -- an instant that does not lie before the last accepted one
@@ -42,25 +42,25 @@ pub record Enters (s : State) (u t : ℕ) (p : Params) : Type 0 where
 
 pub data Effect (s : State) : Call → Outcome → Type 0 where
   refuses : (c : Call) (n : ℕ) → 0 < n → Effect s c (refuse s n)
-  begins : (u t : ℕ) (p : Params) → Enters s u t p → Effect s (opening u t p) (accept (withTime t (inserted (fresh u t p) s)))
-  ends : (u : ℕ) (d : Connection) → find u (s .entries) ≡ taken d → Effect s (closing u) (accept (put u free s))
+  begins : (u t : ℕ) (p : Params) → Enters s u t p → Effect s (opening u t p) (replay (position isFree (s .entries)) s (withTime t (inserted (fresh u t p) s)))
+  ends : (u : ℕ) (d : Connection) → find u (s .entries) ≡ taken d → Effect s (closing u) (replay (leafOf u s) s (put u free s))
   offers :
       (u n : ℕ) (d : Connection) → find u (s .entries) ≡ taken d → waiting (d .queue) + n ≤ 65535
-      → Effect s (offering u n) (accept (put u (taken (offered n d)) s))
+      → Effect s (offering u n) (replay (leafOf u s) s (put u (taken (offered n d)) s))
   marks :
       (o : List ℕ) (u : ℕ) (e : Bool) (d : Connection) → reading o ≡ User u e → find u (s .entries) ≡ taken d
-      → Effect s (receiving o) (accept (put u (taken (afterDataCell e d)) s))
+      → Effect s (receiving o) (replay (leafOf u s) s (put u (taken (afterDataCell e d)) s))
   works :
       (o : List ℕ) (f : Fields) (d : Connection) → reading o ≡ Resource f → find (f .vci) (s .entries) ≡ taken d
-      → Effect s (receiving o) (accept (put (f .vci) (taken (afterResourceCell (s .level) o f d)) s))
-  levels : (l : ℕ) → l ≤ 2 → Effect s (levelling l) (accept (withLevel l s))
+      → Effect s (receiving o) (replay (leafOf (f .vci) s) s (put (f .vci) (taken (afterResourceCell (s .level) o f d)) s))
+  levels : (l : ℕ) → l ≤ 2 → Effect s (levelling l) (accept 0 (withLevel l s))
   idles : (t room : ℕ) → Timely s t → Best t (s .entries) noneReady → Effect s (slot t room) (idleStep (withTime t s))
   sends :
       (t room i u : ℕ) → Timely s t → (b : Chosen t i u (s .entries))
       → Effect s (slot t room) (sendStep (withTime t s) t u (b .holder) (kindAt t (b .holder)))
   makes :
       (u t : ℕ) (d : Connection) → find u (s .entries) ≡ taken d → Timely s t → 0 < s .level → mayMake t (d .destination .made .last) ≡ true
-      → Effect s (making u t) (accept (put u (taken (withMade t (s .level) d)) (withTime t s)))
+      → Effect s (making u t) (replay (leafOf u s) s (put u (taken (withMade t (s .level) d)) (withTime t s)))
 
 module _ {s : State} (c : Call) where
   require-effect : (n : ℕ) → T (ltb 0 n) → (t : Bool) (o : Outcome) → (t ≡ true → Effect s c o) → Effect s c (require (refuse s n) t o)

@@ -21,7 +21,7 @@ use Rattle.model.proofs.Entries.{absent-find, each-free}
 use Rattle.model.proofs.Frames.{put-kept, inserted-read, freed-read}
 use Rattle.model.proofs.Preserved.{empty-well-formed}
 use Rattle.model.specs.Call.{Call, opening, closing, receiving, offering, levelling, slot, making, Outcome}
-use Rattle.model.specs.Step.{refuse, accept, sendStep, idleStep, step}
+use Rattle.model.specs.Step.{refuse, accept, replay, sendStep, idleStep, step}
 use Rattle.model.specs.Run.{final, isAccepted, given, givenFrom, paramsGiven}
 use Rattle.model.proofs.Effects.{Enters, Effect, refuses, begins, ends, offers, marks, works, levels, idles, sends, makes, effect}
 use Rattle.model.proofs.Reached.{step-well-formed}
@@ -60,7 +60,7 @@ unfolding entryParams
 kept-params v u s a d e f n h = put-kept entryParams v u s a d e f n (ap some h)
 
 effect-given : (v : ℕ) {s : State} → NamesUnique (s .entries) → {c : Call} {o : Outcome} → Effect s c o → paramsAt v (o .state) ≡ given v c (isAccepted (o .answer)) (paramsAt v s)
-unfolding refuse accept withLevel idleStep sendStep withTime given isAccepted offered afterDataCell withMade
+unfolding refuse accept replay withLevel idleStep sendStep withTime given isAccepted offered afterDataCell withMade
 effect-given v {s} a (refuses c n h) = refused-given v c s n (paramsAt v s)
 effect-given v {s} a (begins u t p g) = begun-params v s u t p g
 effect-given v {s} a (ends u d f) = ended-params v u s a

@@ -2,6 +2,9 @@
 pub mod Entries
 pub mod Frames
 pub mod Winners
+pub mod Places
+pub mod Scanned
+pub mod Replays
 pub mod Preserved
 pub mod Counts
 pub mod Effects

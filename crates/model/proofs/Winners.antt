@@ -17,7 +17,7 @@ use Rattle.model.specs.Invariant.{Absent, NamesUnique}
 use Rattle.model.specs.Choice.{Winner, noneReady, wins, candidateFrom, candidate, better, winner, Ahead, sooner, tied, Best}
 use Rattle.model.proofs.Entries.{each-map, find-hit, find-past, absent-find, taken≢free}
 
-ahead-trans : {i v j w k x : ℕ} → Ahead i v j w → Ahead j w k x → Ahead i v k x
+pub ahead-trans : {i v j w k x : ℕ} → Ahead i v j w → Ahead j w k x → Ahead i v k x
 ahead-trans (sooner a) (sooner b) = sooner (omega arith)
 ahead-trans (sooner a) (tied b c) = sooner (omega arith)
 ahead-trans (tied a d) (sooner b) = sooner (omega arith)
@@ -28,6 +28,10 @@ ahead-anti (sooner a) (sooner b) = absurd (omega arith)
 ahead-anti (sooner a) (tied b c) = absurd (omega arith)
 ahead-anti (tied a d) (sooner b) = absurd (omega arith)
 ahead-anti (tied a d) (tied b c) = omega arith
+
+pub ahead-instant : {i v j w : ℕ} → Ahead i v j w → i ≤ j
+ahead-instant (sooner a) = omega arith
+ahead-instant (tied a d) = omega arith
 
 no : _≡_ {A = Bool} false true → ⊥
 no e = let z : _≡_ {A = ℕ} 0 1 = cc in omega arith
@@ -49,7 +53,7 @@ elsewhere d ss v c a f e = taken≢free (sym f ∙ absent-find v ss (subst (λ (
 abbrev ahead? : ℕ → ℕ → ℕ → ℕ → Bool
 ahead? i v j w = ltb i j || (eqb i j && leb v w)
 
-ahead-yes : (i v j w : ℕ) → ahead? i v j w ≡ true → Ahead i v j w
+pub ahead-yes : (i v j w : ℕ) → ahead? i v j w ≡ true → Ahead i v j w
 ahead-yes i v j w e = go (ltb i j) (eqb i j) (leb v w) refl refl refl e
   where
     go : (a b c : Bool) → ltb i j ≡ a → eqb i j ≡ b → leb v w ≡ c → (a || (b && c)) ≡ true → Ahead i v j w
@@ -58,7 +62,7 @@ ahead-yes i v j w e = go (ltb i j) (eqb i j) (leb v w) refl refl refl e
     go false true false p q r e = absurd (no e)
     go false false c p q r e = absurd (no e)
 
-ahead-no : (i v j w : ℕ) → ahead? i v j w ≡ false → Ahead j w i v
+pub ahead-no : (i v j w : ℕ) → ahead? i v j w ≡ false → Ahead j w i v
 ahead-no i v j w e = go (ltb i j) (eqb i j) (leb v w) refl refl refl e
   where
     go : (a b c : Bool) → ltb i j ≡ a → eqb i j ≡ b → leb v w ≡ c → (a || (b && c)) ≡ false → Ahead j w i v

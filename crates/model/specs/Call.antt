@@ -28,19 +28,26 @@ pub record Outcome : Type 0 where
 -- the documents' number of a refusal; an accepted call has none
 unfoldable pub refusal : Answer → Option ℕ
 refusal (Refused n) = some n
-refusal Accepted = none
+refusal (Accepted n) = none
 refusal Idle = none
-refusal (Sent v k a) = none
+refusal (Sent v k a n) = none
 
 -- the connection that a slot goes to, and the kind of cell it sends: none of an idle or refused slot
 unfoldable pub goesTo : Answer → Option ℕ
 goesTo (Refused n) = none
-goesTo Accepted = none
+goesTo (Accepted n) = none
 goesTo Idle = none
-goesTo (Sent v k a) = some v
+goesTo (Sent v k a n) = some v
 
 unfoldable pub kindSent : Answer → Option Kind
 kindSent (Refused n) = none
-kindSent Accepted = none
+kindSent (Accepted n) = none
 kindSent Idle = none
-kindSent (Sent v k a) = some k
+kindSent (Sent v k a n) = some k
+
+-- the comparisons that a call made in the tournament: none of a refused or idle one (document 02, L4)
+unfoldable pub comparisons : Answer → ℕ
+comparisons (Refused n) = 0
+comparisons (Accepted n) = n
+comparisons Idle = 0
+comparisons (Sent v k a n) = n

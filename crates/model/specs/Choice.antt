@@ -1,7 +1,7 @@
--- Who is served at t: of the connections that are ready by then, the one that was ready first; of several, the lowest name. (Document 01, "Slots".)
+-- The connection that a slot at t goes to: of the connections that are ready by then, the one that was ready first; of several, the lowest name. (Document 01, "Slots".)
 use Prim.Native.Nat.{ℕ, _≤_, _<_}
 use mathlib.Core.Path.{_≡_}
-use mathlib.Core.Bool.{cond, _&&_, _||_}
+use mathlib.Core.Bool.{Bool, cond, _&&_, _||_}
 use mathlib.Core.List.{List, [], _∷_}
 use lib.Dec.{leb, ltb, eqb}
 use Rattle.connection.specs.declared.parts.Connection.{Connection}
@@ -24,11 +24,14 @@ unfoldable pub candidate : ℕ → Entry → Winner
 candidate t free = noneReady
 candidate t (taken c) = candidateFrom t (c .name) (readyInstant c)
 
--- the earlier of two, ties to the lower name
+-- instant i of name v comes before instant j of name w, or is the same: the earlier one, ties to the lower name
+abbrev pub isAhead : (i v j w : ℕ) → Bool
+isAhead i v j w = ltb i j || (eqb i j && leb v w)
+
 unfoldable pub better : Winner → Winner → Winner
 better noneReady w = w
 better (wins i v) noneReady = wins i v
-better (wins i v) (wins j w) = cond (ltb i j || (eqb i j && leb v w)) (wins i v) (wins j w)
+better (wins i v) (wins j w) = cond (isAhead i v j w) (wins i v) (wins j w)
 
 unfoldable pub winner : ℕ → List Entry → Winner
 winner t [] = noneReady

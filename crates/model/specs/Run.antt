@@ -22,9 +22,9 @@ final s (c ∷ cs) = final (step s c .state) cs
 
 unfoldable pub isAccepted : Answer → Bool
 isAccepted (Refused n) = false
-isAccepted Accepted = true
+isAccepted (Accepted n) = true
 isAccepted Idle = true
-isAccepted (Sent v k a) = true
+isAccepted (Sent v k a n) = true
 
 -- the parameters under which a name is open: an accepted open gives them, an accepted close takes them away
 unfoldable pub given : ℕ → Call → (accepted : Bool) → Option Params → Option Params

@@ -15,9 +15,9 @@ pub record State : Type 0 where
   pub last : ℕ
   pub entries : List Entry
 
--- how many connections can be open
+-- how many connections can be open (document 02, L4)
 abbrev pub capacity : ℕ
-capacity = 64
+capacity = 1024
 
 -- the table that every list starts from
 unfoldable pub empty : State
@@ -39,6 +39,10 @@ holds v (taken c) = eqb (c .name) v
 -- the entry of a name; a free one if the name is not open
 unfoldable pub find : ℕ → List Entry → Entry
 find v ss = getD ss (position (holds v) ss) free
+
+-- the leaf of a name in the tournament: the number of its entry
+abbrev pub leafOf : ℕ → State → ℕ
+leafOf v s = position (holds v) (s .entries)
 
 -- the entry of a name is given this content
 unfoldable pub put : ℕ → Entry → State → State

@@ -16,8 +16,9 @@ use Rattle.connection.specs.Receiving.{offered, afterDataCell, afterResourceCel
 use Rattle.connection.specs.Making.{mayMake, withMade}
 use Rattle.connection.specs.Kind.{kindAt}
 use Rattle.connection.specs.Sending.{untouched, after, bufferAfter}
-use Rattle.model.specs.State.{State, Entry, free, taken, find, put, inserted, roomLeft, withTime, withLevel, isFree}
+use Rattle.model.specs.State.{State, Entry, free, taken, position, isFree, find, leafOf, put, inserted, roomLeft, withTime, withLevel}
 use Rattle.model.specs.Choice.{Winner, noneReady, wins, winner}
+use Rattle.model.specs.Tournament.{replayed}
 use Rattle.model.specs.Call.{Call, opening, closing, receiving, offering, levelling, slot, making, Refused, Accepted, Idle, Sent, Outcome}
 use Rattle.laws.specs.Require.{require}
 
@@ -25,8 +26,12 @@ use Rattle.laws.specs.Require.{require}
 unfoldable pub refuse : State → ℕ → Outcome
 refuse s n = record { state = s; answer = Refused n; buffer = untouched }
 
-unfoldable pub accept : State → Outcome
-accept s = record { state = s; answer = Accepted; buffer = untouched }
+unfoldable pub accept : (comparisons : ℕ) → State → Outcome
+accept n s = record { state = s; answer = Accepted n; buffer = untouched }
+
+-- accepted, and the matches of the leaf that changed are replayed (document 02, L4)
+unfoldable pub replay : (leaf : ℕ) (before after : State) → Outcome
+replay x s r = accept (replayed x (s .entries) (r .entries)) r
 
 -- the rest on the open connection in an entry; 11 on a free one
 unfoldable pub ofOpen : State → Entry → (Connection → Outcome) → Outcome
@@ -42,37 +47,37 @@ openStep s v t p =
     (require (refuse s 12) (isFree (find v (s .entries)))
     (require (refuse s 13) (roomLeft s)
     (require (refuse s 14) (leb (s .last) t)
-    (accept (withTime t (inserted (fresh v t p) s))))))))
+    (replay (position isFree (s .entries)) s (withTime t (inserted (fresh v t p) s))))))))
 
 -- Close: 11. All that waits on the connection goes with it.
 unfoldable pub closeStep : State → (name : ℕ) → Outcome
-closeStep s v = ofOpen s (find v (s .entries)) λ c. accept (put v free s)
+closeStep s v = ofOpen s (find v (s .entries)) λ c. replay (leafOf v s) s (put v free s)
 
 -- Offer: 11, 15.
 unfoldable pub offerStep : State → (name cells : ℕ) → Outcome
 offerStep s v n =
     ofOpen s (find v (s .entries)) λ c.
     require (refuse s 15) (leb (waiting (c .queue) + n) 65535)
-    (accept (put v (taken (offered n c)) s))
+    (replay (leafOf v s) s (put v (taken (offered n c)) s))
 
 -- Receive: the refusals of reading, then 11.
 unfoldable pub readStep : State → List ℕ → Reading → Outcome
 readStep s o (Unread n) = refuse s n
-readStep s o (User v e) = ofOpen s (find v (s .entries)) λ c. accept (put v (taken (afterDataCell e c)) s)
-readStep s o (Resource f) = ofOpen s (find (f .vci) (s .entries)) λ c. accept (put (f .vci) (taken (afterResourceCell (s .level) o f c)) s)
+readStep s o (User v e) = ofOpen s (find v (s .entries)) λ c. replay (leafOf v s) s (put v (taken (afterDataCell e c)) s)
+readStep s o (Resource f) = ofOpen s (find (f .vci) (s .entries)) λ c. replay (leafOf (f .vci) s) s (put (f .vci) (taken (afterResourceCell (s .level) o f c)) s)
 
 unfoldable pub receiveStep : State → List ℕ → Outcome
 receiveStep s o = readStep s o (reading o)
 
 -- Setting the level: 9.
 unfoldable pub levelStep : State → (level : ℕ) → Outcome
-levelStep s l = require (refuse s 9) (leb l 2) (accept (withLevel l s))
+levelStep s l = require (refuse s 9) (leb l 2) (accept 0 (withLevel l s))
 
 -- a slot's cell of this kind, from the connection c of the name v
 unfoldable pub sendStep : State → (t v : ℕ) → Connection → Kind → Outcome
 sendStep s t v c k = record {
   state = put v (taken (after k t c)) s;
-  answer = Sent v k (after k t c .rate .acr);
+  answer = Sent v k (after k t c .rate .acr) (replayed (leafOf v s) (s .entries) (put v (taken (after k t c)) s .entries));
   buffer = bufferAfter k c (after k t c);
 }
 
@@ -103,7 +108,7 @@ makeStep s v t =
     require (refuse s 14) (leb (s .last) t)
     (require (refuse s 16) (ltb 0 (s .level))
     (require (refuse s 17) (mayMake t (c .destination .made .last))
-    (accept (put v (taken (withMade t (s .level) c)) (withTime t s))))))
+    (replay (leafOf v s) s (put v (taken (withMade t (s .level) c)) (withTime t s))))))
 
 unfoldable pub step : State → Call → Outcome
 step s (opening v t p) = openStep s v t p

@@ -1,40 +1,27 @@
--- What a search by the index finds in the words of a state that calls reach: the entry of a name, and the lowest free one.
-use Prim.Native.Nat.{ℕ, suc, _+_, _-_, _^_, _<_}
+-- What a search in the words of a state that calls reach finds: the entry of a name, and the lowest free one.
+use Prim.Native.Nat.{ℕ, zero, suc, _+_, _-_, _*_, _/_, _%_, _≤_, _<_, min}
 use mathlib.Core.Path.{_≡_, refl, sym, ap, subst, _∙_}
-use mathlib.Core.Bool.{Bool, true, false, cond, true≢false}
+use mathlib.Core.Bool.{true}
 use mathlib.Core.List.{List, [], _∷_}
-use native.Mathlib.Nat.{not-suc-le-zero, le-of-suc-le-suc}
+use native.Mathlib.Nat.{not-suc-le-zero, le-of-suc-le-suc, zero-add}
 use native.Mathlib.Omega.{arith}
-use lib.Count.{trailingZeros, trailing-of-zero}
-use lib.Dec.{lit<}
-use lib.ListN.{length, getD, set, length-set}
-use lib.Seq.{getD-set-same, getD-set-other}
-use borrow.Author.Tests.{lt-ltb, le-ltb, eqb-false, ne-eqb}
+use lib.Count.{trailingZeros}
+use lib.ListN.{length, getD}
+use borrow.Author.Tests.{lt-ltb, le-ltb}
 use Rattle.connection.specs.declared.parts.Connection.{Connection}
 use Rattle.model.specs.State.{State, Entry, free, taken, position, isFree, holds, find, roomLeft, capacity}
-use Rattle.model.specs.Invariant.{NamesUnique, WellFormed}
-use Rattle.table.specs.Layout.{bitmap, isTaken, bucket, inBucket, words, usedAt, indexFrom, namesFrom}
-use Rattle.names.specs.Finding.{Located, FindsFree}
+use Rattle.model.specs.Invariant.{OnEntry, NamesUnique, WellFormed}
+use Rattle.table.specs.Layout.{words, used, bitmap, isTaken, group, directory, directoryWord, directoryWords, usedFrom, groups, directoryFrom}
+use Rattle.names.specs.Directory.{atLeast, InTable, AtLeast}
+use Rattle.names.specs.Finding.{Located, Finds, FindsFree}
 use Rattle.names.specs.declared.find.Found.the-variants.{At, Nothing}
-use Rattle.model.proofs.Entries.{entry-place, Case, same, other, case}
-use Rattle.table.proofs.Bitmaps.{bucket-lt, bitmap-less, bitmap-first, bitmap-top, bitmap-both}
-use Rattle.table.proofs.Words.{number, name-at, taken-at, bucket-at}
-
--- the first entry at which a test passes passes it
-position-passes : (f : Entry → Bool) (ss : List Entry) → position f ss < length ss → f (getD ss (position f ss) free) ≡ true
-unfolding position
-position-passes f [] l = absurd (not-suc-le-zero l)
-position-passes f (x ∷ ss) l = go (position-passes f ss) (f x) refl l
-  where
-    go : (position f ss < length ss → f (getD ss (position f ss) free) ≡ true) → (b : Bool) → f x ≡ b → cond b 0 (suc (position f ss)) < suc (length ss)
-        → f (getD (x ∷ ss) (cond b 0 (suc (position f ss))) free) ≡ true
-    go rest true e h = e
-    go rest false e h = rest (le-of-suc-le-suc h)
-
-position-none : (f : Entry → Bool) (ss : List Entry) → ((k : ℕ) → k < length ss → f (getD ss k free) ≡ false) → position f ss ≡ length ss
-unfolding position
-position-none f [] n = refl
-position-none f (x ∷ ss) n = rw (n 0 (omega arith)) (ap suc (position-none f ss (λ k m. n (suc k) (omega arith))))
+use Rattle.model.proofs.Entries.{entry-place, find-name, taken-in}
+use Rattle.table.proofs.Directory.{length-words, length-directory}
+use Rattle.table.proofs.Splits.{length-before-directory, beforeDirectory, behindDirectory, directory-split}
+use Rattle.table.proofs.Used.{length-used, used-at, Past, past-start, past-full, past-vacant, past-all}
+use Rattle.names.proofs.Falling.{Reach, above, below, reach, Among, at-least-among, at-least-drops, at-least-most, at-least-in, at-least-out, at-least-self}
+use Rattle.names.proofs.Directories.{falling-directory, directory-count}
+use Rattle.names.proofs.Halving.{in-table}
 
 pub found-at : {ss : List Entry} {v i : ℕ} → (l : Located ss v i) → find v ss ≡ taken (l .holder)
 unfolding find
@@ -42,131 +29,134 @@ found-at {ss} l = ap (λ (k : ℕ). getD ss k free) (l .place) ∙ l .here
 
 -- ---- the search for a name
 
-inBucket-free : (h : ℕ) → inBucket h free ≡ false
-unfolding inBucket
-inBucket-free h = refl
+-- the directory in the words of a state
+pub in-state : (s : State) → WellFormed s → (l : List ℕ) → l ≡ words s
+    → InTable l (beforeDirectory s) (directory (s .entries)) (behindDirectory s)
+in-state s w l e = (e ∙ directory-split s, length-before-directory (s .level) (s .last) (used (s .entries)) (length-used (s .entries)), length-directory (s .entries) ∙ w .size, falling-directory (s .entries))
 
-inBucket-not : (h : ℕ) (x : Entry) → x ≡ free → inBucket h x ≡ true → ⊥
-inBucket-not h x e f = true≢false (sym f ∙ ap (inBucket h) e ∙ inBucket-free h)
+words-at : (k : ℕ) (ss : List Entry) (j : ℕ) → j < length ss → getD (directoryWords k ss) j 0 ≡ directoryWord (k + j) (getD ss j free)
+unfolding directoryWords
+words-at k [] j h = absurd (not-suc-le-zero h)
+words-at k (s ∷ ss) zero h = ap (λ (n : ℕ). directoryWord n s) (omega arith)
+words-at k (s ∷ ss) (suc j) h = words-at (suc k) ss j (le-of-suc-le-suc h) ∙ ap (λ (n : ℕ). directoryWord n (getD ss j free)) (omega arith)
 
-holds-not : (v : ℕ) (c : Connection) → (c .name ≡ v → ⊥) → holds v (taken c) ≡ false
-unfolding holds
-holds-not v c h = ne-eqb _ _ h
+-- a word of the directory is that of an entry
+entry-of : (ss : List Entry) (p : ℕ) → p < length ss → Among (getD (directory ss) p 0) (directoryWords 0 ss)
+entry-of ss p h =
+    let x : ℕ = getD (directory ss) p 0 in
+    let n : p < length (directory ss) = omega (arith, h, length-directory ss) in
+    at-least-among x (directoryWords 0 ss)
+    (omega (arith, at-least-self (directory ss) (falling-directory ss) p n, fewer (reach (suc p) (atLeast (suc x) (directory ss))), directory-count x ss, directory-count (suc x) ss))
+  where
+    fewer : Reach (suc p) (atLeast (suc (getD (directory ss) p 0)) (directory ss)) → atLeast (suc (getD (directory ss) p 0)) (directory ss) ≤ p
+    fewer (above q) = absurd (omega (arith, at-least-in (suc (getD (directory ss) p 0)) (directory ss) (falling-directory ss) p q))
+    fewer (below q) = omega (arith, q)
 
--- a name that is not in its bucket is not there
-inBucket-holds : (v : ℕ) (x : Entry) → inBucket (bucket v) x ≡ false → holds v x ≡ false
-unfolding inBucket holds
-inBucket-holds v free e = refl
-inBucket-holds v (taken c) e = ne-eqb (c .name) v (λ z. eqb-false (bucket (c .name)) (bucket v) e (ap bucket z))
-
--- an entry as it was, or, of another name, taken from the search
-pub data Kept (v : ℕ) : Entry → Entry → Type 0 where
-  stays : {x : Entry} → Kept v x x
-  tried : {x : Entry} → holds v x ≡ false → Kept v free x
-
--- the entries of v's bucket that are still to be tried are those of m
-pub record Untried (v m : ℕ) (ss : List Entry) : Type 0 where
-  pub rest : List Entry
-  pub size : length rest ≡ capacity
-  pub are : m ≡ bitmap (inBucket (bucket v)) rest
-  pub each : (k : ℕ) → Kept v (getD rest k free) (getD ss k free)
-
-pub untried-start : (s : State) → WellFormed s → (v : ℕ) → Untried v (getD (words s) (indexFrom + bucket v) 0) (s .entries)
-untried-start s w v = record {
-  rest = s .entries;
-  size = w .size;
-  are = bucket-at s (bucket v) (bucket-lt v);
-  each = λ k. stays;
-}
-
--- the entry of m's lowest bit, and who holds it
-record Next (v i : ℕ) (rest ss : List Entry) : Type 0 where
-  holder : Connection
-  inside-bucket : inBucket (bucket v) (getD rest i free) ≡ true
-  here : getD ss i free ≡ taken holder
-
-module _ (v m : ℕ) (ss : List Entry) (l : Untried v m ss) (i : ℕ) (e : i ≡ trailingZeros 64 m) (h : i < capacity) where
-  first : i ≡ position (inBucket (bucket v)) (l .rest)
-  first = e ∙ ap (trailingZeros 64) (l .are) ∙ ap (λ (n : ℕ). trailingZeros n (bitmap (inBucket (bucket v)) (l .rest))) (sym (l .size)) ∙ bitmap-first (inBucket (bucket v)) (l .rest)
-
-  next : Next v i (l .rest) ss
-  next =
-      go (getD (l .rest) i free) (getD ss i free) refl refl (l .each i)
-      (ap (λ (k : ℕ). inBucket (bucket v) (getD (l .rest) k free)) first ∙ position-passes (inBucket (bucket v)) (l .rest) (omega (arith, first, l .size)))
-    where
-      go : (x y : Entry) → getD (l .rest) i free ≡ x → getD ss i free ≡ y → Kept v x y → inBucket (bucket v) (getD (l .rest) i free) ≡ true → Next v i (l .rest) ss
-      go _ (taken c) a b stays f = record { holder = c; inside-bucket = f; here = b }
-      go _ free a b stays f = absurd (inBucket-not (bucket v) (getD (l .rest) i free) a f)
-      go _ y a b (tried t) f = absurd (inBucket-not (bucket v) (getD (l .rest) i free) a f)
-
-  -- its name is v: found
-  pub untried-found : (s : State) → WellFormed s → ss ≡ s .entries → getD (words s) (namesFrom + i) 0 ≡ v → Located ss v i
-  untried-found s w q n =
-      let c = next .holder in
-      let name : c .name ≡ v = sym (ap number (next .here)) ∙ ap (λ (x : List Entry). number (getD x i free)) q ∙ sym (name-at s (w .size) i h) ∙ n in
+-- word x, of entry j, has the name v
+module _ (ss : List Entry) (unique : NamesUnique ss) (v x : ℕ) (e : x / capacity ≡ v + 1) (j : ℕ) (inside : j < capacity) where
+  located : (y : Entry) → getD ss j free ≡ y → directoryWord j y ≡ x → Located ss v (x % capacity)
+  unfolding directoryWord
+  located free f q = absurd (omega (arith, q, e))
+  located (taken c) f q =
+      let n : c .name ≡ v = omega (arith, q, e, inside) in
+      let i : j ≡ x % capacity = omega (arith, q, e, inside) in
       record {
         holder = c;
-        here = next .here;
-        named = name;
-        place = ap (λ (u : ℕ). position (holds u) ss) (sym name) ∙ entry-place ss (subst NamesUnique (sym q) (w .unique)) i c (next .here);
+        here = ap (λ (k : ℕ). getD ss k free) (sym i) ∙ f;
+        named = n;
+        place = ap (λ (u : ℕ). position (holds u) ss) (sym n) ∙ entry-place ss unique j c f ∙ i;
       }
 
-  -- its name is another: it is taken from the search
-  pub untried-next : (s : State) → WellFormed s → ss ≡ s .entries → (getD (words s) (namesFrom + i) 0 ≡ v → ⊥) → Untried v (m - 2 ^ i) ss
-  untried-next s w q n = record {
-    rest = set (l .rest) i free;
-    size = length-set (l .rest) i free ∙ l .size;
-    are = ap (λ (x : ℕ). x - 2 ^ i) (l .are) ∙ bitmap-less (inBucket (bucket v)) (l .rest) i free inside (next .inside-bucket) (inBucket-free (bucket v));
-    each = λ k. go k (case k i);
+located-at : (ss : List Entry) → NamesUnique ss → length ss ≡ capacity → (v p : ℕ) → p < capacity → getD (directory ss) p 0 / capacity ≡ v + 1
+    → Located ss v (getD (directory ss) p 0 % capacity)
+located-at ss u n v p h e =
+    let m : Among (getD (directory ss) p 0) (directoryWords 0 ss) = entry-of ss p (omega (arith, h, n)) in
+    let i : m .place < length ss = omega (arith, m .inside, length-words 0 ss) in
+    located ss u v (getD (directory ss) p 0) e (m .place) (omega (arith, i, n)) (getD ss (m .place) free) refl
+    (ap (λ (k : ℕ). directoryWord k (getD ss (m .place) free)) (sym (zero-add (m .place))) ∙ sym (words-at 0 ss (m .place) i) ∙ m .is)
+
+-- the word of entry i stands first among those that are below those of higher names
+module _ (ss : List Entry) (i v : ℕ) (c : Connection) (here : getD ss i free ≡ taken c) (named : c .name ≡ v) (size : length ss ≡ capacity) where
+  first-below : (p : ℕ) → p ≡ min (atLeast ((v + 2) * capacity) (directory ss)) (capacity - 1) → getD (directory ss) p 0 / capacity ≡ v + 1
+  unfolding directoryWord
+  first-below p e =
+      let h : i < length ss = taken-in ss i c here in
+      let x : ℕ = (v + 1) * capacity + i in
+      let w : getD (directoryWords 0 ss) i 0 ≡ x =
+      words-at 0 ss i h ∙ ap (λ (k : ℕ). directoryWord k (getD ss i free)) (zero-add i) ∙ ap (directoryWord i) here ∙ ap (λ (u : ℕ). (u + 1) * capacity + i) named in
+      let d : atLeast ((v + 2) * capacity) (directoryWords 0 ss) < atLeast x (directoryWords 0 ss) =
+      subst (λ (y : ℕ). atLeast ((v + 2) * capacity) (directoryWords 0 ss) < atLeast y (directoryWords 0 ss)) w
+      (at-least-drops ((v + 2) * capacity) (directoryWords 0 ss) i (omega (arith, h, length-words 0 ss)) (omega (arith, w, h, size))) in
+      let q : p ≡ atLeast ((v + 2) * capacity) (directory ss) =
+      omega (arith, e, d, directory-count x ss, directory-count ((v + 2) * capacity) ss, at-least-most x (directory ss), length-directory ss, size) in
+      let lo : x ≤ getD (directory ss) p 0 =
+      at-least-in x (directory ss) (falling-directory ss) p (omega (arith, q, d, directory-count x ss, directory-count ((v + 2) * capacity) ss)) in
+      let hi : getD (directory ss) p 0 < (v + 2) * capacity =
+      at-least-out ((v + 2) * capacity) (directory ss) (falling-directory ss) p (omega (arith, q)) (omega (arith, e, length-directory ss, size)) in
+      omega (arith, lo, hi)
+
+module _ (l : List ℕ) (v p : ℕ) (a : AtLeast l ((v + 2) * capacity) p) where
+  word-is : (s : State) → WellFormed s → l ≡ words s → getD l (directoryFrom + p) 0 ≡ getD (directory (s .entries)) p 0
+  word-is s w q = in-table l (beforeDirectory s) (directory (s .entries)) (behindDirectory s) (in-state s w l q) p (a .inside)
+
+  place-is : (s : State) → WellFormed s → l ≡ words s → p ≡ min (atLeast ((v + 2) * capacity) (directory (s .entries))) (capacity - 1)
+  place-is s w q = a .is (beforeDirectory s) (directory (s .entries)) (behindDirectory s) (in-state s w l q)
+
+  pub found-here : getD l (directoryFrom + p) 0 / capacity ≡ v + 1 → Finds l v (At (getD l (directoryFrom + p) 0 % capacity))
+  found-here e = record {
+    inside = omega arith;
+    is = λ s w q.
+        let x : getD l (directoryFrom + p) 0 ≡ getD (directory (s .entries)) p 0 = word-is s w q in
+        subst (λ (y : ℕ). Located (s .entries) v (y % capacity)) (sym x)
+        (located-at (s .entries) (w .unique) (w .size) v p (a .inside) (ap (λ (y : ℕ). y / capacity) (sym x) ∙ e));
   }
+
+  pub found-nowhere : (getD l (directoryFrom + p) 0 / capacity ≡ v + 1 → ⊥) → Finds l v Nothing
+  unfolding find
+  found-nowhere e = record { inside = tt; is = λ s w q. go s w q (find v (s .entries)) refl (find-name v (s .entries)) }
     where
-      inside : i < length (l .rest)
-      inside = omega (arith, l .size)
-
-      go : (k : ℕ) → Case k i → Kept v (getD (set (l .rest) i free) k free) (getD ss k free)
-      go k (same e) =
-          rw (e, getD-set-same (l .rest) i free free inside)
-          (tried {x = getD ss i free} (rw (next .here) (holds-not v (next .holder) (λ z. n (name-at s (w .size) i h ∙ ap (λ (x : List Entry). number (getD x i free)) (sym q) ∙ ap number (next .here) ∙ z)))))
-      go k (other e) = rw (getD-set-other (l .rest) i k free free e) (l .each k)
-
--- none is left: v has no entry
-pub untried-none : (v : ℕ) (ss : List Entry) → length ss ≡ capacity → Untried v 0 ss → find v ss ≡ free
-unfolding find
-untried-none v ss n l =
-    ap (λ (k : ℕ). getD ss k free) (position-none (holds v) ss (λ k h. go k (getD (l .rest) k free) (getD ss k free) refl (l .each k) h)) ∙ past ss
-  where
-    past : (ss : List Entry) → getD ss (length ss) free ≡ free
-    past [] = refl
-    past (x ∷ ss) = past ss
-
-    go : (k : ℕ) (x y : Entry) → getD (l .rest) k free ≡ x → Kept v x y → k < length ss → holds v y ≡ false
-    go k _ y e (tried t) h = t
-    go k _ y e stays h =
-        inBucket-holds v y (sym (ap (inBucket (bucket v)) e) ∙ bitmap-top (inBucket (bucket v)) (l .rest) 0 k (subst (λ (m : ℕ). m < 2 ^ 0) (l .are) (lit< tt)) (omega arith) (omega (arith, l .size)))
+      go : (s : State) → WellFormed s → l ≡ words s → (x : Entry) → find v (s .entries) ≡ x → OnEntry (λ c. c .name ≡ v) (find v (s .entries)) → find v (s .entries) ≡ free
+      go s w q free f n = f
+      go s w q (taken c) f n =
+          absurd (e (ap (λ (y : ℕ). y / capacity) (word-is s w q)
+          ∙ first-below (s .entries) (position (holds v) (s .entries)) v c f (subst (OnEntry (λ c. c .name ≡ v)) f n) (w .size) p (place-is s w q)))
 
 -- ---- the lowest free entry
 
-vacant-is : (s : State) → WellFormed s → (m : ℕ) → m ≡ 18446744073709551615 - getD (words s) usedAt 0 → position isFree (s .entries) ≡ trailingZeros 64 m
-vacant-is s w m e =
-    let ss = s .entries in
-    let t : bitmap isTaken ss + bitmap isFree ss + 1 ≡ 2 ^ 64 = bitmap-both ss ∙ ap (λ (n : ℕ). 2 ^ n) (w .size) in
-    let f : bitmap isFree ss ≡ m = omega (arith, t, e, taken-at s) in
-    sym (bitmap-first isFree ss) ∙ ap (λ (n : ℕ). trailingZeros n (bitmap isFree ss)) (w .size) ∙ ap (trailingZeros 64) f
+-- of the words of a state: the entries before group g are taken
+pub record Searched (l : List ℕ) (g : ℕ) : Type 0 where
+  pub inside : g ≤ groups
+  pub is : (s : State) → WellFormed s → l ≡ words s → Past (s .entries) g
 
-module _ (l : List ℕ) (m : ℕ) (e : m ≡ 18446744073709551615 - getD l usedAt 0) where
-  vacant-in : (s : State) → WellFormed s → l ≡ words s → position isFree (s .entries) ≡ trailingZeros 64 m
-  vacant-in s w q = vacant-is s w m (e ∙ ap (λ (x : List ℕ). 18446744073709551615 - getD x usedAt 0) q)
+pub searched-start : (l : List ℕ) → Searched l 0
+searched-start l = record { inside = omega arith; is = λ s w q. past-start (s .entries) }
 
-  pub free-found : (i : ℕ) → i ≡ trailingZeros 64 m → i < capacity → FindsFree l (At i)
-  free-found i q h = record { inside = h; is = λ s w r. vacant-in s w r ∙ sym q }
+module _ (l : List ℕ) (g : ℕ) (b : Searched l g) where
+  group-word : g < groups → (s : State) → l ≡ words s → (m : ℕ) → m ≡ 18446744073709551615 - getD l (usedFrom + g) 0
+      → m ≡ 18446744073709551615 - bitmap isTaken (group g (s .entries))
+  group-word h s q m e =
+      e ∙ ap (λ (x : ℕ). 18446744073709551615 - x) (ap (λ (x : List ℕ). getD x (usedFrom + g) 0) (q ∙ directory-split s) ∙ used-at (s .entries) g h (s .level) (s .last) _)
 
-  pub free-none : m ≡ 0 → FindsFree l Nothing
+  module _ (h : g < groups) (m : ℕ) (e : m ≡ 18446744073709551615 - getD l (usedFrom + g) 0) where
+    pub searched-next : m ≡ 0 → Searched l (g + 1)
+    searched-next z = record {
+      inside = omega (arith, h);
+      is = λ s w q. subst (Past (s .entries)) (omega arith) (past-full (s .entries) (w .size) g h (b .is s w q) (sym z ∙ group-word h s q m e));
+    }
+
+    pub searched-found : (i : ℕ) → i ≡ trailingZeros 64 m → i < 64 → FindsFree l (At (g * 64 + i))
+    searched-found i d k = record {
+      inside = omega (arith, h, k);
+      is = λ s w q. past-vacant (s .entries) (w .size) g h (b .is s w q) m (group-word h s q m e) (omega (arith, d, k)) ∙ ap (λ (n : ℕ). g * 64 + n) (sym d);
+    }
+
+  pub searched-none : groups ≤ g → FindsFree l Nothing
   unfolding roomLeft
-  free-none z = record {
+  searched-none h = record {
     inside = tt;
-    is = λ s w r.
-        le-ltb (position isFree (s .entries)) (length (s .entries))
-        (omega (arith, w .size, vacant-in s w r ∙ ap (trailingZeros 64) z ∙ trailing-of-zero 64));
+    is = λ s w q.
+        let n : g ≡ groups = omega (arith, h, b .inside) in
+        le-ltb (position isFree (s .entries)) (length (s .entries)) (omega (arith, w .size, past-all (s .entries) (w .size) (subst (Past (s .entries)) n (b .is s w q))));
   }
 
 pub room-at : (s : State) → WellFormed s → (i : ℕ) → i < capacity → position isFree (s .entries) ≡ i → roomLeft s ≡ true

@@ -1,3 +1,4 @@
-// The index of names and the bits of the entries in use: a name's entry, and the lowest free one.
+// The directory of names and the bits of the entries in use: a name's entry, and the lowest free one.
+pub mod directory;
 pub mod find;
-pub mod index;
+pub mod used;

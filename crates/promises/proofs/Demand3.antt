@@ -31,16 +31,16 @@ bounds cs v =
 same-refusal : {a b : Answer} → SameAnswer a b → refusal a ≡ refusal b
 unfolding refusal
 same-refusal (refusals n) = refl
-same-refusal plain = refl
+same-refusal (plain m n) = refl
 same-refusal idles = refl
-same-refusal (sends v k a b) = refl
+same-refusal (sends v k a b m n) = refl
 
 same-kind : {a b : Answer} → SameAnswer a b → kindSent a ≡ kindSent b
 unfolding kindSent
 same-kind (refusals n) = refl
-same-kind plain = refl
+same-kind (plain m n) = refl
 same-kind idles = refl
-same-kind (sends v k a b) = refl
+same-kind (sends v k a b m n) = refl
 
 not-above : {x y : Entry} → Lower x y → NotAbove (entryRate x) (entryRate y)
 unfolding entryRate

@@ -16,7 +16,7 @@ use Rattle.model.specs.Invariant.{WellFormed}
 use Rattle.model.specs.declared.answer.Answer.{Answer}
 use Rattle.model.specs.declared.answer.Answer.the-variants.{Refused, Accepted, Idle, Sent}
 use Rattle.model.specs.Call.{Call, Outcome, refusal, goesTo, kindSent}
-use Rattle.model.specs.Step.{refuse, accept, idleStep, sendStep, step}
+use Rattle.model.specs.Step.{refuse, accept, replay, idleStep, sendStep, step}
 use Rattle.model.specs.Queries.{entryAcr, acrOf}
 use Rattle.model.specs.Run.{run, final, isAccepted, given, givenFrom, entryRate, allowed}
 use Rattle.model.proofs.Preserved.{empty-well-formed}
@@ -35,8 +35,8 @@ use Rattle.promises.specs.Exports.{paramsObserved, rateReturned, wentTo,
 use Rattle.promises.proofs.Demand3.{demand3}
 
 -- What the numbers say of the answers: 0 of an accepted call alone.
-effect-accepted : {s : State} {c : Call} {o : Outcome} → Effect s c o → eqb (slotAnswer (o .answer) .refusal) 0 ≡ isAccepted (o .answer)
-unfolding refuse accept idleStep sendStep isAccepted
+pub effect-accepted : {s : State} {c : Call} {o : Outcome} → Effect s c o → eqb (slotAnswer (o .answer) .refusal) 0 ≡ isAccepted (o .answer)
+unfolding refuse accept replay idleStep sendStep isAccepted
 effect-accepted (refuses c n h) = ne-eqb n 0 (λ e. omega (arith, h, e))
 effect-accepted (begins u t p g) = refl
 effect-accepted (ends u d f) = refl
@@ -56,9 +56,9 @@ orZero (some n) = n
 refusal-number : (a : Answer) → slotAnswer a .refusal ≡ orZero (refusal a)
 unfolding refusal orZero
 refusal-number (Refused n) = refl
-refusal-number Accepted = refl
+refusal-number (Accepted n) = refl
 refusal-number Idle = refl
-refusal-number (Sent v k a) = refl
+refusal-number (Sent v k a n) = refl
 
 kindOrZero : Option Kind → ℕ
 kindOrZero none = 0
@@ -69,24 +69,24 @@ kindOrZero (some Data) = 3
 kind-number : (a : Answer) → slotAnswer a .kind ≡ kindOrZero (kindSent a)
 unfolding kindSent kindOrZero
 kind-number (Refused n) = refl
-kind-number Accepted = refl
+kind-number (Accepted n) = refl
 kind-number Idle = refl
-kind-number (Sent v Forward a) = refl
-kind-number (Sent v Turned a) = refl
-kind-number (Sent v Data a) = refl
+kind-number (Sent v Forward a n) = refl
+kind-number (Sent v Turned a n) = refl
+kind-number (Sent v Data a n) = refl
 
 went-to : (a : Answer) → wentTo (slotAnswer a) ≡ goesTo a
 unfolding goesTo
 went-to (Refused n) = refl
-went-to Accepted = refl
+went-to (Accepted n) = refl
 went-to Idle = refl
-went-to (Sent v Forward a) = refl
-went-to (Sent v Turned a) = refl
-went-to (Sent v Data a) = refl
+went-to (Sent v Forward a n) = refl
+went-to (Sent v Turned a n) = refl
+went-to (Sent v Data a n) = refl
 
 -- Refusals.
 effect-leaves : {s : State} {c : Call} {o : Outcome} → Effect s c o → (slotAnswer (o .answer) .refusal ≡ 0 → ⊥) → (o .state ≡ s) × (o .buffer ≡ untouched)
-unfolding refuse accept idleStep sendStep
+unfolding refuse accept replay idleStep sendStep
 effect-leaves (refuses c n h) z = (refl, refl)
 effect-leaves (begins u t p g) z = absurd (z refl)
 effect-leaves (ends u d f) z = absurd (z refl)

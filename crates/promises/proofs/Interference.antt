@@ -17,7 +17,7 @@ use Rattle.model.specs.State.{State, Entry, taken, empty, find, put, withTime, 
 use Rattle.model.specs.Invariant.{NamesUnique}
 use Rattle.model.proofs.Frames.{put-read, inserted-read, freed-read}
 use Rattle.model.specs.Call.{Call, Outcome, goesTo}
-use Rattle.model.specs.Step.{refuse, accept, sendStep, idleStep}
+use Rattle.model.specs.Step.{refuse, accept, replay, sendStep, idleStep}
 use Rattle.model.specs.Run.{final}
 use Rattle.model.proofs.Effects.{Effect, refuses, begins, ends, offers, marks, works, levels, idles, sends, makes, effect}
 use Rattle.model.proofs.Reached.{reached-well-formed}
@@ -39,7 +39,7 @@ put-other v u s a d e f n h = put-read same v u s a d e f n ∙ other u v _ _ h
 effect-other :
     (v : ℕ) {s : State} → NamesUnique (s .entries) → {c : Call} {o : Outcome} → Effect s c o → names c (o .answer) ≢ some v
     → find v (o .state .entries) ≡ find v (s .entries)
-unfolding same names cellName refuse accept sendStep idleStep withTime withLevel goesTo fresh offered afterDataCell withMade
+unfolding same names cellName refuse accept replay sendStep idleStep withTime withLevel goesTo fresh offered afterDataCell withMade
 effect-other v a (refuses c n z) h = refl
 effect-other v {s} a (begins u t p g) h = inserted-read same v s (fresh u t p) (g .new) (g .room) ∙ other u v _ _ h
 effect-other v {s} a (ends u d f) h = freed-read same v u s a ∙ other u v _ _ h

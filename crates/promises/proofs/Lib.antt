@@ -13,3 +13,5 @@ pub mod Moves
 pub mod Marks
 pub mod SentWaited
 pub mod Liveness
+pub mod Comparisons
+pub mod Counts

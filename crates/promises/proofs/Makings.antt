@@ -16,7 +16,7 @@ unfolding computing turnedMarks turnedPayload turnedCell mayMake withMade madeFi
 makings = record {
   notOpen = refl;
   uncongested = refl;
-  accepted = refl;
+  congested = refl;
   earlier = refl;
   soon = refl;
   rested = refl;

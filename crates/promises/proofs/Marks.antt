@@ -31,12 +31,12 @@ use Rattle.connection.specs.Receiving.{offered, afterDataCell, waitingCi, markK
 use Rattle.connection.specs.Kind.{kindAt}
 use Rattle.connection.specs.Sending.{after, sentForward, sentTurned, sentData, bufferAfter, backwardCell, written}
 use Rattle.connection.proofs.Keeps.{work-same, after-same}
-use Rattle.model.specs.State.{State, Entry, free, taken, empty, find, put, withTime, withLevel}
+use Rattle.model.specs.State.{State, Entry, free, taken, empty, find, leafOf, put, withTime, withLevel}
 use Rattle.model.specs.Invariant.{WellFormed, NamesUnique}
 use Rattle.model.specs.declared.answer.Answer.{Answer}
 use Rattle.model.specs.declared.answer.Answer.the-variants.{Refused, Idle, Sent}
 use Rattle.model.specs.Call.{Call, receiving, slot, Outcome}
-use Rattle.model.specs.Step.{refuse, accept, ofOpen, readStep, receiveStep, idleStep, sendStep, step}
+use Rattle.model.specs.Step.{refuse, accept, replay, ofOpen, readStep, receiveStep, idleStep, sendStep, step}
 use Rattle.model.specs.Run.{final}
 use Rattle.model.proofs.Entries.{Case, same, other, case}
 use Rattle.model.proofs.Frames.{name-of, put-read, inserted-read, freed-read}
@@ -44,6 +44,7 @@ use Rattle.model.proofs.Preserved.{valid-at}
 use Rattle.model.proofs.Effects.{Effect, refuses, begins, ends, offers, marks, works, levels, idles, sends, makes, effect}
 use Rattle.model.proofs.Reached.{step-well-formed, final-well-formed, reached-well-formed}
 use Rattle.promises.specs.Marks.{MarkCame, withCi, withEfci, atLevel2, Quiet, AllQuiet, MarkWritten, NoMarkLost}
+use Rattle.promises.proofs.Pairs.{sent-same}
 
 -- the turned cell that waits, as it will be written, is read as a turned cell of v with CI 1
 record Marked (v : ℕ) (w : Waiting) : Type 0 where
@@ -135,7 +136,7 @@ changed-mark v u s a d e f n m h = rw (put-read self v u s a d e f n) (go (case 
 effect-mark :
     (v : ℕ) {s : State} → WellFormed s → {c : Call} {o : Outcome} → Effect s c o → Quiet v c (o .answer) → HasMark v (find v (s .entries))
     → HasMark v (find v (o .state .entries))
-unfolding self refuse accept sendStep idleStep withTime withLevel fresh offered afterDataCell withMade
+unfolding self refuse accept replay sendStep idleStep withTime withLevel fresh offered afterDataCell withMade
 effect-mark v w (refuses c n h) q m = m
 effect-mark v {s} w (begins u t p g) q m = rw (inserted-read self v s (fresh u t p) (g .new) (g .room)) (go (case u v))
   where
@@ -153,7 +154,7 @@ effect-mark v w (idles t room g b) q m = m
 effect-mark v {s} w (sends t room i u g b) q m =
     let k = kindAt t (b .holder) in
     changed-mark v u (withTime t s) (w .unique) (b .holder) (after k t (b .holder)) (b .found) (after-same k t (b .holder) .name)
-    (λ z h. sent-mark v t k (b .holder) (λ e. q (after k t (b .holder) .rate .acr) (rw (z, e) refl)) h) m
+    (λ z h. sent-mark v t k (b .holder) (λ e. q _ _ (sent-same z e)) h) m
 effect-mark v {s} w (makes u t d f g b z) q m = changed-mark v u (withTime t s) (w .unique) d (withMade t (s .level) d) f refl (λ _ k. k) m
 
 all-mark : (v : ℕ) (s : State) → WellFormed s → (cs : List Call) → AllQuiet v s cs → HasMark v (find v (s .entries)) → HasMark v (find v (final s cs .entries))
@@ -171,14 +172,14 @@ came-marks f c level (atLevel2 e) =
 
 step-works :
     (s : State) (o : List ℕ) (f : Fields) (c : Connection) → reading o ≡ Resource f → find (f .vci) (s .entries) ≡ taken c
-    → step s (receiving o) ≡ accept (put (f .vci) (taken (afterResourceCell (s .level) o f c)) s)
+    → step s (receiving o) ≡ replay (leafOf (f .vci) s) s (put (f .vci) (taken (afterResourceCell (s .level) o f c)) s)
 unfolding step receiveStep readStep ofOpen
 step-works s o f c e q = rw (e, q)
 
 received-mark :
     (s : State) → WellFormed s → (o : List ℕ) (f : Fields) (c : Connection) → AreOctets o → reading o ≡ Resource f → f .dir ≡ 0 → find (f .vci) (s .entries) ≡ taken c
     → MarkCame f c (s .level) → HasMark (f .vci) (find (f .vci) (step s (receiving o) .state .entries))
-unfolding self accept afterResourceCell afterForwardCell
+unfolding self accept replay afterResourceCell afterForwardCell
 received-mark s w o f c a e d q m =
     rw (
       step-works s o f c e q,
@@ -209,7 +210,7 @@ written-mark v d e Turned q n m = record {
 written-mark v d e Data q n m = let z : _≡_ {A = ℕ} 0 1 = cc in absurd (omega arith)
 
 slot-mark :
-    (v : ℕ) {s : State} {t room acr : ℕ} {o : Outcome} → Effect s (slot t room) o → HasMark v (find v (s .entries)) → o .answer ≡ Sent v Turned acr → MarkWritten v (o .buffer)
+    (v : ℕ) {s : State} {t room acr n : ℕ} {o : Outcome} → Effect s (slot t room) o → HasMark v (find v (s .entries)) → o .answer ≡ Sent v Turned acr n → MarkWritten v (o .buffer)
 unfolding refuse sendStep idleStep
 slot-mark v (refuses _ n h) m e = let z : _≡_ {A = ℕ} 0 1 = cc in absurd (omega arith)
 slot-mark v (idles _ _ g b) m e = let z : _≡_ {A = ℕ} 0 1 = cc in absurd (omega arith)
@@ -220,7 +221,7 @@ slot-mark v {s} {t} (sends _ _ i u g b) m e =
     (subst (HasMark v) (ap (λ (w : ℕ). find w (s .entries)) (sym q) ∙ b .found) m)
 
 pub no-mark-lost : NoMarkLost
-no-mark-lost cs o f c ds t room acr a e d q m quiet sent =
+no-mark-lost cs o f c ds t room acr n a e d q m quiet sent =
     let w = reached-well-formed cs in
     let s : State = step (final empty cs) (receiving o) .state in
     let x : WellFormed s = step-well-formed w (receiving o) in

@@ -26,7 +26,7 @@ use Rattle.model.proofs.Frames.{put-read, inserted-read, freed-read}
 use Rattle.model.specs.declared.answer.Answer.{Answer}
 use Rattle.model.specs.declared.answer.Answer.the-variants.{Refused, Accepted, Idle, Sent}
 use Rattle.model.specs.Call.{Call, opening, closing, receiving, offering, levelling, slot, Outcome, making}
-use Rattle.model.specs.Step.{refuse, accept, sendStep, idleStep}
+use Rattle.model.specs.Step.{refuse, accept, replay, sendStep, idleStep}
 use Rattle.model.specs.Run.{final}
 use Rattle.model.proofs.Effects.{Effect, refuses, begins, ends, offers, marks, works, levels, idles, sends, makes, effect}
 use Rattle.model.proofs.Reached.{reached-well-formed}
@@ -67,43 +67,43 @@ changes v u s z d e f n c a m =
     rw (put-read self v u s z d e f n) (read-moves v u s c a (taken e) (λ h. rw (ap (λ w. find w (s .entries)) (sym h) ∙ f) (m h)))
 
 works-move :
-    (v level : ℕ) (o : List ℕ) (f : Fields) (d : Connection) → reading o ≡ Resource f → f .vci ≡ v → Moves v d (receiving o) Accepted (afterResourceCell level o f d .rate)
+    (v level n : ℕ) (o : List ℕ) (f : Fields) (d : Connection) → reading o ≡ Resource f → f .vci ≡ v → Moves v d (receiving o) (Accepted n) (afterResourceCell level o f d .rate)
 unfolding afterResourceCell afterBackwardCell afterForwardCell
-works-move v level o f d r n = go (eqb (f .dir) 1) refl
+works-move v level n o f d r h = go (eqb (f .dir) 1) refl
   where
-    go : (t : Bool) → eqb (f .dir) 1 ≡ t → Moves v d (receiving o) Accepted (cond t (afterBackwardCell f d) (afterForwardCell level o d) .rate)
-    go true e = fed f r n (eqb-true _ _ e)
+    go : (t : Bool) → eqb (f .dir) 1 ≡ t → Moves v d (receiving o) (Accepted n) (cond t (afterBackwardCell f d) (afterForwardCell level o d) .rate)
+    go true e = fed f r h (eqb-true _ _ e)
     go false e = stays
 
-forward-moves : (v t room acr : ℕ) (d : Connection) (p : Pace) → d .pace ≡ p → Moves v d (slot t room) (Sent v Forward acr) (movedBy t (d .unacked) p (d .rate))
+forward-moves : (v t room acr n : ℕ) (d : Connection) (p : Pace) → d .pace ≡ p → Moves v d (slot t room) (Sent v Forward acr n) (movedBy t (d .unacked) p (d .rate))
 unfolding movedBy
-forward-moves v t room acr d Unsent e = first e
-forward-moves v t room acr d (Running sent forward k turned) e = later e
+forward-moves v t room acr n d Unsent e = first e
+forward-moves v t room acr n d (Running sent forward k turned) e = later e
 
-sent-moves : (v t room acr : ℕ) (k : Kind) (d : Connection) → Moves v d (slot t room) (Sent v k acr) (after k t d .rate)
+sent-moves : (v t room acr n : ℕ) (k : Kind) (d : Connection) → Moves v d (slot t room) (Sent v k acr n) (after k t d .rate)
 unfolding after sentForward sentTurned sentData
-sent-moves v t room acr Forward d = forward-moves v t room acr d (d .pace) refl
-sent-moves v t room acr Turned d = stays
-sent-moves v t room acr Data d = stays
+sent-moves v t room acr n Forward d = forward-moves v t room acr n d (d .pace) refl
+sent-moves v t room acr n Turned d = stays
+sent-moves v t room acr n Data d = stays
 
 effect-moves : (v : ℕ) {s : State} → NamesUnique (s .entries) → {c : Call} {o : Outcome} → Effect s c o → MovesTo v c (o .answer) (find v (s .entries)) (find v (o .state .entries))
-unfolding self refuse accept sendStep idleStep withTime withLevel fresh offered afterDataCell withMade
+unfolding self refuse accept replay sendStep idleStep withTime withLevel fresh offered afterDataCell withMade
 effect-moves v {s} a (refuses c n h) = rests v c (Refused n) (find v (s .entries))
 effect-moves v {s} a (begins u t p g) =
     rw (inserted-read self v s (fresh u t p) (g .new) (g .room))
-    (read-moves v u s (opening u t p) Accepted (taken (fresh u t p)) (λ h. rw (ap (λ w. find w (s .entries)) (sym h) ∙ g .new) tt))
-effect-moves v {s} a (ends u d f) = rw (freed-read self v u s a) (read-moves v u s (closing u) Accepted free (λ _. leaves v (closing u) Accepted (find v (s .entries))))
-effect-moves v {s} a (offers u n d f b) = changes v u s a d (offered n d) f refl (offering u n) Accepted (λ _. stays)
-effect-moves v {s} a (marks o u e d r f) = changes v u s a d (afterDataCell e d) f refl (receiving o) Accepted (λ _. stays)
+    (read-moves v u s (opening u t p) _ (taken (fresh u t p)) (λ h. rw (ap (λ w. find w (s .entries)) (sym h) ∙ g .new) tt))
+effect-moves v {s} a (ends u d f) = rw (freed-read self v u s a) (read-moves v u s (closing u) _ free (λ _. leaves v (closing u) _ (find v (s .entries))))
+effect-moves v {s} a (offers u n d f b) = changes v u s a d (offered n d) f refl (offering u n) _ (λ _. stays)
+effect-moves v {s} a (marks o u e d r f) = changes v u s a d (afterDataCell e d) f refl (receiving o) _ (λ _. stays)
 effect-moves v {s} a (works o q d r f) =
-    changes v (q .vci) s a d (afterResourceCell (s .level) o q d) f (work-same (s .level) o q d .name) (receiving o) Accepted (works-move v (s .level) o q d r)
-effect-moves v {s} a (levels l b) = rests v (levelling l) Accepted (find v (s .entries))
+    changes v (q .vci) s a d (afterResourceCell (s .level) o q d) f (work-same (s .level) o q d .name) (receiving o) _ (works-move v (s .level) _ o q d r)
+effect-moves v {s} a (levels l b) = rests v (levelling l) (Accepted 0) (find v (s .entries))
 effect-moves v {s} a (idles t room g b) = rests v (slot t room) Idle (find v (s .entries))
 effect-moves v {s} a (sends t room i u g b) =
     let k = kindAt t (b .holder) in
-    changes v u (withTime t s) a (b .holder) (after k t (b .holder)) (b .found) (after-same k t (b .holder) .name) (slot t room) (Sent u k (after k t (b .holder) .rate .acr))
-    (λ h. rw h (sent-moves v t room (after k t (b .holder) .rate .acr) k (b .holder)))
-effect-moves v {s} a (makes u t d f g b m) = changes v u (withTime t s) a d (withMade t (s .level) d) f refl (making u t) Accepted (λ _. stays)
+    changes v u (withTime t s) a (b .holder) (after k t (b .holder)) (b .found) (after-same k t (b .holder) .name) (slot t room) _
+    (λ h. rw h (sent-moves v t room _ _ k (b .holder)))
+effect-moves v {s} a (makes u t d f g b m) = changes v u (withTime t s) a d (withMade t (s .level) d) f refl (making u t) _ (λ _. stays)
 
 pub four-moves : FourMoves
 four-moves cs c v d e f h =

@@ -29,14 +29,14 @@ use Rattle.connection.specs.Ready.{lastBefore}
 use Rattle.connection.specs.Kind.{isForward, isTurned, kindAt}
 use Rattle.connection.specs.Sending.{movedBy, sentForward, sentTurned, sentData, after}
 use Rattle.connection.proofs.Keeps.{movedBy-mono, movedBy-only}
-use Rattle.model.specs.State.{State, Entry, free, taken, find, put}
+use Rattle.model.specs.State.{State, Entry, free, taken, find, leafOf, put}
 use Rattle.model.specs.Invariant.{WellFormed}
 use Rattle.model.specs.Choice.{Winner, noneReady, wins, winner}
 use Rattle.model.proofs.Preserved.{valid-at}
 use Rattle.model.specs.declared.answer.Answer.{Answer}
 use Rattle.model.specs.declared.answer.Answer.the-variants.{Refused, Accepted, Idle, Sent}
 use Rattle.model.specs.Call.{Call, opening, closing, receiving, offering, levelling, slot, making, Outcome, goesTo}
-use Rattle.model.specs.Step.{refuse, accept, ofOpen, openStep, closeStep, offerStep, readStep, receiveStep, levelStep, sendStep, idleStep, serveEntry, serve, slotStep, makeStep, step}
+use Rattle.model.specs.Step.{refuse, accept, replay, ofOpen, openStep, closeStep, offerStep, readStep, receiveStep, levelStep, sendStep, idleStep, serveEntry, serve, slotStep, makeStep, step}
 use Rattle.promises.specs.Demand3.{Comparable, equal, congested, SamePlace}
 use Rattle.promises.proofs.Relation.{lowered, Lower, vacant, lower, Tables, tables, isFree-same, find-lower, put-tables, inserted-tables, roomLeft-same, last-same, withTime-tables, withLevel-tables}
 use Rattle.promises.proofs.Readings.{MoreCongested, NotLessCongested, alike, moreCongested, reading-congested}
@@ -44,9 +44,9 @@ use Rattle.laws.specs.Require.{require}
 
 pub data SameAnswer : Answer → Answer → Type 0 where
   refusals : (n : ℕ) → SameAnswer (Refused n) (Refused n)
-  plain : SameAnswer Accepted Accepted
+  plain : (m n : ℕ) → SameAnswer (Accepted m) (Accepted n)
   idles : SameAnswer Idle Idle
-  sends : (v : ℕ) (k : Kind) (a b : ℕ) → SameAnswer (Sent v k a) (Sent v k b)
+  sends : (v : ℕ) (k : Kind) (a b m n : ℕ) → SameAnswer (Sent v k a m) (Sent v k b n)
 
 pub record Both (o p : Outcome) : Type 0 where
   pub states : Tables (o .state) (p .state)
@@ -60,9 +60,10 @@ refuse-both : {s₁ s₂ : State} → Tables s₁ s₂ → (n : ℕ) → Both (r
 unfolding refuse
 refuse-both r n = record { states = r; answers = refusals n }
 
-accept-both : {s₁ s₂ : State} → Tables s₁ s₂ → Both (accept s₁) (accept s₂)
+-- the comparisons may differ: ready instants hang on the rates
+accept-both : (m n : ℕ) {s₁ s₂ : State} → Tables s₁ s₂ → Both (accept m s₁) (accept n s₂)
 unfolding accept
-accept-both r = record { states = r; answers = plain }
+accept-both m n r = record { states = r; answers = plain m n }
 
 -- a test that is the same in both
 require-meets :
@@ -84,7 +85,7 @@ ofOpen-meets r (lower c a l) f g h = h c a refl l
 
 -- Open, close, offer and level.
 open-meets : {s₁ s₂ : State} → Tables s₁ s₂ → (v t : ℕ) (p : Params) → Meets (openStep s₁ v t p) (openStep s₂ v t p)
-unfolding openStep
+unfolding openStep replay
 open-meets r v t p =
     require-meets r 10 _ _ refl
     (require-meets r 7 _ _ refl
@@ -92,22 +93,22 @@ open-meets r v t p =
     (require-meets r 12 _ _ (isFree-same _ _ (find-lower v r))
     (require-meets r 13 _ _ (roomLeft-same r)
     (require-meets r 14 _ _ (ap (λ l. leb l t) (last-same r)) λ _.
-    accept-both (withTime-tables t (inserted-tables (fresh v t p) r)))))))
+    accept-both _ _ (withTime-tables t (inserted-tables (fresh v t p) r)))))))
 
 close-meets : {s₁ s₂ : State} → Tables s₁ s₂ → (v : ℕ) → Meets (closeStep s₁ v) (closeStep s₂ v)
-unfolding closeStep
-close-meets r v = ofOpen-meets r (find-lower v r) _ _ λ c a e l _. accept-both (put-tables v vacant r)
+unfolding closeStep replay
+close-meets r v = ofOpen-meets r (find-lower v r) _ _ λ c a e l _. accept-both _ _ (put-tables v vacant r)
 
 offer-meets : {s₁ s₂ : State} → Tables s₁ s₂ → (v n : ℕ) → Meets (offerStep s₁ v n) (offerStep s₂ v n)
-unfolding offerStep offered
+unfolding offerStep replay offered
 offer-meets r v n =
     ofOpen-meets r (find-lower v r) _ _ λ c a e l.
     require-meets r 15 _ _ refl λ _.
-    accept-both (put-tables v (lower (offered n c) a l) r)
+    accept-both _ _ (put-tables v (lower (offered n c) a l) r)
 
 level-meets : {s₁ s₂ : State} → Tables s₁ s₂ → (l : ℕ) → Meets (levelStep s₁ l) (levelStep s₂ l)
 unfolding levelStep
-level-meets r l = require-meets r 9 _ _ refl λ _. accept-both (withLevel-tables l r)
+level-meets r l = require-meets r 9 _ _ refl λ _. accept-both _ _ (withLevel-tables l r)
 
 -- Receive.
 after-backward-cell-lower :
@@ -134,15 +135,15 @@ below-peak : {s : State} → WellFormed s → (v : ℕ) (c : Connection) → fin
 below-peak w v c e = valid-at w v c e .1 .rates .below
 
 resource-meets : {s₁ s₂ : State} → WellFormed s₁ → Tables s₁ s₂ → (o : List ℕ) (f : Fields) → Meets (readStep s₁ o (Resource f)) (readStep s₂ o (Resource f))
-unfolding readStep
+unfolding readStep replay
 resource-meets w (tables l t hs) o f =
     let r = tables l t hs in
-    ofOpen-meets r (find-lower (f .vci) r) _ _ λ c a e h _. accept-both (put-tables (f .vci) (work-lower l o f c a (below-peak w (f .vci) c e) h) r)
+    ofOpen-meets r (find-lower (f .vci) r) _ _ λ c a e h _. accept-both _ _ (put-tables (f .vci) (work-lower l o f c a (below-peak w (f .vci) c e) h) r)
 
 read-meets : {s₁ s₂ : State} → WellFormed s₁ → Tables s₁ s₂ → (o : List ℕ) (q : Reading) → Meets (readStep s₁ o q) (readStep s₂ o q)
-unfolding readStep afterDataCell
+unfolding readStep replay afterDataCell
 read-meets w r o (Unread n) = λ _. refuse-both r n
-read-meets w r o (User v e) = ofOpen-meets r (find-lower v r) _ _ λ c a _ l _. accept-both (put-tables v (lower (afterDataCell e c) a l) r)
+read-meets w r o (User v e) = ofOpen-meets r (find-lower v r) _ _ λ c a _ l _. accept-both _ _ (put-tables v (lower (afterDataCell e c) a l) r)
 read-meets w r o (Resource f) = resource-meets w r o f
 
 -- two backward cells, the second at least as congested
@@ -152,12 +153,13 @@ work-backward level o f c e = rw e
 
 moreCongested-at :
     {s₁ s₂ : State} → WellFormed s₁ → Tables s₁ s₂ → (a b : List ℕ) (f g : Fields) → MoreCongested f g → (v w : ℕ) → w ≡ v
-    → Meets (ofOpen s₁ (find v (s₁ .entries)) (λ c. accept (put v (taken (afterResourceCell (s₁ .level) a f c)) s₁)))
-    (ofOpen s₂ (find w (s₂ .entries)) (λ c. accept (put w (taken (afterResourceCell (s₂ .level) b g c)) s₂)))
+    → Meets (ofOpen s₁ (find v (s₁ .entries)) (λ c. replay (leafOf v s₁) s₁ (put v (taken (afterResourceCell (s₁ .level) a f c)) s₁)))
+    (ofOpen s₂ (find w (s₂ .entries)) (λ c. replay (leafOf w s₂) s₂ (put w (taken (afterResourceCell (s₂ .level) b g c)) s₂)))
+unfolding replay
 moreCongested-at {s₁} {s₂} wh r a b f g k v w q =
     rw q
     (ofOpen-meets r (find-lower v r) _ _ λ c x e l _.
-    accept-both (put-tables v
+    accept-both _ _ (put-tables v
     (rw (work-backward (s₁ .level) a f c (k .first), work-backward (s₂ .level) b g (lowered c x) (k .second))
     (after-backward-cell-lower f g k c x (below-peak wh v c e) l)) r))
 
@@ -194,10 +196,13 @@ entry-both : {s₁ s₂ : State} → Tables s₁ s₂ → (t v : ℕ) {x y : Ent
 unfolding serveEntry sendStep idleStep
 entry-both r t v vacant = record { states = r; answers = idles }
 entry-both r t v (lower c a l) =
-    rw (kind-same t c a) (record { states = put-tables v (after-lower (kindAt t c) t c a l) r; answers = sends v (kindAt t c) _ _ })
+    rw (kind-same t c a) (record { states = put-tables v (after-lower (kindAt t c) t c a l) r; answers = sends v (kindAt t c) _ _ _ _ })
 
 pub none≢some : {v : ℕ} → _≡_ {A = Option ℕ} none (some v) → ⊥
 none≢some e = let z : _≡_ {A = ℕ} 0 1 = cc in omega arith
+
+pub sent-same : {v w : ℕ} {k l : Kind} {a n : ℕ} → v ≡ w → k ≡ l → Sent v k a n ≡ Sent w l a n
+sent-same p q = rw (p, q)
 
 -- slots that go to the same connection, or to none in both
 entries-meet :
@@ -231,14 +236,14 @@ slot-meets {s₁} {s₂} r t room =
 
 -- Making a backward cell.
 make-meets : {s₁ s₂ : State} → Tables s₁ s₂ → (v t : ℕ) → Meets (makeStep s₁ v t) (makeStep s₂ v t)
-unfolding makeStep withMade
+unfolding makeStep replay withMade
 make-meets (tables l u hs) v t =
     require-meets (tables l u hs) 8 _ _ refl
     (ofOpen-meets (tables l u hs) (find-lower v (tables l u hs)) _ _ λ c a e h.
     require-meets (tables l u hs) 14 _ _ refl
     (require-meets (tables l u hs) 16 _ _ refl
     (require-meets (tables l u hs) 17 _ _ refl λ _.
-    accept-both (put-tables v (lower (withMade t l c) a h) (withTime-tables t (tables l u hs))))))
+    accept-both _ _ (put-tables v (lower (withMade t l c) a h) (withTime-tables t (tables l u hs))))))
 
 -- Every call.
 same-meets : {s₁ s₂ : State} → WellFormed s₁ → Tables s₁ s₂ → (c : Call) → Meets (step s₁ c) (step s₂ c)

@@ -11,7 +11,6 @@ use Rattle.connection.specs.declared.kind.Kind.the-variants.{Forward, Turned, D
 use Rattle.connection.specs.declared.ready.Instant.the-variants.{At}
 use Rattle.connection.specs.Ready.{readyInstant}
 use Rattle.connection.specs.Kind.{kindAt}
-use Rattle.connection.specs.Sending.{after}
 use Rattle.connection.proofs.Spaced.{dueFrom, ready-due}
 use Rattle.connection.proofs.Waited.{turned-waits, data-waits}
 use Rattle.model.specs.State.{State, taken, empty, find}
@@ -24,7 +23,7 @@ use Rattle.model.proofs.Effects.{Effect, refuses, idles, sends, effect}
 use Rattle.model.proofs.Reached.{reached-well-formed}
 use Rattle.promises.specs.Spacing.{NotEarly, Spacing}
 use Rattle.promises.specs.SentWaited.{Waited, SentWaited}
-use Rattle.promises.proofs.Pairs.{none≢some}
+use Rattle.promises.proofs.Pairs.{none≢some, sent-same}
 
 -- what is known of a connection that a slot at t goes to
 record Serves (t : ℕ) (c : Connection) (a : Answer) (v : ℕ) : Type 0 where
@@ -32,7 +31,8 @@ record Serves (t : ℕ) (c : Connection) (a : Answer) (v : ℕ) : Type 0 where
   readyAt : readyInstant c ≡ At instant
   due : instant ≤ t
   acr : ℕ
-  answer : a ≡ Sent v (kindAt t c) acr
+  comparisons : ℕ
+  answer : a ≡ Sent v (kindAt t c) acr comparisons
 
 serves :
     {s : State} (t room v : ℕ) (c : Connection) → find v (s .entries) ≡ taken c → {o : Outcome} → Effect s (slot t room) o → goesTo (o .answer) ≡ some v
@@ -44,7 +44,7 @@ serves {s} t room v c f (sends _ _ i u g b) e =
     let q : u ≡ v = cc in
     let h : taken (b .holder) ≡ taken c = sym (b .found) ∙ (ap (λ w. find w (s .entries)) q ∙ f) in
     let k : b .holder ≡ c = cc in
-    record { instant = i; readyAt = ap readyInstant (sym k) ∙ b .readyAt; due = b .due; acr = after (kindAt t (b .holder)) t (b .holder) .rate .acr; answer = cc }
+    record { instant = i; readyAt = ap readyInstant (sym k) ∙ b .readyAt; due = b .due; acr = _; comparisons = _; answer = sent-same q (ap (kindAt t) k) }
 
 not-early : (t : ℕ) (c : Connection) (p : Pace) → dueFrom c p ≤ t → NotEarly t c p
 unfolding dueFrom
@@ -63,7 +63,7 @@ waited t c i r l Data e = data-waits t c i r l e
 
 pub sent-waited : SentWaited
 unfolding goesTo
-sent-waited cs t room v acr k c f e =
+sent-waited cs t room v acr n k c f e =
     let h = serves t room v c f (effect (final empty cs) (reached-well-formed cs .unique) (slot t room)) (ap goesTo e) in
     let q : kindAt t c ≡ k = cc in
     waited t c (h .instant) (h .readyAt) (h .due) k q

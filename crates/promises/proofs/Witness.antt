@@ -18,7 +18,7 @@ use Rattle.connection.specs.Sending.{movedBy, paced, sentForward, sentData, aft
 use Rattle.model.specs.State.{empty, position, isFree, holds, find, put, inserted, roomLeft, withTime}
 use Rattle.model.specs.Choice.{candidateFrom, candidate, better, winner}
 use Rattle.model.specs.Call.{goesTo}
-use Rattle.model.specs.Step.{accept, ofOpen, openStep, offerStep, readStep, receiveStep, sendStep, serveEntry, serve, slotStep, step}
+use Rattle.model.specs.Step.{accept, replay, ofOpen, openStep, offerStep, readStep, receiveStep, sendStep, serveEntry, serve, slotStep, step}
 use Rattle.model.specs.Run.{entryRate}
 use Rattle.promises.specs.Congestion.{Backward, AtLeastAsCongested}
 use Rattle.promises.specs.Demand3.{equal, congested}
@@ -27,7 +27,7 @@ use Rattle.laws.specs.Require.{require}
 
 -- its unfolding line opens all that these calls compute with, wherever it is itself unfolded
 unfoldable pub computing : Unit {0}
-unfolding rateOf codeBelow codeOf within ratesFit codesFit numbersFit paramsFit trmTimes trmTime gap firstCell idle cut unanswered rateByMarks feedback markLevel bring divide remainder bits octetBits headerCheck payloadCheck headerRight header fieldsOf withCrc resourceCell crcRight reading fresh offered afterBackwardCell afterResourceCell waits backwardWaits anyWaits lastBefore readyFrom readyInstant isForward isTurned kindAt movedBy paced sentForward sentData after empty position isFree holds find put inserted roomLeft withTime candidateFrom candidate better winner goesTo accept require ofOpen openStep offerStep readStep receiveStep sendStep serveEntry serve slotStep step entryRate
+unfolding rateOf codeBelow codeOf within ratesFit codesFit numbersFit paramsFit trmTimes trmTime gap firstCell idle cut unanswered rateByMarks feedback markLevel bring divide remainder bits octetBits headerCheck payloadCheck headerRight header fieldsOf withCrc resourceCell crcRight reading fresh offered afterBackwardCell afterResourceCell waits backwardWaits anyWaits lastBefore readyFrom readyInstant isForward isTurned kindAt movedBy paced sentForward sentData after empty position isFree holds find put inserted roomLeft withTime candidateFrom candidate better winner goesTo accept replay require ofOpen openStep offerStep readStep receiveStep sendStep serveEntry serve slotStep step entryRate
 computing = tt
 
 backward : Backward congestedCell

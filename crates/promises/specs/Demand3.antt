@@ -16,7 +16,7 @@ pub data Bounded : Option Params → Option ℕ → Type 0 where
   between : {p : Params} {a : ℕ} → least p ≤ a → a ≤ peak p → Bounded (some p) (some a)
 
 -- the two lists have one length, and what stands in the same place is so related
-abbrev pub InPlace : {A : Type 0} → (A → A → Type 0) → List A → List A → Type 0
+abbrev pub InPlace : {A B : Type 0} → (A → B → Type 0) → List A → List B → Type 0
 InPlace R [] [] = Unit
 InPlace R [] (y ∷ ys) = ⊥
 InPlace R (x ∷ xs) [] = ⊥

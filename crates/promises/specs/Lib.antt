@@ -12,3 +12,5 @@ pub mod Marks
 pub mod Spacing
 pub mod SentWaited
 pub mod Liveness
+pub mod Comparisons
+pub mod Counts

@@ -6,11 +6,10 @@ use Rattle.cell.specs.Fields.{resourceCell}
 use Rattle.connection.specs.declared.kind.Kind.the-variants.{Forward, Turned}
 use Rattle.connection.specs.Sending.{Buffer, written}
 use Rattle.model.specs.State.{empty}
-use Rattle.model.specs.declared.answer.Answer.the-variants.{Refused, Accepted, Sent}
 use Rattle.model.specs.Call.{Call, opening, receiving, levelling, slot, making}
 use Rattle.model.specs.Step.{step}
 use Rattle.model.specs.Run.{final}
-use Rattle.promises.specs.Unstarred.{next, house}
+use Rattle.promises.specs.Unstarred.{refused, accepted, sent, next, house}
 
 -- VCI 33 is open, at this level
 abbrev pub open33 : (level : ℕ) → List Call
@@ -41,20 +40,20 @@ wrote cs t = step (final empty cs) (slot t 53) .buffer
 
 pub record Makings : Type 0 where
   -- the refusals 11, 16, 14 and 17, and exactly 100 ms
-  pub notOpen : next [] (making 33 0) ≡ Refused 11
-  pub uncongested : next (open33 0) (making 33 0) ≡ Refused 16
-  pub accepted : next (open33 1) (making 33 5) ≡ Accepted
-  pub earlier : next made (making 33 4) ≡ Refused 14
-  pub soon : next made (making 33 100_000_004) ≡ Refused 17
-  pub rested : next made (making 33 100_000_005) ≡ Accepted
+  pub notOpen : next [] (making 33 0) ≡ refused 11
+  pub uncongested : next (open33 0) (making 33 0) ≡ refused 16
+  pub congested : next (open33 1) (making 33 5) ≡ accepted
+  pub earlier : next made (making 33 4) ≡ refused 14
+  pub soon : next made (making 33 100_000_004) ≡ refused 17
+  pub rested : next made (making 33 100_000_005) ≡ accepted
   -- their order, where two apply
-  pub lateNotOpen : next [] (making 33 4_611_686_018_427_387_905) ≡ Refused 8
-  pub notOpenEarlier : next made (making 34 4) ≡ Refused 11
-  pub earlierUncongested : next relieved (making 33 4) ≡ Refused 14
-  pub uncongestedSoon : next relieved (making 33 6) ≡ Refused 16
+  pub lateNotOpen : next [] (making 33 4_611_686_018_427_387_905) ≡ refused 8
+  pub notOpenEarlier : next made (making 34 4) ≡ refused 11
+  pub earlierUncongested : next relieved (making 33 4) ≡ refused 14
+  pub uncongestedSoon : next relieved (making 33 6) ≡ refused 16
   -- its time counts for a slot; only a made cell waits, and the connection is ready from its opening on, with a forward cell first
-  pub slotEarlier : next made (slot 4 53) ≡ Refused 14
-  pub firstCell : next made (slot 5 53) ≡ Sent 33 Forward 512_000
+  pub slotEarlier : next made (slot 4 53) ≡ refused 14
+  pub firstCell : next made (slot 5 53) ≡ sent 33 Forward 512_000
   -- the turned cell goes first, then the made one, with the mark of its making
-  pub turnedFirst : (next bothWait (slot 1_000_005 53) ≡ Sent 33 Turned 512_000) × (wrote bothWait 1_000_005 ≡ written (rm 1 0 0 0x4A00))
-  pub madeNext : (next turnedSent (slot 2_000_005 53) ≡ Sent 33 Turned 512_000) × (wrote turnedSent 2_000_005 ≡ written (rm 1 1 1 0x53E8))
+  pub turnedFirst : (next bothWait (slot 1_000_005 53) ≡ sent 33 Turned 512_000) × (wrote bothWait 1_000_005 ≡ written (rm 1 0 0 0x4A00))
+  pub madeNext : (next turnedSent (slot 2_000_005 53) ≡ sent 33 Turned 512_000) × (wrote turnedSent 2_000_005 ≡ written (rm 1 1 1 0x53E8))

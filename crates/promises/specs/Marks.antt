@@ -32,7 +32,7 @@ Quiet v (closing u) a = u ≢ v
 Quiet v (receiving o) a = AreOctets o
 Quiet v (offering u n) a = Unit
 Quiet v (levelling l) a = Unit
-Quiet v (slot t room) a = (acr : ℕ) → a ≢ Sent v Turned acr
+Quiet v (slot t room) a = (acr n : ℕ) → a ≢ Sent v Turned acr n
 Quiet v (making u t) a = Unit
 
 abbrev pub AllQuiet : ℕ → State → List Call → Type 0
@@ -54,7 +54,7 @@ pub record MarkWritten (v : ℕ) (b : Buffer) : Type 0 where
 -- of it, then a slot that does
 abbrev pub NoMarkLost : Type 0
 NoMarkLost =
-    (cs : List Call) (o : List ℕ) (f : Fields) (c : Connection) (ds : List Call) (t room acr : ℕ) → AreOctets o → reading o ≡ Resource f → f .dir ≡ 0
+    (cs : List Call) (o : List ℕ) (f : Fields) (c : Connection) (ds : List Call) (t room acr n : ℕ) → AreOctets o → reading o ≡ Resource f → f .dir ≡ 0
     → find (f .vci) (final empty cs .entries) ≡ taken c → MarkCame f c (final empty cs .level)
     → let s = step (final empty cs) (receiving o) .state in
-    AllQuiet (f .vci) s ds → step (final s ds) (slot t room) .answer ≡ Sent (f .vci) Turned acr → MarkWritten (f .vci) (step (final s ds) (slot t room) .buffer)
+    AllQuiet (f .vci) s ds → step (final s ds) (slot t room) .answer ≡ Sent (f .vci) Turned acr n → MarkWritten (f .vci) (step (final s ds) (slot t room) .buffer)

@@ -23,13 +23,13 @@ use Rattle.model.specs.Run.{final}
 -- what a call with this answer may make of the rate record of the connection v, which is d before it
 pub data Moves (v : ℕ) (d : Connection) : Call → Answer → Rate → Type 0 where
   stays : {c : Call} {a : Answer} → Moves v d c a (d .rate)
-  first : {t room acr : ℕ} → d .pace ≡ Unsent → Moves v d (slot t room) (Sent v Forward acr) (firstCell (d .rate))
+  first : {t room acr n : ℕ} → d .pace ≡ Unsent → Moves v d (slot t room) (Sent v Forward acr n) (firstCell (d .rate))
   later :
-      {t room acr sent forward k : ℕ} {turned : Bool} → d .pace ≡ Running sent forward k turned
-      → Moves v d (slot t room) (Sent v Forward acr) (unanswered (d .unacked) (idle (t - forward) (d .rate)))
+      {t room acr n sent forward k : ℕ} {turned : Bool} → d .pace ≡ Running sent forward k turned
+      → Moves v d (slot t room) (Sent v Forward acr n) (unanswered (d .unacked) (idle (t - forward) (d .rate)))
   fed :
-      {o : List ℕ} (f : Fields) → reading o ≡ Resource f → f .vci ≡ v → f .dir ≡ 1
-      → Moves v d (receiving o) Accepted (feedback (eqb (f .ci) 1) (eqb (f .ni) 1) (rateOf (f .er)) (d .rate))
+      {o : List ℕ} {n : ℕ} (f : Fields) → reading o ≡ Resource f → f .vci ≡ v → f .dir ≡ 1
+      → Moves v d (receiving o) (Accepted n) (feedback (eqb (f .ci) 1) (eqb (f .ni) 1) (rateOf (f .er)) (d .rate))
 
 -- after any list of calls from the empty table, of a connection that is open before and after the next call
 abbrev pub FourMoves : Type 0

@@ -8,6 +8,7 @@ use Rattle.rate.specs.Params.{houseSet}
 use Rattle.rate.specs.Units.{latestTime}
 use Rattle.connection.specs.declared.parts.Pace.{Pace}
 use Rattle.connection.specs.declared.parts.Pace.the-variants.{Unsent, Running}
+use Rattle.connection.specs.declared.kind.Kind.{Kind}
 use Rattle.connection.specs.declared.kind.Kind.the-variants.{Forward, Data}
 use Rattle.model.specs.State.{Entry, free, taken, empty, find}
 use Rattle.model.specs.declared.answer.Answer.{Answer}
@@ -17,14 +18,27 @@ use Rattle.model.specs.Step.{step}
 use Rattle.model.specs.Run.{final}
 use Rattle.promises.specs.Witness.{unmarked}
 
--- the answer of a call after these calls from the empty table
-abbrev pub next : List Call → Call → Answer
-next cs c = step (final empty cs) c .answer
+-- an answer but for the comparisons that the call made, of which Comparisons.antt speaks
+pub data Result : Type 0 where
+  refused : ℕ → Result
+  accepted : Result
+  idle : Result
+  sent : (name : ℕ) → Kind → (acr : ℕ) → Result
+
+abbrev pub result : Answer → Result
+result (Refused n) = refused n
+result (Accepted n) = accepted
+result Idle = idle
+result (Sent v k a n) = sent v k a
+
+-- what a call answers after these calls from the empty table
+abbrev pub next : List Call → Call → Result
+next cs c = result (step (final empty cs) c .answer)
 
 -- k, the cells sent since the last forward cell, of VCI 33 after these calls; none before its first cell
 abbrev pub paceCount : Pace → Option ℕ
 paceCount Unsent = none
-paceCount (Running sent forward k turned) = some k
+paceCount (Running last forward k turned) = some k
 
 abbrev pub entryCount : Entry → Option ℕ
 entryCount free = none
@@ -52,21 +66,21 @@ raised = opening 33 0 (houseSet 0x53E8 0x4000 0x4A00) ∷ offering 33 9 ∷ slot
 
 pub record Unstarred : Type 0 where
   -- Nrm 32, within Trm: at k = 30 no forward cell, at 31 one
-  pub thirty : (count (busy 99 31) ≡ some 30) × (next (busy 99 31) (slot 31_000_000 53) ≡ Sent 33 Data 512_000)
-  pub thirtyOne : (count (busy 99 32) ≡ some 31) × (next (busy 99 32) (slot 32_000_000 53) ≡ Sent 33 Forward 512_000)
+  pub thirty : (count (busy 99 31) ≡ some 30) × (next (busy 99 31) (slot 31_000_000 53) ≡ sent 33 Data 512_000)
+  pub thirtyOne : (count (busy 99 32) ≡ some 31) × (next (busy 99 32) (slot 32_000_000 53) ≡ sent 33 Forward 512_000)
   -- k = 2, a nanosecond before Trm: none; at Trm: one; with data that waits, and without
-  pub beforeTrm : (count (busy 99 3) ≡ some 2) × (next (busy 99 3) (slot 99_999_999 53) ≡ Sent 33 Data 512_000)
-  pub atTrm : next (busy 99 3) (slot 100_000_000 53) ≡ Sent 33 Forward 512_000
-  pub idleBeforeTrm : (count (busy 2 3) ≡ some 2) × (next (busy 2 3) (slot 99_999_999 53) ≡ Idle)
-  pub idleAtTrm : next (busy 2 3) (slot 100_000_000 53) ≡ Sent 33 Forward 512_000
+  pub beforeTrm : (count (busy 99 3) ≡ some 2) × (next (busy 99 3) (slot 99_999_999 53) ≡ sent 33 Data 512_000)
+  pub atTrm : next (busy 99 3) (slot 100_000_000 53) ≡ sent 33 Forward 512_000
+  pub idleBeforeTrm : (count (busy 2 3) ≡ some 2) × (next (busy 2 3) (slot 99_999_999 53) ≡ idle)
+  pub idleAtTrm : next (busy 2 3) (slot 100_000_000 53) ≡ sent 33 Forward 512_000
   -- at exactly ADTF the rate stands; a nanosecond later a rate above ICR drops to ICR
-  pub atAdtf : next raised (slot 500_000_000 53) ≡ Sent 33 Forward 48_384
-  pub afterAdtf : next raised (slot 500_000_001 53) ≡ Sent 33 Forward 16_384
+  pub atAdtf : next raised (slot 500_000_000 53) ≡ sent 33 Forward 48_384
+  pub afterAdtf : next raised (slot 500_000_001 53) ≡ sent 33 Forward 16_384
   -- time 2^62 is accepted, one more is refused
-  pub lastOpen : next [] (opening 33 latestTime house) ≡ Accepted
-  pub lateOpen : next [] (opening 33 (latestTime + 1) house) ≡ Refused 8
-  pub lastSlot : next [] (slot latestTime 53) ≡ Idle
-  pub lateSlot : next [] (slot (latestTime + 1) 53) ≡ Refused 8
+  pub lastOpen : next [] (opening 33 latestTime house) ≡ accepted
+  pub lateOpen : next [] (opening 33 (latestTime + 1) house) ≡ refused 8
+  pub lastSlot : next [] (slot latestTime 53) ≡ idle
+  pub lateSlot : next [] (slot (latestTime + 1) 53) ≡ refused 8
   -- VCI 32 opens, 31 does not
-  pub lowestVci : next [] (opening 32 0 house) ≡ Accepted
-  pub reservedVci : next [] (opening 31 0 house) ≡ Refused 10
+  pub lowestVci : next [] (opening 32 0 house) ≡ accepted
+  pub reservedVci : next [] (opening 31 0 house) ≡ refused 10

@@ -6,7 +6,8 @@ ghost use lib.ListN.{set, replicate};
 ghost use Rattle.laws.specs.Blocks.{put};
 ghost use Rattle.table.specs.Layout.{paceTag, paceSent, paceForward, paceK, waitTag, destinationTag, instantWord, waitingPayload, sourceWords, destinationWords, fixedWords, liveWidth, fixedWidth, size};
 ghost use Rattle.connection.specs.Range.{InRange, InstantInRange};
-ghost use Rattle.table.specs.Storing.{sourceUpdated, destinationUpdated, efciUpdated, updated, stored, cleared};
+ghost use Rattle.table.specs.Storing.{efciUpdated, updated};
+ghost use Rattle.storing.specs.Updates.{Updates, SourceMoved, DestinationMoved, BothMoved, Takes, Leaves};
 ghost use Rattle.model.specs.State.{capacity};
 use crate::key::key_of;
 use connection::parts::Connection;
@@ -15,7 +16,10 @@ use connection::parts::Pace;
 use connection::parts::Waiting;
 use connection::ready::Instant;
 use crc::payload::Payload;
-use names::index::flip_entry;
+use names::directory::directory_word;
+use names::directory::insert;
+use names::directory::remove;
+use names::used::flip_entry;
 use table::layout::DESTINATION;
 use table::layout::FIXED;
 use table::layout::FIXED_WIDTH;
@@ -24,6 +28,7 @@ use table::layout::LIVE;
 use table::layout::LIVE_WIDTH;
 use table::layout::NAMES;
 use table::layout::WORDS;
+use tournament::replay::replay;
 
 struct PaceWords {
     tag: u64,
@@ -181,26 +186,28 @@ fn put_fixed(t: &mut [u64; WORDS], b: usize, c: Connection)
     t[b + 11] = trm;
 }
 
-// An entry whose connection has moved on its sending side: those words, and the ready key.
-pub fn update_source(t: &mut [u64; WORDS], i: usize, c: Connection)
+// An entry whose connection has moved on its sending side: those words, the ready key, and the matches of its leaf, which are counted.
+pub fn update_source(t: &mut [u64; WORDS], i: usize, c: Connection) -> u32
     requires { ⌜ (i < capacity) × InRange c ⌝ }
-    ensures { λ _. ⌜ now (t .exit) ≡ sourceUpdated (now (t .entry)) i c ⌝ }
+    ensures { λ n. ⌜ Updates SourceMoved (now (t .entry)) (now (t .exit)) i c n ⌝ }
 {
     put_source(t, LIVE + i * LIVE_WIDTH, c);
     t[KEYS + i] = key_of(c);
+    replay(t, i)
 }
 
 // The same on its receiving side.
-pub fn update_destination(t: &mut [u64; WORDS], i: usize, c: Connection)
+pub fn update_destination(t: &mut [u64; WORDS], i: usize, c: Connection) -> u32
     requires { ⌜ (i < capacity) × InRange c ⌝ }
-    ensures { λ _. ⌜ now (t .exit) ≡ destinationUpdated (now (t .entry)) i c ⌝ }
+    ensures { λ n. ⌜ Updates DestinationMoved (now (t .entry)) (now (t .exit)) i c n ⌝ }
 {
     let destination = c.destination;
     put_destination(t, DESTINATION + i * LIVE_WIDTH, destination);
     t[KEYS + i] = key_of(c);
+    replay(t, i)
 }
 
-// An entry of which only the saved EFCI has moved: it moves no ready instant.
+// An entry of which only the saved EFCI has moved: it moves no ready instant, so that no winner changes.
 pub fn update_efci(t: &mut [u64; WORDS], i: usize, destination: Destination)
     requires { ⌜ i < capacity ⌝ }
     ensures { λ _. ⌜ now (t .exit) ≡ efciUpdated (now (t .entry)) i destination ⌝ }
@@ -208,8 +215,8 @@ pub fn update_efci(t: &mut [u64; WORDS], i: usize, destination: Destination)
     t[DESTINATION + i * LIVE_WIDTH] = destination_tag(destination);
 }
 
-// Both sides.
-pub fn update(t: &mut [u64; WORDS], i: usize, c: Connection)
+// Both sides and the ready key.
+fn put_live(t: &mut [u64; WORDS], i: usize, c: Connection)
     requires { ⌜ (i < capacity) × InRange c ⌝ }
     ensures { λ _. ⌜ now (t .exit) ≡ updated (now (t .entry)) i c ⌝ }
 {
@@ -219,15 +226,26 @@ pub fn update(t: &mut [u64; WORDS], i: usize, c: Connection)
     t[KEYS + i] = key_of(c);
 }
 
-// An entry that a connection takes.
-pub fn store(t: &mut [u64; WORDS], i: usize, c: Connection)
+// An entry whose connection has moved on both sides.
+pub fn update(t: &mut [u64; WORDS], i: usize, c: Connection) -> u32
     requires { ⌜ (i < capacity) × InRange c ⌝ }
-    ensures { λ _. ⌜ now (t .exit) ≡ stored (now (t .entry)) i c ⌝ }
+    ensures { λ n. ⌜ Updates BothMoved (now (t .entry)) (now (t .exit)) i c n ⌝ }
 {
-    update(t, i, c);
+    put_live(t, i, c);
+    replay(t, i)
+}
+
+// An entry that a connection takes.
+pub fn store(t: &mut [u64; WORDS], i: usize, c: Connection) -> u32
+    requires { ⌜ (i < capacity) × InRange c ⌝ }
+    ensures { λ n. ⌜ Takes (now (t .entry)) (now (t .exit)) i c n ⌝ }
+{
+    put_live(t, i, c);
     put_fixed(t, FIXED + i * FIXED_WIDTH, c);
     t[NAMES + i] = c.name as u64;
-    flip_entry(t, i, c.name as u64);
+    flip_entry(t, i);
+    insert(t, directory_word(c.name, i));
+    replay(t, i)
 }
 
 fn clear_fixed(t: &mut [u64; WORDS], b: usize)
@@ -259,15 +277,16 @@ fn clear_live(t: &mut [u64; WORDS], b: usize)
     t[b + 15] = 0;
 }
 
-// An entry that a connection leaves.
-pub fn clear(t: &mut [u64; WORDS], i: usize)
+// An entry that a connection of this name leaves.
+pub fn clear(t: &mut [u64; WORDS], i: usize, name: u32) -> u32
     requires { ⌜ i < capacity ⌝ }
-    ensures { λ _. ⌜ now (t .exit) ≡ cleared (now (t .entry)) i ⌝ }
+    ensures { λ n. ⌜ Leaves (now (t .entry)) (now (t .exit)) i name n ⌝ }
 {
-    let name = t[NAMES + i];
     clear_live(t, LIVE + i * LIVE_WIDTH);
-    clear_fixed(t, FIXED + i * FIXED_WIDTH);
     t[KEYS + i] = 0;
+    clear_fixed(t, FIXED + i * FIXED_WIDTH);
     t[NAMES + i] = 0;
-    flip_entry(t, i, name);
+    flip_entry(t, i);
+    remove(t, directory_word(name, i) + 1);
+    replay(t, i)
 }

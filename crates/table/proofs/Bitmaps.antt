@@ -1,17 +1,17 @@
--- Laws of bitmaps, one bit an entry: the lowest and the highest bit, and the bit of an entry that changes.
-use Prim.Native.Nat.{ℕ, zero, suc, _+_, _-_, _*_, _/_, _%_, _^_, _≤_, _<_}
+-- Laws of bitmaps, one bit an entry: the lowest bit, and the bit of an entry that changes.
+use Prim.Native.Nat.{ℕ, zero, suc, _+_, _*_, _/_, _%_, _^_, _<_}
 use mathlib.Core.Path.{_≡_, refl, ap, ap₂, _∙_}
 use mathlib.Core.Bool.{Bool, true, false, cond, not}
 use mathlib.Core.List.{List, [], _∷_}
-use native.Mathlib.Nat.{not-suc-le-zero, le-of-suc-le-suc, pow-suc, one-mul, mod-lt, zero-lt-suc}
+use native.Mathlib.Nat.{not-suc-le-zero, le-of-suc-le-suc, pow-suc, one-mul}
 use native.Mathlib.Omega.{arith}
 use lib.Bits.{bitXor, xor-block, xor-zero-r}
 use lib.Count.{trailingZeros, under}
 use lib.Dec.{lit<}
-use lib.ListN.{length, getD, set, replicate}
+use lib.ListN.{length, getD, set}
 use lib.Pow.{shl-exact}
-use Rattle.model.specs.State.{Entry, free, taken, position, isFree, capacity}
-use Rattle.table.specs.Layout.{bitmap, isTaken, bucket, buckets}
+use Rattle.model.specs.State.{Entry, free, taken, position, isFree}
+use Rattle.table.specs.Layout.{bitmap, isTaken}
 
 -- a bit
 abbrev bit : Bool → ℕ
@@ -21,24 +21,9 @@ bit-lt : (b : Bool) → bit b < 2
 bit-lt true = lit< tt
 bit-lt false = lit< tt
 
--- the bit of an entry, as the code shifts it into its place
-pub one-bit : (i : ℕ) → i < capacity → 1 * 2 ^ i % 2 ^ 64 ≡ 2 ^ i
+-- the bit of an entry in its word, as the code shifts it into its place
+pub one-bit : (i : ℕ) → i < 64 → 1 * 2 ^ i % 2 ^ 64 ≡ 2 ^ i
 one-bit i h = shl-exact 1 i 64 (lit< tt) (omega arith) ∙ one-mul (2 ^ i)
-
-pub bitmap-lt : (f : Entry → Bool) (ss : List Entry) → bitmap f ss < 2 ^ length ss
-unfolding bitmap
-bitmap-lt f [] = lit< tt
-bitmap-lt f (s ∷ ss) = let h : bitmap f ss < 2 ^ length ss = bitmap-lt f ss in omega (arith, pow-suc 2 (length ss), bit-lt (f s))
-
-pub bitmap-free : (f : Entry → Bool) → f free ≡ false → (n : ℕ) → bitmap f (replicate n free) ≡ 0
-unfolding bitmap
-bitmap-free f e zero = refl
-bitmap-free f e (suc n) = let h : bitmap f (replicate n free) ≡ 0 = bitmap-free f e n in rw (h, e)
-
--- every name has a bucket
-pub bucket-lt : (v : ℕ) → bucket v < buckets
-unfolding bucket
-bucket-lt v = mod-lt (v % 64 + v / 64) (zero-lt-suc 63)
 
 -- ---- one entry changes
 
@@ -64,17 +49,7 @@ bitmap-flip f (s ∷ ss) (suc i) x l e =
     ∙ xor-block 1 (bitmap f ss) (2 ^ i) (bit (f s)) 0 (bit-lt (f s)) (lit< tt)
     ∙ ap₂ (λ (m b : ℕ). m * 2 + b) (bitmap-flip f ss i x (le-of-suc-le-suc l) e) (xor-zero-r (bit (f s)))
 
--- its bit goes
-marks-sum : (f : Entry → Bool) (ss : List Entry) (i : ℕ) (x : Entry) → i < length ss → f (getD ss i free) ≡ true → f x ≡ false → bitmap f (set ss i x) + 2 ^ i ≡ bitmap f ss
-unfolding bitmap
-marks-sum f [] i x l e g = absurd (not-suc-le-zero l)
-marks-sum f (s ∷ ss) zero x l e g = rw (e, g) (omega arith)
-marks-sum f (s ∷ ss) (suc i) x l e g = omega (arith, marks-sum f ss i x (le-of-suc-le-suc l) e g, pow-suc 2 i)
-
-pub bitmap-less : (f : Entry → Bool) (ss : List Entry) (i : ℕ) (x : Entry) → i < length ss → f (getD ss i free) ≡ true → f x ≡ false → bitmap f ss - 2 ^ i ≡ bitmap f (set ss i x)
-bitmap-less f ss i x l e g = omega (arith, marks-sum f ss i x l e g)
-
--- ---- the lowest and the highest bit
+-- ---- the lowest bit
 
 -- the lowest bit is that of the first entry at which the test passes
 pub bitmap-first : (f : Entry → Bool) (ss : List Entry) → trailingZeros (length ss) (bitmap f ss) ≡ position f ss
@@ -89,19 +64,6 @@ bitmap-first f (s ∷ ss) = go (f s) (bitmap-first f ss)
         let e : (bitmap f ss * 2 + 0) % 2 ≡ 0 = omega arith in
         let d : (bitmap f ss * 2 + 0) / 2 ≡ bitmap f ss = omega arith in
         rw (e, d) (ap suc h)
-
--- above the highest bit the test passes at none
-pub bitmap-top : (f : Entry → Bool) (ss : List Entry) (m k : ℕ) → bitmap f ss < 2 ^ m → m ≤ k → k < length ss → f (getD ss k free) ≡ false
-unfolding bitmap
-bitmap-top f [] m k h l n = absurd (not-suc-le-zero n)
-bitmap-top f (s ∷ ss) zero zero h l n = last (f s) refl
-  where
-    last : (b : Bool) → f s ≡ b → f s ≡ false
-    last true e = absurd (omega (arith, rw e at h))
-    last false e = e
-bitmap-top f (s ∷ ss) zero (suc k) h l n = bitmap-top f ss zero k (omega (arith, h)) (omega arith) (le-of-suc-le-suc n)
-bitmap-top f (s ∷ ss) (suc m) zero h l n = absurd (not-suc-le-zero l)
-bitmap-top f (s ∷ ss) (suc m) (suc k) h l n = bitmap-top f ss m k (omega (arith, h, pow-suc 2 m)) (le-of-suc-le-suc l) (le-of-suc-le-suc n)
 
 -- what is not taken is free
 pub bitmap-both : (ss : List Entry) → bitmap isTaken ss + bitmap isFree ss + 1 ≡ 2 ^ length ss

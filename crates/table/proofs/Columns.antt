@@ -41,113 +41,113 @@ module _ (f : Entry → List ℕ) (w : ℕ) (wide : (x : Entry) → length (f x)
   replace-part k q v r at ss x l a b e = rw (← at) (part-flat f w wide h ss t i free x k q v r l a b e)
 
 -- The words with the four columns of four rows of entries, behind a header: a store changes one column at a time.
-abbrev pub mixed : (h : List ℕ) (n k l m : List Entry) → List ℕ
-mixed h n k l m = h ++ (flat nameOf n ++ (flat keyOf k ++ (flat liveOf l ++ flat fixedOf m)))
+abbrev pub mixed : (h : List ℕ) (k n l m : List Entry) → List ℕ
+mixed h k n l m = h ++ (flat keyOf k ++ (flat nameOf n ++ (flat liveOf l ++ flat fixedOf m)))
 
 sized : (f : Entry → List ℕ) (w : ℕ) → ((x : Entry) → length (f x) ≡ w) → (ss : List Entry) → length ss ≡ capacity → length (flat f ss) ≡ capacity * w
-sized f w wide ss e = length-flat f w wide ss ∙ ap (λ (n : ℕ). n * w) e
+sized f w wide ss e = length-flat f w wide ss ∙ ap (λ (x : ℕ). x * w) e
 
--- what stands up to the names, up to the keys and up to the live words
-abbrev toNames : (h : List ℕ) (n : List Entry) → List ℕ
-toNames h n = h ++ flat nameOf n
+-- what stands up to the keys, up to the names and up to the live words
+abbrev toKeys : (h : List ℕ) (k : List Entry) → List ℕ
+toKeys h k = h ++ flat keyOf k
 
-abbrev toKeys : (h : List ℕ) (n k : List Entry) → List ℕ
-toKeys h n k = h ++ (flat nameOf n ++ flat keyOf k)
+abbrev toNames : (h : List ℕ) (k n : List Entry) → List ℕ
+toNames h k n = h ++ (flat keyOf k ++ flat nameOf n)
 
-abbrev toLives : (h : List ℕ) (n k l : List Entry) → List ℕ
-toLives h n k l = h ++ (flat nameOf n ++ (flat keyOf k ++ flat liveOf l))
+abbrev toLives : (h : List ℕ) (k n l : List Entry) → List ℕ
+toLives h k n l = h ++ (flat keyOf k ++ (flat nameOf n ++ flat liveOf l))
 
-key-split : (h : List ℕ) (n k l m : List Entry) → mixed h n k l m ≡ toNames h n ++ (flat keyOf k ++ (flat liveOf l ++ flat fixedOf m))
-key-split h n k l m = simp append-assoc
+name-split : (h : List ℕ) (k n l m : List Entry) → mixed h k n l m ≡ toKeys h k ++ (flat nameOf n ++ (flat liveOf l ++ flat fixedOf m))
+name-split h k n l m = simp append-assoc
 
-live-split : (h : List ℕ) (n k l m : List Entry) → mixed h n k l m ≡ toKeys h n k ++ (flat liveOf l ++ flat fixedOf m)
-live-split h n k l m = simp append-assoc
+live-split : (h : List ℕ) (k n l m : List Entry) → mixed h k n l m ≡ toNames h k n ++ (flat liveOf l ++ flat fixedOf m)
+live-split h k n l m = simp append-assoc
 
-fixed-split : (h : List ℕ) (n k l m : List Entry) → mixed h n k l m ≡ toLives h n k l ++ (flat fixedOf m ++ [])
-fixed-split h n k l m = simp (append-assoc, append-nil)
+fixed-split : (h : List ℕ) (k n l m : List Entry) → mixed h k n l m ≡ toLives h k n l ++ (flat fixedOf m ++ [])
+fixed-split h k n l m = simp (append-assoc, append-nil)
 
 -- a header and four rows as long as those of a table
-pub record Rows (h : List ℕ) (n k l m : List Entry) : Type 0 where
-  pub heads : length h ≡ namesFrom
-  pub names : length n ≡ capacity
+pub record Rows (h : List ℕ) (k n l m : List Entry) : Type 0 where
+  pub heads : length h ≡ keysFrom
   pub keys : length k ≡ capacity
+  pub names : length n ≡ capacity
   pub lives : length l ≡ capacity
   pub fixeds : length m ≡ capacity
 
-module _ (h : List ℕ) (n k l m : List Entry) (r : Rows h n k l m) (i : ℕ) (b : i < capacity) where
-  at-name : length h + i * 1 ≡ namesFrom + i
-  at-name = omega (arith, r .heads)
+module _ (h : List ℕ) (k n l m : List Entry) (r : Rows h k n l m) (i : ℕ) (b : i < capacity) where
+  at-key : length h + i * 1 ≡ keysFrom + i
+  at-key = omega (arith, r .heads)
 
-  at-key : length (toNames h n) + i * 1 ≡ keysFrom + i
-  at-key = omega (arith, length-append h (flat nameOf n), r .heads, sized nameOf 1 name-wide n (r .names))
+  at-name : length (toKeys h k) + i * 1 ≡ namesFrom + i
+  at-name = omega (arith, length-append h (flat keyOf k), r .heads, sized keyOf 1 key-wide k (r .keys))
 
-  before-live : length (toKeys h n k) ≡ liveFrom
+  before-live : length (toNames h k n) ≡ liveFrom
   before-live =
       omega (
         arith,
-        length-append h (flat nameOf n ++ flat keyOf k),
-        length-append (flat nameOf n) (flat keyOf k),
+        length-append h (flat keyOf k ++ flat nameOf n),
+        length-append (flat keyOf k) (flat nameOf n),
         r .heads,
-        sized nameOf 1 name-wide n (r .names),
         sized keyOf 1 key-wide k (r .keys),
+        sized nameOf 1 name-wide n (r .names),
       )
 
-  at-fixed : length (toLives h n k l) + i * fixedWidth ≡ fixedFrom + i * fixedWidth
+  at-fixed : length (toLives h k n l) + i * fixedWidth ≡ fixedFrom + i * fixedWidth
   at-fixed =
       omega (
         arith,
-        length-append h (flat nameOf n ++ (flat keyOf k ++ flat liveOf l)),
-        length-append (flat nameOf n) (flat keyOf k ++ flat liveOf l),
-        length-append (flat keyOf k) (flat liveOf l),
+        length-append h (flat keyOf k ++ (flat nameOf n ++ flat liveOf l)),
+        length-append (flat keyOf k) (flat nameOf n ++ flat liveOf l),
+        length-append (flat nameOf n) (flat liveOf l),
         r .heads,
-        sized nameOf 1 name-wide n (r .names),
         sized keyOf 1 key-wide k (r .keys),
+        sized nameOf 1 name-wide n (r .names),
         sized liveOf liveWidth live-wide l (r .lives),
       )
 
-  pub set-name : (x : Entry) → put (mixed h n k l m) (namesFrom + i) (nameOf x) ≡ mixed h (set n i x) k l m
-  set-name x = replace nameOf 1 name-wide h (flat keyOf k ++ (flat liveOf l ++ flat fixedOf m)) i (namesFrom + i) at-name n x (omega (arith, r .names))
+  pub set-key : (x : Entry) → put (mixed h k n l m) (keysFrom + i) (keyOf x) ≡ mixed h (set k i x) n l m
+  set-key x = replace keyOf 1 key-wide h (flat nameOf n ++ (flat liveOf l ++ flat fixedOf m)) i (keysFrom + i) at-key k x (omega (arith, r .keys))
 
-  pub set-key : (x : Entry) → put (mixed h n k l m) (keysFrom + i) (keyOf x) ≡ mixed h n (set k i x) l m
-  set-key x =
-      ap (λ (y : List ℕ). put y (keysFrom + i) (keyOf x)) (key-split h n k l m)
-      ∙ replace keyOf 1 key-wide (toNames h n) (flat liveOf l ++ flat fixedOf m) i (keysFrom + i) at-key k x (omega (arith, r .keys))
-      ∙ sym (key-split h n (set k i x) l m)
+  pub set-name : (x : Entry) → put (mixed h k n l m) (namesFrom + i) (nameOf x) ≡ mixed h k (set n i x) l m
+  set-name x =
+      ap (λ (y : List ℕ). put y (namesFrom + i) (nameOf x)) (name-split h k n l m)
+      ∙ replace nameOf 1 name-wide (toKeys h k) (flat liveOf l ++ flat fixedOf m) i (namesFrom + i) at-name n x (omega (arith, r .names))
+      ∙ sym (name-split h k (set n i x) l m)
 
   -- a part of an entry's live words: those behind p
   pub set-part :
       (p q v z : List ℕ) (x : Entry) → liveOf (getD l i free) ≡ p ++ (q ++ z) → liveOf x ≡ p ++ (v ++ z) → length q ≡ length v
-      → put (mixed h n k l m) (liveFrom + length p + i * liveWidth) v ≡ mixed h n k (set l i x) m
+      → put (mixed h k n l m) (liveFrom + length p + i * liveWidth) v ≡ mixed h k n (set l i x) m
   set-part p q v z x a c e =
-      ap (λ (y : List ℕ). put y (liveFrom + length p + i * liveWidth) v) (live-split h n k l m)
-      ∙ replace-part liveOf liveWidth live-wide (toKeys h n k) (flat fixedOf m) i (liveFrom + length p + i * liveWidth) p q v z (omega (arith, before-live)) l x (omega (arith, r .lives)) a c e
-      ∙ sym (live-split h n k (set l i x) m)
+      ap (λ (y : List ℕ). put y (liveFrom + length p + i * liveWidth) v) (live-split h k n l m)
+      ∙ replace-part liveOf liveWidth live-wide (toNames h k n) (flat fixedOf m) i (liveFrom + length p + i * liveWidth) p q v z (omega (arith, before-live)) l x (omega (arith, r .lives)) a c e
+      ∙ sym (live-split h k n (set l i x) m)
 
-  pub set-live : (x : Entry) → put (mixed h n k l m) (liveFrom + i * liveWidth) (liveOf x) ≡ mixed h n k (set l i x) m
+  pub set-live : (x : Entry) → put (mixed h k n l m) (liveFrom + i * liveWidth) (liveOf x) ≡ mixed h k n (set l i x) m
   set-live x =
       set-part [] (liveOf (getD l i free)) (liveOf x) [] x (sym (append-nil (liveOf (getD l i free)))) (sym (append-nil (liveOf x)))
       (live-wide (getD l i free) ∙ sym (live-wide x))
 
-  pub set-fixed : (x : Entry) → put (mixed h n k l m) (fixedFrom + i * fixedWidth) (fixedOf x) ≡ mixed h n k l (set m i x)
+  pub set-fixed : (x : Entry) → put (mixed h k n l m) (fixedFrom + i * fixedWidth) (fixedOf x) ≡ mixed h k n l (set m i x)
   set-fixed x =
-      ap (λ (y : List ℕ). put y (fixedFrom + i * fixedWidth) (fixedOf x)) (fixed-split h n k l m)
-      ∙ replace fixedOf fixedWidth fixed-wide (toLives h n k l) [] i (fixedFrom + i * fixedWidth) at-fixed m x (omega (arith, r .fixeds))
-      ∙ sym (fixed-split h n k l (set m i x))
+      ap (λ (y : List ℕ). put y (fixedFrom + i * fixedWidth) (fixedOf x)) (fixed-split h k n l m)
+      ∙ replace fixedOf fixedWidth fixed-wide (toLives h k n l) [] i (fixedFrom + i * fixedWidth) at-fixed m x (omega (arith, r .fixeds))
+      ∙ sym (fixed-split h k n l (set m i x))
 
-  pub get-name : drop (namesFrom + i) (mixed h n k l m) ≡ nameOf (getD n i free) ++ (flat nameOf (drop (suc i) n) ++ (flat keyOf k ++ (flat liveOf l ++ flat fixedOf m)))
-  get-name = read nameOf 1 name-wide h (flat keyOf k ++ (flat liveOf l ++ flat fixedOf m)) i (namesFrom + i) at-name n (omega (arith, r .names))
+  pub get-key : drop (keysFrom + i) (mixed h k n l m) ≡ keyOf (getD k i free) ++ (flat keyOf (drop (suc i) k) ++ (flat nameOf n ++ (flat liveOf l ++ flat fixedOf m)))
+  get-key = read keyOf 1 key-wide h (flat nameOf n ++ (flat liveOf l ++ flat fixedOf m)) i (keysFrom + i) at-key k (omega (arith, r .keys))
 
-  pub get-key : drop (keysFrom + i) (mixed h n k l m) ≡ keyOf (getD k i free) ++ (flat keyOf (drop (suc i) k) ++ (flat liveOf l ++ flat fixedOf m))
-  get-key =
-      ap (λ (y : List ℕ). drop (keysFrom + i) y) (key-split h n k l m)
-      ∙ read keyOf 1 key-wide (toNames h n) (flat liveOf l ++ flat fixedOf m) i (keysFrom + i) at-key k (omega (arith, r .keys))
+  pub get-name : drop (namesFrom + i) (mixed h k n l m) ≡ nameOf (getD n i free) ++ (flat nameOf (drop (suc i) n) ++ (flat liveOf l ++ flat fixedOf m))
+  get-name =
+      ap (λ (y : List ℕ). drop (namesFrom + i) y) (name-split h k n l m)
+      ∙ read nameOf 1 name-wide (toKeys h k) (flat liveOf l ++ flat fixedOf m) i (namesFrom + i) at-name n (omega (arith, r .names))
 
-  pub get-live : drop (liveFrom + i * liveWidth) (mixed h n k l m) ≡ liveOf (getD l i free) ++ (flat liveOf (drop (suc i) l) ++ flat fixedOf m)
+  pub get-live : drop (liveFrom + i * liveWidth) (mixed h k n l m) ≡ liveOf (getD l i free) ++ (flat liveOf (drop (suc i) l) ++ flat fixedOf m)
   get-live =
-      ap (λ (y : List ℕ). drop (liveFrom + i * liveWidth) y) (live-split h n k l m)
-      ∙ read liveOf liveWidth live-wide (toKeys h n k) (flat fixedOf m) i (liveFrom + i * liveWidth) (omega (arith, before-live)) l (omega (arith, r .lives))
+      ap (λ (y : List ℕ). drop (liveFrom + i * liveWidth) y) (live-split h k n l m)
+      ∙ read liveOf liveWidth live-wide (toNames h k n) (flat fixedOf m) i (liveFrom + i * liveWidth) (omega (arith, before-live)) l (omega (arith, r .lives))
 
-  pub get-fixed : drop (fixedFrom + i * fixedWidth) (mixed h n k l m) ≡ fixedOf (getD m i free) ++ (flat fixedOf (drop (suc i) m) ++ [])
+  pub get-fixed : drop (fixedFrom + i * fixedWidth) (mixed h k n l m) ≡ fixedOf (getD m i free) ++ (flat fixedOf (drop (suc i) m) ++ [])
   get-fixed =
-      ap (λ (y : List ℕ). drop (fixedFrom + i * fixedWidth) y) (fixed-split h n k l m)
-      ∙ read fixedOf fixedWidth fixed-wide (toLives h n k l) [] i (fixedFrom + i * fixedWidth) at-fixed m (omega (arith, r .fixeds))
+      ap (λ (y : List ℕ). drop (fixedFrom + i * fixedWidth) y) (fixed-split h k n l m)
+      ∙ read fixedOf fixedWidth fixed-wide (toLives h k n l) [] i (fixedFrom + i * fixedWidth) at-fixed m (omega (arith, r .fixeds))

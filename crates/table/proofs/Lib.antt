@@ -2,6 +2,9 @@
 pub mod Storing
 pub mod Loaded
 pub mod Bitmaps
+pub mod Used
+pub mod Directory
+pub mod Nodes
 pub mod Columns
-pub mod Heading
+pub mod Splits
 pub mod Words

@@ -3,13 +3,14 @@ use Prim.Native.Nat.{ℕ, _+_, _*_}
 use mathlib.Core.Path.{_≡_, ap, _∙_}
 use mathlib.Core.List.{List}
 use native.Mathlib.Omega.{arith}
-use lib.ListN.{getD, set, replicate}
+use lib.ListN.{set, replicate}
 use Rattle.laws.specs.Blocks.{put}
 use Rattle.laws.proofs.Blocks.{put-append}
 use Rattle.connection.specs.declared.parts.Connection.{Connection}
 use Rattle.connection.specs.Ready.{readyInstant}
-use Rattle.table.specs.Layout.{bucket, key, sourceWords, destinationWords, liveWords, fixedWords, usedAt, indexFrom, namesFrom, keysFrom, liveFrom, liveWidth, destinationFrom, fixedFrom, fixedWidth}
-use Rattle.table.specs.Storing.{updated, flipped, entryFlipped, stored, cleared}
+use Rattle.table.specs.Layout.{key, keyOf, nameOf, liveOf, fixedOf, sourceWords, destinationWords, liveWords, namesFrom, keysFrom, liveFrom, liveWidth, destinationFrom, fixedFrom, fixedWidth}
+use Rattle.model.specs.State.{Entry}
+use Rattle.table.specs.Storing.{updated, given}
 
 -- the key behind what was put
 pub keyed : (l m : List ℕ) (p i k : ℕ) (v : List ℕ) (c : Connection) → m ≡ put l p v → k ≡ key (readyInstant c) → set m (keysFrom + i) k ≡ set (put l p v) (keysFrom + i) (key (readyInstant c))
@@ -28,20 +29,12 @@ updated-by l m n i k c e f g =
     at : destinationFrom + i * liveWidth ≡ liveFrom + i * liveWidth + 7
     at = omega arith
 
-pub flipped-by : (l m n : List ℕ) (i v : ℕ) → m ≡ flipped l usedAt i → n ≡ flipped m (indexFrom + bucket v) i → n ≡ entryFlipped l i v
-flipped-by l m n i v e f = f ∙ ap (λ (x : List ℕ). flipped x (indexFrom + bucket v) i) e
-
-pub stored-by :
-    (l m n o : List ℕ) (i : ℕ) (c : Connection) → m ≡ updated l i c → n ≡ put m (fixedFrom + i * fixedWidth) (fixedWords c)
-    → o ≡ entryFlipped (set n (namesFrom + i) (c .name)) i (c .name) → o ≡ stored l i c
-stored-by l m n o i c e f g =
-    g ∙ ap (λ (x : List ℕ). entryFlipped (set x (namesFrom + i) (c .name)) i (c .name)) (f ∙ ap (λ (x : List ℕ). put x (fixedFrom + i * fixedWidth) (fixedWords c)) e)
-
 pub cleared-live-by : (l m : List ℕ) (b : ℕ) → m ≡ put l b (replicate fixedWidth 0) → set (set (set (set m (b + 12) 0) (b + 13) 0) (b + 14) 0) (b + 15) 0 ≡ put l b (replicate liveWidth 0)
 cleared-live-by l m b e = ap (λ (x : List ℕ). set (set (set (set x (b + 12) 0) (b + 13) 0) (b + 14) 0) (b + 15) 0) e
 
-pub cleared-by :
-    (l m n o : List ℕ) (i : ℕ) → m ≡ put l (liveFrom + i * liveWidth) (replicate liveWidth 0) → n ≡ put m (fixedFrom + i * fixedWidth) (replicate fixedWidth 0)
-    → o ≡ entryFlipped (set (set n (keysFrom + i) 0) (namesFrom + i) 0) i (getD l (namesFrom + i) 0) → o ≡ cleared l i
-cleared-by l m n o i e f g =
-    g ∙ ap (λ (x : List ℕ). entryFlipped (set (set x (keysFrom + i) 0) (namesFrom + i) 0) i (getD l (namesFrom + i) 0)) (f ∙ ap (λ (x : List ℕ). put x (fixedFrom + i * fixedWidth) (replicate fixedWidth 0)) e)
+-- the whole entry, one column after the other
+pub given-by :
+    (l m n : List ℕ) (i : ℕ) (x : Entry) → m ≡ put (put l (liveFrom + i * liveWidth) (liveOf x)) (keysFrom + i) (keyOf x) → n ≡ put m (fixedFrom + i * fixedWidth) (fixedOf x)
+    → put n (namesFrom + i) (nameOf x) ≡ given l i x
+given-by l m n i x e f =
+    ap (λ (y : List ℕ). put y (namesFrom + i) (nameOf x)) (f ∙ ap (λ (y : List ℕ). put y (fixedFrom + i * fixedWidth) (fixedOf x)) e)

@@ -1,11 +1,11 @@
 -- The words of a table in the lent memory. A state has one list of words; all zero is the empty table.
--- A header: the level, the last time, the taken entries, and an index of the names, by which one is found without a scan; then four columns with
--- one block an entry: names, ready keys, which are scanned, the live part of each connection and the part that its open fixed.
-use Prim.Native.Nat.{ℕ, zero, _+_, _-_, _*_, _/_, _%_, _^_}
+-- A header: the level, the last time, the bits of the taken entries, the directory of the names, by which one is found in ten probes, and the
+-- winners of the tournament; then four columns with one block an entry: ready keys, names, the live part of each connection and the part that its open fixed.
+use Prim.Native.Nat.{ℕ, zero, suc, _+_, _-_, _*_, _^_}
 use mathlib.Core.Bool.{Bool, true, false, cond}
 use mathlib.Core.List.{List, [], _∷_, _++_}
-use lib.Dec.{eqb}
-use lib.ListN.{replicate}
+use lib.Dec.{leb, ltb}
+use lib.ListN.{take, drop, replicate}
 use Rattle.laws.specs.Blocks.{flat}
 use Rattle.laws.specs.Rows.{row}
 use Rattle.crc.specs.declared.payload.Payload.{Payload}
@@ -20,32 +20,40 @@ use Rattle.connection.specs.declared.ready.Instant.{Instant}
 use Rattle.connection.specs.declared.ready.Instant.the-variants.{Never, At}
 use Rattle.connection.specs.Ready.{readyInstant}
 use Rattle.model.specs.State.{State, Entry, free, taken, capacity}
+use Rattle.model.specs.Tournament.{levels, winnerAt, leadWord}
 
--- Where they stand: in the header the level, the last accepted time, the bits of the entries in use, and the index of names with its buckets;
+-- Where they stand: in the header the level, the last accepted time, the bits of the entries in use, 64 in a word, the directory of names and the
+-- winners; behind them a word that is always 0, the key of no entry, so that the key of a winner's word w stands at noKeyAt + w;
 abbrev pub levelAt : ℕ
 levelAt = 0
 
 abbrev pub lastAt : ℕ
 lastAt = 1
 
-abbrev pub usedAt : ℕ
-usedAt = 2
+abbrev pub usedFrom : ℕ
+usedFrom = 2
 
-abbrev pub indexFrom : ℕ
-indexFrom = 3
+abbrev pub groups : ℕ
+groups = 16
 
-abbrev pub buckets : ℕ
-buckets = 64
+abbrev pub directoryFrom : ℕ
+directoryFrom = usedFrom + groups
+
+abbrev pub nodesFrom : ℕ
+nodesFrom = directoryFrom + capacity
+
+abbrev pub noKeyAt : ℕ
+noKeyAt = nodesFrom + capacity
 
 -- then the columns, with the widths of their blocks; a column starts where the one before it ends
-abbrev pub namesFrom : ℕ
-namesFrom = indexFrom + buckets
-
 abbrev pub keysFrom : ℕ
-keysFrom = namesFrom + capacity
+keysFrom = noKeyAt + 1
+
+abbrev pub namesFrom : ℕ
+namesFrom = keysFrom + capacity
 
 abbrev pub liveFrom : ℕ
-liveFrom = keysFrom + capacity
+liveFrom = namesFrom + capacity
 
 abbrev pub sourceWidth : ℕ
 sourceWidth = 7
@@ -151,7 +159,7 @@ fixedOf free = replicate fixedWidth 0
 fixedOf (taken c) = fixedWords c
 
 abbrev pub columns : List Entry → List ℕ
-columns ss = flat nameOf ss ++ (flat keyOf ss ++ (flat liveOf ss ++ flat fixedOf ss))
+columns ss = flat keyOf ss ++ (flat nameOf ss ++ (flat liveOf ss ++ flat fixedOf ss))
 
 -- the entries at which a test passes, one bit each, that of entry 0 lowest
 unfoldable pub bitmap : (Entry → Bool) → List Entry → ℕ
@@ -162,20 +170,48 @@ unfoldable pub isTaken : Entry → Bool
 isTaken free = false
 isTaken (taken c) = true
 
--- the bucket of a name in the index: 64 names in a row, or a power of two up to 64 apart, fill at least 63 of its 64 buckets, none with more than two
-unfoldable pub bucket : (name : ℕ) → ℕ
-bucket v = (v % buckets + v / buckets) % buckets
+-- the bits of the taken entries, 64 in a word
+unfoldable pub group : (number : ℕ) → List Entry → List Entry
+group g ss = take 64 (drop (g * 64) ss)
 
-unfoldable pub inBucket : ℕ → Entry → Bool
-inBucket h free = false
-inBucket h (taken c) = eqb (bucket (c .name)) h
+abbrev pub used : List Entry → List ℕ
+used ss = row (λ g. bitmap isTaken (group g ss)) 0 groups
 
--- the index: in each bucket the entries of its names
-abbrev pub index : List Entry → List ℕ
-index ss = row (λ h. bitmap (inBucket h) ss) 0 buckets
+-- The directory: for each entry in use a word that holds its name and its number, in falling order; the words of the others are 0 and stand behind.
+unfoldable pub directoryWord : (entry : ℕ) → Entry → ℕ
+directoryWord i free = 0
+directoryWord i (taken c) = (c .name + 1) * capacity + i
 
-abbrev pub header : State → List ℕ
-header s = s .level ∷ s .last ∷ bitmap isTaken (s .entries) ∷ index (s .entries)
+unfoldable pub directoryWords : (entry : ℕ) → List Entry → List ℕ
+directoryWords i [] = []
+directoryWords i (s ∷ ss) = directoryWord i s ∷ directoryWords (suc i) ss
+
+unfoldable pub insertFalling : ℕ → List ℕ → List ℕ
+insertFalling x [] = x ∷ []
+insertFalling x (y ∷ ys) = cond (ltb x y) (y ∷ insertFalling x ys) (x ∷ y ∷ ys)
+
+unfoldable pub sortFalling : List ℕ → List ℕ
+sortFalling [] = []
+sortFalling (x ∷ xs) = insertFalling x (sortFalling xs)
+
+abbrev pub directory : List Entry → List ℕ
+directory ss = sortFalling (directoryWords 0 ss)
+
+-- The winners: word p is that of place p; how many levels a place stands above the leaves is how often it doubles before it reaches them.
+unfoldable pub height : (most place : ℕ) → ℕ
+height zero p = 0
+height (suc n) p = cond (leb capacity p) 0 (suc (height n (2 * p)))
+
+unfoldable pub nodeWord : List Entry → (place : ℕ) → ℕ
+nodeWord ss zero = 0
+nodeWord ss (suc p) = leadWord (winnerAt ss (height levels (suc p)) (suc p))
+
+abbrev pub nodes : List Entry → List ℕ
+nodes ss = row (nodeWord ss) 0 capacity
+
+-- the words with these bits of the entries in use, this directory and these winners, and the columns of these entries
+abbrev pub tableWords : (level last : ℕ) (us ds ns : List ℕ) → List Entry → List ℕ
+tableWords a b us ds ns ss = a ∷ b ∷ (us ++ (ds ++ (ns ++ (0 ∷ columns ss))))
 
 unfoldable pub words : State → List ℕ
-words s = header s ++ columns (s .entries)
+words s = tableWords (s .level) (s .last) (used (s .entries)) (directory (s .entries)) (nodes (s .entries)) (s .entries)

@@ -1,25 +1,32 @@
 // Where the words of a table stand in the lent memory. All zero is the empty table. The names are those of specs/Layout.antt.
 
-// How many connections can be open.
-pub const CAPACITY: usize = 64;
+// How many connections can be open, and how many levels of matches stand above them in the tournament.
+pub const CAPACITY: usize = 1024;
 
-// The header: the level, the last accepted time, the bits of the entries in use, and the index of names.
+pub const LEVELS: u32 = 10;
+
+// The header: the level, the last accepted time, the bits of the entries in use, the directory of names, the winners of the tournament, and a word that is
+// always 0, the key of no entry.
 pub const LEVEL: usize = 0;
 
 pub const LAST: usize = 1;
 
 pub const USED: usize = 2;
 
-pub const INDEX: usize = 3;
+pub const GROUPS: usize = 16;
 
-pub const BUCKETS: usize = 64;
+pub const DIRECTORY: usize = USED + GROUPS;
 
-// The columns, with one block an entry: names, ready keys, what moves while a connection is open (of its source, then of its destination), what its open fixed.
-pub const NAMES: usize = INDEX + BUCKETS;
+pub const NODES: usize = DIRECTORY + CAPACITY;
 
-pub const KEYS: usize = NAMES + CAPACITY;
+pub const NO_KEY: usize = NODES + CAPACITY;
 
-pub const LIVE: usize = KEYS + CAPACITY;
+// The columns, with one block an entry: ready keys, names, what moves while a connection is open (of its source, then of its destination), what its open fixed.
+pub const KEYS: usize = NO_KEY + 1;
+
+pub const NAMES: usize = KEYS + CAPACITY;
+
+pub const LIVE: usize = NAMES + CAPACITY;
 
 pub const SOURCE_WIDTH: usize = 7;
 

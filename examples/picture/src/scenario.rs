@@ -82,7 +82,7 @@ pub fn run() -> Result<Vec<Track>, Refusal> {
             table.receive(&cell)?;
         }
         for vci in VCIS {
-            table.offer(vci, 1).or_else(no_room)?;
+            table.offer(vci, 1).map(drop).or_else(no_room)?;
         }
         let mut cell = [0; CELL_OCTETS];
         if let Some(sent) = table.slot(time, &mut cell)? {

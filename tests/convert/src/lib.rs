@@ -55,6 +55,7 @@ pub fn library_sent(sent: Option<Sent>) -> abr_sent {
     };
     abr_sent {
         refusal: 0,
+        comparisons: sent.comparisons,
         kind,
         vci: sent.vci,
         acr: sent.acr,

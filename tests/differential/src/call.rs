@@ -94,6 +94,11 @@ impl Call {
         }
     }
 
+    /// Whether it is given a table.
+    pub fn has_table(&self) -> bool {
+        self.sort() < 8
+    }
+
     /// Whether it writes the table when it is accepted.
     pub fn may_change_table(&self) -> bool {
         self.sort() < 7
@@ -124,6 +129,8 @@ fn vci_of(octets: &[u8]) -> Option<u32> {
 pub enum Answer {
     /// Nothing but that it was accepted.
     Done,
+    /// The comparisons of a call that replays matches.
+    Comparisons(u32),
     /// A slot.
     Sent(abr::ffi::abr_sent),
     /// A number: an allowed rate, a rate or a code.
@@ -132,6 +139,17 @@ pub enum Answer {
     Cell(abr::ffi::abr_cell),
     /// The house set.
     Params(abr_params),
+}
+
+impl Answer {
+    /// The comparisons made; 0 if it says none.
+    pub fn comparisons(&self) -> u32 {
+        match self {
+            Answer::Comparisons(comparisons) => *comparisons,
+            Answer::Sent(sent) => sent.comparisons,
+            _ => 0,
+        }
+    }
 }
 
 /// An answer, or the number of the refusal.

@@ -1,5 +1,7 @@
 //! Counts of what the lists reached.
 
+use abr::COMPARISONS_MAX;
+
 use crate::call::{Call, Outcome, SORTS};
 
 macro_rules! events {
@@ -108,7 +110,7 @@ events! {
     /// A closed VCI with data, a backward cell or unanswered cells on it was
     /// opened again.
     ReopenedLoaded,
-    /// The 64th connection was opened.
+    /// The 1,024th connection was opened.
     Full,
     /// A slot or an open at 2^62.
     TimeMax,
@@ -175,6 +177,8 @@ pub struct Coverage {
     pub outcomes: [[u64; REFUSAL_MAX + 1]; SORTS.len()],
     /// By kind of slot; 0 is idle.
     pub kinds: [u64; 4],
+    /// By sort of call and comparisons, of accepted calls.
+    pub comparisons: [[u64; COMPARISONS_MAX as usize + 1]; SORTS.len()],
     /// By damaged octet of a refused cell.
     pub damaged: [u64; 53],
     events: [u64; EVENTS.len()],
@@ -187,6 +191,7 @@ impl Default for Coverage {
             rates: 0,
             outcomes: [[0; REFUSAL_MAX + 1]; SORTS.len()],
             kinds: [0; 4],
+            comparisons: [[0; COMPARISONS_MAX as usize + 1]; SORTS.len()],
             damaged: [0; 53],
             events: [0; EVENTS.len()],
         }
@@ -216,6 +221,9 @@ impl Coverage {
         self.calls += 1;
         let number = outcome.err().unwrap_or(0) as usize;
         self.outcomes[call.sort()][number] += 1;
+        if let Ok(answer) = outcome {
+            self.comparisons[call.sort()][answer.comparisons() as usize] += 1;
+        }
     }
 
     /// Counts an event if it happened.
@@ -236,6 +244,9 @@ impl Coverage {
         self.calls += other.calls;
         self.rates += other.rates;
         for (to, from) in self.outcomes.iter_mut().zip(&other.outcomes) {
+            add(to, from);
+        }
+        for (to, from) in self.comparisons.iter_mut().zip(&other.comparisons) {
             add(to, from);
         }
         add(&mut self.kinds, &other.kinds);

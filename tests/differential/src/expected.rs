@@ -9,14 +9,14 @@ use crate::octets::Buffer;
 /// Makes a call on the reference.
 pub fn call(engine: &mut Engine, call: &Call, buffer: &mut Buffer) -> Outcome {
     match *call {
-        Call::Open { vci, time, params } => {
-            done(engine.open(vci, time, &reference_params(&params)))
-        }
-        Call::Close { vci } => done(engine.close(vci)),
-        Call::Receive { cell } => done(engine.receive(cell.as_slice())),
-        Call::Offer { vci, cells } => done(engine.offer(vci, cells)),
+        Call::Open { vci, time, params } => engine
+            .open(vci, time, &reference_params(&params))
+            .map(Answer::Comparisons),
+        Call::Close { vci } => engine.close(vci).map(Answer::Comparisons),
+        Call::Receive { cell } => engine.receive(cell.as_slice()).map(Answer::Comparisons),
+        Call::Offer { vci, cells } => engine.offer(vci, cells).map(Answer::Comparisons),
         Call::SetLevel { level } => done(engine.set_level(level)),
-        Call::Make { vci, time } => done(engine.make(vci, time)),
+        Call::Make { vci, time } => engine.make(vci, time).map(Answer::Comparisons),
         Call::Slot { time, len } => engine
             .slot(time, buffer.octets(len))
             .map(|sent| Answer::Sent(library_sent(sent))),

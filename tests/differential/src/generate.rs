@@ -5,7 +5,7 @@ mod cells;
 mod times;
 
 use abr::ffi::abr_params;
-use abr::{CELL_OCTETS, RATE_MAX, WAITING_MAX};
+use abr::{CELL_OCTETS, RATE_MAX, VCI_MAX, WAITING_MAX};
 
 use crate::call::Call;
 use crate::observation::Observation;
@@ -18,6 +18,8 @@ pub struct Generator {
     rng: Rng,
     profile: Profile,
     base: u32,
+    /// The VCIs that are still to be opened before all else, the last one first.
+    filling: Vec<u32>,
     /// The octet that the last cell was damaged in.
     pub damaged: Option<usize>,
 }
@@ -26,11 +28,19 @@ impl Generator {
     /// The list of a seed.
     pub fn new(seed: u64, profile: Profile) -> Self {
         let mut rng = Rng::new(seed);
-        let base = rng.pick(&[32, 32, 100, 4_000, 65_535 - 96]);
+        let base = rng.pick(&[32, 32, 100, 4_000, VCI_MAX + 1 - profile.vcis]);
+        let mut filling: Vec<u32> = (base..base + profile.vcis).collect();
+        match rng.below(3) {
+            0 => rng.shuffle(&mut filling),
+            1 => filling.reverse(),
+            _ => {}
+        }
+        filling.truncate(profile.filled as usize);
         Generator {
             rng,
             profile,
             base,
+            filling,
             damaged: None,
         }
     }
@@ -38,6 +48,10 @@ impl Generator {
     /// The next call, given what the calls before it did.
     pub fn next(&mut self, seen: &Observation) -> Call {
         self.damaged = None;
+        if let Some(vci) = self.filling.pop() {
+            let (time, params) = (self.opening_time(seen), self.params());
+            return Call::Open { vci, time, params };
+        }
         match self.rng.weighted(&self.profile.weights) {
             0 => self.open(seen),
             1 => Call::Close {
@@ -100,20 +114,41 @@ impl Generator {
             self.rng
                 .pick(&[0, 1, 30, 31, 65_536, 65_568, u32::MAX, any])
         } else {
-            self.base + self.rng.below(self.profile.vcis.into()) as u32
+            self.vci_to_open(seen)
         };
-        let time = if seen.connections.is_empty() && seen.last == 0 {
-            self.start()
-        } else if self.fault() {
+        let time = if !first(seen) && self.fault() {
             self.time(seen)
         } else {
-            seen.last
+            self.opening_time(seen)
         };
         let mut params = self.params();
         if self.fault() {
             self.put_out_of_range(&mut params);
         }
         Call::Open { vci, time, params }
+    }
+
+    /// A VCI of the list; in every second open of a list that began with a full
+    /// table one that is not open.
+    fn vci_to_open(&mut self, seen: &Observation) -> u32 {
+        let (base, vcis) = (self.base, self.profile.vcis);
+        let place = self.rng.below(vcis.into()) as u32;
+        let any = base + place;
+        if self.profile.filled == 0 || self.rng.once_in(2) {
+            return any;
+        }
+        let mut from_there = (place..vcis).chain(0..place).map(|place| base + place);
+        let closed = from_there.find(|vci| !seen.connections.contains_key(vci));
+        closed.unwrap_or(any)
+    }
+
+    /// The time of an open that is accepted.
+    fn opening_time(&mut self, seen: &Observation) -> u64 {
+        if first(seen) {
+            self.start()
+        } else {
+            seen.last
+        }
     }
 
     /// Parameters within their ranges, the small ones preferred.
@@ -238,4 +273,9 @@ impl Generator {
         }
         any & 0xFFFF
     }
+}
+
+/// Whether no open was accepted yet.
+fn first(seen: &Observation) -> bool {
+    seen.connections.is_empty() && seen.last == 0
 }

@@ -2,7 +2,9 @@
 
 use std::fmt::Debug;
 
-use abr::ffi::{self, abr_allowed, abr_cell, abr_coded, abr_rated, abr_sent, abr_table};
+use abr::ffi::{
+    self, abr_allowed, abr_answer, abr_cell, abr_coded, abr_rated, abr_sent, abr_table,
+};
 
 use crate::call::{Answer, Call, Outcome};
 use crate::octets::Buffer;
@@ -11,7 +13,7 @@ use crate::octets::Buffer;
 pub type Difference = String;
 
 /// A table of the library.
-#[derive(Clone, PartialEq, Eq)]
+#[derive(PartialEq, Eq)]
 pub struct Library {
     table: Box<abr_table>,
 }
@@ -26,22 +28,27 @@ impl Default for Library {
 }
 
 impl Library {
+    /// Takes over the words of another table.
+    pub fn copy(&mut self, other: &Library) {
+        *self.table = *other.table;
+    }
+
     /// Makes a call. A field that is not 0 beside a refusal is a difference.
     pub fn call(&mut self, call: &Call, buffer: &mut Buffer) -> Result<Outcome, Difference> {
         let table: *mut abr_table = &mut *self.table;
         // SAFETY: every pointer is to live memory of the length given with it.
         Ok(match *call {
             Call::Open { vci, time, params } => {
-                done(unsafe { ffi::abr_open(table, vci, time, params) })
+                answered(unsafe { ffi::abr_open(table, vci, time, params) })?
             }
-            Call::Close { vci } => done(unsafe { ffi::abr_close(table, vci) }),
+            Call::Close { vci } => answered(unsafe { ffi::abr_close(table, vci) })?,
             Call::Receive { cell } => {
                 let octets = cell.as_slice();
-                done(unsafe { ffi::abr_receive(table, octets.as_ptr(), octets.len()) })
+                answered(unsafe { ffi::abr_receive(table, octets.as_ptr(), octets.len()) })?
             }
-            Call::Offer { vci, cells } => done(unsafe { ffi::abr_offer(table, vci, cells) }),
+            Call::Offer { vci, cells } => answered(unsafe { ffi::abr_offer(table, vci, cells) })?,
             Call::SetLevel { level } => done(unsafe { ffi::abr_set_level(table, level) }),
-            Call::Make { vci, time } => done(unsafe { ffi::abr_make(table, vci, time) }),
+            Call::Make { vci, time } => answered(unsafe { ffi::abr_make(table, vci, time) })?,
             Call::Slot { time, len } => {
                 let octets = buffer.octets(len).as_mut_ptr();
                 answered(unsafe { ffi::abr_slot(table, time, octets, len) })?
@@ -108,6 +115,7 @@ macro_rules! answers {
 }
 
 answers! {
+    abr_answer: |answer: abr_answer| Answer::Comparisons(answer.comparisons);
     abr_sent: Answer::Sent;
     abr_cell: Answer::Cell;
     abr_allowed: |allowed: abr_allowed| Answer::Number(allowed.acr);

@@ -8,8 +8,13 @@ use crate::library::Difference;
 use crate::observation::Observation;
 use crate::profile::{Profile, PROFILES};
 
-/// The calls of one list.
-pub const LIST: u64 = 2_000;
+/// The calls of one list, beside the opens that fill its table.
+const LIST: u64 = 2_000;
+
+/// The calls of a list of this profile.
+pub fn length(profile: Profile) -> u64 {
+    u64::from(profile.filled) + LIST
+}
 
 /// After so many calls every allowed rate is compared.
 const ALL_RATES: u64 = 16;
@@ -57,7 +62,8 @@ impl List {
 pub fn run(seed: u64, profile: Profile, coverage: &mut Coverage) -> Result<(), Difference> {
     let mut generator = Generator::new(seed, profile);
     let mut list = List::default();
-    for index in 0..LIST {
+    let calls = length(profile);
+    for index in 0..calls {
         let call = generator.next(&list.seen);
         let report = |difference: Difference| {
             let name = profile.name;
@@ -67,7 +73,7 @@ pub fn run(seed: u64, profile: Profile, coverage: &mut Coverage) -> Result<(), D
         if let (Some(octet), Err(_)) = (generator.damaged, outcome) {
             coverage.damaged[octet] += 1;
         }
-        if index % ALL_RATES == 0 || index == LIST - 1 {
+        if index % ALL_RATES == 0 || index == calls - 1 {
             list.same_rates().map_err(report)?;
         }
     }

@@ -1,8 +1,10 @@
 //! Two lists that differ in received backward cells only, those of the second at
 //! least as congested (document 01, "Four moves of the allowed rate" and "The
-//! lists of demand 3"; document 02, L1: makings too are the same in both): as long as the slots go to the same connections, no allowed
-//! rate of the second is above that of the first, and every allowed rate is
-//! between its minimum and its peak.
+//! lists of demand 3"; document 02, L1: makings too are the same in both): as
+//! long as the slots go to the same connections, no allowed rate of the second is
+//! above that of the first, and every allowed rate is between its minimum and its
+//! peak. Refusals and kinds are the same; comparisons may differ, since ready
+//! instants follow the rates.
 
 use abr::CELL_OCTETS;
 
@@ -65,7 +67,7 @@ pub fn run(seed: u64, profile: Profile, tally: &mut Tally) -> Result<(), Differe
     let mut rng = Rng::new(!seed);
     let mut pair = Pair::default();
     tally.pairs += 1;
-    for index in 0..LIST {
+    for index in 0..LIST + u64::from(profile.filled) {
         let call = generator.next(&pair.seen);
         let worse = congested(&call, &mut rng, tally);
         let goes_on = pair.step(&call, &worse, tally).map_err(|difference| {

@@ -7,6 +7,8 @@ pub struct Profile {
     pub name: &'static str,
     /// How many VCIs the list uses.
     pub vcis: u32,
+    /// How many of them it opens before all else.
+    pub filled: u32,
     /// The least exponent of a rate code.
     pub exponent: u32,
     /// How long before 2^62 the list starts, if it does.
@@ -30,8 +32,9 @@ pub const PROFILES: [Profile; 7] = [
         ..Profile::usual("many", 80, 16)
     },
     Profile {
-        weights: [20, 1, 10, 20, 1, 30, 4, 1, 1, 1, 1, 1, 1],
-        ..Profile::usual("full", 72, 0)
+        weights: [20, 2, 10, 20, 1, 30, 4, 1, 1, 1, 1, 1, 1],
+        filled: 1_016,
+        ..Profile::usual("full", 1_040, 0)
     },
     Profile::usual("ties", 6, 29),
     Profile {
@@ -54,10 +57,22 @@ pub const SPACED: Profile = Profile {
 };
 
 impl Profile {
+    /// How many lists of this profile are made where so many are made of others:
+    /// fewer if a thousand connections are open, since the reference looks at all
+    /// of them in each slot.
+    pub fn share(self, lists: u64) -> u64 {
+        if self.filled == 0 {
+            lists
+        } else {
+            lists / 25
+        }
+    }
+
     const fn usual(name: &'static str, vcis: u32, exponent: u32) -> Self {
         Profile {
             name,
             vcis,
+            filled: 0,
             exponent,
             before_end: None,
             fault: 40,

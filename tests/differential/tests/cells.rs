@@ -37,7 +37,7 @@ fn with_connection() -> Both {
         time: 0,
         params,
     };
-    assert_eq!(agree(&mut both, &open), Ok(Answer::Done));
+    assert_eq!(agree(&mut both, &open), Ok(Answer::Comparisons(1)));
     both
 }
 

@@ -5,9 +5,10 @@ use differential::library::Difference;
 use differential::profile::PROFILES;
 use differential::{lists, parallel};
 
-/// How many lists of each profile, and how many of them in one job.
-const LISTS: u64 = 4_000;
-const JOB: u64 = 100;
+/// How many lists of each profile, fewer of those with a full table, and how many
+/// of them in one job.
+const LISTS: u64 = 4_750;
+const JOB: u64 = 10;
 
 /// Each event, refusal and kind must be reached so often.
 const LEAST: u64 = 200;
@@ -27,7 +28,8 @@ fn run_job((place, first): (usize, u64)) -> Result<Coverage, Difference> {
 /// The jobs of a profile.
 fn jobs(place: usize) -> impl Iterator<Item = (usize, u64)> {
     let first = lists::seed() + 1_000_000 * place as u64;
-    (0..LISTS / JOB).map(move |job| (place, first + job * JOB))
+    let jobs = PROFILES[place].share(LISTS) / JOB;
+    (0..jobs).map(move |job| (place, first + job * JOB))
 }
 
 #[test]
@@ -40,7 +42,7 @@ fn library_and_reference_agree_on_lists_that_reach_every_edge() {
     }
     println!("all: {}", total.summary());
     assert_eq!(total.missing(LEAST), Vec::<String>::new());
-    let calls = PROFILES.len() as u64 * LISTS * lists::LIST;
-    assert_eq!(total.calls, calls);
+    let calls = PROFILES.map(|profile| profile.share(LISTS) * lists::length(profile));
+    assert_eq!(total.calls, calls.iter().sum());
     assert!(total.rates >= RATES, "{} rates", total.rates);
 }

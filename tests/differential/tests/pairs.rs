@@ -7,7 +7,7 @@ use differential::profile::{Profile, PROFILES, SPACED};
 use differential::{lists, parallel};
 
 /// The pairs of one job.
-const JOB: u64 = 100;
+const JOB: u64 = 10;
 
 /// Runs the pairs of a job: a profile, and the number of the first.
 fn run_job((profile, first): (Profile, u64)) -> Result<Tally, Difference> {
@@ -44,7 +44,7 @@ fn nor_on_lists_of_every_profile_until_a_slot_differs() {
     let mut total = Tally::default();
     for (place, profile) in PROFILES.into_iter().enumerate() {
         let first = lists::seed() + 1_000_000 * place as u64;
-        let tally = run_pairs(profile, first, 3_000);
+        let tally = run_pairs(profile, first, profile.share(3_000));
         assert!(tally.compared >= 500_000, "{tally:?}");
         assert!(tally.lower >= 15_000, "{tally:?}");
         total.add(&tally);

@@ -154,8 +154,8 @@ fn ends_of_time_and_of_the_vcis() {
     let mut cell = [0; CELL_OCTETS];
     assert_eq!(table.slot(TIME_MAX + 1, &mut cell), Err(Refusal::Time));
     assert_eq!(table.open(31, 0, &params), Err(Refusal::LowVci));
-    assert_eq!(table.open(32, TIME_MAX, &params), Ok(()));
-    assert_eq!(table.open(65_535, TIME_MAX, &params), Ok(()));
+    assert_eq!(table.open(32, TIME_MAX, &params), Ok(1));
+    assert_eq!(table.open(65_535, TIME_MAX, &params), Ok(1));
     assert_eq!(table.open(65_536, TIME_MAX, &params), Err(Refusal::Range));
     assert_eq!(table.slot(TIME_MAX, &mut cell), Ok(None));
     assert_eq!(
@@ -165,27 +165,30 @@ fn ends_of_time_and_of_the_vcis() {
 }
 
 #[test]
-fn sixty_four_open_and_no_more_in_any_order() {
+fn a_thousand_and_24_open_and_no_more_in_any_order() {
     let params = Params::house(THOUSAND, 0x4000, THOUSAND);
     let mut table = Table::new();
-    for i in 0..64 {
-        let vci = 32 + (i * 37) % 64;
-        assert_eq!(table.open(vci, 0, &params), Ok(()), "{vci}");
+    for i in 0..1_024 {
+        let vci = 32 + (i * 37) % 1_024;
+        assert_eq!(table.open(vci, 0, &params), Ok(1), "{vci}");
     }
-    assert_eq!(table.open(96, 0, &params), Err(Refusal::Full));
-    assert_eq!(table.close(50), Ok(()));
-    assert_eq!(table.open(96, 0, &params), Ok(()));
+    assert_eq!(table.open(1_056, 0, &params), Err(Refusal::Full));
+    assert_eq!(table.close(50), Ok(1));
+    assert_eq!(table.open(1_056, 0, &params), Ok(1));
     assert_eq!(table.open(50, 0, &params), Err(Refusal::Full));
-    for vci in (32..97).filter(|vci| *vci != 50) {
+    let open = || (32..=1_056).filter(|vci| *vci != 50);
+    for vci in open() {
         table.offer(vci, 1).unwrap();
     }
     let mut cell = [0; CELL_OCTETS];
-    let order = (0..64).map(|_| table.slot(0, &mut cell).unwrap().unwrap().vci);
-    let expected = (32..97).filter(|vci| *vci != 50);
-    assert!(
-        order.eq(expected),
-        "first cells go in the order of the VCIs"
-    );
+    for vci in open() {
+        let sent = table.slot(0, &mut cell).unwrap().unwrap();
+        assert_eq!(
+            (sent.vci, sent.comparisons),
+            (vci, 10),
+            "ties go to the lower VCI"
+        );
+    }
 }
 
 /// Y counts up to the largest CRM. That it stops there cannot be observed: Y is

@@ -1,6 +1,7 @@
 use mathlib.Core.Path.{refl}
 use borrow.Author.Needs.{needs}
-use Rattle.abr.specs.Exports.{numberAlone, opens, closes, receives, offers, levels, makes, slots, then, ended}
+use Rattle.abr.specs.Answers.{refusalAlone}
+use Rattle.abr.specs.Exports.{noSlot, opens, closes, receives, offers, levels, makes, slots, then, ended}
 use Rattle.composed.proofs.each_call.Statement.{statement}
 use Rattle.composed.proofs.each_call.Tie as tie
 
@@ -15,13 +16,13 @@ returns c =
     let o = f .before .before in
     let start = o .before .before .before .before .before in
     record {
-      opened = numberAlone (o .abr-open .last .0) (o .abr-open .result);
-      offered = numberAlone (f .abr-offer .last .0) (f .abr-offer .result);
-      levelled = numberAlone (l .abr-set-level .last .0) (l .abr-set-level .result);
-      taken = numberAlone (r .abr-receive .last .0) (r .abr-receive .result);
+      opened = noSlot (o .abr-open .last .0) (o .abr-open .result);
+      offered = noSlot (f .abr-offer .last .0) (f .abr-offer .result);
+      levelled = noSlot (l .abr-set-level .last .0) (refusalAlone (l .abr-set-level .result));
+      taken = noSlot (r .abr-receive .last .0) (r .abr-receive .result);
       sent = record { table = s .abr-slot .last .0; returned = s .abr-slot .result; old = start .args .cell .now; new = s .abr-slot .last .1 .1 .0 };
-      made = numberAlone (m .abr-make .last .0) (m .abr-make .result);
-      closed = numberAlone (c .abr-close .last .0) (c .abr-close .result);
+      made = noSlot (m .abr-make .last .0) (m .abr-make .result);
+      closed = noSlot (c .abr-close .last .0) (c .abr-close .result);
       rate = a .abr-acr .ensures;
       table = refl;
       buffer = refl;

@@ -88,8 +88,9 @@ impl Station {
     }
 
     pub fn offer(&mut self, cells: u64) {
-        self.library.offer(VCI, cells).expect("library");
-        self.reference.offer(VCI, cells).expect("reference");
+        let ours = self.library.offer(VCI, cells).expect("library");
+        let theirs = self.reference.offer(VCI, cells).expect("reference");
+        assert_eq!(ours, theirs, "comparisons of an offer");
     }
 
     pub fn set_level(&mut self, level: u32) {
@@ -99,13 +100,15 @@ impl Station {
 
     /// Makes a backward cell.
     pub fn make(&mut self, time: u64) {
-        self.library.make(VCI, time).expect("library");
-        self.reference.make(VCI, time).expect("reference");
+        let ours = self.library.make(VCI, time).expect("library");
+        let theirs = self.reference.make(VCI, time).expect("reference");
+        assert_eq!(ours, theirs, "comparisons of a made cell");
     }
 
     pub fn receive(&mut self, cell: &Octets) {
-        self.library.receive(cell).expect("library");
-        self.reference.receive(cell).expect("reference");
+        let ours = self.library.receive(cell).expect("library");
+        let theirs = self.reference.receive(cell).expect("reference");
+        assert_eq!(ours, theirs, "comparisons of a received cell");
         self.acr();
     }
 

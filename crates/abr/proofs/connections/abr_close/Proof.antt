@@ -1,10 +1,10 @@
 use borrow.Author.Needs.{needs}
-use Rattle.abr.proofs.Answered.{numbers}
+use Rattle.abr.proofs.Answered.{answers}
 use Rattle.abr.proofs.connections.abr_close.Statement.{statement}
 use Rattle.abr.proofs.connections.abr_close.Tie as tie
 
 returns : tie.Need-returns
-returns c = numbers (c .number .ensures) (c .before .close .ensures)
+returns c = answers (c .call-answer .ensures) (c .before .close .ensures)
 
 pub abr-close-spec : {M : Type 1} → statement M
 abr-close-spec = tie.close (tie.spec (λ c κs. search needs) (λ c κs. search needs) returns)

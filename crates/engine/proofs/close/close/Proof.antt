@@ -1,9 +1,8 @@
 use Prim.Native.Nat.{_<_}
 use borrow.Author.Needs.{needs}
-use Rattle.model.specs.State.{free, put, capacity}
-use Rattle.names.proofs.Found.{found-at}
-use Rattle.engine.proofs.Outcomes.{refused-out, accepted-out, below, missing, standing}
-use Rattle.engine.proofs.CallCases.{close-missing, close-done, cleared-is}
+use Rattle.model.specs.State.{capacity}
+use Rattle.engine.proofs.Outcomes.{refused-out, below, missing, standing}
+use Rattle.engine.proofs.CallCases.{close-missing, close-out}
 use Rattle.engine.proofs.close.close.Statement.{statement}
 use Rattle.engine.proofs.close.close.Tie as tie
 
@@ -28,7 +27,7 @@ returns-2 c =
     record {
       meets = λ s w e.
           let p = standing s w e v (f .find .ensures) (i .i .given .1) in
-          accepted-out (put v free s) (cleared-is s w e (entry i) p (c .clear .ensures)) (close-done s v (p .holder) (found-at p));
+          close-out s w e p (c .clear .ensures);
     }
 
 pub close-spec : {M : Type 1} → statement M

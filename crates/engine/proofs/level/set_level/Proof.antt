@@ -15,7 +15,7 @@ returns c = record { meets = λ s w e. refused-out s 9 e (level-over s (c .befor
 returns-2 : tie.Need-returns-2
 returns-2 c =
     let l : ℕ = c .before .args .level in
-    record { meets = λ s w e. accepted-out (withLevel l s) (ap (λ (x : List ℕ). set x 0 l) e ∙ level-word s l) (level-set s l (c .if1 .left)) }
+    record { meets = λ s w e. accepted-out 0 (withLevel l s) (ap (λ (x : List ℕ). set x 0 l) e ∙ level-word s l) (level-set s l (c .if1 .left)) }
 
 pub set-level-spec : {M : Type 1} → statement M
 set-level-spec = tie.close (tie.spec returns (λ c. search needs) returns-2)

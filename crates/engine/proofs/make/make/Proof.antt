@@ -1,6 +1,5 @@
 use Prim.Native.Nat.{ℕ, _≤_, _<_}
 use mathlib.Core.Path.{_≡_, sym, ap, subst, _∙_}
-use mathlib.Core.List.{List}
 use native.Mathlib.Omega.{arith}
 use borrow.Author.Needs.{needs}
 use borrow.Author.Tests.{not-true, not-false}
@@ -8,15 +7,15 @@ use Rattle.connection.specs.declared.parts.Connection.{Connection}
 use Rattle.connection.specs.Making.{mayMake, withMade}
 use Rattle.connection.specs.Range.{InRange}
 use Rattle.connection.proofs.Ranged.{made-ranged}
-use Rattle.model.specs.State.{State, taken, put, withTime, capacity}
+use Rattle.model.specs.State.{State, capacity}
 use Rattle.model.specs.Invariant.{WellFormed}
 use Rattle.table.specs.Layout.{words}
-use Rattle.table.specs.Storing.{destinationUpdated}
+use Rattle.storing.specs.Updates.{Updates, DestinationMoved}
 use Rattle.names.specs.Finding.{Located}
 use Rattle.names.proofs.Found.{found-at}
-use Rattle.engine.proofs.Outcomes.{refused-out, accepted-out, level-of, below, missing, standing, ranged, loaded-is}
+use Rattle.engine.proofs.Outcomes.{refused-out, level-of, below, missing, standing, ranged, loaded-is}
 use Rattle.engine.proofs.OpenCases.{last-at}
-use Rattle.engine.proofs.MakeCases.{make-late, make-missing, make-early, make-uncongested, make-soon, make-done, made-words}
+use Rattle.engine.proofs.MakeCases.{make-late, make-missing, make-early, make-uncongested, make-soon, make-done, make-out}
 use Rattle.engine.proofs.make.make.Statement.{statement}
 use Rattle.engine.proofs.make.make.Tie as tie
 
@@ -116,14 +115,13 @@ returns-6 c =
       meets = λ s w e.
           let p = located i s w e in
           let is = loaded-is s w p e (entry i) (ld .load .ensures) in
-          accepted-out (put (a .name) (taken (withMade (a .time) (s .level) (p .holder))) (withTime (a .time) s))
-          (made-words s w e (entry i) p (a .time)
-          (c .update-destination .ensures
-          ∙ ap (destinationUpdated (a .t .now) (i .i .given .0 .0))
-          (made .with-made .ensures ∙ ap (λ (n : ℕ). withMade (a .time) n (ld .load .result)) (level-of s w e) ∙ ap (withMade (a .time) (s .level)) is)))
+          make-out s w e (entry i) p (a .time)
           (make-done s (a .name) (a .time) (timely .if1 .left) (p .holder) (found-at p) (subst (λ (x : ℕ). x ≤ a .time) (last-at s e) (after .if2 .left))
           (omega (arith, level-of s w e, high .if3 .left))
-          (ap (λ (x : Connection). mayMake (a .time) (x .destination .made .last)) (sym is) ∙ sym (may .before .may-make .ensures) ∙ not-false _ (may .if4 .left)));
+          (ap (λ (x : Connection). mayMake (a .time) (x .destination .made .last)) (sym is) ∙ sym (may .before .may-make .ensures) ∙ not-false _ (may .if4 .left)))
+          (subst (λ (x : Connection). Updates DestinationMoved (a .t .now) (c .update-destination .last .0) (i .i .given .0 .0) x (c .update-destination .result))
+          (made .with-made .ensures ∙ ap (λ (n : ℕ). withMade (a .time) n (ld .load .result)) (level-of s w e) ∙ ap (withMade (a .time) (s .level)) is)
+          (c .update-destination .ensures));
     }
 
 pub make-spec : {M : Type 1} → statement M

@@ -4,12 +4,13 @@ use native.Mathlib.Omega.{arith}
 use borrow.Author.Needs.{needs}
 use borrow.Author.Tests.{not-true, not-false}
 use Rattle.connection.specs.Range.{InRange}
-use Rattle.connection.specs.Parts.{fresh}
 use Rattle.connection.proofs.Ranged.{fresh-ranged}
-use Rattle.model.specs.State.{withTime, inserted, capacity}
+use Rattle.model.specs.State.{capacity}
+use Rattle.connection.specs.declared.parts.Connection.{Connection}
+use Rattle.storing.specs.Updates.{Takes}
 use Rattle.names.proofs.Found.{found-at, room-at}
-use Rattle.engine.proofs.Outcomes.{refused-out, accepted-out, missing, standing}
-use Rattle.engine.proofs.OpenCases.{open-low, open-wide, open-unfit, open-late, Passed, open-taken, open-full, open-early, open-done, lowest, entry-below, no-room, last-at, opened-words}
+use Rattle.engine.proofs.Outcomes.{refused-out, missing, standing}
+use Rattle.engine.proofs.OpenCases.{open-low, open-wide, open-unfit, open-late, Passed, open-taken, open-full, open-early, open-done, lowest, entry-below, no-room, last-at, open-out}
 use Rattle.engine.proofs.open.open.Statement.{statement}
 use Rattle.engine.proofs.open.open.Tie as tie
 
@@ -122,10 +123,10 @@ returns-8 c =
     record {
       meets = λ s w e.
           let at = lowest (sk .find-free .ensures) s w e (i .i .given .1) in
-          accepted-out (withTime (st .args .time) (inserted (fresh (st .args .name) (st .args .time) (st .args .params)) s))
-          (opened-words s w e (st .args .time) (i .i .given .0 .0) (entry i) at (fresh (st .args .name) (st .args .time) (st .args .params)) (fr .fresh .result) (fr .fresh .ensures) (c .store .ensures))
+          open-out s w e (st .args .name) (st .args .time) (st .args .params) (i .i .given .0 .0) at
           (open-done s (passed e4) (missing s w e (st .args .name) (fd .find .ensures) (new .enum-told .given .1)) (room-at s w (i .i .given .0 .0) (entry i) at)
-          (subst (λ x. x ≤ st .args .time) (last-at s e) (e5 .if5 .left)));
+          (subst (λ x. x ≤ st .args .time) (last-at s e) (e5 .if5 .left)))
+          (subst (λ (x : Connection). Takes (st .args .t .now) (c .store .last .0) (i .i .given .0 .0) x (c .store .result)) (fr .fresh .ensures) (c .store .ensures));
     }
 
 pub open-spec : {M : Type 1} → statement M

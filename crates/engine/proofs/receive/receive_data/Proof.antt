@@ -19,12 +19,16 @@ returns c =
 load-requires : tie.Need-load-requires
 load-requires c κs = entry (c .before .before)
 
+levels-led-requires : tie.Need-levels-led-requires
+levels-led-requires c κs = entry (c .before .before .before .before .before .before)
+
 update-efci-requires : tie.Need-update-efci-requires
-update-efci-requires c κs = entry (c .before .before .before .before .before .before)
+update-efci-requires c κs = entry (c .before .before .before .before .before .before .before .before)
 
 returns-2 : tie.Need-returns-2
 returns-2 c =
-    let o = c .before .before .before in
+    let led = c .before .before in
+    let o = led .before .before .before in
     let ld = o .before in
     let i = ld .before .before .before in
     let f = i .before .before in
@@ -32,8 +36,8 @@ returns-2 c =
     record {
       meets = λ s w e.
           data-done s w e (i .i .given .0 .0) (entry i) (standing s w e (a .vci) (f .find .ensures) (i .i .given .1)) (ld .load .result) (ld .load .ensures)
-          (o .after-data-cell .result) (c .update-efci .ensures) (a .efci) (o .after-data-cell .ensures);
+          (o .after-data-cell .result) (c .update-efci .ensures) (led .levels-led .ensures) (a .efci) (o .after-data-cell .ensures);
     }
 
 pub receive-data-spec : {M : Type 1} → statement M
-receive-data-spec = tie.close (tie.spec (λ c κs. search needs) (λ c. search needs) (λ c. search needs) returns load-requires (λ c κs. search needs) update-efci-requires returns-2)
+receive-data-spec = tie.close (tie.spec (λ c κs. search needs) (λ c. search needs) (λ c. search needs) returns load-requires (λ c κs. search needs) levels-led-requires update-efci-requires returns-2)

@@ -61,7 +61,7 @@ returns c =
     record {
       sends = λ s w last e d entry place.
           sent-out s w (start .args .time) last (start .args .t .now) (c .store-sent .last .0) (start .args .cell .now) (p .put-cell .last .0) e (start .args .i) (start .pre .0) d entry place
-          (l .load .result) (l .load .ensures) (k .kind-at .result) (k .kind-at .ensures) (a .after .result) (a .after .ensures) (p .put-cell .ensures) (c .store-sent .ensures);
+          (l .load .result) (l .load .ensures) (k .kind-at .result) (k .kind-at .ensures) (a .after .result) (a .after .ensures) (p .put-cell .ensures) (c .store-sent .result) (c .store-sent .ensures);
     }
 
 pub send-spec : {M : Type 1} → statement M

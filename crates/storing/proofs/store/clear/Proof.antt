@@ -1,14 +1,28 @@
-use Rattle.table.proofs.Storing.{cleared-by}
+use Prim.Native.Nat.{ℕ, _+_}
+use mathlib.Core.Path.{ap, _∙_}
+use mathlib.Core.List.{List}
+use lib.ListN.{set}
+use Rattle.model.specs.State.{free}
+use Rattle.table.specs.Layout.{keysFrom}
+use Rattle.table.specs.Storing.{entryFlipped}
+use Rattle.table.proofs.Storing.{given-by}
+use Rattle.storing.proofs.Stored.{leaves}
 use borrow.Author.Needs.{needs}
 use Rattle.storing.proofs.store.clear.Statement.{statement}
 use Rattle.storing.proofs.store.clear.Tie as tie
 
 returns : tie.Need-returns
 returns c =
-    let fixed = c .before .before in
+    let rem = c .before .before in
+    let flip = rem .before .before .before in
+    let fixed = flip .before .before in
     let live = fixed .before .before in
-    let start = live .before .before .before in
-    cleared-by (start .args .t .now) _ _ _ (start .args .i) (live .clear-live .ensures) (fixed .clear-fixed .ensures) (c .flip-entry .ensures)
+    let start = live .before .before in
+    let i = start .args .i in
+    leaves (start .args .t .now) _ _ _ i (start .pre) (c .replay .result) (rem .before .directory-word .result) (start .args .name)
+    (flip .flip-entry .ensures
+    ∙ ap (λ (x : List ℕ). entryFlipped x i) (given-by (start .args .t .now) _ _ i free (ap (λ (x : List ℕ). set x (keysFrom + i) 0) (live .clear-live .ensures)) (fixed .clear-fixed .ensures)))
+    (rem .before .directory-word .ensures) (rem .remove .ensures) (c .replay .ensures)
 
 pub clear-spec : {M : Type 1} → statement M
-clear-spec = tie.close (tie.spec (λ c. search needs) (λ c. search needs) (λ c. search needs) (λ c. search needs) (λ c. search needs) (λ c κs. search needs) (λ c. search needs) (λ c. search needs) (λ c κs. search needs) (λ c. search needs) (λ c. search needs) (λ c. search needs) (λ c. search needs) (λ c. search needs) (λ c. search needs) (λ c κs. search needs) returns)
+clear-spec = tie.close (tie.spec (λ c. search needs) (λ c. search needs) (λ c κs. search needs) (λ c. search needs) (λ c. search needs) (λ c. search needs) (λ c. search needs) (λ c. search needs) (λ c κs. search needs) (λ c. search needs) (λ c. search needs) (λ c. search needs) (λ c κs. search needs) (λ c κs. search needs) (λ c. search needs) (λ c κs. search needs) (λ c κs. search needs) returns)

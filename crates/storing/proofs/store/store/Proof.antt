@@ -1,14 +1,25 @@
-use Rattle.table.proofs.Storing.{stored-by}
+use Prim.Native.Nat.{ℕ}
+use mathlib.Core.Path.{ap, _∙_}
+use mathlib.Core.List.{List}
+use Rattle.model.specs.State.{taken}
+use Rattle.table.specs.Storing.{entryFlipped}
+use Rattle.table.proofs.Storing.{given-by}
+use Rattle.storing.proofs.Stored.{takes}
 use borrow.Author.Needs.{needs}
 use Rattle.storing.proofs.store.store.Statement.{statement}
 use Rattle.storing.proofs.store.store.Tie as tie
 
 returns : tie.Need-returns
 returns c =
-    let fixed = c .before .before .before .before in
-    let moved = fixed .before .before in
-    let start = moved .before .before in
-    stored-by (start .args .t .now) _ _ _ (start .args .i) (start .args .c) (moved .update .ensures) (fixed .put-fixed .ensures) (c .flip-entry .ensures)
+    let ins = c .before .before in
+    let flip = ins .before .before .before in
+    let fixed = flip .before .before .before in
+    let live = fixed .before .before in
+    let start = live .before .before in
+    let i = start .args .i in
+    takes (start .args .t .now) _ _ _ i (start .pre .0) (start .args .c) (c .replay .result) (ins .before .directory-word .result)
+    (flip .flip-entry .ensures ∙ ap (λ (x : List ℕ). entryFlipped x i) (given-by (start .args .t .now) _ _ i (taken (start .args .c)) (live .put-live .ensures) (fixed .put-fixed .ensures)))
+    (ins .before .directory-word .ensures) (ins .insert .ensures) (c .replay .ensures)
 
 pub store-spec : {M : Type 1} → statement M
-store-spec = tie.close (tie.spec (λ c κs. search needs) (λ c. search needs) (λ c. search needs) (λ c κs. search needs) (λ c. search needs) (λ c. search needs) (λ c. search needs) (λ c. search needs) (λ c. search needs) (λ c κs. search needs) returns)
+store-spec = tie.close (tie.spec (λ c κs. search needs) (λ c. search needs) (λ c. search needs) (λ c κs. search needs) (λ c. search needs) (λ c. search needs) (λ c. search needs) (λ c. search needs) (λ c κs. search needs) (λ c κs. search needs) (λ c κs. search needs) (λ c κs. search needs) returns)

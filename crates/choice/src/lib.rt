@@ -1,2 +1,0 @@
-// The entry that a slot goes to.
-pub mod choose;

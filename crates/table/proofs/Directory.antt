@@ -1,0 +1,63 @@
+-- The directory's words, in falling order: how many they are, those of an empty table, and that they keep while no entry is taken or freed.
+use Prim.Native.Nat.{ℕ, zero, suc}
+use mathlib.Core.Path.{_≡_, refl, ap, _∙_}
+use mathlib.Core.Bool.{Bool, true, false, cond}
+use mathlib.Core.List.{List, [], _∷_}
+use lib.Dec.{ltb}
+use lib.ListN.{length, getD, set, replicate}
+use Rattle.connection.specs.declared.parts.Connection.{Connection}
+use Rattle.model.specs.State.{Entry, free, taken}
+use Rattle.table.specs.Layout.{directory, directoryWord, directoryWords, insertFalling, sortFalling}
+
+pub length-words : (k : ℕ) (ss : List Entry) → length (directoryWords k ss) ≡ length ss
+unfolding directoryWords
+length-words k [] = refl
+length-words k (s ∷ ss) = ap suc (length-words (suc k) ss)
+
+length-insert : (x : ℕ) (ys : List ℕ) → length (insertFalling x ys) ≡ suc (length ys)
+unfolding insertFalling
+length-insert x [] = refl
+length-insert x (y ∷ ys) = go (ltb x y) (length-insert x ys)
+  where
+    go : (b : Bool) → length (insertFalling x ys) ≡ suc (length ys) → length (cond b (y ∷ insertFalling x ys) (x ∷ y ∷ ys)) ≡ suc (suc (length ys))
+    go true h = ap suc h
+    go false h = refl
+
+length-sort : (xs : List ℕ) → length (sortFalling xs) ≡ length xs
+unfolding sortFalling
+length-sort [] = refl
+length-sort (x ∷ xs) = length-insert x (sortFalling xs) ∙ ap suc (length-sort xs)
+
+pub length-directory : (ss : List Entry) → length (directory ss) ≡ length ss
+length-directory ss = length-sort (directoryWords 0 ss) ∙ length-words 0 ss
+
+-- ---- no entry
+
+words-free : (k n : ℕ) → directoryWords k (replicate n free) ≡ replicate n 0
+unfolding directoryWords directoryWord
+words-free k zero = refl
+words-free k (suc n) = ap (λ (l : List ℕ). 0 ∷ l) (words-free (suc k) n)
+
+insert-zeros : (n : ℕ) → insertFalling 0 (replicate n 0) ≡ replicate (suc n) 0
+unfolding insertFalling
+insert-zeros zero = refl
+insert-zeros (suc n) = refl
+
+sort-zeros : (n : ℕ) → sortFalling (replicate n 0) ≡ replicate n 0
+unfolding sortFalling
+sort-zeros zero = refl
+sort-zeros (suc n) = ap (insertFalling 0) (sort-zeros n) ∙ insert-zeros n
+
+pub directory-free : (n : ℕ) → directory (replicate n free) ≡ replicate n 0
+directory-free n = ap sortFalling (words-free 0 n) ∙ sort-zeros n
+
+-- ---- an entry whose connection keeps its name
+
+words-same : (k : ℕ) (ss : List Entry) (i : ℕ) (c d : Connection) → getD ss i free ≡ taken c → d .name ≡ c .name → directoryWords k (set ss i (taken d)) ≡ directoryWords k ss
+unfolding directoryWords directoryWord
+words-same k [] i c d e p = refl
+words-same k (s ∷ ss) zero c d e p = rw (e, p) refl
+words-same k (s ∷ ss) (suc i) c d e p = ap (λ (l : List ℕ). directoryWord k s ∷ l) (words-same (suc k) ss i c d e p)
+
+pub directory-same : (ss : List Entry) (i : ℕ) (c d : Connection) → getD ss i free ≡ taken c → d .name ≡ c .name → directory (set ss i (taken d)) ≡ directory ss
+directory-same ss i c d e p = ap sortFalling (words-same 0 ss i c d e p)

@@ -1,0 +1,7 @@
+-- The laws of the tournament in the words of a table.
+pub mod Standings
+pub mod Stored
+pub mod Matches
+pub mod Midway
+pub mod Replaying
+pub mod Leading

@@ -1,0 +1,342 @@
+//! Up to 1,024 open connections and down again, in several orders of opening and
+//! closing, on VCIs as somebody might choose them who wants the calls to be slow;
+//! both sides compared, with the comparisons (document 02, L4). ABR_SEED gives
+//! other lists.
+
+use abr::{CELL_OCTETS, CONNECTIONS_MAX, MAKE_INTERVAL, VCI_MAX, VCI_MIN};
+use differential::call::Call;
+use differential::coverage::{Coverage, Event};
+use differential::generate::Generator;
+use differential::library::Difference;
+use differential::lists::{self, List};
+use differential::octets::{put_header, Header, Octets};
+use differential::parallel;
+use differential::profile::{Profile, PROFILES};
+use differential::rng::Rng;
+
+/// The number of VCIs of a list, more than can be open.
+const VCIS: u32 = 1_040;
+
+/// After so many opens or closes all allowed rates are compared.
+const ALL_RATES: usize = 64;
+
+/// The numbers of open connections that a list passes through, in any order.
+const TARGETS: [usize; 10] = [0, 1, 63, 64, 65, 512, 1_022, 1_023, 1_024, 1_024];
+
+/// The lists of each sort of VCIs that pass through them, and those of each sort
+/// with each order of opening and of closing.
+const ROUNDS: usize = 40;
+const UP_AND_DOWN: usize = 4;
+
+/// Each refusal, kind and number of comparisons must be reached so often.
+const LEAST: u64 = 200;
+
+/// The calls between two changes of what is open: neither opens nor closes.
+const NO_CHANGE: Profile = Profile {
+    name: "no change",
+    weights: [0, 0, 24, 8, 2, 46, 4, 0, 0, 0, 0, 0, 0],
+    ..PROFILES[1]
+};
+
+/// The VCIs of a list, rising.
+type Vcis = fn(&mut Rng) -> Vec<u32>;
+
+/// The sorts of VCIs.
+const SETS: [(&str, Vcis); 3] = [
+    ("adjacent", adjacent),
+    ("far apart", far_apart),
+    ("both ends", both_ends),
+];
+
+/// VCIs one after the other.
+fn adjacent(rng: &mut Rng) -> Vec<u32> {
+    let last = VCI_MAX + 1 - VCIS;
+    let any = rng.within(VCI_MIN, last);
+    let first = rng.pick(&[VCI_MIN, any, last]);
+    (first..first + VCIS).collect()
+}
+
+/// VCIs as far from each other as so many can be.
+fn far_apart(rng: &mut Rng) -> Vec<u32> {
+    let step = (VCI_MAX - VCI_MIN) / (VCIS - 1);
+    let first = rng.within(VCI_MIN, VCI_MAX - step * (VCIS - 1));
+    (0..VCIS).map(|k| first + step * k).collect()
+}
+
+/// The lowest VCIs and the highest.
+fn both_ends(_: &mut Rng) -> Vec<u32> {
+    let half = VCIS / 2;
+    let low = VCI_MIN..VCI_MIN + half;
+    low.chain(VCI_MAX + 1 - half..=VCI_MAX).collect()
+}
+
+/// Brings rising VCIs into another order.
+type Order = fn(&mut Rng, Vec<u32>) -> Vec<u32>;
+
+/// The orders of opening and of closing.
+const ORDERS: [(&str, Order); 4] = [
+    ("rising", |_, vcis| vcis),
+    ("falling", |_, vcis| vcis.into_iter().rev().collect()),
+    ("shuffled", shuffled),
+    ("every second", every_second),
+];
+
+fn shuffled(rng: &mut Rng, mut vcis: Vec<u32>) -> Vec<u32> {
+    rng.shuffle(&mut vcis);
+    vcis
+}
+
+/// Every second VCI, then those between.
+fn every_second(_: &mut Rng, vcis: Vec<u32>) -> Vec<u32> {
+    let between = vcis.iter().skip(1).step_by(2);
+    vcis.iter().step_by(2).chain(between).copied().collect()
+}
+
+/// A data cell.
+fn data_cell(vci: u32) -> Octets {
+    let mut cell = [0; CELL_OCTETS];
+    let header = Header {
+        gfc: 0,
+        vpi: 0,
+        vci,
+        pt: 0,
+        clp: 0,
+    };
+    put_header(&mut cell, &header);
+    Octets::cell(&cell)
+}
+
+/// A list that changes which of its VCIs are open.
+struct Changing {
+    list: List,
+    generator: Generator,
+    rng: Rng,
+    vcis: Vec<u32>,
+    coverage: Coverage,
+}
+
+impl Changing {
+    fn new(seed: u64, vcis: Vcis) -> Self {
+        let mut rng = Rng::new(!seed);
+        Changing {
+            list: List::default(),
+            generator: Generator::new(seed, NO_CHANGE),
+            vcis: vcis(&mut rng),
+            rng,
+            coverage: Coverage::default(),
+        }
+    }
+
+    /// Makes a call on both sides.
+    fn step(&mut self, call: &Call) -> Result<(), Difference> {
+        let outcome = self.list.step(call, &mut self.coverage);
+        outcome
+            .map(drop)
+            .map_err(|difference| format!("{call:x?}: {difference}"))
+    }
+
+    /// Compares the allowed rates of all VCIs of the list, open or not.
+    fn same_rates(&mut self) -> Result<(), Difference> {
+        let mut vcis = self.vcis.iter();
+        vcis.try_for_each(|vci| self.list.both.same_acr(*vci))
+    }
+
+    fn open(&mut self, vci: u32) -> Result<(), Difference> {
+        let time = self.list.seen.last;
+        let params = self.generator.params();
+        self.step(&Call::Open { vci, time, params })
+    }
+
+    /// A slot so much later than the last call with a time.
+    fn slot(&mut self, later: u64) -> Result<(), Difference> {
+        let (time, len) = (self.list.seen.last + later, CELL_OCTETS);
+        self.step(&Call::Slot { time, len })
+    }
+
+    fn count(&self) -> usize {
+        self.list.seen.connections.len()
+    }
+
+    fn is_open(&self, vci: u32) -> bool {
+        self.list.seen.connections.contains_key(&vci)
+    }
+
+    /// Opens or closes in this order until so many are open. Some send in between,
+    /// so that the winners change.
+    fn change(&mut self, target: usize, order: Vec<u32>) -> Result<(), Difference> {
+        let more = target > self.count();
+        for vci in order {
+            if self.count() == target {
+                break;
+            }
+            match (more, self.is_open(vci)) {
+                (true, false) => {
+                    self.open(vci)?;
+                    let cells = self.rng.below(3);
+                    self.step(&Call::Offer { vci, cells })?;
+                }
+                (false, true) => self.step(&Call::Close { vci })?,
+                _ => continue,
+            }
+            if self.rng.once_in(8) {
+                self.slot(1_000)?;
+            }
+            if self.count() % ALL_RATES == 0 {
+                self.same_rates()?;
+            }
+        }
+        assert_eq!(self.count(), target);
+        Ok(())
+    }
+
+    /// On every VCI a refused open (12, or 13 if the table is full) or close (11),
+    /// an offer, a data cell and a making; then slots for all, a millisecond
+    /// apart: longer than any gap.
+    fn every_vci(&mut self) -> Result<(), Difference> {
+        let full = self.count() == CONNECTIONS_MAX;
+        self.step(&Call::SetLevel { level: 1 })?;
+        self.slot(MAKE_INTERVAL)?;
+        for vci in shuffled(&mut self.rng, self.vcis.clone()) {
+            let open = self.is_open(vci);
+            if open || full {
+                self.open(vci)?;
+            }
+            if !open {
+                self.step(&Call::Close { vci })?;
+            }
+            self.step(&Call::Offer { vci, cells: 1 })?;
+            let cell = data_cell(vci);
+            self.step(&Call::Receive { cell })?;
+            let time = self.list.seen.last;
+            self.step(&Call::Make { vci, time })?;
+        }
+        (0..=self.count()).try_for_each(|_| self.slot(1_000_000))
+    }
+
+    /// So many random calls.
+    fn random_calls(&mut self, calls: u32) -> Result<(), Difference> {
+        for _ in 0..calls {
+            let call = self.generator.next(&self.list.seen);
+            self.step(&call)?;
+        }
+        self.same_rates()
+    }
+
+    /// From none to all and back, in these orders.
+    fn up_and_down(&mut self, opening: Order, closing: Order) -> Result<(), Difference> {
+        let order = opening(&mut self.rng, self.vcis.clone());
+        self.change(CONNECTIONS_MAX, order)?;
+        self.every_vci()?;
+        self.random_calls(200)?;
+        let order = closing(&mut self.rng, self.vcis.clone());
+        self.change(0, order)
+    }
+
+    /// To another number of connections. Some are closed first, so that there are
+    /// free leaves between those in use.
+    fn round(&mut self, target: usize) -> Result<(), Difference> {
+        for target in [self.count() / 8 * 7, target] {
+            let order = shuffled(&mut self.rng, self.vcis.clone());
+            self.change(target, order)?;
+        }
+        self.every_vci()?;
+        self.random_calls(60)
+    }
+
+    /// Through all targets.
+    fn rounds(&mut self) -> Result<(), Difference> {
+        let mut targets = TARGETS;
+        self.rng.shuffle(&mut targets);
+        targets
+            .into_iter()
+            .try_for_each(|target| self.round(target))
+    }
+}
+
+/// What a list does beside its VCIs.
+#[derive(Clone, Copy)]
+enum Course {
+    UpAndDown { opening: usize, closing: usize },
+    Rounds,
+}
+
+/// Runs one list: its seed, the place of its VCIs in [`SETS`], and what it does.
+fn run((seed, set, course): (u64, usize, Course)) -> Result<Coverage, Difference> {
+    let (name, vcis) = SETS[set];
+    let mut changing = Changing::new(seed, vcis);
+    let (way, ran) = match course {
+        Course::UpAndDown { opening, closing } => {
+            let ((opened, opening), (closed, closing)) = (ORDERS[opening], ORDERS[closing]);
+            let way = format!("opened {opened}, closed {closed}");
+            (way, changing.up_and_down(opening, closing))
+        }
+        Course::Rounds => ("rounds".to_owned(), changing.rounds()),
+    };
+    ran.map_err(|difference| format!("list {seed} ({name}, {way}), {difference}"))?;
+    changing.coverage.rates += changing.list.both.rates;
+    Ok(changing.coverage)
+}
+
+/// Every order of opening with every order of closing on every sort of VCIs, and
+/// the lists that pass through the targets.
+fn jobs() -> Vec<(u64, usize, Course)> {
+    let mut courses = vec![Course::Rounds; ROUNDS];
+    for opening in 0..ORDERS.len() {
+        for closing in 0..ORDERS.len() {
+            courses.extend([Course::UpAndDown { opening, closing }; UP_AND_DOWN]);
+        }
+    }
+    let sets = 0..SETS.len();
+    let pairs = sets.flat_map(|set| courses.iter().map(move |course| (set, *course)));
+    let seeds = lists::seed()..;
+    pairs
+        .zip(seeds)
+        .map(|((set, course), seed)| (seed, set, course))
+        .collect()
+}
+
+/// An open makes one comparison, since nothing waits on it; a slot ten or, if it
+/// is idle, none; a close, a received cell, an offer and a making any number from
+/// one to ten.
+fn every_number_of_comparisons(total: &Coverage) {
+    let [open, close, receive, offer, level, slot, make, ..] = total.comparisons;
+    for counts in [close, receive, offer, make] {
+        assert!(
+            counts[1..].iter().all(|count| *count >= LEAST),
+            "{counts:?}"
+        );
+        assert_eq!(counts[0], 0);
+    }
+    let only = |counts: &[u64], numbers: &[usize]| {
+        let named: u64 = numbers.iter().map(|number| counts[*number]).sum();
+        assert_eq!(named, counts.iter().sum(), "{counts:?}");
+    };
+    only(&open, &[1]);
+    only(&level, &[0]);
+    only(&slot, &[0, 10]);
+    assert_eq!(slot[0], total.kinds[0], "idle slots");
+}
+
+#[test]
+fn up_to_1_024_connections_and_down_again() {
+    let mut total = Coverage::default();
+    for coverage in parallel::run(jobs(), run).unwrap_or_else(|why| panic!("{why}")) {
+        total.add(&coverage);
+    }
+    println!("all: {}", total.summary());
+    println!("comparisons: {:?}", &total.comparisons[..7]);
+    let [open, close, receive, offer, _, _, make, ..] = total.outcomes;
+    let refused = [
+        open[12],
+        open[13],
+        close[11],
+        receive[11],
+        offer[11],
+        make[11],
+    ];
+    let mut counts = refused.iter().chain(&total.kinds);
+    assert!(counts.all(|count| *count >= LEAST), "{refused:?}");
+    assert!(total.reached(Event::Full) >= LEAST);
+    assert!(total.reached(Event::ReopenedLoaded) >= LEAST);
+    every_number_of_comparisons(&total);
+}
