@@ -17,7 +17,7 @@
 #define OTHERS (ABR_CONNECTIONS_MAX - 1)
 
 /* What a case needs beside the connections. */
-enum need { NOTHING, NRM_2, TURNED_WAITS, MADE_WAITS, FORWARD_CELL, BACKWARD_CELL, DATA_CELL, CLOSED };
+enum need { NOTHING, NRM_2, TURNED_WAITS, MADE_WAITS, OUTSIDE, FORWARD_CELL, BACKWARD_CELL, DATA_CELL, CLOSED };
 
 /* The VCI concerned. */
 enum name { LOWEST = ABR_VCI_MIN, HIGHEST = ABR_VCI_MAX };
@@ -53,6 +53,7 @@ static void call_close(void) { answer = abr_close(&table, vci); }
 static void call_offer(void) { answer = abr_offer(&table, vci, 1); }
 static void call_set_level(void) { refusal = abr_set_level(&table, 2); }
 static void call_make(void) { answer = abr_make(&table, vci, 3 * SECOND); }
+static void call_out_of_rate(void) { refusal = abr_out_of_rate(&table, vci, 3 * SECOND, cell, sizeof cell); }
 static void call_acr(void) { allowed = abr_acr(&table, vci); }
 static void call_write_rm(void) { refusal = abr_write_rm(rm, cell, sizeof cell); }
 static void call_read(void) { content = abr_read(cell, sizeof cell); }
@@ -74,6 +75,7 @@ static const abr_case cases[] = {
     {"offer", NOTHING, LOWEST, call_offer, 0},
     {"set level", NOTHING, LOWEST, call_set_level, 0},
     {"make", MADE_WAITS, LOWEST, call_make, 0},
+    {"out-of-rate cell", OUTSIDE, LOWEST, call_out_of_rate, 0},
     {"acr", NOTHING, LOWEST, call_acr, 0},
     {"write", NOTHING, LOWEST, call_write_rm, 0},
     {"read, RM cell", FORWARD_CELL, LOWEST, call_read, ABR_CELL_RM},
@@ -148,6 +150,7 @@ static int prepare(const abr_case *which)
     switch (which->need) {
     case TURNED_WAITS: return make_rm_cell(0) || abr_receive(&table, cell, sizeof cell).refusal != ABR_OK;
     case MADE_WAITS: return abr_set_level(&table, 2) != ABR_OK || abr_make(&table, vci, SECOND).refusal != ABR_OK;
+    case OUTSIDE: return abr_out_of_rate(&table, vci, SECOND, cell, sizeof cell) != ABR_OK; /* the last one before */
     case FORWARD_CELL: return make_rm_cell(0);
     case BACKWARD_CELL: return make_rm_cell(1);
     case DATA_CELL: return make_data_cell();

@@ -5,14 +5,14 @@
  * link sends, what kind of cell, and what rate it is allowed afterwards. The
  * sections named below are those of document 01, "The ABR end-system rate
  * engine", which says what every call does, with requests L1 (abr_make), L2
- * (marks of a replaced cell) and L4 (1,024 connections, comparisons) of
- * document 02.
+ * (marks of a replaced cell), L4 (1,024 connections, comparisons) and L5 (no
+ * minimum rate, abr_out_of_rate) of document 02.
  *
  * Language. C99 or later, C++11 or later, or C++98 with <stdint.h>.
  *
  * Memory. The library has no heap, no globals and no start-up call. All state
  * is in an abr_table that the caller lends. A table of zeros is the empty one,
- * so `static abr_table table;` is ready for use. It has 262,296 octets, too many
+ * so `static abr_table table;` is ready for use. It has 270,488 octets, too many
  * for most stacks. Only these calls may write a table that is in use. One table
  * is used by one thread at a time; different tables are independent of each
  * other. A table may be moved or copied as a whole, octet by octet, between
@@ -68,11 +68,11 @@ extern "C" {
 
 /* ---- Version ------------------------------------------------------------ */
 
-/* 0.5.0: major, minor and patch number, eight bits each. */
-#define ABR_VERSION 0x000500u
+/* 0.6.0: major, minor and patch number, eight bits each. */
+#define ABR_VERSION 0x000600u
 
-/* The words of a table, which has 262,296 octets. */
-#define ABR_TABLE_WORDS 32787u
+/* The words of a table, which has 270,488 octets. */
+#define ABR_TABLE_WORDS 33811u
 
 /* ---- Limits ------------------------------------------------------------- */
 
@@ -98,10 +98,13 @@ extern "C" {
 /* The least time from one made cell of a connection to the next, 100 ms. */
 #define ABR_MAKE_INTERVAL UINT64_C(100000000)
 
+/* The least time from one out-of-rate cell of a connection to the next, 100 ms. */
+#define ABR_OUT_OF_RATE_INTERVAL UINT64_C(100000000)
+
 /* The highest congestion level. */
 #define ABR_LEVEL_MAX 2u
 
-/* One cell per second, which is also the least minimum rate of a connection. */
+/* One cell per second, which is also the least peak rate of a connection. */
 #define ABR_RATE_ONE 512u
 
 /* The largest rate that has a code. */
@@ -162,10 +165,11 @@ extern "C" {
 #define ABR_REFUSED_NOT_OPEN 11u      /* VCI is not open */
 #define ABR_REFUSED_ALREADY_OPEN 12u  /* VCI is already open */
 #define ABR_REFUSED_FULL 13u          /* 1,024 connections are open */
-#define ABR_REFUSED_TIME_BACKWARD 14u /* time is before the last accepted open, slot or made cell */
+#define ABR_REFUSED_TIME_BACKWARD 14u /* time is before the last accepted open, slot, made or out-of-rate cell */
 #define ABR_REFUSED_TOO_MUCH_DATA 15u /* waiting data would pass 65,535 cells */
 #define ABR_REFUSED_NOT_CONGESTED 16u /* congestion level is 0 */
 #define ABR_REFUSED_TOO_SOON 17u      /* less than 100 ms since the last cell made on this VCI */
+#define ABR_REFUSED_TOO_OFTEN 18u     /* less than 100 ms since the last out-of-rate cell on this VCI */
 
 /* ---- Types -------------------------------------------------------------- */
 
@@ -177,8 +181,8 @@ typedef struct {
 /* The parameters of an open. pcr, mcr and icr are rate codes of at most 16
  * bits, bit 15 ignored. */
 typedef struct {
-    uint32_t pcr;  /* peak rate */
-    uint32_t mcr;  /* minimum rate, at least one cell per second */
+    uint32_t pcr;  /* peak rate, at least one cell per second */
+    uint32_t mcr;  /* minimum rate, 0 for none */
     uint32_t icr;  /* initial rate, from mcr to pcr */
     uint32_t n;    /* Nrm = 2^n, n 1 to 8 */
     uint32_t r;    /* RIF = 1/2^r, r 0 to 15 */
@@ -222,7 +226,7 @@ typedef struct {
 /* The answer of abr_acr. */
 typedef struct {
     uint32_t refusal;
-    uint64_t acr; /* the allowed rate */
+    uint64_t acr; /* the allowed rate; 0 is possible if the minimum is 0 */
 } abr_allowed;
 
 /* The answer of abr_read. */
@@ -268,11 +272,13 @@ static inline int abr_matches(void)
  * Refusals in order:
  *   10  vci under 32
  *    7  vci over 65,535, or a parameter out of its range: a rate code over 16
- *       bits, 512 <= MCR <= ICR <= PCR broken, or any other of abr_params
+ *       bits, MCR <= ICR <= PCR broken, PCR under 512, or any other of abr_params;
+ *       MCR may be 0, and with it ICR (document 02, L5)
  *    8  time over 2^62
  *   12  vci is open
  *   13  1,024 connections are open
- *   14  time before that of the last accepted open, slot or made cell
+ *   14  time before that of the last accepted open, slot, made or out-of-rate
+ *       cell
  */
 ABR_MUST_USE abr_answer abr_open(abr_table *table, uint32_t vci, uint64_t time, abr_params params);
 
@@ -340,7 +346,8 @@ ABR_MUST_USE uint32_t abr_set_level(abr_table *table, uint32_t level);
  * Refusals in order:
  *    8  time over 2^62
  *   11  vci is not open
- *   14  time before that of the last accepted open, slot or made cell
+ *   14  time before that of the last accepted open, slot, made or out-of-rate
+ *       cell
  *   16  the level is 0
  *   17  less than 100 ms since the last cell made on this connection, sent or
  *       not; one that is opened anew starts without
@@ -355,15 +362,37 @@ ABR_MUST_USE abr_answer abr_make(abr_table *table, uint32_t vci, uint64_t time);
  * allowed rate afterwards. The 53 octets of a forward, a turned or a made cell
  * are written to the buffer. For data the buffer is unchanged and the caller sends
  * a data cell of that VCI. If no connection is ready, the answer is all 0 and
- * the buffer unchanged; the slot counts as accepted at its time.
+ * the buffer unchanged; the slot counts as accepted at its time. A connection
+ * with an allowed rate of 0 is never ready, whatever waits on it (document 02, L5).
+ * A forward cell carries a minimum of 0 as 0x0000, whatever code the open gave.
  * Comparisons: 10 if a cell is sent, since the connection that sends wins at every
  * level; 0 if the slot is idle.
  * Refusals in order:
  *    1  len is not 53
  *    8  time over 2^62
- *   14  time before that of the last accepted open, slot or made cell
+ *   14  time before that of the last accepted open, slot, made or out-of-rate
+ *       cell
  */
 ABR_MUST_USE abr_sent abr_slot(abr_table *table, uint64_t time, uint8_t *cell, size_t len);
+
+/*
+ * Writes an out-of-rate forward RM cell of a connection (document 02, L5; source
+ * rule 11) to the buffer, complete, for the caller to send beside the slots: with
+ * CLP 1, CCR the code of the allowed rate as it stands, and all else as in a forward
+ * cell of a slot. A source whose allowed rate is 0 learns in this way when it may
+ * rise; any other may call it too, also before its first cell. The cell counts for
+ * nothing: the allowed rate, the unanswered cells and the ready instant stay, and
+ * no comparison is made. Its time then counts for refusal 14 as a slot's does.
+ * Refusals in order:
+ *    1  len is not 53
+ *    8  time over 2^62
+ *   11  vci is not open
+ *   14  time before that of the last accepted open, slot, made or out-of-rate
+ *       cell
+ *   18  less than 100 ms since the connection's last accepted call of this sort; one
+ *       that is opened anew starts without
+ */
+ABR_MUST_USE uint32_t abr_out_of_rate(abr_table *table, uint32_t vci, uint64_t time, uint8_t *cell, size_t len);
 
 /* ---- Cells and rate codes, without a table ------------------------------ */
 
@@ -421,10 +450,11 @@ static inline const char *abr_refusal_text(uint32_t refusal)
     case ABR_REFUSED_NOT_OPEN: return "VCI is not open";
     case ABR_REFUSED_ALREADY_OPEN: return "VCI is already open";
     case ABR_REFUSED_FULL: return "1,024 connections are open";
-    case ABR_REFUSED_TIME_BACKWARD: return "time is before the last accepted open, slot or made cell";
+    case ABR_REFUSED_TIME_BACKWARD: return "time is before the last accepted open, slot, made or out-of-rate cell";
     case ABR_REFUSED_TOO_MUCH_DATA: return "waiting data would pass 65,535 cells";
     case ABR_REFUSED_NOT_CONGESTED: return "congestion level is 0";
     case ABR_REFUSED_TOO_SOON: return "less than 100 ms since the last cell made on this VCI";
+    case ABR_REFUSED_TOO_OFTEN: return "less than 100 ms since the last out-of-rate cell on this VCI";
     default: return "not an answer of this library";
     }
 }

@@ -28,6 +28,7 @@ pub trait Engine {
     fn slot(&mut self, time: u64, buffer: &mut Octets);
     fn set_level(&mut self, level: u32);
     fn make(&mut self, vci: u32, time: u64);
+    fn out_of_rate(&mut self, vci: u32, time: u64, buffer: &mut Octets);
     fn acr(&self, vci: u32);
 
     fn write_rm(rm: &Self::Rm, buffer: &mut Octets);
@@ -90,6 +91,11 @@ impl Engine for Library {
 
     fn make(&mut self, vci: u32, time: u64) {
         black_box(unsafe { ffi::abr_make(&mut *self.table, vci, time) });
+    }
+
+    fn out_of_rate(&mut self, vci: u32, time: u64, buffer: &mut Octets) {
+        let (at, len) = (buffer.as_mut_ptr(), buffer.len());
+        black_box(unsafe { ffi::abr_out_of_rate(&mut *self.table, vci, time, at, len) });
     }
 
     fn acr(&self, vci: u32) {
@@ -174,6 +180,11 @@ impl Engine for Reference {
     #[inline(never)]
     fn make(&mut self, vci: u32, time: u64) {
         black_box(&self.engine.make(vci, time));
+    }
+
+    #[inline(never)]
+    fn out_of_rate(&mut self, vci: u32, time: u64, buffer: &mut Octets) {
+        black_box(&self.engine.out_of_rate(vci, time, buffer));
     }
 
     #[inline(never)]

@@ -127,6 +127,11 @@ impl<E: Engine> Fixture<E> {
                 self.time += self.step;
                 self.engine.make(black_box(self.last), self.time);
             }),
+            Workload::OutOfRate => repeat(times, |_| {
+                self.time += self.step;
+                let vci = black_box(self.last);
+                self.engine.out_of_rate(vci, self.time, &mut buffer);
+            }),
             Workload::Acr => repeat(times, |_| self.engine.acr(black_box(self.last))),
             Workload::Level => repeat(times, |_| self.engine.set_level(black_box(1))),
             Workload::Code => repeat(times, |_| E::code(black_box(512_000))),
@@ -198,16 +203,19 @@ fn params_of(vci: u32, workload: Workload) -> Params {
 }
 
 /// The time from one slot to the next: the gap at the sum of all rates. From one
-/// making to the next: the least that is accepted.
+/// made or out-of-rate cell to the next: the least that is accepted.
 fn step(connections: u32, workload: Workload) -> u64 {
-    if workload == Workload::Make {
-        return abr::MAKE_INTERVAL;
+    match workload {
+        Workload::Make => return abr::MAKE_INTERVAL,
+        Workload::OutOfRate => return abr::OUT_OF_RATE_INTERVAL,
+        _ => {}
     }
     let codes = order(connections, workload)
         .into_iter()
         .map(|vci| params_of(vci, workload).icr);
     let total: u64 = codes.map(reference::rate_of).sum();
-    let step = reference::gap(total.max(512)) + 1;
+    let gap = reference::gap(total.max(512)).expect("a rate above 0");
+    let step = gap + 1;
     match workload {
         Workload::Mixed => 2 * step,
         // As long as the gap of one: all others are due.

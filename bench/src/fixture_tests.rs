@@ -126,6 +126,23 @@ fn makings_are_accepted() {
     }
 }
 
+/// The measured out-of-rate cells are accepted on both sides, and are the same.
+#[test]
+fn out_of_rate_cells_are_accepted() {
+    let mut library = Fixture::<Library>::new(64, Workload::OutOfRate);
+    let mut reference = Fixture::<Reference>::new(64, Workload::OutOfRate);
+    let vci = library.last;
+    for time in (1..10).map(|i| library.time + i * library.step) {
+        let (mut cell, mut other) = ([0; abr::CELL_OCTETS], [0; abr::CELL_OCTETS]);
+        let table = &mut *library.engine.table;
+        // SAFETY: both pointers are live and the length is the buffer's own.
+        let ours = unsafe { ffi::abr_out_of_rate(table, vci, time, cell.as_mut_ptr(), cell.len()) };
+        assert_eq!(ours, 0);
+        let theirs = reference.engine.engine.out_of_rate(vci, time, &mut other);
+        assert_eq!((theirs, cell), (Ok(()), other));
+    }
+}
+
 /// The measured opens and closes are accepted.
 #[test]
 fn opens_are_accepted() {

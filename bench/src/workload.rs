@@ -42,6 +42,8 @@ pub enum Workload {
     OpenCloseLow,
     /// A backward cell made on the last connection, replacing the one before.
     Make,
+    /// An out-of-rate cell of the last connection.
+    OutOfRate,
     /// The rate of the last connection.
     Acr,
     /// The congestion level set.
@@ -91,7 +93,7 @@ const fn row(name: &'static str, text: &'static str, connections: u32, workload:
 }
 
 /// All rows.
-pub static ROWS: [Row; 45] = [
+pub static ROWS: [Row; 48] = [
     row(
         "slot-1",
         "slot, 1 busy connection",
@@ -284,6 +286,24 @@ pub static ROWS: [Row; 45] = [
         "make a backward cell, last of 1,024",
         1_024,
         Workload::Make,
+    ),
+    row(
+        "out-of-rate-1",
+        "write an out-of-rate cell, 1 open",
+        1,
+        Workload::OutOfRate,
+    ),
+    row(
+        "out-of-rate-64",
+        "write an out-of-rate cell, last of 64",
+        64,
+        Workload::OutOfRate,
+    ),
+    row(
+        "out-of-rate-1024",
+        "write an out-of-rate cell, last of 1,024",
+        1_024,
+        Workload::OutOfRate,
     ),
     row("acr-1", "ask for the rate, 1 open", 1, Workload::Acr),
     row("acr-64", "ask for the rate, last of 64", 64, Workload::Acr),

@@ -35,6 +35,9 @@ const CRC_HIGH: usize = 51;
 /// The eight low bits of the CRC-10.
 const CRC_LOW: usize = 52;
 
+/// In the last of the header's four octets.
+const CLP_BIT: u8 = 0x01;
+
 const DIR_BIT: u8 = 0x80;
 const BN_BIT: u8 = 0x40;
 const CI_BIT: u8 = 0x20;
@@ -174,6 +177,12 @@ fn put_crc(cell: &mut Octets) {
 fn put_rm_header(cell: &mut Octets, vci: u32) {
     let header = (vci << 4) | (PAYLOAD_TYPE_RM << 1);
     cell[..HEADER_CHECK].copy_from_slice(&header.to_be_bytes());
+    cell[HEADER_CHECK] = header_check(&cell[..HEADER_CHECK]);
+}
+
+/// Sets CLP in a cell, with a new header check.
+pub(crate) fn set_clp(cell: &mut Octets) {
+    cell[HEADER_CHECK - 1] |= CLP_BIT;
     cell[HEADER_CHECK] = header_check(&cell[..HEADER_CHECK]);
 }
 

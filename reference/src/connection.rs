@@ -1,12 +1,15 @@
 //! One connection: the four moves of its allowed rate (document 01, "Four
 //! moves of the allowed rate"), its waiting data, and when and what it sends
-//! ("Slots"; with document 02's L1 a made cell counts as a turned one).
+//! ("Slots"; with document 02's L1 a made cell counts as a turned one, with L5 a
+//! connection with an allowed rate of 0 is never ready, and any may send out-of-rate
+//! forward cells).
 
 use crate::cell::{self, Octets, Rm};
 use crate::destination::Destination;
 use crate::params::{Contract, CDF_ZERO, CRM_MAX, MRM};
 use crate::rate::{code_within, gap, rate_of};
 use crate::refusal::{self, Refusal};
+use crate::spacing::Spacing;
 
 /// The most data cells that may wait on a connection.
 pub const DATA_MAX: u64 = 65_535;
@@ -119,6 +122,8 @@ pub struct Connection {
     destination: Destination,
     /// Forward cells sent since the last answer, the document's Y.
     unanswered: u32,
+    /// When it last had an out-of-rate cell.
+    out_of_rate: Spacing,
 }
 
 impl Connection {
@@ -132,6 +137,7 @@ impl Connection {
             data: 0,
             destination: Destination::default(),
             unanswered: 0,
+            out_of_rate: Spacing::default(),
         }
     }
 
@@ -174,13 +180,25 @@ impl Connection {
         }
     }
 
-    /// The ready instant; nothing for never.
+    /// An out-of-rate forward cell (rule 11): CCR is the rate as it stands, and
+    /// CLP is 1. Nothing changes but the instant of the last such cell. Refusal: 18.
+    pub fn out_of_rate(&mut self, time: u64) -> Result<Octets, Refusal> {
+        if !self.out_of_rate.allow(time) {
+            return Err(refusal::TOO_OFTEN);
+        }
+        let mut cell = self.forward_octets();
+        cell::set_clp(&mut cell);
+        Ok(cell)
+    }
+
+    /// The ready instant; nothing for never, as at an allowed rate of 0.
     pub fn ready(&self) -> Option<u64> {
+        let gap = gap(self.rate.acr)?;
         let waiting = self.data > 0 || self.destination.waits();
         let Some(history) = self.history else {
             return waiting.then_some(self.opened);
         };
-        let due = history.last_send + gap(self.rate.acr);
+        let due = history.last_send + gap;
         if waiting || history.k == self.rate.contract.nrm - 1 {
             Some(due)
         } else if history.k >= MRM {
@@ -234,6 +252,12 @@ impl Connection {
                 .unanswered(self.unanswered),
         };
         self.unanswered = CRM_MAX.min(self.unanswered + 1);
+        self.forward_octets()
+    }
+
+    /// The octets of a forward cell with the codes of the rates as they stand. A
+    /// minimum of 0 has code 0x0000, whatever code the open gave.
+    fn forward_octets(&self) -> Octets {
         cell::rm_octets(&Rm {
             vci: self.vci,
             er: code_within(self.rate.contract.pcr),

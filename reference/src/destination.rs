@@ -4,9 +4,7 @@
 use crate::cell::{self, Octets, Rm};
 use crate::rate::code_within;
 use crate::refusal::{self, Refusal};
-
-/// The least time from one made cell of a connection to the next.
-pub const MAKE_INTERVAL: u64 = 100_000_000;
+use crate::spacing::Spacing;
 
 /// What a connection's receiving side keeps.
 #[derive(Debug, Clone, PartialEq, Eq, Default)]
@@ -18,7 +16,7 @@ pub struct Destination {
     /// The waiting made cell.
     made: Option<Octets>,
     /// When a cell was last made, sent since or not.
-    last_made: Option<u64>,
+    makings: Spacing,
 }
 
 impl Destination {
@@ -43,13 +41,9 @@ impl Destination {
         if level == 0 {
             return Err(refusal::NOT_CONGESTED);
         }
-        if self
-            .last_made
-            .is_some_and(|last| time - last < MAKE_INTERVAL)
-        {
+        if !self.makings.allow(time) {
             return Err(refusal::TOO_SOON);
         }
-        self.last_made = Some(time);
         self.made = Some(cell::rm_octets(&Rm {
             vci,
             dir: 1,

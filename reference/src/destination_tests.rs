@@ -1,6 +1,7 @@
 //! Tests of the saved mark and of the cells that wait, without an engine.
 
 use super::*;
+use crate::spacing::INTERVAL;
 
 const VCI: u32 = 32;
 
@@ -100,7 +101,7 @@ fn a_turned_cell_takes_nothing_from_a_made_one() {
 fn a_later_made_cell_replaces_the_earlier() {
     let mut destination = Destination::default();
     destination.make(VCI, 0, 2, RATE).unwrap();
-    destination.make(VCI, MAKE_INTERVAL, 1, RATE).unwrap();
+    destination.make(VCI, INTERVAL, 1, RATE).unwrap();
     assert_eq!(bits(&mut destination), 0xD0); // no mark of the replaced one
     assert_eq!(destination.take(), None);
 }
@@ -110,22 +111,19 @@ fn the_interval_counts_from_the_last_accepted_making() {
     let mut destination = Destination::default();
     let start = 7;
     assert_eq!(destination.make(VCI, start, 1, RATE), Ok(()));
-    for time in [start, start + MAKE_INTERVAL - 1] {
+    for time in [start, start + INTERVAL - 1] {
         assert_eq!(destination.make(VCI, time, 1, RATE), Err(17));
         assert_eq!(destination.make(VCI, time, 0, RATE), Err(16));
     }
     destination.take(); // sent or not
-    let refused = destination.make(VCI, start + MAKE_INTERVAL - 1, 2, RATE);
+    let refused = destination.make(VCI, start + INTERVAL - 1, 2, RATE);
     assert_eq!(refused, Err(17));
     assert!(!destination.waits());
-    let next = start + MAKE_INTERVAL;
+    let next = start + INTERVAL;
     assert_eq!(destination.make(VCI, next, 0, RATE), Err(16));
     assert_eq!(destination.make(VCI, next, 1, RATE), Ok(()));
-    assert_eq!(
-        destination.make(VCI, next + MAKE_INTERVAL - 1, 1, RATE),
-        Err(17)
-    );
-    assert_eq!(destination.make(VCI, next + MAKE_INTERVAL, 1, RATE), Ok(()));
+    assert_eq!(destination.make(VCI, next + INTERVAL - 1, 1, RATE), Err(17));
+    assert_eq!(destination.make(VCI, next + INTERVAL, 1, RATE), Ok(()));
 }
 
 /// Octet 7 of the last of these forward cells, turned at level 0 one after the
@@ -173,7 +171,7 @@ fn a_made_cell_beside_it_neither_gives_nor_takes_a_mark() {
     assert_eq!(last_of(&mut destination, &[plain(), plain()]), 0x80);
     let ci = Rm { ci: 1, ..plain() };
     destination.receive_forward(VCI, &cell::rm_octets(&ci), 0);
-    destination.make(VCI, MAKE_INTERVAL, 1, RATE).unwrap();
+    destination.make(VCI, INTERVAL, 1, RATE).unwrap();
     assert_eq!(last_of(&mut destination, &[plain()]), 0xA0);
     assert_eq!(bits(&mut destination), 0xD0);
 }

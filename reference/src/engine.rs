@@ -1,7 +1,7 @@
 //! The table of connections and the calls on it (document 01, from "Opening"
-//! to "Slots"; the orders of refusals are in "Refused because of the state", that
-//! of a made cell in document 02's L1). Calls that replay matches answer the
-//! comparisons (document 02, L4).
+//! to "Slots"; the orders of refusals are in "Refused because of the state", those
+//! of a made cell and an out-of-rate cell in document 02's L1 and L5). Calls
+//! that replay matches answer the comparisons (document 02, L4).
 
 use std::collections::BTreeMap;
 
@@ -44,8 +44,8 @@ struct Entry {
 }
 
 /// The whole engine: the open connections by VCI, the tournament, the congestion
-/// level, and the time of the last accepted open, slot or making (0 before any,
-/// which refuses nothing).
+/// level, and the time of the last accepted open, slot, made or out-of-rate cell
+/// (0 before any, which refuses nothing).
 #[derive(Debug, Clone, PartialEq, Eq, Default)]
 pub struct Engine {
     table: BTreeMap<u32, Entry>,
@@ -135,6 +135,20 @@ impl Engine {
         self.replay(vci)
     }
 
+    /// Writes an out-of-rate forward cell of a connection to the buffer. No
+    /// ready instant changes, so that no match is replayed. Refusals: 1, 8, 11, 14,
+    /// 18.
+    pub fn out_of_rate(&mut self, vci: u32, time: u64, buffer: &mut [u8]) -> Result<(), Refusal> {
+        let buffer: &mut Octets = buffer.try_into().map_err(|_| refusal::LENGTH)?;
+        check_range(time)?;
+        let order = self.in_order(time);
+        let connection = self.connection(vci)?;
+        order?;
+        *buffer = connection.out_of_rate(time)?;
+        self.last = time;
+        Ok(())
+    }
+
     /// Gives a slot to a connection; nothing when the slot is idle. A forward,
     /// turned or made cell is written to the buffer, which is unchanged otherwise.
     /// Refusals: 1, 8, 14.
@@ -191,7 +205,7 @@ impl Engine {
         Ok(())
     }
 
-    /// Sets the time of the last accepted open, slot or making. Refusal: 14.
+    /// Sets the time of the last accepted open, slot, made or out-of-rate cell. Refusal: 14.
     fn advance(&mut self, time: u64) -> Result<(), Refusal> {
         self.in_order(time)?;
         self.last = time;

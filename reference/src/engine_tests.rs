@@ -754,21 +754,33 @@ fn closing_does_not_reset_the_last_time() {
     refused(&engine, 14, |engine| engine.open(32, 9, &params()));
 }
 
+/// The code of the least rate of a connection in the random calls: those on even
+/// VCIs have no minimum.
+fn least_code(vci: u32) -> u32 {
+    [0x0000, 0x4000][vci as usize % 2]
+}
+
 /// A random call on the engine; on VCIs 32 to 35, accepted or refused. Its
-/// comparisons, 0 for a set level and an idle slot.
+/// comparisons, 0 for a set level, an out-of-rate cell and an idle slot.
 fn random_call(
     engine: &mut Engine,
     time: &mut u64,
     mut draw: impl FnMut(u32) -> u32,
 ) -> Result<u32, u32> {
     let vci = 32 + draw(4);
-    match draw(9) {
+    match draw(10) {
         0 if draw(8) == 0 => engine.close(vci),
-        0 => engine.open(vci, *time, &Params::house(0x53E8, 0x4000, 0x4A00)),
+        0 => engine.open(vci, *time, &Params::house(0x53E8, least_code(vci), 0x4A00)),
         1 => engine.offer(vci, u64::from(draw(9))),
         2 => engine.set_level(draw(4)).map(|()| 0),
         3 => engine.receive(&data(vci, draw(2) == 1)),
         6 => engine.make(vci, *time),
+        7 => {
+            let top = engine.top();
+            let answer = engine.out_of_rate(vci, *time, &mut [0; LENGTH]);
+            assert_eq!(engine.top(), top);
+            answer.map(|()| 0)
+        }
         4 | 5 => {
             let (dir, bn, ci, ni) = (draw(2), draw(2), draw(2), draw(2));
             let rm = Rm {
@@ -803,7 +815,7 @@ fn slot_of_the_top(engine: &mut Engine, time: u64) -> Result<u32, u32> {
 #[test]
 fn rates_and_comparisons_stay_in_bounds_in_long_lists() {
     let mut engine = Engine::new();
-    let (mut state, mut time, mut moved) = (1u64, 0, 0);
+    let (mut state, mut time, mut moved, mut stopped) = (1u64, 0, 0, 0);
     for _ in 0..200_000 {
         let before = engine.acr(33);
         let answer = random_call(&mut engine, &mut time, |limit| {
@@ -813,9 +825,11 @@ fn rates_and_comparisons_stay_in_bounds_in_long_lists() {
         });
         assert!(answer.is_err() || answer.is_ok_and(|comparisons| comparisons <= 10));
         moved += u32::from(engine.acr(33) != before);
-        for acr in (32..36).filter_map(|vci| engine.acr(vci).ok()) {
-            assert!((512..=512_000).contains(&acr));
+        for vci in 32..36 {
+            let Ok(acr) = engine.acr(vci) else { continue };
+            assert!((rate_of(least_code(vci))..=512_000).contains(&acr));
+            stopped += u32::from(acr == 0);
         }
     }
-    assert!(moved > 1_000);
+    assert!(moved > 1_000 && stopped > 1_000);
 }

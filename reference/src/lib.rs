@@ -8,6 +8,7 @@
 //! * [`rate`]: rate codes and the gap between cells;
 //! * [`params`]: the parameters of an open, their ranges, the house set;
 //! * [`cell`]: header check, CRC-10, writing, reading and turning cells;
+//! * [`spacing`]: the 100 ms between made cells, and between out-of-rate cells;
 //! * [`destination`]: the saved EFCI, turned and made cells;
 //! * [`connection`]: the four moves of the allowed rate, and pacing;
 //! * [`tournament`]: the matches between ready instants, and their count;
@@ -23,6 +24,7 @@ pub mod engine;
 pub mod params;
 pub mod rate;
 pub mod refusal;
+pub mod spacing;
 pub mod tournament;
 
 #[cfg(test)]
@@ -31,6 +33,10 @@ mod comparison_tests;
 mod engine_tests;
 #[cfg(test)]
 mod make_tests;
+#[cfg(test)]
+mod no_minimum_tests;
+#[cfg(test)]
+mod out_of_rate_tests;
 
 pub use cell::{read, write_rm, Cell, Rm};
 pub use connection::Kind;

@@ -1,11 +1,11 @@
 //! Tests of made cells through the calls of an engine (document 02, L1).
 
 use crate::cell::LENGTH;
-use crate::destination::MAKE_INTERVAL;
 use crate::engine::{Engine, TIME_MAX};
 use crate::engine_tests::{
     engine_with, forward, kind, octets, params, refused, slot_rm, MS, RATE, THOUSAND,
 };
+use crate::spacing::INTERVAL;
 use crate::{Kind, Params, Rm, Sent};
 
 /// The cell that is made at a level, on VCI 32 with the largest peak.
@@ -165,8 +165,8 @@ fn a_waiting_made_cell_is_replaced_by_a_made_one_only() {
         engine.receive(&octets(&rm)).unwrap();
     }
     engine.set_level(1).unwrap();
-    engine.make(32, MAKE_INTERVAL).unwrap();
-    let start = MAKE_INTERVAL;
+    engine.make(32, INTERVAL).unwrap();
+    let start = INTERVAL;
     assert_eq!(kind(&mut engine, start), Some(Kind::Forward));
     assert_eq!(slot_rm(&mut engine, start + MS).1.sn, 2);
     assert_eq!(slot_rm(&mut engine, start + 2 * MS).1, made(1));
@@ -190,7 +190,7 @@ fn each_connection_has_its_own_made_cell_and_interval() {
     engine.open(33, 0, &params()).unwrap();
     engine.make(32, 0).unwrap();
     engine.make(33, MS).unwrap();
-    refused(&engine, 17, |engine| engine.make(33, MAKE_INTERVAL));
-    assert!(engine.make(32, MAKE_INTERVAL).is_ok());
-    assert!(engine.make(33, MAKE_INTERVAL + MS).is_ok());
+    refused(&engine, 17, |engine| engine.make(33, INTERVAL));
+    assert!(engine.make(32, INTERVAL).is_ok());
+    assert!(engine.make(33, INTERVAL + MS).is_ok());
 }

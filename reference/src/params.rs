@@ -1,4 +1,5 @@
-//! The parameters of an open (document 01, "Opening").
+//! The parameters of an open (document 01, "Opening"; with document 02's L5 the
+//! least minimum is 0).
 
 use std::ops::RangeInclusive;
 
@@ -112,12 +113,13 @@ impl Params {
         })
     }
 
-    /// The three rates in the order peak, minimum, initial.
+    /// The three rates in the order peak, minimum, initial. Minimum and initial
+    /// rate may be 0, the peak may not.
     fn rates(&self) -> Result<(u64, u64, u64), Refusal> {
         let pcr = rate::rate(self.pcr)?;
         let mcr = rate::rate(self.mcr)?;
         let icr = rate::rate(self.icr)?;
-        if SMALLEST <= mcr && mcr <= icr && icr <= pcr {
+        if mcr <= icr && icr <= pcr && SMALLEST <= pcr {
             Ok((pcr, mcr, icr))
         } else {
             Err(refusal::RANGE)
@@ -241,8 +243,27 @@ mod tests {
         assert_eq!(answer(0x4001, 0x4000, 0x4002), Err(7));
         assert_eq!(answer(0x4002, 0x4001, 0x4000), Err(7));
         assert_eq!(answer(0x4000, 0x4001, 0x4001), Err(7));
-        assert_eq!(answer(0x4000, 0x3FFF, 0x4000), Err(7));
-        assert_eq!(answer(0x0000, 0x0000, 0x0000), Err(7));
+        assert_eq!(answer(0x4000, 0x4000, 0x3FFF), Err(7));
+    }
+
+    #[test]
+    fn minimum_and_initial_rate_may_be_0_but_not_the_peak() {
+        let answer = |pcr, mcr, icr| {
+            let contract = Params::house(pcr, mcr, icr).contract();
+            contract.map(|contract| (contract.pcr, contract.mcr, contract.icr))
+        };
+        for zero in [0x0000, 0x0001, 0x01FF, 0x3FFF, 0x8000, 0xBFFF] {
+            assert_eq!(answer(0x4000, zero, 0x4000), Ok((512, 0, 512)));
+            assert_eq!(answer(0x4000, zero, zero), Ok((512, 0, 0)));
+            assert_eq!(answer(0x4000, zero, 0x0000), Ok((512, 0, 0)));
+            assert_eq!(answer(0x4000, 0x3FFF, zero), Ok((512, 0, 0)));
+            assert_eq!(answer(0x4000, zero, 0x4001), Err(7));
+            assert_eq!(answer(0x4000, 0x4000, zero), Err(7));
+            assert_eq!(answer(zero, zero, zero), Err(7));
+            assert_eq!(answer(zero, 0x0000, 0x4000), Err(7));
+            assert_eq!(answer(zero, 0x4000, 0x4000), Err(7));
+        }
+        assert_eq!(answer(0x4000, 0x1_0000, 0x4000), Err(7));
     }
 
     #[test]

@@ -61,12 +61,10 @@ pub(crate) fn code_within(rate: u64) -> u32 {
     NZ | (exponent << 9) | mantissa
 }
 
-/// The nanoseconds from one cell to the next at an allowed rate, rounded up.
-///
-/// # Panics
-/// When the rate is 0. No connection has that rate: the least minimum is 512.
-pub fn gap(acr: u64) -> u64 {
-    UNITS_BY_NANOSECONDS.div_ceil(acr)
+/// The nanoseconds from one cell to the next at an allowed rate, rounded up;
+/// nothing at rate 0, at which no next cell is due (document 02, L5).
+pub fn gap(acr: u64) -> Option<u64> {
+    (acr > 0).then(|| UNITS_BY_NANOSECONDS.div_ceil(acr))
 }
 
 #[cfg(test)]
@@ -86,16 +84,19 @@ mod tests {
 
     #[test]
     fn starred_gaps() {
-        assert_eq!(gap(512_000), 1_000_000);
-        assert_eq!(gap(1_536), 333_333_334);
+        assert_eq!(gap(512_000), Some(1_000_000));
+        assert_eq!(gap(1_536), Some(333_333_334));
     }
 
     #[test]
     fn gaps_at_the_ends() {
-        assert_eq!(gap(512), 1_000_000_000);
-        assert_eq!(gap(LARGEST), 1);
-        assert_eq!(gap(512_000_000_000), 1);
-        assert_eq!(gap(511_999_999_999), 2);
+        assert_eq!(gap(512), Some(1_000_000_000));
+        assert_eq!(gap(511), Some(1_001_956_948));
+        assert_eq!(gap(1), Some(512_000_000_000));
+        assert_eq!(gap(0), None);
+        assert_eq!(gap(LARGEST), Some(1));
+        assert_eq!(gap(512_000_000_000), Some(1));
+        assert_eq!(gap(511_999_999_999), Some(2));
     }
 
     #[test]

@@ -30,7 +30,7 @@ pub const NOT_OPEN: Refusal = 11;
 pub const ALREADY_OPEN: Refusal = 12;
 /// The table is full.
 pub const FULL: Refusal = 13;
-/// The time is before the last accepted open, slot or making.
+/// The time is before the last accepted open, slot, made or out-of-rate cell.
 pub const TIME_BACKWARD: Refusal = 14;
 /// More than 65,535 data cells would wait.
 pub const TOO_MUCH_DATA: Refusal = 15;
@@ -38,3 +38,5 @@ pub const TOO_MUCH_DATA: Refusal = 15;
 pub const NOT_CONGESTED: Refusal = 16;
 /// Less than 100 ms have passed since the last made cell of the connection.
 pub const TOO_SOON: Refusal = 17;
+/// Less than 100 ms have passed since the connection's last out-of-rate cell.
+pub const TOO_OFTEN: Refusal = 18;

@@ -56,7 +56,8 @@ fn coded() -> Lines {
     ];
     let mut lines = Lines::new();
     for (code, acr, rate) in rows {
-        lines.push(decimal(&[rate_of(code), gap(acr)]));
+        let gap = gap(acr).expect("an allowed rate above 0");
+        lines.push(decimal(&[rate_of(code), gap]));
         lines.push(match code_of(rate) {
             Ok(code) => hex(&[code, 0]),
             Err(number) => hex(&[0, number]),

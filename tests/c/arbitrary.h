@@ -12,14 +12,15 @@
  */
 enum {
     LEAVES = 1024,
-    USED = 2,                        /* a bit for each leaf that is taken */
-    DIRECTORY = USED + LEAVES / 64,  /* (VCI + 1) * 1024 + leaf, falling, then zeros */
-    NODES = DIRECTORY + LEAVES,      /* at place p the winner's leaf + 1, or 0; places 2p and 2p + 1 play match p */
-    NONE = NODES + LEAVES,           /* 0 */
-    KEYS = NONE + 1,                 /* 2^64 - 1 - ready instant, or 0 */
-    NAMES = KEYS + LEAVES,           /* the VCI of each leaf */
-    LIVE = NAMES + LEAVES,           /* 16 words a leaf */
-    FIXED = LIVE + 16 * LEAVES,      /* 12 words a leaf */
+    LIVE_WORDS = 17,                    /* of a leaf; the last is for its last out-of-rate cell */
+    USED = 2,                           /* a bit for each leaf that is taken */
+    DIRECTORY = USED + LEAVES / 64,     /* (VCI + 1) * 1024 + leaf, falling, then zeros */
+    NODES = DIRECTORY + LEAVES,         /* at place p the winner's leaf + 1, or 0; places 2p and 2p + 1 play match p */
+    NONE = NODES + LEAVES,              /* 0 */
+    KEYS = NONE + 1,                    /* 2^64 - 1 - ready instant, or 0 */
+    NAMES = KEYS + LEAVES,              /* the VCI of each leaf */
+    LIVE = NAMES + LEAVES,              /* LIVE_WORDS a leaf */
+    FIXED = LIVE + LIVE_WORDS * LEAVES, /* 12 words a leaf */
     LAYOUT_WORDS = FIXED + 12 * LEAVES
 };
 
@@ -31,7 +32,7 @@ typedef struct {
 } part;
 
 static const part parts[] = {{USED, LEAVES / 64}, {DIRECTORY, LEAVES}, {NODES, LEAVES}, {NONE, 1},
-                             {KEYS, LEAVES},      {NAMES, LEAVES},     {LIVE, 16 * LEAVES}};
+                             {KEYS, LEAVES},      {NAMES, LEAVES},     {LIVE, FIXED - LIVE}};
 
 static uint64_t state; /* of the generator, xorshift64* (Vigna); never 0 */
 
@@ -68,12 +69,12 @@ static uint32_t vci_of(uint32_t place)
     return falling ? 65535 - step * place : 32 + step * place;
 }
 
-/* A table that calls made: some open connections, perhaps with free leaves between, data, cells made and sent. */
+/* A table that calls made: some open connections, perhaps with free leaves between, data, and cells of every sort. */
 static void reached_table(abr_table *table)
 {
     uint8_t cell[ABR_CELL_OCTETS];
     uint32_t count = (uint32_t)(next() % (next() % 4 ? 70 : 1040)), closes = (uint32_t)next() & 1, refused = 0;
-    abr_params params = abr_house(0x7FFF, 0x4000, 0x53E8 + (uint32_t)(next() & 0xFF));
+    abr_params params = abr_house(0x7FFF, next() % 2 ? 0x4000 : 0, 0x53E8 + (uint32_t)(next() & 0xFF));
     step = next() % 2 ? 1 : 63; /* side by side, or over all VCIs */
     falling = next() % 2;
     memset(table, 0, sizeof *table);
@@ -83,6 +84,7 @@ static void reached_table(abr_table *table)
         refused |= abr_set_level(table, (uint32_t)(next() % 3));
         refused |= abr_make(table, vci_of(i), i).refusal;
         refused |= abr_slot(table, i, cell, sizeof cell).refusal;
+        refused |= abr_out_of_rate(table, vci_of(i), i, cell, sizeof cell);
         if (closes && next() % 4 == 0) {
             refused |= abr_close(table, vci_of((uint32_t)(next() % count))).refusal;
         }
@@ -118,7 +120,7 @@ static uint64_t wrong_word(uint64_t how, const uint64_t *before, unsigned place,
 /* A table that calls made, with one or more parts wrong, each in its own way. */
 static void wrong_parts(abr_table *table)
 {
-    static uint64_t before[16 * LEAVES];
+    static uint64_t before[FIXED - LIVE];
     uint64_t times = 1 + next() % 3;
     reached_table(table);
     while (times--) {

@@ -13,6 +13,7 @@ void ignored(abr_table *table, uint8_t *cell, abr_params params, abr_rm rm)
     abr_set_level(table, 1);
     abr_make(table, 32, 0);
     abr_slot(table, 0, cell, ABR_CELL_OCTETS);
+    abr_out_of_rate(table, 32, 0, cell, ABR_CELL_OCTETS);
     abr_write_rm(rm, cell, ABR_CELL_OCTETS);
     abr_read(cell, ABR_CELL_OCTETS);
     abr_code(512);

@@ -122,13 +122,17 @@ static void all_send(abr_table *table, uint64_t time, uint32_t kind)
     }
 }
 
-/* A table uses words up to the last and none after it: 1,024 busy connections, on each a made cell. */
+/*
+ * A table uses words up to the last and none after it: 1,024 busy connections, on each a made and an out-of-rate
+ * cell.
+ */
 static void the_whole_table(void)
 {
     static struct {
         abr_table table;
         uint64_t after[8];
     } lent;
+    uint8_t octets[ABR_CELL_OCTETS];
     abr_params params = abr_house(0x7FFF, 0x4000, 0x53E8);
     CHECK(abr_set_level(&lent.table, 1) == ABR_OK);
     for (uint32_t vci = 32; vci < 32 + ABR_CONNECTIONS_MAX; vci++) {
@@ -136,6 +140,8 @@ static void the_whole_table(void)
         CHECK(abr_offer(&lent.table, vci, 1).refusal == ABR_OK);
         CHECK(abr_make(&lent.table, vci, 0).refusal == ABR_OK);
         CHECK(abr_make(&lent.table, vci, 0).refusal == ABR_REFUSED_TOO_SOON);
+        CHECK(abr_out_of_rate(&lent.table, vci, 0, octets, sizeof octets) == ABR_OK);
+        CHECK(abr_out_of_rate(&lent.table, vci, 0, octets, sizeof octets) == ABR_REFUSED_TOO_OFTEN);
     }
     CHECK(abr_open(&lent.table, 32 + ABR_CONNECTIONS_MAX, 0, params).refusal == ABR_REFUSED_FULL);
     all_send(&lent.table, 0, ABR_SENT_FORWARD);
@@ -162,6 +168,8 @@ static void any_alignment(void)
         cell = abr_read(octets, ABR_CELL_OCTETS);
         CHECK(cell.refusal == ABR_OK && cell.rm.er == 0x7FFF);
         CHECK(abr_receive(&table, octets, ABR_CELL_OCTETS).refusal == ABR_OK);
+        CHECK(abr_out_of_rate(&table, 32, shift << 40, octets, ABR_CELL_OCTETS) == ABR_OK);
+        CHECK(abr_read(octets, ABR_CELL_OCTETS).refusal == ABR_OK);
         sent = abr_slot(&table, shift << 40, octets, ABR_CELL_OCTETS);
         CHECK(sent.refusal == ABR_OK && sent.vci == 32);
     }

@@ -40,6 +40,7 @@ static void refused(uint8_t *octets, size_t len)
     abr_answer answer = abr_receive(&table, octets, len);
     CHECK(answer.refusal == ABR_REFUSED_LENGTH && answer.comparisons == 0);
     CHECK(abr_write_rm(rm, octets, len) == ABR_REFUSED_LENGTH);
+    CHECK(abr_out_of_rate(&table, 32, 1000, octets, len) == ABR_REFUSED_LENGTH);
     zeros(octets, len);
     CHECK(memcmp(kept, octets, sizeof kept) == 0);
     CHECK(memcmp(&before, &table, sizeof before) == 0);

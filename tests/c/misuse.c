@@ -13,7 +13,7 @@
 #include "arbitrary.h"
 
 enum { TABLE, CELL, OBJECTS };
-enum { OPEN, CLOSE, RECEIVE, OFFER, SET_LEVEL, MAKE, SLOT, ACR, WRITE_RM, READ, CODE, RATE, HOUSE, CALLS };
+enum { OPEN, CLOSE, RECEIVE, OFFER, SET_LEVEL, MAKE, SLOT, OUT_OF_RATE, ACR, WRITE_RM, READ, CODE, RATE, HOUSE, CALLS };
 
 typedef struct {
     uint8_t *block, *copy;
@@ -71,7 +71,7 @@ static abr_params any_params(void)
 {
     abr_params params;
     any_words(&params, sizeof params);
-    return next() % 4 ? abr_house(0x7FFF, 0x4000, 0x53E8) : params;
+    return next() % 4 ? abr_house(0x7FFF, next() % 2 ? 0x4000 : 0, 0x53E8) : params;
 }
 
 static abr_rm any_rm(void)
@@ -128,6 +128,7 @@ static uint32_t one_call(int call)
     case SET_LEVEL: return abr_set_level(at(TABLE), (uint32_t)(next() % 4));
     case MAKE: return abr_make(at(TABLE), any_vci(), any_time()).refusal;
     case SLOT: return abr_slot(at(TABLE), any_time(), at(CELL), any_length()).refusal;
+    case OUT_OF_RATE: return abr_out_of_rate(at(TABLE), any_vci(), any_time(), at(CELL), any_length());
     case ACR: return abr_acr(at(TABLE), any_vci()).refusal;
     default: return without_table(call);
     }
@@ -143,7 +144,7 @@ static int may_write(int which, int call, uint32_t refusal)
     if (which == TABLE) {
         return call != ACR;
     }
-    return call == SLOT || (call == WRITE_RM && refusal == ABR_OK);
+    return call == SLOT || ((call == WRITE_RM || call == OUT_OF_RATE) && refusal == ABR_OK);
 }
 
 /* Copies what a call may not write: always the octets before and behind an object. */
@@ -201,6 +202,23 @@ static int places_are_right(void)
            words[KEYS + 1] == ~UINT64_C(9) && words[NAMES] == 40 && words[NAMES + 1] == 60;
 }
 
+/* An out-of-rate cell on leaf 1, at the time of the last call, changes one word: the last live one of that leaf. */
+static int one_word_changes(void)
+{
+    static abr_table before;
+    const uint64_t *words = ((abr_table *)at(TABLE))->words;
+    memcpy(&before, words, sizeof before);
+    if (abr_out_of_rate(at(TABLE), 60, 9, at(CELL), ABR_CELL_OCTETS) != ABR_OK) {
+        return 0;
+    }
+    for (unsigned i = 0; i < ABR_TABLE_WORDS; i++) {
+        if ((words[i] != before.words[i]) != (i == LIVE + 2 * LIVE_WORDS - 1)) {
+            return 0;
+        }
+    }
+    return 1;
+}
+
 static int round_of_calls(unsigned long round)
 {
     arbitrary_table(at(TABLE));
@@ -231,7 +249,7 @@ int main(int argc, char **argv)
     state = seed * UINT64_C(0x9E3779B97F4A7C15) | 1;
     step = 1;
     make_objects();
-    if (!places_are_right()) {
+    if (!places_are_right() || !one_word_changes()) {
         printf("misuse: the words of a table stand elsewhere than arbitrary.h says\n");
         return 1;
     }

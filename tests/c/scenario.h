@@ -1,8 +1,9 @@
 /*
  * A scenario: two connections on one link, VCI 32 and VCI 33, at 1,000 cells per
  * second each. The first receives CI once, the second an explicit rate; a cell is
- * turned, and two are made. The numbers were computed by hand from documents 01
- * and 02. Valid as C and as C++.
+ * turned, and two are made. Then VCI 34, without a minimum, falls to rate 0 and has
+ * out-of-rate cells. The numbers were computed by hand from documents 01 and 02.
+ * Valid as C and as C++.
  */
 #ifndef SCENARIO_H
 #define SCENARIO_H
@@ -159,9 +160,50 @@ static void closes(void)
     allowed = abr_acr(&table, 32);
     CHECK(allowed.refusal == ABR_REFUSED_NOT_OPEN && allowed.acr == 0);
     CHECK(is(abr_close(&table, 33), ABR_OK, 10));
+}
+
+/* The refusals of an out-of-rate cell in their order; nothing else is open, and the last time is 121 ms. */
+static void out_of_rate_refused(void)
+{
+    CHECK(abr_out_of_rate(&table, 35, ABR_TIME_MAX + 1, cell, 52) == ABR_REFUSED_LENGTH);
+    CHECK(abr_out_of_rate(&table, 35, ABR_TIME_MAX + 1, cell, sizeof cell) == ABR_REFUSED_TIME);
+    CHECK(abr_out_of_rate(&table, 35, 0, cell, sizeof cell) == ABR_REFUSED_NOT_OPEN);
+    CHECK(abr_out_of_rate(&table, 34, 121 * MS - 1, cell, sizeof cell) == ABR_REFUSED_TIME_BACKWARD);
+    CHECK(abr_out_of_rate(&table, 34, 200 * MS, cell, sizeof cell) == ABR_OK);
+    CHECK(abr_out_of_rate(&table, 34, 200 * MS - 1, cell, sizeof cell) == ABR_REFUSED_TIME_BACKWARD);
+    CHECK(abr_out_of_rate(&table, 34, 300 * MS - 1, cell, sizeof cell) == ABR_REFUSED_TOO_OFTEN);
+    CHECK(abr_out_of_rate(&table, 34, 300 * MS, cell, sizeof cell) == ABR_OK);
+}
+
+/* An explicit rate of 0 stops VCI 34 before its first cell; a later one raises it by a sixteenth of its peak. */
+static void without_a_minimum(void)
+{
+    abr_rm rm;
+    CHECK(is(abr_open(&table, 34, 121 * MS, abr_house(thousand, 0x01FF, thousand)), ABR_OK, 1));
+    CHECK(is(abr_offer(&table, 34, 10), ABR_OK, 10));
+    CHECK(is(feedback(34, 0, 0), ABR_OK, 10));
+    CHECK(acr_is(34, 0) && slot_is(121 * MS, 0, ABR_SENT_IDLE, 0));
+    out_of_rate_refused();
+    CHECK(cell[0] == 0 && cell[1] == 0 && cell[2] == 0x02 && cell[3] == 0x2D); /* payload type 6, CLP 1 */
+    rm = rm_in_cell();
+    CHECK(rm.vci == 34 && rm.dir == 0 && rm.bn == 0 && rm.ci == 0 && rm.ni == 0 && rm.ra == 0);
+    CHECK(rm.er == thousand && rm.ccr == 0 && rm.mcr == 0 && rm.ql == 0 && rm.sn == 0);
+    CHECK(abr_slot(&table, 300 * MS - 1, cell, sizeof cell).refusal == ABR_REFUSED_TIME_BACKWARD);
+    CHECK(slot_is(300 * MS, 0, ABR_SENT_IDLE, 0));
+    CHECK(is(feedback(34, 0, ABR_CODE_MAX), ABR_OK, 10));
+    CHECK(acr_is(34, 32000) && slot_is(300 * MS, 34, ABR_SENT_FORWARD, 32000));
+    rm = rm_in_cell();
+    CHECK(rm.er == thousand && rm.ccr == 0x4BE8 && rm.mcr == 0 && cell[3] == 0x2C);
+    CHECK(slot_is(316 * MS - 1, 0, ABR_SENT_IDLE, 0)); /* the gap is 16 ms */
+    CHECK(slot_is(316 * MS, 34, ABR_SENT_DATA, 32000));
+    CHECK(is(abr_close(&table, 34), ABR_OK, 10));
+}
+
+static void nothing_is_left(void)
+{
     CHECK(slot_is(ABR_TIME_MAX, 0, ABR_SENT_IDLE, 0));
     CHECK(strcmp(abr_refusal_text(ABR_OK), "accepted") == 0);
-    CHECK(strcmp(abr_refusal_text(17), abr_refusal_text(18)) != 0);
+    CHECK(strcmp(abr_refusal_text(18), abr_refusal_text(19)) != 0);
 }
 
 static int scenario(const char *name)
@@ -174,6 +216,8 @@ static int scenario(const char *name)
     cells_are_made();
     codes();
     closes();
+    without_a_minimum();
+    nothing_is_left();
     printf("%s: %s\n", name, checks_failed ? "FAILED" : "ok");
     return checks_failed != 0;
 }

@@ -4,10 +4,10 @@
 #![allow(non_camel_case_types, missing_docs)]
 
 /// The version of the header: major, minor and patch number, eight bits each.
-pub const ABR_VERSION: u32 = 0x00_05_00;
+pub const ABR_VERSION: u32 = 0x00_06_00;
 
 /// The words of a table.
-pub const ABR_TABLE_WORDS: usize = 32_787;
+pub const ABR_TABLE_WORDS: usize = 33_811;
 
 /// The state of an engine; all zero when empty.
 #[repr(C)]
@@ -99,6 +99,13 @@ extern "C" {
     pub fn abr_set_level(table: *mut abr_table, level: u32) -> u32;
     pub fn abr_make(table: *mut abr_table, vci: u32, time: u64) -> abr_answer;
     pub fn abr_slot(table: *mut abr_table, time: u64, cell: *mut u8, len: usize) -> abr_sent;
+    pub fn abr_out_of_rate(
+        table: *mut abr_table,
+        vci: u32,
+        time: u64,
+        cell: *mut u8,
+        len: usize,
+    ) -> u32;
     pub fn abr_acr(table: *const abr_table, vci: u32) -> abr_allowed;
     pub fn abr_write_rm(rm: abr_rm, cell: *mut u8, len: usize) -> u32;
     pub fn abr_read(cell: *const u8, len: usize) -> abr_cell;

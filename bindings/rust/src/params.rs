@@ -2,14 +2,14 @@
 
 use crate::ffi;
 
-/// What an open gives beside VCI and time (document 01, "Opening"), with the
-/// layout of the C struct. [`crate::Table::open`] checks the ranges.
+/// What an open gives beside VCI and time (document 01, "Opening"; document 02,
+/// L5), with the layout of the C struct. [`crate::Table::open`] checks the ranges.
 #[repr(C)]
 #[derive(Debug, Clone, Copy, PartialEq, Eq, Hash, Default)]
 pub struct Params {
-    /// Code of the peak rate.
+    /// Code of the peak rate, at least one cell per second.
     pub pcr: u32,
-    /// Code of the minimum rate, at least one cell per second.
+    /// Code of the minimum rate, 0 for none.
     pub mcr: u32,
     /// Code of the initial rate, from minimum to peak.
     pub icr: u32,

@@ -4,14 +4,14 @@ use std::error::Error;
 use std::fmt;
 
 /// A refused call changes nothing and says why (document 01, "Refused because
-/// of the input" and "Refused because of the state"; document 02, L1).
+/// of the input" and "Refused because of the state"; document 02, L1 and L5).
 ///
 /// ```
 /// use abr::Refusal;
 /// assert_eq!(abr::rate(0x1_0000), Err(Refusal::Range));
 /// assert_eq!(Refusal::Range.number(), 7);
 /// assert_eq!(Refusal::try_from(7), Ok(Refusal::Range));
-/// assert_eq!(Refusal::try_from(18), Err(18));
+/// assert_eq!(Refusal::try_from(19), Err(19));
 /// assert_eq!(Refusal::Full.to_string(), "1,024 connections are open");
 /// ```
 #[derive(Debug, Clone, Copy, PartialEq, Eq, Hash)]
@@ -43,7 +43,8 @@ pub enum Refusal {
     AlreadyOpen = 12,
     /// 1,024 connections are open.
     Full = 13,
-    /// The time is before that of the last accepted open, slot or made cell.
+    /// The time is before that of the last accepted open, slot, made or
+    /// out-of-rate cell.
     TimeBackward = 14,
     /// More than 65,535 data cells would wait.
     TooMuchData = 15,
@@ -51,11 +52,13 @@ pub enum Refusal {
     NotCongested = 16,
     /// Less than 100 ms have passed since the connection's last made cell.
     TooSoon = 17,
+    /// Less than 100 ms have passed since the connection's last out-of-rate cell.
+    TooOften = 18,
 }
 
 impl Refusal {
     /// All refusals in the order of their numbers.
-    pub const ALL: [Refusal; 17] = [
+    pub const ALL: [Refusal; 18] = [
         Refusal::Length,
         Refusal::HeaderCheck,
         Refusal::Path,
@@ -73,6 +76,7 @@ impl Refusal {
         Refusal::TooMuchData,
         Refusal::NotCongested,
         Refusal::TooSoon,
+        Refusal::TooOften,
     ];
 
     /// Its number in the documents.
@@ -96,10 +100,13 @@ impl Refusal {
             Refusal::NotOpen => "VCI is not open",
             Refusal::AlreadyOpen => "VCI is already open",
             Refusal::Full => "1,024 connections are open",
-            Refusal::TimeBackward => "time is before the last accepted open, slot or made cell",
+            Refusal::TimeBackward => {
+                "time is before the last accepted open, slot, made or out-of-rate cell"
+            }
             Refusal::TooMuchData => "waiting data would pass 65,535 cells",
             Refusal::NotCongested => "congestion level is 0",
             Refusal::TooSoon => "less than 100 ms since the last cell made on this VCI",
+            Refusal::TooOften => "less than 100 ms since the last out-of-rate cell on this VCI",
         }
     }
 

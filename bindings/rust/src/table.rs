@@ -19,6 +19,8 @@ pub const TIME_MAX: u64 = 1 << 62;
 pub const WAITING_MAX: u64 = 65_535;
 /// The least time from one made cell of a connection to the next, 100 ms.
 pub const MAKE_INTERVAL: u64 = 100_000_000;
+/// The least time from one out-of-rate cell of a connection to the next, 100 ms.
+pub const OUT_OF_RATE_INTERVAL: u64 = 100_000_000;
 /// The highest congestion level.
 pub const LEVEL_MAX: u32 = 2;
 
@@ -209,8 +211,8 @@ impl Table {
     }
 
     /// Gives the slot at a time to the connection with the earliest ready
-    /// instant, if one is ready. A forward, turned or made cell is written to the
-    /// buffer.
+    /// instant, if one is ready; one with an allowed rate of 0 never is. A forward,
+    /// turned or made cell is written to the buffer.
     ///
     /// # Errors
     /// In this order: [`Refusal::Length`], [`Refusal::Time`],
@@ -231,7 +233,44 @@ impl Table {
         Ok(sent.into())
     }
 
-    /// The allowed rate of a connection.
+    /// Writes an out-of-rate forward RM cell of a connection to the buffer, with
+    /// CLP 1 and the allowed rate as it stands, for the caller to send beside the
+    /// slots. A source whose allowed rate is 0 learns in this way when it may rise.
+    /// Nothing that a slot looks at changes.
+    ///
+    /// # Errors
+    /// In this order: [`Refusal::Length`], [`Refusal::Time`], [`Refusal::NotOpen`],
+    /// [`Refusal::TimeBackward`], [`Refusal::TooOften`] less than
+    /// [`OUT_OF_RATE_INTERVAL`] after the connection's last such cell.
+    ///
+    /// ```
+    /// use abr::{Cell, Params, Refusal, Rm, Table, CELL_OCTETS, OUT_OF_RATE_INTERVAL};
+    /// let mut table = Table::new();
+    /// table.open(32, 0, &Params::house(0x53E8, 0, 0))?; // no minimum, initial rate 0
+    /// table.offer(32, 1)?;
+    /// let mut cell = [0; CELL_OCTETS];
+    /// assert_eq!(table.slot(0, &mut cell), Ok(None)); // never ready at rate 0
+    ///
+    /// table.out_of_rate(32, 0, &mut cell)?;
+    /// let forward = Rm { vci: 32, er: 0x53E8, ..Rm::default() };
+    /// assert_eq!(abr::read(&cell)?, Cell::Rm(forward));
+    /// assert_eq!(cell[3] & 1, 1); // CLP
+    /// let again = table.out_of_rate(32, OUT_OF_RATE_INTERVAL - 1, &mut cell);
+    /// assert_eq!(again, Err(Refusal::TooOften));
+    ///
+    /// abr::write_rm(&Rm { backward: true, ..forward }, &mut cell)?; // its answer
+    /// table.receive(&cell)?;
+    /// assert_eq!(table.acr(32), Ok(32_000)); // a sixteenth of the peak
+    /// assert!(table.slot(0, &mut cell)?.is_some());
+    /// # Ok::<(), Refusal>(())
+    /// ```
+    pub fn out_of_rate(&mut self, vci: u32, time: u64, cell: &mut [u8]) -> Result<(), Refusal> {
+        let (octets, len) = (cell.as_mut_ptr(), cell.len());
+        // SAFETY: both pointers are live and the length is the buffer's own.
+        Refusal::outcome(unsafe { ffi::abr_out_of_rate(self.raw(), vci, time, octets, len) })
+    }
+
+    /// The allowed rate of a connection; 0 is possible if its minimum is 0.
     ///
     /// # Errors
     /// [`Refusal::NotOpen`].

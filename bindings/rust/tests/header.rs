@@ -45,6 +45,8 @@ fn the_limits_are_those_of_the_header() {
     assert_eq!(value("ABR_VCI_MAX"), u64::from(abr::VCI_MAX));
     assert_eq!(value("ABR_WAITING_MAX"), abr::WAITING_MAX);
     assert_eq!(value("ABR_MAKE_INTERVAL"), abr::MAKE_INTERVAL);
+    let interval = value("ABR_OUT_OF_RATE_INTERVAL");
+    assert_eq!(interval, abr::OUT_OF_RATE_INTERVAL);
     assert_eq!(value("ABR_LEVEL_MAX"), u64::from(abr::LEVEL_MAX));
     assert_eq!(value("ABR_RATE_ONE"), abr::RATE_ONE);
     assert_eq!(value("ABR_TIME_MAX"), abr::TIME_MAX);
@@ -106,7 +108,7 @@ fn the_refusals_are_those_of_the_header() {
     }
     assert_eq!(defined("ABR_OK"), (0, "accepted"));
     assert_eq!(Refusal::try_from(0), Err(0));
-    assert_eq!(Refusal::try_from(18), Err(18));
+    assert_eq!(Refusal::try_from(19), Err(19));
 }
 
 #[test]
@@ -162,5 +164,5 @@ fn every_prototype_of_the_header_is_declared_and_no_other() {
     let ffi = include_str!("../src/ffi.rs");
     let foreign = |line: &&str| line.starts_with("    pub fn ");
     assert_eq!(header, names(ffi.lines().filter(foreign)));
-    assert_eq!(header.len(), 15);
+    assert_eq!(header.len(), 16);
 }

@@ -2,44 +2,56 @@
 use Prim.Native.Nat.{ℕ}
 use mathlib.Core.Path.{_≡_, refl, ap, _∙_}
 use mathlib.Core.List.{List}
-use Rattle.model.specs.Call.{levelling, Outcome}
-use Rattle.model.specs.Step.{refuse, accept, levelStep, step}
+use Rattle.model.specs.Call.{Call, levelling, outOfRate, Outcome}
+use Rattle.model.specs.Step.{refuse, accept, levelStep, sendOutside, outOfRateStep, step}
 use Rattle.model.specs.Invariant.{WellFormed}
-use Rattle.model.proofs.Effects.{Effect, refuses, levels, effect}
+use Rattle.model.proofs.Effects.{Effect, refuses, levels, leaves, effect}
 use Rattle.model.specs.State.{State}
 use Rattle.model.specs.declared.acr.Acr.{Acr}
 use Rattle.model.specs.declared.answer.Answer.{Answer}
 use Rattle.engine.specs.Contract.{Meets, MeetsWriting, MeetsAcr}
 use Rattle.abr.specs.Answers.{SlotAnswer, AcrAnswer, CallAnswer, callAnswer, slotAnswer, acrAnswer}
-use Rattle.abr.specs.Contract.{Answers, Numbered, AnswersSlot, AnswersAcr}
+use Rattle.abr.specs.Contract.{Answers, Numbered, NumberedWriting, AnswersSlot, AnswersAcr}
 
 -- a call that returns its refusal and the comparisons it made
 pub answers : {f : State → Outcome} {before after : List ℕ} {a : Answer} {r : CallAnswer} → r ≡ callAnswer a → Meets f before after a → Answers f before after r
 answers e m = record { meets = λ s w b. let k = m .meets s w b in (k .0, e ∙ ap callAnswer (k .1)) }
 
 -- a call that returns its refusal alone, of a definition that makes no comparisons
-pub numbers :
-    {f : State → Outcome} {before after : List ℕ} {a : Answer} {r : CallAnswer} → r ≡ callAnswer a → ((s : State) → WellFormed s → callAnswer (f s .answer) .comparisons ≡ 0)
-    → Meets f before after a → Numbered f before after (r .refusal)
-numbers {f} {before} {after} {a} {r} e z m = record {
-  meets = λ s w b.
-      let k = m .meets s w b in
-      let h : r ≡ callAnswer (f s .answer) = e ∙ ap callAnswer (k .1) in
-      (k .0, alone (callAnswer (f s .answer)) (z s w) (ap (λ (c : CallAnswer). c .refusal) h));
-}
-  where
-    alone : (c : CallAnswer) → c .comparisons ≡ 0 → {n : ℕ} → n ≡ c .refusal → record { refusal = n; comparisons = 0 } ≡ c
-    alone c p q = rw (q, ← p)
+alone : {a r c : CallAnswer} → r ≡ a → a ≡ c → c .comparisons ≡ 0 → record { refusal = r .refusal; comparisons = 0 } ≡ c
+alone e h z = rw (e, h, ← z)
 
--- setting the level is one
-level-effect : {s : State} {l : ℕ} {o : Outcome} → Effect s (levelling l) o → callAnswer (o .answer) .comparisons ≡ 0
-unfolding refuse accept
-level-effect (refuses _ n h) = refl
-level-effect (levels _ h) = refl
+abbrev ComparesNone : (State → Outcome) → Type 0
+ComparesNone f = (s : State) → WellFormed s → callAnswer (f s .answer) .comparisons ≡ 0
 
-pub level-alone : (l : ℕ) (s : State) → WellFormed s → callAnswer (levelStep s l .answer) .comparisons ≡ 0
+pub numbers : {f : State → Outcome} {before after : List ℕ} {a : Answer} {r : CallAnswer} → r ≡ callAnswer a → ComparesNone f → Meets f before after a → Numbered f before after (r .refusal)
+numbers e z m = record { meets = λ s w b. let k = m .meets s w b in (k .0, alone e (ap callAnswer (k .1)) (z s w)) }
+
+-- the same of a call that may write its buffer
+pub numbers-writing :
+    {f : State → Outcome} {before after : List ℕ} {a : Answer} {r : CallAnswer} {old new : List ℕ} → r ≡ callAnswer a → ComparesNone f → MeetsWriting f before after a old new
+    → NumberedWriting f before after (r .refusal) old new
+numbers-writing e z m = record { meets = λ s w b. let k = m .meets s w b in (k .0, alone e (ap callAnswer (k .1)) (z s w), k .2) }
+
+-- setting the level and sending outside the rate are such calls
+data Uncompared : Call → Type 0 where
+  level : (l : ℕ) → Uncompared (levelling l)
+  outside : (v t room : ℕ) → Uncompared (outOfRate v t room)
+
+effect-alone : {s : State} {c : Call} {o : Outcome} → Uncompared c → Effect s c o → callAnswer (o .answer) .comparisons ≡ 0
+unfolding refuse accept sendOutside
+effect-alone (level l) (refuses _ n h) = refl
+effect-alone (level l) (levels _ h) = refl
+effect-alone (outside v t room) (refuses _ n h) = refl
+effect-alone (outside v t room) (leaves _ _ _ d f g h) = refl
+
+pub level-alone : (l : ℕ) → ComparesNone (λ s. levelStep s l)
 unfolding step
-level-alone l s w = level-effect (effect s (w .unique) (levelling l))
+level-alone l s w = effect-alone (level l) (effect s (w .unique) (levelling l))
+
+pub out-of-rate-alone : (v t room : ℕ) → ComparesNone (λ s. outOfRateStep s v t room)
+unfolding step
+out-of-rate-alone v t room s w = effect-alone (outside v t room) (effect s (w .unique) (outOfRate v t room))
 
 -- a slot
 pub slots :

@@ -6,19 +6,28 @@ use lib.ListN.{length}
 use Rattle.connection.specs.Sending.{Buffer, untouched}
 use Rattle.model.specs.State.{State, empty}
 use Rattle.model.specs.Invariant.{WellFormed}
-use Rattle.model.specs.declared.answer.Answer.{Answer}
-use Rattle.model.specs.declared.answer.Answer.the-variants.{Refused, Accepted, Idle, Sent}
-use Rattle.model.specs.Call.{Call, opening, closing, receiving, offering, levelling, slot, making, Outcome}
-use Rattle.model.specs.Step.{refuse, accept, replay, step}
+use Rattle.model.specs.Call.{Call, opening, closing, receiving, offering, levelling, slot, making, outOfRate, Outcome}
+use Rattle.model.specs.Step.{refuse, accept, replay, sendOutside, step}
 use Rattle.model.specs.Run.{run, final}
 use Rattle.model.proofs.Preserved.{empty-well-formed}
-use Rattle.model.proofs.Effects.{Effect, refuses, begins, ends, offers as offersTo, marks, works, levels as levelsTo, idles, sends, makes as makesAt, effect}
+use Rattle.model.proofs.Effects.{Effect, refuses, begins, ends, offers as offersTo, marks, works, levels as levelsTo, idles, sends, makes as makesAt, leaves as leavesAt, effect}
 use Rattle.model.proofs.Reached.{step-well-formed, reached-well-formed}
 use Rattle.table.specs.Layout.{words}
 use Rattle.table.proofs.Words.{empty-words}
 use Rattle.engine.specs.Contract.{bufferContent}
 use Rattle.abr.specs.Answers.{CallAnswer, refusalAlone, callAnswer, noCell, slotAnswer}
-use Rattle.abr.specs.Exports.{Observation, noSlot, Performs, opens, closes, receives, offers, levels, makes, slots, Trace, ended, then, finalWords, zeros, Matches, AllMatch, neither, both, ExportsAreRun}
+use Rattle.abr.specs.Exports.{Observation, noSlot, Performs, opens, closes, receives, offers, levels, makes, leaves, slots, Trace, ended, then, finalWords, zeros, Matches, AllMatch, neither, both, ExportsAreRun}
+
+-- a call that is no slot
+abbrev NoSlot : Call → Type 0
+NoSlot (opening v t p) = Unit
+NoSlot (closing v) = Unit
+NoSlot (receiving o) = Unit
+NoSlot (offering v n) = Unit
+NoSlot (levelling l) = Unit
+NoSlot (slot t room) = ⊥
+NoSlot (making v t) = Unit
+NoSlot (outOfRate v t room) = Unit
 
 -- a call that is lent no buffer
 abbrev WithoutBuffer : Call → Type 0
@@ -29,43 +38,50 @@ WithoutBuffer (offering v n) = Unit
 WithoutBuffer (levelling l) = Unit
 WithoutBuffer (slot t room) = ⊥
 WithoutBuffer (making v t) = Unit
+WithoutBuffer (outOfRate v t room) = ⊥
 
--- it writes none, and its answer is a refusal and comparisons alone
-pub record Plain (o : Outcome) : Type 0 where
-  pub buffer : o .buffer ≡ untouched
+-- it writes none that it is not lent, and its answer is a refusal and comparisons alone
+pub record Plain (c : Call) (o : Outcome) : Type 0 where
+  pub buffer : WithoutBuffer c → o .buffer ≡ untouched
   pub answer : noCell (callAnswer (o .answer) .refusal) (callAnswer (o .answer) .comparisons) ≡ slotAnswer (o .answer)
 
-effect-plain : {s : State} {c : Call} {o : Outcome} → Effect s c o → WithoutBuffer c → Plain o
-unfolding refuse accept replay
-effect-plain (refuses c n h) u = record { buffer = refl; answer = refl }
-effect-plain (begins v t p g) u = record { buffer = refl; answer = refl }
-effect-plain (ends v d f) u = record { buffer = refl; answer = refl }
-effect-plain (offersTo v n d f h) u = record { buffer = refl; answer = refl }
-effect-plain (marks o v e d r f) u = record { buffer = refl; answer = refl }
-effect-plain (works o q d r f) u = record { buffer = refl; answer = refl }
-effect-plain (levelsTo l h) u = record { buffer = refl; answer = refl }
+effect-plain : {s : State} {c : Call} {o : Outcome} → Effect s c o → NoSlot c → Plain c o
+unfolding refuse accept replay sendOutside
+effect-plain (refuses c n h) u = record { buffer = λ _. refl; answer = refl }
+effect-plain (begins v t p g) u = record { buffer = λ _. refl; answer = refl }
+effect-plain (ends v d f) u = record { buffer = λ _. refl; answer = refl }
+effect-plain (offersTo v n d f h) u = record { buffer = λ _. refl; answer = refl }
+effect-plain (marks o v e d r f) u = record { buffer = λ _. refl; answer = refl }
+effect-plain (works o q d r f) u = record { buffer = λ _. refl; answer = refl }
+effect-plain (levelsTo l h) u = record { buffer = λ _. refl; answer = refl }
 effect-plain (idles t room g b) u = absurd u
 effect-plain (sends t room i v g b) u = absurd u
-effect-plain (makesAt v t d f g h m) u = record { buffer = refl; answer = refl }
+effect-plain (makesAt v t d f g h m) u = record { buffer = λ _. refl; answer = refl }
+effect-plain (leavesAt v t room d f g h) u = record { buffer = λ b. absurd b; answer = refl }
 
 nothing-written : (b : Buffer) → b ≡ untouched → [] ≡ bufferContent b []
 nothing-written b e = rw e refl
 
+-- what such a call returned is all of its answer
+returned-plain : {s : State} → WellFormed s → (c : Call) → NoSlot c → (r : CallAnswer) → r ≡ callAnswer (step s c .answer) → noCell (r .refusal) (r .comparisons) ≡ slotAnswer (step s c .answer)
+returned-plain {s} w c u r h = ap (λ (a : CallAnswer). noCell (a .refusal) (a .comparisons)) h ∙ effect-plain (effect s (w .unique) c) u .answer
+
 plain-matches :
-    {s : State} → WellFormed s → (c : Call) → WithoutBuffer c → (m : List ℕ) (r : CallAnswer) → (m ≡ words (step s c .state)) × (r ≡ callAnswer (step s c .answer))
+    {s : State} → WellFormed s → (c : Call) → NoSlot c → WithoutBuffer c → (m : List ℕ) (r : CallAnswer) → (m ≡ words (step s c .state)) × (r ≡ callAnswer (step s c .answer))
     → Matches (step s c) (noSlot m r)
-plain-matches {s} w c u m r h =
-    let p = effect-plain (effect s (w .unique) c) u in
-    record { table = h .0; returned = ap (λ (a : CallAnswer). noCell (a .refusal) (a .comparisons)) (h .1) ∙ p .answer; buffer = nothing-written (step s c .buffer) (p .buffer) }
+plain-matches {s} w c u b m r h =
+    record { table = h .0; returned = returned-plain w c u r (h .1); buffer = nothing-written (step s c .buffer) (effect-plain (effect s (w .unique) c) u .buffer b) }
 
 performs-matches : {s : State} → WellFormed s → {c : Call} {l : List ℕ} {o : Observation} → Performs c l o → l ≡ words s → Matches (step s c) o
 unfolding step
-performs-matches {s} w (opens {v} {t} {p} {l} {m} {r} h) e = plain-matches w (opening v t p) tt m r (h .meets s w e)
-performs-matches {s} w (closes {v} {l} {m} {r} h) e = plain-matches w (closing v) tt m r (h .meets s w e)
-performs-matches {s} w (receives {o} {l} {m} {r} h) e = plain-matches w (receiving o) tt m r (h .meets s w e)
-performs-matches {s} w (offers {v} {n} {l} {m} {r} h) e = plain-matches w (offering v n) tt m r (h .meets s w e)
-performs-matches {s} w (levels {k} {l} {m} {r} h) e = plain-matches w (levelling k) tt m (refusalAlone r) (h .meets s w e)
-performs-matches {s} w (makes {v} {t} {l} {m} {r} h) e = plain-matches w (making v t) tt m r (h .meets s w e)
+performs-matches {s} w (opens {v} {t} {p} {l} {m} {r} h) e = plain-matches w (opening v t p) tt tt m r (h .meets s w e)
+performs-matches {s} w (closes {v} {l} {m} {r} h) e = plain-matches w (closing v) tt tt m r (h .meets s w e)
+performs-matches {s} w (receives {o} {l} {m} {r} h) e = plain-matches w (receiving o) tt tt m r (h .meets s w e)
+performs-matches {s} w (offers {v} {n} {l} {m} {r} h) e = plain-matches w (offering v n) tt tt m r (h .meets s w e)
+performs-matches {s} w (levels {k} {l} {m} {r} h) e = plain-matches w (levelling k) tt tt m (refusalAlone r) (h .meets s w e)
+performs-matches {s} w (makes {v} {t} {l} {m} {r} h) e = plain-matches w (making v t) tt tt m r (h .meets s w e)
+performs-matches {s} w (leaves {v} {t} {l} {m} {old} {new} {r} h) e =
+    let g = h .meets s w e in record { table = g .0; returned = returned-plain w (outOfRate v t (length old)) tt (refusalAlone r) (g .1); buffer = g .2 }
 performs-matches {s} w (slots h) e = let g = h .meets s w e in record { table = g .0; returned = g .1; buffer = g .2 }
 
 onward :

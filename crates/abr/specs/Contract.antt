@@ -18,6 +18,12 @@ pub record Answers (f : State → Outcome) (before after : List ℕ) (r : CallAn
 pub record Numbered (f : State → Outcome) (before after : List ℕ) (r : ℕ) : Type 0 where
   pub meets : (s : State) → WellFormed s → before ≡ words s → (after ≡ words (f s .state)) × (refusalAlone r ≡ callAnswer (f s .answer))
 
+-- the same of a call that may write its buffer
+pub record NumberedWriting (f : State → Outcome) (before after : List ℕ) (r : ℕ) (old new : List ℕ) : Type 0 where
+  pub meets :
+      (s : State) → WellFormed s → before ≡ words s
+      → (after ≡ words (f s .state)) × (refusalAlone r ≡ callAnswer (f s .answer)) × (new ≡ bufferContent (f s .buffer) old)
+
 -- a slot, with its buffer before and after
 pub record AnswersSlot (f : State → Outcome) (before after : List ℕ) (r : SlotAnswer) (old new : List ℕ) : Type 0 where
   pub meets :

@@ -7,14 +7,14 @@ use lib.ListN.{length, replicate}
 use Rattle.rate.specs.declared.params.Params.{Params}
 use Rattle.model.specs.State.{State, empty}
 use Rattle.model.specs.Invariant.{WellFormed}
-use Rattle.model.specs.Call.{Call, opening, closing, receiving, offering, levelling, slot, making, Outcome}
-use Rattle.model.specs.Step.{openStep, closeStep, receiveStep, offerStep, levelStep, slotStep, makeStep}
+use Rattle.model.specs.Call.{Call, opening, closing, receiving, offering, levelling, slot, making, outOfRate, Outcome}
+use Rattle.model.specs.Step.{openStep, closeStep, receiveStep, offerStep, levelStep, slotStep, makeStep, outOfRateStep}
 use Rattle.model.specs.Queries.{acrOf}
 use Rattle.model.specs.Run.{run, final}
 use Rattle.table.specs.Layout.{words, size}
 use Rattle.engine.specs.Contract.{bufferContent}
 use Rattle.abr.specs.Answers.{SlotAnswer, AcrAnswer, CallAnswer, refusalAlone, noCell, slotAnswer, acrAnswer}
-use Rattle.abr.specs.Contract.{Answers, Numbered, AnswersSlot, AnswersAcr}
+use Rattle.abr.specs.Contract.{Answers, Numbered, NumberedWriting, AnswersSlot, AnswersAcr}
 
 -- what a caller sees of one call: the words of the table after it, what it returned, and the lent buffer before and after it
 pub record Observation : Type 0 where
@@ -23,11 +23,11 @@ pub record Observation : Type 0 where
   pub old : List ℕ
   pub new : List ℕ
 
--- a call that is no slot, which is lent no buffer to write
+-- a call that is lent no buffer to write
 abbrev pub noSlot : (table : List ℕ) → CallAnswer → Observation
 noSlot l r = record { table = l; returned = noCell (r .refusal) (r .comparisons); old = []; new = [] }
 
--- One exported call on these words. What each case holds is the ensures of abr_open, abr_close, abr_receive, abr_offer, abr_set_level, abr_make or abr_slot, so that
+-- One exported call on these words. What each case holds is the ensures of abr_open, abr_close, abr_receive, abr_offer, abr_set_level, abr_make, abr_out_of_rate or abr_slot, so that
 -- every such call makes one of these.
 pub data Performs : Call → (before : List ℕ) → Observation → Type 0 where
   opens : {v t : ℕ} {p : Params} {l m : List ℕ} {r : CallAnswer} → Answers (λ s. openStep s v t p) l m r → Performs (opening v t p) l (noSlot m r)
@@ -36,6 +36,9 @@ pub data Performs : Call → (before : List ℕ) → Observation → Type 0 wher
   offers : {v n : ℕ} {l m : List ℕ} {r : CallAnswer} → Answers (λ s. offerStep s v n) l m r → Performs (offering v n) l (noSlot m r)
   levels : {k : ℕ} {l m : List ℕ} {r : ℕ} → Numbered (λ s. levelStep s k) l m r → Performs (levelling k) l (noSlot m (refusalAlone r))
   makes : {v t : ℕ} {l m : List ℕ} {r : CallAnswer} → Answers (λ s. makeStep s v t) l m r → Performs (making v t) l (noSlot m r)
+  leaves :
+      {v t : ℕ} {l m old new : List ℕ} {r : ℕ} → NumberedWriting (λ s. outOfRateStep s v t (length old)) l m r old new
+      → Performs (outOfRate v t (length old)) l (record { table = m; returned = noCell r 0; old = old; new = new })
   slots :
       {t : ℕ} {l m old new : List ℕ} {r : SlotAnswer} → AnswersSlot (λ s. slotStep s t (length old)) l m r old new
       → Performs (slot t (length old)) l (record { table = m; returned = r; old = old; new = new })

@@ -1,13 +1,15 @@
-// The calls that name a connection (document 01, "Opening" and "Slots"; document 02, L1).
+// The calls that name a connection (document 01, "Opening" and "Slots"; document 02, L1 and L5).
 ghost use mathlib.Core.Path.{_≡_};
-ghost use Rattle.model.specs.Step.{openStep, closeStep, offerStep, makeStep};
+ghost use lib.ListN.{length};
+ghost use Rattle.model.specs.Step.{openStep, closeStep, offerStep, makeStep, outOfRateStep};
 ghost use Rattle.abr.specs.Answers.{callAnswer, acrAnswer};
-ghost use Rattle.abr.specs.Contract.{Answers, AnswersAcr};
+ghost use Rattle.abr.specs.Contract.{Answers, NumberedWriting, AnswersAcr};
 use engine::acr::read_acr;
 use engine::close::close;
 use engine::make::make;
 use engine::offer::offer;
 use engine::open::open;
+use engine::out_of_rate::out_of_rate;
 use model::acr::Acr;
 use model::answer::Answer;
 use rate::params::Params;
@@ -83,6 +85,20 @@ pub extern "C" fn abr_make(table: &mut [u64; WORDS], vci: u32, time: u64) -> Cal
     ensures { λ r. ⌜ Answers (λ s. makeStep s vci time) (now (table .entry)) (now (table .exit)) r ⌝ }
 {
     call_answer(make(table, vci, time))
+}
+
+// Refusals 1, 8, 11, 14, 18. It makes no comparisons.
+#[no_mangle]
+pub extern "C" fn abr_out_of_rate(
+    table: &mut [u64; WORDS],
+    vci: u32,
+    time: u64,
+    cell: &mut [u8],
+) -> u32
+    ensures { λ r. ⌜ NumberedWriting (λ s. outOfRateStep s vci time (length (now (cell .entry)))) (now (table .entry)) (now (table .exit)) r (now (cell .entry)) (now (cell .exit)) ⌝ }
+{
+    let answer = call_answer(out_of_rate(table, vci, time, cell));
+    answer.refusal
 }
 
 #[repr(C)]

@@ -7,6 +7,7 @@ use abr::connections::abr_close;
 use abr::connections::abr_make;
 use abr::connections::abr_offer;
 use abr::connections::abr_open;
+use abr::connections::abr_out_of_rate;
 use abr::link::abr_receive;
 use abr::link::abr_set_level;
 use abr::link::abr_slot;
@@ -31,6 +32,7 @@ pub fn each_call(t: &mut [u64; WORDS], a: Arguments, received: &[u8], cell: &mut
     let levelled = abr_set_level(t, a.level);
     let taken = abr_receive(t, received);
     let sent = abr_slot(t, a.time, cell);
+    let left = abr_out_of_rate(t, a.vci, a.time, cell);
     let made = abr_make(t, a.vci, a.time);
     let rate = abr_acr(t, a.vci);
     let closed = abr_close(t, a.vci);

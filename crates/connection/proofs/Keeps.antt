@@ -23,6 +23,7 @@ use Rattle.connection.specs.Receiving.{offered, afterDataCell, afterBack
 use Rattle.connection.specs.Ready.{lastBefore}
 use Rattle.connection.specs.Kind.{Kind, Forward, Turned, Data, isForward, isTurned, kindAt}
 use Rattle.connection.specs.Sending.{movedBy, paced, sentForward, sentTurned, sentData, after, madeLeft}
+use Rattle.connection.specs.OutOfRate.{afterOutOfRate}
 use Rattle.connection.specs.Invariant.{InBounds, PaceFits, ValidAt, MadeValidAt, NotAfter}
 
 -- The moves before a forward cell.
@@ -125,17 +126,18 @@ valid-later now later h c p = (
   },
   p .1,
   record { level = p .2 .level; past = not-after-later now later h (c .destination .made .last) (p .2 .past) },
+  not-after-later now later h (c .outside) (p .3),
 )
 
 pub fresh-valid : (v t : ℕ) (p : Params) → 32 ≤ v → v ≤ 65535 → paramsFit p ≡ true → ValidAt t (fresh v t p)
 unfolding fresh
-fresh-valid v t p l u e = (record { assigned = l; coded = u; fits = e; trmTime = refl; past = le-refl t; paced = tt }, fresh-in-bounds v t p e, record { level = omega arith; past = tt })
+fresh-valid v t p l u e = (record { assigned = l; coded = u; fits = e; trmTime = refl; past = le-refl t; paced = tt }, fresh-in-bounds v t p e, record { level = omega arith; past = tt }, tt)
 
 -- the same fixed parts, with this pace
 same-parts-valid :
     {now : ℕ} (c d : Connection) → Same c d → ValidAt now c → PaceFits now (nrm (c .rate .params)) (d .pace) → InBounds d → MadeValidAt now (d .destination .made)
-    → ValidAt now d
-same-parts-valid {now} c d s p h g m = (
+    → d .outside ≡ c .outside → ValidAt now d
+same-parts-valid {now} c d s p h g m o = (
   record {
     assigned = rw (s .name) (p .0 .assigned);
     coded = rw (s .name) (p .0 .coded);
@@ -146,11 +148,12 @@ same-parts-valid {now} c d s p h g m = (
   },
   g,
   m,
+  rw o (p .3),
 )
 
 pub offered-valid : {now : ℕ} (n : ℕ) (c : Connection) → waiting (c .queue) + n ≤ 65535 → ValidAt now c → ValidAt now (offered n c)
 unfolding offered
-offered-valid n c h p = (p .0, offered-in-bounds n c h (p .1), p .2)
+offered-valid n c h p = (p .0, offered-in-bounds n c h (p .1), p .2, p .3)
 
 pub after-data-cell-valid : {now : ℕ} (e : Bool) (c : Connection) → ValidAt now c → ValidAt now (afterDataCell e c)
 unfolding afterDataCell
@@ -172,6 +175,14 @@ work-made level o f c = go (eqb (f .dir) 1)
     go true = refl
     go false = refl
 
+pub work-out-of-rate : (level : ℕ) (o : List ℕ) (f : Fields) (c : Connection) → afterResourceCell level o f c .outside ≡ c .outside
+unfolding afterResourceCell afterBackwardCell afterForwardCell
+work-out-of-rate level o f c = go (eqb (f .dir) 1)
+  where
+    go : (t : Bool) → cond t (afterBackwardCell f c) (afterForwardCell level o c) .outside ≡ c .outside
+    go true = refl
+    go false = refl
+
 -- a cell made now, at a level of the engine
 pub made-same : (t level : ℕ) (c : Connection) → Same c (withMade t level c)
 unfolding withMade
@@ -179,11 +190,20 @@ made-same t level c = record { name = refl; opened = refl; trm = refl; params = 
 
 pub made-valid : (t level : ℕ) (c : Connection) → level ≤ 2 → ValidAt t c → ValidAt t (withMade t level c)
 unfolding withMade
-made-valid t level c h p = (p .0, p .1, record { level = h; past = le-refl t })
+made-valid t level c h p = (p .0, p .1, record { level = h; past = le-refl t }, p .3)
+
+-- a cell outside the rate now
+pub out-of-rate-same : (t : ℕ) (c : Connection) → Same c (afterOutOfRate t c)
+unfolding afterOutOfRate
+out-of-rate-same t c = record { name = refl; opened = refl; trm = refl; params = refl }
+
+pub out-of-rate-valid : (t : ℕ) (c : Connection) → ValidAt t c → ValidAt t (afterOutOfRate t c)
+unfolding afterOutOfRate
+out-of-rate-valid t c p = (p .0, p .1, p .2, le-refl t)
 
 pub work-valid : {now : ℕ} (level : ℕ) (o : List ℕ) (f : Fields) (c : Connection) → ValidAt now c → ValidAt now (afterResourceCell level o f c)
 work-valid level o f c p =
-    same-parts-valid c (afterResourceCell level o f c) (work-same level o f c) p (rw (work-pace level o f c) (p .0 .paced)) (work-in-bounds level o f c (p .1)) (rw (work-made level o f c) (p .2))
+    same-parts-valid c (afterResourceCell level o f c) (work-same level o f c) p (rw (work-pace level o f c) (p .0 .paced)) (work-in-bounds level o f c (p .1)) (rw (work-made level o f c) (p .2)) (work-out-of-rate level o f c)
 
 -- A cell that is no forward cell leaves k below Nrm.
 pub not-forward : (k : Kind) (t : ℕ) (c : Connection) → kindAt t c ≡ k → k ≢ Forward → isForward t c (c .pace) ≡ false
@@ -234,6 +254,12 @@ after-made Forward t c h = h
 after-made Turned t c h = left-made (c .destination .turned) (c .destination .made) h
 after-made Data t c h = h
 
+pub after-out-of-rate : (k : Kind) (t : ℕ) (c : Connection) → after k t c .outside ≡ c .outside
+unfolding after sentForward sentTurned sentData
+after-out-of-rate Forward t c = refl
+after-out-of-rate Turned t c = refl
+after-out-of-rate Data t c = refl
+
 pub after-valid : (k : Kind) (t : ℕ) (c : Connection) → kindAt t c ≡ k → ValidAt t c → ValidAt t (after k t c)
 after-valid k t c e p =
-    same-parts-valid c (after k t c) (after-same k t c) p (after-pace k t c e (p .0 .paced)) (after-in-bounds k t c (p .1)) (after-made k t c (p .2))
+    same-parts-valid c (after k t c) (after-same k t c) p (after-pace k t c e (p .0 .paced)) (after-in-bounds k t c (p .1)) (after-made k t c (p .2)) (after-out-of-rate k t c)

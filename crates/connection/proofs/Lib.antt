@@ -8,5 +8,6 @@ pub mod SendCases
 pub mod ReceiveCases
 pub mod Turnings
 pub mod Keeps
+pub mod Readiness
 pub mod Spaced
 pub mod Waited

@@ -1,4 +1,4 @@
--- What an open, an offer, a received cell, a making and a slot make of a connection in range is in range again.
+-- What an open, an offer, a received cell, a making, a slot and a cell outside the rate make of a connection in range is in range again.
 use mathlib.Core.Bool.{Bool}
 use Prim.Native.Nat.{ℕ, _^_, _<_}
 use native.Mathlib.Omega.{arith}
@@ -11,32 +11,37 @@ use Rattle.connection.specs.Making.{withMade}
 use Rattle.connection.specs.Receiving.{offered, afterDataCell, afterBackwardCell, afterForwardPayload}
 use Rattle.connection.specs.Kind.{Kind, Forward, Turned, Data}
 use Rattle.connection.specs.Sending.{paced, sentForward, sentTurned, sentData, after, madeLeft}
+use Rattle.connection.specs.OutOfRate.{afterOutOfRate}
 use Rattle.connection.specs.Range.{PaceInRange, InRange, HasRoom, InstantInRange}
 
 pub fresh-ranged : (name time : ℕ) (p : Params) → time < 2 ^ 63 → InRange (fresh name time p)
 unfolding fresh
-fresh-ranged name time p h = record { opened = h; trm = omega (arith, trm-le (p .trm)); pace = tt; made = tt }
+fresh-ranged name time p h = record { opened = h; trm = omega (arith, trm-le (p .trm)); pace = tt; made = tt; outside = tt }
 
 module _ (c : Connection) (h : InRange c) where
   pub offered-ranged : (n : ℕ) → InRange (offered n c)
   unfolding offered
-  offered-ranged n = record { opened = h .opened; trm = h .trm; pace = h .pace; made = h .made }
+  offered-ranged n = record { opened = h .opened; trm = h .trm; pace = h .pace; made = h .made; outside = h .outside }
 
   pub after-data-cell-ranged : (e : Bool) → InRange (afterDataCell e c)
   unfolding afterDataCell
-  after-data-cell-ranged e = record { opened = h .opened; trm = h .trm; pace = h .pace; made = h .made }
+  after-data-cell-ranged e = record { opened = h .opened; trm = h .trm; pace = h .pace; made = h .made; outside = h .outside }
 
   pub after-backward-cell-ranged : (f : Fields) → InRange (afterBackwardCell f c)
   unfolding afterBackwardCell
-  after-backward-cell-ranged f = record { opened = h .opened; trm = h .trm; pace = h .pace; made = h .made }
+  after-backward-cell-ranged f = record { opened = h .opened; trm = h .trm; pace = h .pace; made = h .made; outside = h .outside }
 
   pub made-ranged : (t level : ℕ) → t < 2 ^ 63 → InRange (withMade t level c)
   unfolding withMade
-  made-ranged t level l = record { opened = h .opened; trm = h .trm; pace = h .pace; made = l }
+  made-ranged t level l = record { opened = h .opened; trm = h .trm; pace = h .pace; made = l; outside = h .outside }
+
+  pub out-of-rate-ranged : (t : ℕ) → t < 2 ^ 63 → InRange (afterOutOfRate t c)
+  unfolding afterOutOfRate
+  out-of-rate-ranged t l = record { opened = h .opened; trm = h .trm; pace = h .pace; made = h .made; outside = l }
 
   pub after-forward-cell-ranged : (level : ℕ) (p : Payload) → InRange (afterForwardPayload level p c)
   unfolding afterForwardPayload
-  after-forward-cell-ranged level p = record { opened = h .opened; trm = h .trm; pace = h .pace; made = h .made }
+  after-forward-cell-ranged level p = record { opened = h .opened; trm = h .trm; pace = h .pace; made = h .made; outside = h .outside }
 
 paced-ranged : (t : ℕ) (b : Bool) (p : Pace) → t < 2 ^ 63 → PaceInRange p → HasRoom p → PaceInRange (paced t b p)
 unfolding paced
@@ -51,6 +56,6 @@ left-ranged (Cell p) m h = h
 -- a slot at t, with room for one more cell
 pub after-ranged : (kind : Kind) (t : ℕ) (c : Connection) → t < 2 ^ 63 → InRange c → HasRoom (c .pace) → InRange (after kind t c)
 unfolding after sentForward sentTurned sentData
-after-ranged Forward t c l h r = record { opened = h .opened; trm = h .trm; pace = (l, l, omega arith); made = h .made }
-after-ranged Turned t c l h r = record { opened = h .opened; trm = h .trm; pace = paced-ranged t _ (c .pace) l (h .pace) r; made = left-ranged (c .destination .turned) (c .destination .made) (h .made) }
-after-ranged Data t c l h r = record { opened = h .opened; trm = h .trm; pace = paced-ranged t _ (c .pace) l (h .pace) r; made = h .made }
+after-ranged Forward t c l h r = record { opened = h .opened; trm = h .trm; pace = (l, l, omega arith); made = h .made; outside = h .outside }
+after-ranged Turned t c l h r = record { opened = h .opened; trm = h .trm; pace = paced-ranged t _ (c .pace) l (h .pace) r; made = left-ranged (c .destination .turned) (c .destination .made) (h .made); outside = h .outside }
+after-ranged Data t c l h r = record { opened = h .opened; trm = h .trm; pace = paced-ranged t _ (c .pace) l (h .pace) r; made = h .made; outside = h .outside }

@@ -3,7 +3,7 @@ use Prim.Native.Nat.{ℕ, _+_, _^_, _≤_, max}
 use mathlib.Core.Bool.{Bool, true, false, cond, _||_}
 use native.Mathlib.Nat.{le-trans}
 use native.Mathlib.Omega.{arith}
-use lib.Dec.{leb}
+use lib.Dec.{leb, eqb}
 use lib.Pow.{pow-mono}
 use Rattle.rate.specs.declared.moves.Rate.{Rate}
 use Rattle.rate.specs.Units.{largestRate, latestTime}
@@ -31,6 +31,7 @@ in-range now c l h = record {
   trm = omega (arith, h .0 .trmTime, trm-le (c .rate .params .trm));
   pace = pace-in-range now (2 ^ c .rate .params .n) (c .pace) l (pow-mono (fits (c .rate .params) (h .0 .fits) .nMost)) (h .0 .paced);
   made = instant-in-range now (c .destination .made .last) l (h .2 .past);
+  outside = instant-in-range now (c .outside) l (h .3);
 }
 
 pub acr-is-rate : (q : Rate) → RateInBounds q → q .acr ≤ largestRate
@@ -53,4 +54,8 @@ from-below c r (Running sent forward k turned) h = go (anyWaits c || lastBefore 
 
 pub ready-below : (c : Connection) → InRange c → InstantBelow (readyInstant c)
 unfolding readyInstant
-ready-below c r = from-below c r (c .pace) (r .pace)
+ready-below c r = go (eqb (c .rate .acr) 0)
+  where
+    go : (a : Bool) → InstantBelow (cond a Never (readyFrom c (c .pace)))
+    go true = tt
+    go false = from-below c r (c .pace) (r .pace)

@@ -9,6 +9,7 @@ use Rattle.connection.specs.Parts.{Connection, Pace, Unsent, Running}
 use Rattle.connection.specs.Ready.{Never, At, anyWaits, lastBefore, readyFrom, readyInstant}
 use Rattle.connection.specs.Kind.{Kind, Forward, Turned, Data, isForward, kindAt}
 use Rattle.connection.specs.Sending.{paced, sentForward, sentTurned, sentData, after}
+use Rattle.connection.proofs.Readiness.{ready-some}
 use Rattle.connection.proofs.Keeps.{not-forward, turned≢forward, data≢forward}
 
 -- the opening time, or the last send plus the gap
@@ -36,8 +37,7 @@ due-least c (Running sent f k b) j e = go (anyWaits c || lastBefore c k) (leb 2 
     go false false e = let z : _≡_ {A = ℕ} 0 1 = cc in absurd (omega arith)
 
 pub ready-due : (c : Connection) (j : ℕ) → readyInstant c ≡ At j → dueFrom c (c .pace) ≤ j
-unfolding readyInstant
-ready-due c j e = due-least c (c .pace) j e
+ready-due c j e = due-least c (c .pace) j (ready-some c j e .1)
 
 -- the last cell went at t
 data Went (t : ℕ) : Pace → Type 0 where

@@ -9,6 +9,7 @@ use Rattle.rate.specs.Gap.{gap}
 use Rattle.connection.specs.Parts.{Connection, Pace, Unsent, Running, waiting}
 use Rattle.connection.specs.Ready.{Never, At, waits, anyWaits, lastBefore, readyFrom, readyInstant, backwardWaits}
 use Rattle.connection.specs.Kind.{Turned, Data, Forward, isForward, isTurned, kindAt}
+use Rattle.connection.proofs.Readiness.{ready-some}
 use Rattle.connection.proofs.Keeps.{not-forward, data≢forward}
 
 false≢true : _≡_ {A = Bool} false true → ⊥
@@ -56,8 +57,8 @@ data-from t c (Running sent forward k turned) i r h f g = go (ltb 0 (waiting (c 
         (rw (eq-eqb (waiting (c .queue)) 0 (omega (arith, ltb-false 0 (waiting (c .queue)) e))) at g) f (rw e at r) h)
 
 pub data-waits : (t : ℕ) (c : Connection) (i : ℕ) → readyInstant c ≡ At i → i ≤ t → kindAt t c ≡ Data → 0 < waiting (c .queue)
-unfolding readyInstant kindAt
-data-waits t c i r h e = data-from t c (c .pace) i r h (not-forward Data t c e data≢forward) (go (isForward t c (c .pace)) (isTurned c (c .pace)) e)
+unfolding kindAt
+data-waits t c i r h e = data-from t c (c .pace) i (ready-some c i r .1) h (not-forward Data t c e data≢forward) (go (isForward t c (c .pace)) (isTurned c (c .pace)) e)
   where
     go : (a b : Bool) → cond a Forward (cond b Turned Data) ≡ Data → b ≡ false
     go true b e = cc

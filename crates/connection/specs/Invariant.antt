@@ -23,7 +23,7 @@ abbrev pub PaceFits : (now nrm : ℕ) → Pace → Type 0
 PaceFits now n Unsent = Unit
 PaceFits now n (Running sent forward k turned) = (forward ≤ sent) × (sent ≤ now) × (k < n)
 
--- a connection's name, parameters and instants, at the time of the last accepted open, slot or making
+-- a connection's name, parameters and instants, at the time of the last accepted open, slot, making or cell outside the rate
 pub record PartsValidAt (now name opened trm : ℕ) (p : Params) (pace : Pace) : Type 0 where
   pub assigned : 32 ≤ name
   pub coded : name ≤ 65535
@@ -43,4 +43,5 @@ pub record MadeValidAt (now : ℕ) (m : Made) : Type 0 where
   pub past : NotAfter now (m .last)
 
 abbrev pub ValidAt : (now : ℕ) → Connection → Type 0
-ValidAt now c = PartsValidAt now (c .name) (c .opened) (c .trm) (c .rate .params) (c .pace) × InBounds c × MadeValidAt now (c .destination .made)
+ValidAt now c =
+    PartsValidAt now (c .name) (c .opened) (c .trm) (c .rate .params) (c .pace) × InBounds c × MadeValidAt now (c .destination .made) × NotAfter now (c .outside)

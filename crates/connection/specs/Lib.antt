@@ -1,10 +1,12 @@
 -- One connection, as document 01 sets it out. Each file states one part of it; the code follows with the same names.
 pub mod Parts
 pub mod Receiving
+pub mod Interval
 pub mod Making
 pub mod Ready
 pub mod Kind
 pub mod Sending
+pub mod OutOfRate
 -- What holds of every connection that calls made:
 pub mod Invariant
 -- For the code's own functions:

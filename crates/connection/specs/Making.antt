@@ -1,17 +1,12 @@
 -- Backward cells that a connection makes itself. (Document 02, L1.)
-use Prim.Native.Nat.{ℕ, _+_}
-use mathlib.Core.Bool.{Bool, true, cond}
-use lib.Dec.{leb, eqb}
+use Prim.Native.Nat.{ℕ}
+use mathlib.Core.Bool.{cond}
+use lib.Dec.{eqb}
 use Rattle.rate.specs.declared.params.Params.{Params}
 use Rattle.rate.specs.Code.{codeOf}
 use Rattle.rate.specs.Params.{peak}
 use Rattle.cell.specs.declared.fields.Fields.{Fields}
-use Rattle.connection.specs.Parts.{Connection, Instant, Never, At, withDestination}
-
--- 100 ms or more have passed at t since the last making, if there was one
-unfoldable pub mayMake : ℕ → (last : Instant) → Bool
-mayMake t Never = true
-mayMake t (At m) = leb (m + 100_000_000) t
+use Rattle.connection.specs.Parts.{Connection, At, withDestination}
 
 -- a cell made at t, at this congestion level, which refusal 16 keeps from being 0, waits in the place of an earlier made one
 unfoldable pub withMade : (t level : ℕ) → Connection → Connection

@@ -16,21 +16,24 @@ pub use Rattle.connection.specs.declared.ready.Instant.{Instant}
 pub use Rattle.connection.specs.declared.ready.Instant.the-variants.{Never, At}
 pub use Rattle.connection.specs.declared.parts.Connection.{Connection}
 
--- All that the calls do to a connection is made of these five.
+-- All that the calls do to a connection is made of these six.
 abbrev pub withRate : Connection → Rate → Connection
-withRate c q = record { name = c .name; opened = c .opened; trm = c .trm; rate = q; pace = c .pace; unacked = c .unacked; queue = c .queue; destination = c .destination }
+withRate c q = record { name = c .name; opened = c .opened; trm = c .trm; rate = q; pace = c .pace; unacked = c .unacked; queue = c .queue; destination = c .destination; outside = c .outside }
 
 abbrev pub withPace : Connection → Pace → Connection
-withPace c p = record { name = c .name; opened = c .opened; trm = c .trm; rate = c .rate; pace = p; unacked = c .unacked; queue = c .queue; destination = c .destination }
+withPace c p = record { name = c .name; opened = c .opened; trm = c .trm; rate = c .rate; pace = p; unacked = c .unacked; queue = c .queue; destination = c .destination; outside = c .outside }
 
 abbrev pub withUnacked : Connection → ℕ → Connection
-withUnacked c y = record { name = c .name; opened = c .opened; trm = c .trm; rate = c .rate; pace = c .pace; unacked = y; queue = c .queue; destination = c .destination }
+withUnacked c y = record { name = c .name; opened = c .opened; trm = c .trm; rate = c .rate; pace = c .pace; unacked = y; queue = c .queue; destination = c .destination; outside = c .outside }
 
 abbrev pub withQueue : Connection → Queue → Connection
-withQueue c l = record { name = c .name; opened = c .opened; trm = c .trm; rate = c .rate; pace = c .pace; unacked = c .unacked; queue = l; destination = c .destination }
+withQueue c l = record { name = c .name; opened = c .opened; trm = c .trm; rate = c .rate; pace = c .pace; unacked = c .unacked; queue = l; destination = c .destination; outside = c .outside }
 
 abbrev pub withDestination : Connection → Destination → Connection
-withDestination c b = record { name = c .name; opened = c .opened; trm = c .trm; rate = c .rate; pace = c .pace; unacked = c .unacked; queue = c .queue; destination = b }
+withDestination c b = record { name = c .name; opened = c .opened; trm = c .trm; rate = c .rate; pace = c .pace; unacked = c .unacked; queue = c .queue; destination = b; outside = c .outside }
+
+abbrev pub withOutside : Connection → Instant → Connection
+withOutside c i = record { name = c .name; opened = c .opened; trm = c .trm; rate = c .rate; pace = c .pace; unacked = c .unacked; queue = c .queue; destination = c .destination; outside = i }
 
 -- the data cells that wait; n more; one less
 abbrev pub waiting : Queue → ℕ
@@ -46,7 +49,7 @@ dequeued l = record { cells = l .cells - 1 }
 abbrev pub freshDestination : Destination
 freshDestination = record { efci = false; turned = Nothing; made = record { level = 0; last = Never } }
 
--- a connection as it starts: ACR = ICR, no cell sent, nothing waiting, Y = 0
+-- a connection as it starts: ACR = ICR, no cell sent, nothing waiting, Y = 0, no cell outside the rate
 unfoldable pub fresh : (name time : ℕ) → Params → Connection
 fresh v t p = record {
   name = v;
@@ -57,4 +60,5 @@ fresh v t p = record {
   unacked = 0;
   queue = record { cells = 0 };
   destination = freshDestination;
+  outside = Never;
 }

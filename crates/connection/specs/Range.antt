@@ -23,6 +23,7 @@ pub record InRange (c : Connection) : Type 0 where
   pub trm : c .trm < 2 ^ 32
   pub pace : PaceInRange (c .pace)
   pub made : InstantInRange (c .destination .made .last)
+  pub outside : InstantInRange (c .outside)
 
 -- room for one more cell in the count k, so that the range still holds after a cell that is no forward cell
 abbrev pub HasRoom : Pace → Type 0

@@ -32,5 +32,6 @@ readyFrom c (Running sent forward k turned) =
     cond (anyWaits c || lastBefore c k) (At (sent + gap (c .rate .acr)))
     (cond (leb 2 k) (At (max (sent + gap (c .rate .acr)) (forward + c .trm))) Never)
 
+-- an allowed rate of 0 is never ready (document 02, L5)
 unfoldable pub readyInstant : Connection → Instant
-readyInstant c = readyFrom c (c .pace)
+readyInstant c = cond (eqb (c .rate .acr) 0) Never (readyFrom c (c .pace))

@@ -1,6 +1,6 @@
 // The parts of a connection (document 01, "Opening", "Turning cells round" and "Slots").
 ghost use mathlib.Core.Path.{_≡_};
-ghost use Rattle.connection.specs.Parts.{fresh, withRate, withPace, withUnacked, withQueue, withDestination};
+ghost use Rattle.connection.specs.Parts.{fresh, withRate, withPace, withUnacked, withQueue, withDestination, withOutside};
 use crate::ready::Instant;
 use crc::payload::Payload;
 use rate::moves::Rate;
@@ -44,7 +44,8 @@ pub struct Destination {
     pub made: Made,
 }
 
-// trm is Trm in nanoseconds, looked up once, at the open; unacked is the count Y.
+// trm is Trm in nanoseconds, looked up once, at the open; unacked is the count Y; outside is the instant of the last forward cell outside the rate (document 02,
+// L5).
 pub struct Connection {
     pub name: u32,
     pub opened: u64,
@@ -54,6 +55,7 @@ pub struct Connection {
     pub unacked: u32,
     pub queue: Queue,
     pub destination: Destination,
+    pub outside: Instant,
 }
 
 impl Connection {
@@ -77,6 +79,7 @@ impl Connection {
                     last: Instant::Never,
                 },
             },
+            outside: Instant::Never,
         }
     }
 
@@ -94,6 +97,7 @@ impl Connection {
         let rate = self.rate;
         let queue = self.queue;
         let destination = self.destination;
+        let outside = self.outside;
         Connection {
             name: self.name,
             opened: self.opened,
@@ -103,6 +107,7 @@ impl Connection {
             unacked: self.unacked,
             queue,
             destination,
+            outside,
         }
     }
 
@@ -125,5 +130,25 @@ impl Connection {
     {
         self.destination = destination;
         self
+    }
+
+    pub fn with_outside(self, outside: Instant) -> Connection
+        ensures { λ c. ⌜ c ≡ withOutside self outside ⌝ }
+    {
+        let rate = self.rate;
+        let pace = self.pace;
+        let queue = self.queue;
+        let destination = self.destination;
+        Connection {
+            name: self.name,
+            opened: self.opened,
+            trm: self.trm,
+            rate,
+            pace,
+            unacked: self.unacked,
+            queue,
+            destination,
+            outside,
+        }
     }
 }

@@ -79,9 +79,9 @@ offered-same : (n : ℕ) (c : Connection) → Same c (offered n c)
 unfolding offered
 offered-same n c = record { name = refl; opened = refl; trm = refl; params = refl }
 
-offered-destination : (n : ℕ) (c : Connection) → offered n c .destination ≡ c .destination
+offered-moved : (n : ℕ) (c : Connection) → SourceMoved c (offered n c)
 unfolding offered
-offered-destination n c = refl
+offered-moved n c = (refl, refl)
 
 -- the entry's connection, as it was loaded
 module _ (s : State) (w : WellFormed s) {l : List ℕ} (e : l ≡ words s) (v n i : ℕ) (h : i < capacity) (p : Located (s .entries) v i) (d : Connection) (q : d ≡ connectionAt l i) where
@@ -100,5 +100,5 @@ module _ (s : State) (w : WellFormed s) {l : List ℕ} (e : l ≡ words s) (v n 
       let c : Connection = offered n (p .holder) in
       let done = done-step s v n (p .holder) (found-at p) (subst (λ (z : Connection). waiting (z .queue) + n ≤ 65535) is g) in
       replayed-out (leafOf v s) s (put v (taken c) s)
-      (updated-is s w e h p c (offered-same n (p .holder)) (subst (λ (z : Connection). Updates SourceMoved l m i z k) (a ∙ ap (offered n) is) u) (offered-destination n (p .holder))
+      (updated-is s w e h p c (offered-same n (p .holder)) (subst (λ (z : Connection). Updates SourceMoved l m i z k) (a ∙ ap (offered n) is) u) (offered-moved n (p .holder))
       (replay-well-formed w (offering v n) (leafOf v s) (put v (taken c) s) done)) done

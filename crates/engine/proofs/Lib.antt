@@ -6,3 +6,4 @@ pub mod ReceiveCases
 pub mod SendCases
 pub mod SlotCases
 pub mod MakeCases
+pub mod OutOfRateCases

@@ -8,7 +8,8 @@ use borrow.Author.Tests.{le-leb, lt-leb, lt-ltb, le-ltb}
 use Rattle.laws.specs.Require.{require}
 use Rattle.rate.specs.Units.{latestTime}
 use Rattle.connection.specs.declared.parts.Connection.{Connection}
-use Rattle.connection.specs.Making.{mayMake, withMade}
+use Rattle.connection.specs.Interval.{rested}
+use Rattle.connection.specs.Making.{withMade}
 use Rattle.connection.proofs.Keeps.{made-same}
 use Rattle.model.specs.State.{State, free, taken, find, leafOf, put, withTime}
 use Rattle.model.specs.Invariant.{WellFormed}
@@ -18,10 +19,10 @@ use Rattle.model.specs.Tournament.{replayed}
 use Rattle.model.specs.declared.answer.Answer.the-variants.{Accepted}
 use Rattle.storing.specs.Updates.{Updates, DestinationMoved}
 use Rattle.tournament.specs.Replaying.{Ordered}
-use Rattle.table.specs.Layout.{words, sourceWords, lastAt}
+use Rattle.table.specs.Layout.{words, lastAt}
 use Rattle.names.specs.Finding.{Located}
 use Rattle.model.specs.State.{capacity}
-use Rattle.engine.proofs.Outcomes.{replayed-out, replay-well-formed, ordered, time-word, put-at, put-becomes, same-fixed}
+use Rattle.engine.proofs.Outcomes.{replayed-out, replay-well-formed, ordered, time-word, later-put, put-at, put-becomes, same-fixed}
 
 module _ (s : State) (v t : ℕ) where
   pub make-late : latestTime < t → makeStep s v t ≡ refuse s 8
@@ -43,23 +44,18 @@ module _ (s : State) (v t : ℕ) where
         unfolding makeStep require ofOpen
         make-uncongested l = rw (le-leb t latestTime u, e, le-leb (s .last) t h, le-ltb 0 (s .level) l)
 
-        pub make-soon : 0 < s .level → mayMake t (c .destination .made .last) ≡ false → makeStep s v t ≡ refuse s 17
+        pub make-soon : 0 < s .level → rested t (c .destination .made .last) ≡ false → makeStep s v t ≡ refuse s 17
         unfolding makeStep require ofOpen
         make-soon l m = rw (le-leb t latestTime u, e, le-leb (s .last) t h, lt-ltb 0 (s .level) l, m)
 
         pub make-done :
-            0 < s .level → mayMake t (c .destination .made .last) ≡ true → makeStep s v t ≡ replay (leafOf v s) s (put v (taken (withMade t (s .level) c)) (withTime t s))
+            0 < s .level → rested t (c .destination .made .last) ≡ true → makeStep s v t ≡ replay (leafOf v s) s (put v (taken (withMade t (s .level) c)) (withTime t s))
         unfolding makeStep require ofOpen
         make-done l m = rw (le-leb t latestTime u, e, le-leb (s .last) t h, lt-ltb 0 (s .level) l, m)
 
--- the time and the entry are stored one after the other
-later-put : (s : State) (v t : ℕ) (d : Connection) → withTime t (put v (taken d) s) ≡ put v (taken d) (withTime t s)
-unfolding withTime put
-later-put s v t d = refl
-
-made-source : (t level : ℕ) (c : Connection) → sourceWords (withMade t level c) ≡ sourceWords c
+made-moved : (t level : ℕ) (c : Connection) → DestinationMoved c (withMade t level c)
 unfolding withMade
-made-source t level c = refl
+made-moved t level c = (refl, refl)
 
 -- the entry stored, then the time
 pub make-out :
@@ -72,7 +68,7 @@ make-out s w e {v} {i} h p t done u =
     let z = replay-well-formed w (making v t) (leafOf v s) (put v (taken d) (withTime t s)) done in
     let b =
     put-becomes s v (p .place) (taken d)
-    (u .is s w e (p .holder) (p .here) (made-same t (s .level) (p .holder) .name) (same-fixed (p .holder) d (made-same t (s .level) (p .holder))) (made-source t (s .level) (p .holder))
+    (u .is s w e (p .holder) (p .here) (made-same t (s .level) (p .holder) .name) (same-fixed (p .holder) d (made-same t (s .level) (p .holder))) (made-moved t (s .level) (p .holder))
     (subst (λ (r : State). Ordered (r .entries)) (put-at s v (p .place) (taken d)) (ordered z))) in
     replayed-out (leafOf v s) s (put v (taken d) (withTime t s))
     (ap (λ (x : List ℕ). set x lastAt t) (b .0) ∙ time-word (put v (taken d) s) t ∙ ap words (later-put s v t d), b .1) done

@@ -15,12 +15,12 @@ use Rattle.model.specs.State.{State, Entry, free, taken, find, leafOf, put, pos
 use Rattle.model.specs.Invariant.{WellFormed, OnEntry}
 use Rattle.table.specs.Layout.{words, sourceWords, fixedWords, levelAt, lastAt}
 use Rattle.table.specs.Loading.{connectionAt}
-use Rattle.table.specs.Storing.{efciUpdated}
+use Rattle.table.specs.Storing.{efciUpdated, outsideUpdated}
 use Rattle.names.specs.Finding.{FoundInRange, Located, Names, Finds}
 use Rattle.model.proofs.Entries.{each-get, each-map}
 use Rattle.connection.proofs.Reached.{in-range, ready-below}
 use Rattle.table.proofs.Loaded.{load-ranged, load-room}
-use Rattle.table.proofs.Words.{lead-same, load-at, efci-at}
+use Rattle.table.proofs.Words.{lead-same, load-at, efci-at, outside-at}
 use Rattle.model.specs.declared.answer.Answer.the-variants.{Refused, Accepted}
 use Rattle.model.specs.Call.{Call, Outcome}
 use Rattle.model.specs.Step.{refuse, accept, replay, step}
@@ -67,6 +67,11 @@ level-word s l = refl
 pub time-word : (s : State) (t : ℕ) → set (words s) lastAt t ≡ words (withTime t s)
 unfolding words withTime
 time-word s t = refl
+
+-- the time and the entry are stored one after the other
+pub later-put : (s : State) (v t : ℕ) (d : Connection) → withTime t (put v (taken d) s) ≡ put v (taken d) (withTime t s)
+unfolding withTime put
+later-put s v t d = refl
 
 pub last-word : (s : State) → getD (words s) lastAt 0 ≡ s .last
 unfolding words
@@ -133,11 +138,19 @@ module _ (s : State) (w : WellFormed s) {l : List ℕ} (e : l ≡ words s) {v i 
 
   pub efci-is :
       {m : List ℕ} {n : ℕ} → sourceWords d ≡ sourceWords (p .holder) → d .destination .turned ≡ p .holder .destination .turned → d .destination .made ≡ p .holder .destination .made
-      → readyInstant d ≡ readyInstant (p .holder) → m ≡ efciUpdated l i (d .destination) → Leads l i n
+      → d .outside ≡ p .holder .outside → readyInstant d ≡ readyInstant (p .holder) → m ≡ efciUpdated l i (d .destination) → Leads l i n
       → (m ≡ words (put v (taken d) s)) × (n ≡ replayed (leafOf v s) (s .entries) (put v (taken d) s .entries))
-  efci-is f t b r q g =
+  efci-is f t b o r q g =
       put-becomes s v (p .place) (taken d) (
-        q ∙ ap (λ (x : List ℕ). efciUpdated x i (d .destination)) e ∙ efci-at s (w .size) i h (p .holder) d (p .here) (k .name) (same-fixed (p .holder) d k) f t b r,
+        q ∙ ap (λ (x : List ℕ). efciUpdated x i (d .destination)) e ∙ efci-at s (w .size) i h (p .holder) d (p .here) (k .name) (same-fixed (p .holder) d k) f t b o r,
         g .is s w e
             ∙ sym (replayed-same i (s .entries) (taken d) (subst (λ (x : ℕ). i < x) (sym (w .size)) h) (lead-same i (p .holder) d (k .name) r ∙ ap (leafLead i) (sym (p .here)))),
       )
+
+  -- the last cell outside the rate alone has moved
+  pub outside-is :
+      {m : List ℕ} → sourceWords d ≡ sourceWords (p .holder) → d .destination ≡ p .holder .destination → readyInstant d ≡ readyInstant (p .holder) → m ≡ outsideUpdated l i (d .outside)
+      → m ≡ words (put v (taken d) s)
+  outside-is f b r q =
+      q ∙ ap (λ (x : List ℕ). outsideUpdated x i (d .outside)) e ∙ outside-at s (w .size) i h (p .holder) d (p .here) (k .name) (same-fixed (p .holder) d k) f b r
+      ∙ ap words (sym (put-at s v (p .place) (taken d)))

@@ -13,10 +13,9 @@ use Rattle.cell.specs.declared.read.Reading.the-variants.{Refused as Unread, Us
 use Rattle.cell.specs.Octets.{payload}
 use Rattle.cell.specs.Reading.{reading}
 use Rattle.connection.specs.declared.parts.Connection.{Connection}
-use Rattle.connection.specs.declared.parts.Pace.{Pace}
-use Rattle.connection.specs.declared.parts.Pace.the-variants.{Unsent, Running}
 use Rattle.connection.specs.Receiving.{afterDataCell, afterBackwardCell, afterForwardCell, afterForwardPayload, afterResourceCell}
-use Rattle.connection.specs.Ready.{anyWaits, backwardWaits, lastBefore, readyFrom, readyInstant}
+use Rattle.connection.specs.Ready.{readyInstant}
+use Rattle.connection.proofs.Readiness.{ready-same}
 use Rattle.connection.proofs.Keeps.{Same, work-same, work-valid}
 use Rattle.connection.proofs.Turnings.{after-forward-cell-words}
 use Rattle.model.specs.State.{State, free, taken, find, leafOf, put, capacity}
@@ -96,26 +95,25 @@ work-well-formed s w {v} p o f q =
     put-well-formed w v (taken (afterResourceCell (s .level) o f (p .holder))) (work-valid (s .level) o f (p .holder) (valid-in s w p)) (work-same (s .level) o f (p .holder) .name ∙ p .named)
 
 -- the saved EFCI moves no ready instant, and nothing else of the connection
-after-data-cell-kept : (t : Bool) (c : Connection) → (sourceWords (afterDataCell t c) ≡ sourceWords c) × (afterDataCell t c .destination .turned ≡ c .destination .turned) × (afterDataCell t c .destination .made ≡ c .destination .made)
+after-data-cell-kept :
+    (t : Bool) (c : Connection)
+    → (sourceWords (afterDataCell t c) ≡ sourceWords c) × (afterDataCell t c .destination .turned ≡ c .destination .turned) × (afterDataCell t c .destination .made ≡ c .destination .made)
+    × (afterDataCell t c .outside ≡ c .outside)
 unfolding afterDataCell
-after-data-cell-kept t c = (refl, refl, refl)
-
-after-data-cell-from : (t : Bool) (c : Connection) (p : Pace) → readyFrom (afterDataCell t c) p ≡ readyFrom c p
-unfolding afterDataCell readyFrom anyWaits backwardWaits lastBefore
-after-data-cell-from t c Unsent = refl
-after-data-cell-from t c (Running sent forward k turned) = refl
+after-data-cell-kept t c = (refl, refl, refl, refl)
 
 after-data-cell-ready : (t : Bool) (c : Connection) → readyInstant (afterDataCell t c) ≡ readyInstant c
-unfolding afterDataCell readyInstant
-after-data-cell-ready t c = after-data-cell-from t c (c .pace)
+unfolding afterDataCell
+after-data-cell-ready t c = ready-same c (afterDataCell t c) refl refl refl refl refl refl refl
 
-after-backward-cell-destination : (f : Fields) (c : Connection) → afterBackwardCell f c .destination ≡ c .destination
+-- what a backward cell and a forward one leave of the other side
+after-backward-cell-moved : (f : Fields) (c : Connection) → SourceMoved c (afterBackwardCell f c)
 unfolding afterBackwardCell
-after-backward-cell-destination f c = refl
+after-backward-cell-moved f c = (refl, refl)
 
-after-forward-cell-source : (level : ℕ) (o : List ℕ) (c : Connection) → sourceWords (afterForwardCell level o c) ≡ sourceWords c
+after-forward-cell-moved : (level : ℕ) (o : List ℕ) (c : Connection) → DestinationMoved c (afterForwardCell level o c)
 unfolding afterForwardCell
-after-forward-cell-source level o c = refl
+after-forward-cell-moved level o c = (refl, refl)
 
 -- the entry's connection, as it was loaded
 module _ (s : State) (w : WellFormed s) {l : List ℕ} (e : l ≡ words s) {v : ℕ} (i : ℕ) (h : i < capacity) (p : Located (s .entries) v i) (d : Connection) (q : d ≡ connectionAt l i) (x : Connection) where
@@ -125,7 +123,7 @@ module _ (s : State) (w : WellFormed s) {l : List ℕ} (e : l ≡ words s) {v : 
   data-done b u t a =
       let k = after-data-cell-kept t (p .holder) in
       changed s p (afterDataCell t) (data-step s v t)
-      (efci-is s w e h p (afterDataCell t (p .holder)) (after-data-cell-same t (p .holder)) (k .0) (k .1) (k .2) (after-data-cell-ready t (p .holder))
+      (efci-is s w e h p (afterDataCell t (p .holder)) (after-data-cell-same t (p .holder)) (k .0) (k .1) (k .2) (k .3) (after-data-cell-ready t (p .holder))
       (b ∙ ap (λ (y : Connection). efciUpdated l i (y .destination)) (a ∙ ap (afterDataCell t) (loaded-is s w p e h q))) u)
 
 module _ (s : State) (w : WellFormed s) {l : List ℕ} (e : l ≡ words s) (o : List ℕ) (f : Fields) (i : ℕ) (h : i < capacity) (p : Located (s .entries) (f .vci) i) (d : Connection) (q : d ≡ connectionAt l i) (x : Connection) where
@@ -137,7 +135,7 @@ module _ (s : State) (w : WellFormed s) {l : List ℕ} (e : l ≡ words s) (o : 
       let y : x ≡ work = work-answers (s .level) o f (p .holder) c (a ∙ ap (afterBackwardCell f) (loaded-is s w p e h q)) in
       changed s p (afterResourceCell (s .level) o f) (work-step s o f)
       (updated-is s w e h p work (work-same (s .level) o f (p .holder)) (subst (λ (z : Connection). Updates SourceMoved l m i z n) y u)
-      (ap (λ (z : Connection). z .destination) (sym (work-answers (s .level) o f (p .holder) c refl)) ∙ after-backward-cell-destination f (p .holder))
+      (subst (SourceMoved (p .holder)) (work-answers (s .level) o f (p .holder) c refl) (after-backward-cell-moved f (p .holder)))
       (work-well-formed s w p o f refl))
 
   pub turn-done :
@@ -151,7 +149,7 @@ module _ (s : State) (w : WellFormed s) {l : List ℕ} (e : l ≡ words s) (o : 
       let t : work ≡ afterForwardCell (s .level) o (p .holder) = is-turning (s .level) o f (p .holder) c in
       changed s p (afterResourceCell (s .level) o f) (work-step s o f)
       (updated-is s w e h p work (work-same (s .level) o f (p .holder)) (subst (λ (z : Connection). Updates DestinationMoved l m i z k) y u)
-      (ap sourceWords t ∙ after-forward-cell-source (s .level) o (p .holder)) (work-well-formed s w p o f refl))
+      (subst (DestinationMoved (p .holder)) (sym t) (after-forward-cell-moved (s .level) o (p .holder))) (work-well-formed s w p o f refl))
 
 -- What was read: a refusal, or a cell of 53 octets whose step is the rest.
 pub unread : (s : State) (o : List ℕ) (n : ℕ) → reading o ≡ Unread n → receiveStep s o ≡ refuse s n

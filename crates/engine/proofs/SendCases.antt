@@ -8,7 +8,7 @@ use Rattle.connection.specs.declared.kind.Kind.{Kind}
 use Rattle.connection.specs.declared.kind.Kind.the-variants.{Forward, Turned, Data}
 use Rattle.connection.specs.Invariant.{ValidAt}
 use Rattle.connection.specs.Kind.{kindAt}
-use Rattle.connection.specs.Sending.{after, sentForward, sentData, bufferAfter}
+use Rattle.connection.specs.Sending.{after, sentForward, sentTurned, sentData, bufferAfter}
 use Rattle.connection.proofs.Keeps.{after-same, after-valid}
 use Rattle.connection.proofs.Reached.{acr-is-rate}
 use Rattle.model.specs.State.{State, free, taken, position, holds, put, capacity}
@@ -34,10 +34,10 @@ carried-is t c Data old new e p h = h
 
 -- a cell of this kind moves no more than it may
 sent-moved : (k : Kind) (t : ℕ) (c : Connection) → MovedBy k c (after k t c)
-unfolding after sentForward sentData
-sent-moved Forward t c = refl
-sent-moved Turned t c = tt
-sent-moved Data t c = refl
+unfolding after sentForward sentTurned sentData
+sent-moved Forward t c = (refl, refl)
+sent-moved Turned t c = refl
+sent-moved Data t c = (refl, refl)
 
 -- and leaves the table well-formed
 sent-well-formed : (s : State) → WellFormed s → (t : ℕ) → s .last ≡ t → (c : Connection) → ValidAt t c → WellFormed (put (c .name) (taken (after (kindAt t c) t c)) s)

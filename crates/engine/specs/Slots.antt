@@ -20,12 +20,12 @@ use Rattle.model.specs.Step.{sendStep}
 use Rattle.engine.specs.Contract.{bufferContent}
 
 -- a forward cell, if the allowed rate is a rate, as that of every connection that calls made is
-pub record ForwardIn (name : ℕ) (q : Rate) (new : List ℕ) : Type 0 where
-  pub is : q .acr ≤ largestRate → new ≡ resourceCell 0 (forwardFields name q)
+pub record ForwardIn (clp name : ℕ) (q : Rate) (new : List ℕ) : Type 0 where
+  pub is : q .acr ≤ largestRate → new ≡ resourceCell clp (forwardFields name q)
 
 -- the buffer after a cell of this kind, from a connection before and after it
 abbrev pub Carried : Kind → (before now : Connection) → (old new : List ℕ) → Type 0
-Carried Forward before now old new = ForwardIn (now .name) (now .rate) new
+Carried Forward before now old new = ForwardIn 0 (now .name) (now .rate) new
 Carried Turned before now old new = new ≡ backwardCell (before .name) (before .rate .params) (before .destination .turned) (before .destination .made .level)
 Carried Data before now old new = new ≡ old
 

@@ -5,6 +5,7 @@ pub mod level;
 pub mod make;
 pub mod offer;
 pub mod open;
+pub mod out_of_rate;
 pub mod receive;
 pub mod send;
 pub mod slot;

@@ -10,7 +10,7 @@ use storing::store::update_destination;
 use table::layout::LAST;
 use table::layout::LEVEL;
 use table::layout::WORDS;
-use transition::make::may_make;
+use transition::interval::rested;
 use transition::make::with_made;
 
 // Refusals 8, 11, 14, 16, 17.
@@ -34,7 +34,7 @@ pub fn make(t: &mut [u64; WORDS], name: u32, time: u64) -> Answer
     let destination = c.destination;
     let made = destination.made;
     let last = made.last;
-    if !may_make(time, last) {
+    if !rested(time, last) {
         return Answer::Refused(17);
     }
     let comparisons = update_destination(t, i, with_made(time, level, c));

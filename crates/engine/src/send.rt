@@ -36,11 +36,12 @@ fn put_backward(cell: &mut [u8], name: u32, params: Params, w: Waiting, level: u
     }
 }
 
-fn put_forward(cell: &mut [u8], name: u32, rate: Rate)
-    requires { ⌜ (length (now cell) ≡ 53) × (name ≤ 65535) ⌝ }
-    ensures { λ _. ⌜ ForwardIn name rate (now (cell .exit)) ⌝ }
+// A forward cell, with CLP 1 if it goes outside the rate (document 02, L5).
+pub fn put_forward(cell: &mut [u8], clp: u32, name: u32, rate: Rate)
+    requires { ⌜ (length (now cell) ≡ 53) × ((clp ≤ 1) × (name ≤ 65535)) ⌝ }
+    ensures { λ _. ⌜ ForwardIn clp name rate (now (cell .exit)) ⌝ }
 {
-    put_resource(cell, 0, forward_fields(name, rate));
+    put_resource(cell, clp, forward_fields(name, rate));
 }
 
 // Data is the caller's own: the buffer stays.
@@ -51,7 +52,7 @@ fn put_cell(cell: &mut [u8], kind: Kind, c: Connection, next: Connection)
     match kind {
         Kind::Forward => {
             let rate = next.rate;
-            put_forward(cell, next.name, rate)
+            put_forward(cell, 0, next.name, rate)
         }
         Kind::Turned => {
             let rate = c.rate;

@@ -114,6 +114,7 @@ pub fn load(t: &[u64; WORDS], i: usize) -> Connection
     let pace = pace_at(t, a + 3);
     let turned = waiting_at(t, a + 7);
     let made = made_at(t, a + 14);
+    let outside = instant_of(t[a + 16]);
     Connection {
         name: (t[NAMES + i] % 65536) as u32,
         opened: t[b] % 9223372036854775808,
@@ -129,5 +130,6 @@ pub fn load(t: &[u64; WORDS], i: usize) -> Connection
             turned,
             made,
         },
+        outside,
     }
 }

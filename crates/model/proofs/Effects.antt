@@ -15,15 +15,16 @@ use Rattle.cell.specs.Reading.{reading}
 use Rattle.cell.proofs.Readings.{refusal-number}
 use Rattle.connection.specs.declared.parts.Connection.{Connection}
 use Rattle.connection.specs.Parts.{fresh, waiting}
-use Rattle.connection.specs.Making.{mayMake, withMade}
+use Rattle.connection.specs.Interval.{rested}
+use Rattle.connection.specs.Making.{withMade}
 use Rattle.connection.specs.Receiving.{offered, afterDataCell, afterResourceCell}
 use Rattle.connection.specs.Kind.{kindAt}
 use Rattle.model.specs.State.{State, Entry, free, taken, position, isFree, find, leafOf, put, inserted, roomLeft, withTime, withLevel}
 use Rattle.model.specs.Invariant.{NamesUnique}
 use Rattle.model.specs.Choice.{Winner, noneReady, wins, winner, Chosen, Best}
 use Rattle.model.proofs.Winners.{winner-best}
-use Rattle.model.specs.Call.{Call, opening, closing, receiving, offering, levelling, slot, making, Outcome}
-use Rattle.model.specs.Step.{refuse, accept, replay, ofOpen, openStep, closeStep, offerStep, readStep, receiveStep, levelStep, sendStep, idleStep, serveEntry, serve, slotStep, makeStep, step}
+use Rattle.model.specs.Call.{Call, opening, closing, receiving, offering, levelling, slot, making, outOfRate, Outcome}
+use Rattle.model.specs.Step.{refuse, accept, replay, ofOpen, openStep, closeStep, offerStep, readStep, receiveStep, levelStep, sendStep, idleStep, serveEntry, serve, slotStep, makeStep, sendOutside, outOfRateStep, step}
 use Rattle.laws.specs.Require.{require}
 
 -- an instant that does not lie before the last accepted one
@@ -59,8 +60,11 @@ pub data Effect (s : State) : Call → Outcome → Type 0 where
       (t room i u : ℕ) → Timely s t → (b : Chosen t i u (s .entries))
       → Effect s (slot t room) (sendStep (withTime t s) t u (b .holder) (kindAt t (b .holder)))
   makes :
-      (u t : ℕ) (d : Connection) → find u (s .entries) ≡ taken d → Timely s t → 0 < s .level → mayMake t (d .destination .made .last) ≡ true
+      (u t : ℕ) (d : Connection) → find u (s .entries) ≡ taken d → Timely s t → 0 < s .level → rested t (d .destination .made .last) ≡ true
       → Effect s (making u t) (replay (leafOf u s) s (put u (taken (withMade t (s .level) d)) (withTime t s)))
+  leaves :
+      (u t room : ℕ) (d : Connection) → find u (s .entries) ≡ taken d → Timely s t → rested t (d .outside) ≡ true
+      → Effect s (outOfRate u t room) (sendOutside (withTime t s) t u d)
 
 module _ {s : State} (c : Call) where
   require-effect : (n : ℕ) → T (ltb 0 n) → (t : Bool) (o : Outcome) → (t ≡ true → Effect s c o) → Effect s c (require (refuse s n) t o)
@@ -148,6 +152,16 @@ make-effect s u t =
     require-effect (making u t) 17 tt _ _ λ rested.
     makes u t d e (timely s t since until) (ltb-true _ _ high) rested
 
+out-of-rate-effect : (s : State) (u t room : ℕ) → Effect s (outOfRate u t room) (outOfRateStep s u t room)
+unfolding outOfRateStep
+out-of-rate-effect s u t room =
+    require-effect (outOfRate u t room) 1 tt _ _ λ _.
+    require-effect (outOfRate u t room) 8 tt _ _ λ until.
+    ofOpen-effect (outOfRate u t room) (find u (s .entries)) _ λ d e.
+    require-effect (outOfRate u t room) 14 tt _ _ λ since.
+    require-effect (outOfRate u t room) 18 tt _ _ λ rest.
+    leaves u t room d e (timely s t since until) rest
+
 -- every call has one of these effects
 pub effect : (s : State) → NamesUnique (s .entries) → (c : Call) → Effect s c (step s c)
 unfolding step receiveStep
@@ -158,3 +172,4 @@ effect s a (offering u n) = offer-effect s u n
 effect s a (levelling l) = level-effect s l
 effect s a (slot t room) = slot-effect s t room a
 effect s a (making u t) = make-effect s u t
+effect s a (outOfRate u t room) = out-of-rate-effect s u t room

@@ -14,16 +14,17 @@ use Rattle.connection.specs.Making.{withMade}
 use Rattle.connection.specs.Receiving.{offered, afterDataCell, afterResourceCell}
 use Rattle.connection.specs.Kind.{kindAt}
 use Rattle.connection.specs.Sending.{after}
+use Rattle.connection.specs.OutOfRate.{afterOutOfRate}
 use Rattle.connection.proofs.Keeps.{work-same, after-same}
 use Rattle.model.specs.State.{State, Entry, free, taken, capacity, empty, find, put, inserted, withTime, withLevel}
 use Rattle.model.specs.Invariant.{NamesUnique, WellFormed}
 use Rattle.model.proofs.Entries.{absent-find, each-free}
 use Rattle.model.proofs.Frames.{put-kept, inserted-read, freed-read}
 use Rattle.model.proofs.Preserved.{empty-well-formed}
-use Rattle.model.specs.Call.{Call, opening, closing, receiving, offering, levelling, slot, making, Outcome}
-use Rattle.model.specs.Step.{refuse, accept, replay, sendStep, idleStep, step}
+use Rattle.model.specs.Call.{Call, opening, closing, receiving, offering, levelling, slot, making, outOfRate, Outcome}
+use Rattle.model.specs.Step.{refuse, accept, replay, sendStep, sendOutside, idleStep, step}
 use Rattle.model.specs.Run.{final, isAccepted, given, givenFrom, paramsGiven}
-use Rattle.model.proofs.Effects.{Enters, Effect, refuses, begins, ends, offers, marks, works, levels, idles, sends, makes, effect}
+use Rattle.model.proofs.Effects.{Enters, Effect, refuses, begins, ends, offers, marks, works, levels, idles, sends, makes, leaves, effect}
 use Rattle.model.proofs.Reached.{step-well-formed}
 
 unfoldable pub entryParams : Entry → Option Params
@@ -43,6 +44,7 @@ refused-given v (offering u k) s n p = refl
 refused-given v (levelling l) s n p = refl
 refused-given v (slot t room) s n p = refl
 refused-given v (making u t) s n p = refl
+refused-given v (outOfRate u t room) s n p = refl
 
 begun-params :
     (v : ℕ) (s : State) (u t : ℕ) (p : Params) → Enters s u t p → paramsAt v (inserted (fresh u t p) s) ≡ cond (eqb u v) (some p) (paramsAt v s)
@@ -60,7 +62,7 @@ unfolding entryParams
 kept-params v u s a d e f n h = put-kept entryParams v u s a d e f n (ap some h)
 
 effect-given : (v : ℕ) {s : State} → NamesUnique (s .entries) → {c : Call} {o : Outcome} → Effect s c o → paramsAt v (o .state) ≡ given v c (isAccepted (o .answer)) (paramsAt v s)
-unfolding refuse accept replay withLevel idleStep sendStep withTime given isAccepted offered afterDataCell withMade
+unfolding refuse accept replay withLevel idleStep sendStep sendOutside withTime given isAccepted offered afterDataCell withMade afterOutOfRate
 effect-given v {s} a (refuses c n h) = refused-given v c s n (paramsAt v s)
 effect-given v {s} a (begins u t p g) = begun-params v s u t p g
 effect-given v {s} a (ends u d f) = ended-params v u s a
@@ -75,6 +77,7 @@ effect-given v {s} a (sends t room i u g b) =
     let same = after-same (kindAt t (b .holder)) t (b .holder) in
     kept-params v u (withTime t s) a (b .holder) (after (kindAt t (b .holder)) t (b .holder)) (b .found) (same .name) (same .params)
 effect-given v {s} a (makes u t d f g h m) = kept-params v u (withTime t s) a d (withMade t (s .level) d) f refl refl
+effect-given v {s} a (leaves u t room d f g h) = kept-params v u (withTime t s) a d (afterOutOfRate t d) f refl refl
 
 run-given : (v : ℕ) (s : State) → WellFormed s → (before : Option Params) → paramsAt v s ≡ before → (cs : List Call) → paramsAt v (final s cs) ≡ givenFrom v s before cs
 run-given v s w b e [] = e

@@ -9,8 +9,9 @@ use Rattle.connection.specs.Making.{withMade}
 use Rattle.connection.specs.Receiving.{offered, afterDataCell, afterResourceCell}
 use Rattle.connection.specs.Kind.{kindAt}
 use Rattle.connection.specs.Sending.{after}
+use Rattle.connection.specs.OutOfRate.{afterOutOfRate}
 use Rattle.connection.specs.Invariant.{ValidAt}
-use Rattle.connection.proofs.Keeps.{made-valid, fresh-valid, offered-valid, after-data-cell-valid, work-same, work-valid, after-same, after-valid}
+use Rattle.connection.proofs.Keeps.{made-valid, out-of-rate-valid, fresh-valid, offered-valid, after-data-cell-valid, work-same, work-valid, after-same, after-valid}
 use Rattle.model.specs.State.{State, free, taken, empty, find, put, inserted, withTime}
 use Rattle.model.specs.Invariant.{WellFormed}
 use Rattle.model.specs.Choice.{winner, Best}
@@ -18,9 +19,9 @@ use Rattle.model.proofs.Frames.{name-of}
 use Rattle.model.proofs.Preserved.{valid-at, put-well-formed, inserted-well-formed, withTime-well-formed, withLevel-well-formed, empty-well-formed}
 use Rattle.model.proofs.Winners.{winner-best}
 use Rattle.model.specs.Call.{Call, Outcome}
-use Rattle.model.specs.Step.{refuse, accept, replay, sendStep, idleStep, step}
+use Rattle.model.specs.Step.{refuse, accept, replay, sendStep, sendOutside, idleStep, step}
 use Rattle.model.specs.Run.{final}
-use Rattle.model.proofs.Effects.{Timely, Enters, Effect, refuses, begins, ends, offers, marks, works, levels, idles, sends, makes, effect}
+use Rattle.model.proofs.Effects.{Timely, Enters, Effect, refuses, begins, ends, offers, marks, works, levels, idles, sends, makes, leaves, effect}
 
 begun-well-formed : {s : State} → WellFormed s → (u t : ℕ) (p : Params) → Enters s u t p → WellFormed (withTime t (inserted (fresh u t p) s))
 unfolding withTime inserted fresh
@@ -39,7 +40,7 @@ sent-well-formed w t u g d f =
     changed-well-formed (withTime-well-formed w t (g .since) (g .until)) u d (after (kindAt t d) t d) f (after-same (kindAt t d) t d .name) (after-valid (kindAt t d) t d refl)
 
 effect-well-formed : {s : State} → WellFormed s → {c : Call} {o : Outcome} → Effect s c o → WellFormed (o .state)
-unfolding refuse accept replay idleStep sendStep offered afterDataCell withTime withMade
+unfolding refuse accept replay idleStep sendStep sendOutside offered afterDataCell withTime withMade afterOutOfRate
 effect-well-formed w (refuses c n h) = w
 effect-well-formed w (begins u t p g) = begun-well-formed w u t p g
 effect-well-formed w (ends u d f) = put-well-formed w u free tt tt
@@ -52,6 +53,8 @@ effect-well-formed w (idles t room g b) = withTime-well-formed w t (g .since) (g
 effect-well-formed w (sends t room i u g b) = sent-well-formed w t u g (b .holder) (b .found)
 effect-well-formed {s} w (makes u t d f g h m) =
     changed-well-formed (withTime-well-formed w t (g .since) (g .until)) u d (withMade t (s .level) d) f refl (made-valid t (s .level) d (w .levels))
+effect-well-formed w (leaves u t room d f g h) =
+    changed-well-formed (withTime-well-formed w t (g .since) (g .until)) u d (afterOutOfRate t d) f refl (out-of-rate-valid t d)
 
 pub step-well-formed : {s : State} → WellFormed s → (c : Call) → WellFormed (step s c .state)
 step-well-formed {s} w c = effect-well-formed w (effect s (w .unique) c)

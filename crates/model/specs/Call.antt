@@ -9,7 +9,7 @@ use Rattle.model.specs.State.{State}
 pub use Rattle.model.specs.declared.answer.Answer.{Answer}
 pub use Rattle.model.specs.declared.answer.Answer.the-variants.{Refused, Accepted, Idle, Sent}
 
--- Nothing bounds the arguments. What a lent buffer holds before a slot is no argument, so room is its length.
+-- Nothing bounds the arguments. What a lent buffer holds before a slot, or a cell outside the rate, is no argument, so room is its length.
 pub data Call : Type 0 where
   opening : (name time : ℕ) → Params → Call
   closing : (name : ℕ) → Call
@@ -18,6 +18,7 @@ pub data Call : Type 0 where
   levelling : (level : ℕ) → Call
   slot : (time room : ℕ) → Call
   making : (name time : ℕ) → Call
+  outOfRate : (name time room : ℕ) → Call
 
 -- the table that a call leaves, its answer, and what it writes
 pub record Outcome : Type 0 where

@@ -7,7 +7,7 @@ use mathlib.Core.Option.{Option, none, some}
 use lib.Dec.{eqb}
 use Rattle.rate.specs.declared.params.Params.{Params}
 use Rattle.model.specs.State.{State, Entry, free, taken, empty, find}
-use Rattle.model.specs.Call.{Call, opening, closing, receiving, offering, levelling, slot, making, Answer, Refused, Accepted, Idle, Sent, Outcome}
+use Rattle.model.specs.Call.{Call, opening, closing, receiving, offering, levelling, slot, making, outOfRate, Answer, Refused, Accepted, Idle, Sent, Outcome}
 use Rattle.model.specs.Step.{step}
 
 -- the outcome of each call, in order
@@ -35,6 +35,7 @@ given v (offering u n) a before = before
 given v (levelling l) a before = before
 given v (slot t room) a before = before
 given v (making u t) a before = before
+given v (outOfRate u t room) a before = before
 
 abbrev pub givenFrom : ℕ → State → Option Params → List Call → Option Params
 givenFrom v s before [] = before

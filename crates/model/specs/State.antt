@@ -1,4 +1,4 @@
--- The state of a table: the congestion level, the time of the last accepted open, slot or making, and the entries. (Document 01, first paragraph and "The lists of demand 3".)
+-- The state of a table: the congestion level, the time of the last accepted open, slot, making or cell outside the rate, and the entries. (Document 01, first paragraph and "The lists of demand 3".)
 use Prim.Native.Nat.{ℕ, suc}
 use mathlib.Core.Bool.{Bool, true, false, cond}
 use mathlib.Core.List.{List, [], _∷_}
@@ -55,7 +55,7 @@ inserted c s = record { level = s .level; last = s .last; entries = set (s .entr
 unfoldable pub roomLeft : State → Bool
 roomLeft s = ltb (position isFree (s .entries)) (length (s .entries))
 
--- the time of an accepted open, slot or making
+-- the time of an accepted open, slot, making or cell outside the rate
 unfoldable pub withTime : ℕ → State → State
 withTime t s = record { level = s .level; last = t; entries = s .entries }
 

@@ -13,13 +13,15 @@ use Rattle.connection.specs.declared.parts.Connection.{Connection}
 use Rattle.connection.specs.declared.kind.Kind.{Kind}
 use Rattle.connection.specs.Parts.{fresh, waiting}
 use Rattle.connection.specs.Receiving.{offered, afterDataCell, afterResourceCell}
-use Rattle.connection.specs.Making.{mayMake, withMade}
+use Rattle.connection.specs.Interval.{rested}
+use Rattle.connection.specs.Making.{withMade}
 use Rattle.connection.specs.Kind.{kindAt}
-use Rattle.connection.specs.Sending.{untouched, after, bufferAfter}
+use Rattle.connection.specs.Sending.{untouched, written, after, bufferAfter}
+use Rattle.connection.specs.OutOfRate.{afterOutOfRate, outOfRateCell}
 use Rattle.model.specs.State.{State, Entry, free, taken, position, isFree, find, leafOf, put, inserted, roomLeft, withTime, withLevel}
 use Rattle.model.specs.Choice.{Winner, noneReady, wins, winner}
 use Rattle.model.specs.Tournament.{replayed}
-use Rattle.model.specs.Call.{Call, opening, closing, receiving, offering, levelling, slot, making, Refused, Accepted, Idle, Sent, Outcome}
+use Rattle.model.specs.Call.{Call, opening, closing, receiving, offering, levelling, slot, making, outOfRate, Refused, Accepted, Idle, Sent, Outcome}
 use Rattle.laws.specs.Require.{require}
 
 -- a refusal leaves table and buffer
@@ -81,6 +83,10 @@ sendStep s t v c k = record {
   buffer = bufferAfter k c (after k t c);
 }
 
+-- a cell outside the rate at t, from the connection c of the name v
+unfoldable pub sendOutside : State → (t v : ℕ) → Connection → Outcome
+sendOutside s t v c = record { state = put v (taken (afterOutOfRate t c)) s; answer = Accepted 0; buffer = written (outOfRateCell c) }
+
 unfoldable pub idleStep : State → Outcome
 idleStep s = record { state = s; answer = Idle; buffer = untouched }
 
@@ -107,8 +113,18 @@ makeStep s v t =
     (ofOpen s (find v (s .entries)) λ c.
     require (refuse s 14) (leb (s .last) t)
     (require (refuse s 16) (ltb 0 (s .level))
-    (require (refuse s 17) (mayMake t (c .destination .made .last))
+    (require (refuse s 17) (rested t (c .destination .made .last))
     (replay (leafOf v s) s (put v (taken (withMade t (s .level) c)) (withTime t s))))))
+
+-- A forward cell outside the rate: 1, 8, 11, 14, 18. Its time counts as a slot's does, and it replays no match. (Document 02, L5.)
+unfoldable pub outOfRateStep : State → (name time room : ℕ) → Outcome
+outOfRateStep s v t room =
+    require (refuse s 1) (eqb room 53)
+    (require (refuse s 8) (leb t latestTime)
+    (ofOpen s (find v (s .entries)) λ c.
+    require (refuse s 14) (leb (s .last) t)
+    (require (refuse s 18) (rested t (c .outside))
+    (sendOutside (withTime t s) t v c))))
 
 unfoldable pub step : State → Call → Outcome
 step s (opening v t p) = openStep s v t p
@@ -118,3 +134,4 @@ step s (offering v n) = offerStep s v n
 step s (levelling l) = levelStep s l
 step s (slot t room) = slotStep s t room
 step s (making v t) = makeStep s v t
+step s (outOfRate v t room) = outOfRateStep s v t room

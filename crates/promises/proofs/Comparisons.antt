@@ -11,6 +11,7 @@ use Rattle.rate.specs.declared.params.Params.{Params}
 use Rattle.connection.specs.declared.parts.Connection.{Connection}
 use Rattle.connection.specs.declared.kind.Kind.the-variants.{Forward, Turned, Data}
 use Rattle.connection.specs.Parts.{fresh}
+use Rattle.connection.specs.declared.ready.Instant.the-variants.{Never}
 use Rattle.connection.specs.Ready.{waits, backwardWaits, anyWaits, readyFrom, readyInstant}
 use Rattle.model.specs.State.{State, Entry, taken, empty, position, isFree, holds, find, inserted, roomLeft, withTime}
 use Rattle.model.specs.Invariant.{WellFormed, NamesUnique}
@@ -18,8 +19,8 @@ use Rattle.model.specs.Choice.{Winner, noneReady, wins, candidateFrom, winner, 
 use Rattle.model.specs.Tournament.{levels, Lead, noLead, leads, instantLead, leafLead, winnerAt, inTime, leadWord, replayed}
 use Rattle.model.specs.declared.answer.Answer.{Answer}
 use Rattle.model.specs.declared.answer.Answer.the-variants.{Refused, Accepted, Idle, Sent}
-use Rattle.model.specs.Call.{Call, opening, closing, receiving, offering, levelling, slot, making, Outcome, comparisons}
-use Rattle.model.specs.Step.{refuse, accept, replay, sendStep, idleStep, step}
+use Rattle.model.specs.Call.{Call, opening, closing, receiving, offering, levelling, slot, making, outOfRate, Outcome, comparisons}
+use Rattle.model.specs.Step.{refuse, accept, replay, sendStep, idleStep, sendOutside, step}
 use Rattle.model.specs.Run.{run, final, isAccepted}
 use Rattle.model.proofs.Entries.{each-at, taken-in, lowest-free, entry-place}
 use Rattle.model.proofs.Frames.{name-of}
@@ -28,7 +29,7 @@ use Rattle.model.proofs.Places.{OnLead, Comes, root-stands, lead-entry}
 use Rattle.model.proofs.Scanned.{root-winner}
 use Rattle.model.proofs.Replays.{replayed-most, replayed-least, replayed-one, replayed-all}
 use Rattle.model.proofs.Preserved.{empty-well-formed}
-use Rattle.model.proofs.Effects.{Effect, refuses, begins, ends, offers, marks, works, levels as levelsTo, idles, sends, makes, effect}
+use Rattle.model.proofs.Effects.{Effect, refuses, begins, ends, offers, marks, works, levels as levelsTo, idles, sends, makes, leaves, effect}
 use Rattle.model.proofs.Reached.{step-well-formed, reached-well-formed}
 use Rattle.abr.specs.Answers.{slotAnswer}
 use Rattle.abr.specs.Exports.{Observation, Matches, AllMatch, neither, both}
@@ -81,6 +82,7 @@ opened-replays (offering v n) sent e = refl
 opened-replays (levelling l) sent e = absurd (false≢true e)
 opened-replays (slot t room) sent e = absurd (false≢true e)
 opened-replays (making v t) sent e = refl
+opened-replays (outOfRate v t room) sent e = absurd (false≢true e)
 
 none-counted : (c : Call) (accepted : Bool) → (accepted ≡ true → replays c false ≡ true → ⊥) → Counted c accepted false 0
 none-counted c accepted h = record {
@@ -113,15 +115,23 @@ cell-counted c h k n e = record {
 }
 
 -- a fresh connection enters a free entry, and is never ready
+fresh-never : (u t : ℕ) (p : Params) → readyInstant (fresh u t p) ≡ Never
+unfolding fresh readyInstant readyFrom anyWaits backwardWaits waits
+fresh-never u t p = go (eqb (fresh u t p .rate .acr) 0)
+  where
+    go : (b : Bool) → cond b Never Never ≡ Never
+    go true = refl
+    go false = refl
+
 opened-counted : {s : State} → WellFormed s → (u t : ℕ) (p : Params) → roomLeft s ≡ true
     → replayed (position isFree (s .entries)) (s .entries) (withTime t (inserted (fresh u t p) s) .entries) ≡ 1
-unfolding inserted withTime roomLeft leafLead instantLead fresh readyInstant readyFrom anyWaits backwardWaits waits
+unfolding inserted withTime roomLeft leafLead instantLead
 opened-counted {s} w u t p r =
     replayed-one (position isFree (s .entries)) (s .entries) (taken (fresh u t p)) (w .size) (ltb-true _ _ r)
-    (ap (leafLead (position isFree (s .entries))) (lowest-free (s .entries))) refl
+    (ap (leafLead (position isFree (s .entries))) (lowest-free (s .entries))) (ap (instantLead (fresh u t p .name) (position isFree (s .entries))) (fresh-never u t p))
 
 effect-counted : {s : State} → WellFormed s → {c : Call} {o : Outcome} → Effect s c o → CountedAnswer c (o .answer)
-unfolding refuse accept replay sendStep idleStep withTime isAccepted comparisons
+unfolding refuse accept replay sendStep idleStep sendOutside withTime isAccepted comparisons
 effect-counted w (refuses c n h) = none-counted c false (λ e _. false≢true e)
 effect-counted w (begins u t p g) = leaf-counted _ refl _ _ _ (λ _. opened-counted w u t p (g .room))
 effect-counted w (ends u d f) = leaf-counted _ refl _ _ _ (λ e. absurd (false≢true e))
@@ -134,6 +144,7 @@ effect-counted {s} w (sends t room i u g b) =
     cell-counted _ refl refl _
     (replayed-all (position (holds u) (s .entries)) (omega (arith, found-in u (s .entries) (b .holder) (b .found), w .size)) (s .entries) (w .unique) _ (root-leaf w b))
 effect-counted w (makes u t d f g b m) = leaf-counted _ refl _ _ _ (λ e. absurd (false≢true e))
+effect-counted w (leaves u t room d f g b) = none-counted _ true (λ _ e. false≢true e)
 
 pub comparisons-counted : Comparisons
 comparisons-counted cs c = let w = reached-well-formed cs in effect-counted w (effect (final empty cs) (w .unique) c)

@@ -1,7 +1,7 @@
 -- Demand 3 holds of exported calls.
-use Prim.Native.Nat.{ℕ, _<_, _≤_}
-use mathlib.Core.Path.{_≡_, refl, sym, ap, subst, _∙_}
-use mathlib.Core.Bool.{Bool, true, false, cond}
+use Prim.Native.Nat.{ℕ}
+use mathlib.Core.Path.{_≡_, refl, sym, ap, _∙_}
+use mathlib.Core.Bool.{Bool}
 use mathlib.Core.List.{List, [], _∷_}
 use mathlib.Core.Option.{Option, none, some}
 use native.Mathlib.Nat.{le-refl}
@@ -16,11 +16,11 @@ use Rattle.model.specs.Invariant.{WellFormed}
 use Rattle.model.specs.declared.answer.Answer.{Answer}
 use Rattle.model.specs.declared.answer.Answer.the-variants.{Refused, Accepted, Idle, Sent}
 use Rattle.model.specs.Call.{Call, Outcome, refusal, goesTo, kindSent}
-use Rattle.model.specs.Step.{refuse, accept, replay, idleStep, sendStep, step}
+use Rattle.model.specs.Step.{refuse, accept, replay, idleStep, sendStep, sendOutside, step}
 use Rattle.model.specs.Queries.{entryAcr, acrOf}
 use Rattle.model.specs.Run.{run, final, isAccepted, given, givenFrom, entryRate, allowed}
 use Rattle.model.proofs.Preserved.{empty-well-formed}
-use Rattle.model.proofs.Effects.{Effect, refuses, begins, ends, offers, marks, works, levels, idles, sends, makes, effect}
+use Rattle.model.proofs.Effects.{Effect, refuses, begins, ends, offers, marks, works, levels, idles, sends, makes, leaves, effect}
 use Rattle.model.proofs.Reached.{step-well-formed}
 use Rattle.abr.specs.declared.connections.AcrAnswer.{AcrAnswer}
 use Rattle.abr.specs.Answers.{slotAnswer, acrAnswer}
@@ -30,13 +30,13 @@ use Rattle.connection.specs.Sending.{Buffer, untouched}
 use Rattle.table.specs.Layout.{words}
 use Rattle.engine.specs.Contract.{bufferContent}
 use Rattle.abr.proofs.Exports.{zeros-words, exports-are-run}
-use Rattle.promises.specs.Demand3.{Bounded, InPlace, Comparable, SamePlace, NotAbove, neither as noneOpen, both as bothOpen, Agree}
+use Rattle.promises.specs.Demand3.{Bounded, InPlace, SamePlace, NotAbove, neither as noneOpen, both as bothOpen, Agree}
 use Rattle.promises.specs.Exports.{paramsObserved, rateReturned, wentTo, ObservedSamePlace, RateNotAbove, ObservedAgree, RefusedLeave, ExportsDemand1, ExportsDemand3}
 use Rattle.promises.proofs.Demand3.{demand3}
 
 -- What the numbers say of the answers: 0 of an accepted call alone.
 pub effect-accepted : {s : State} {c : Call} {o : Outcome} → Effect s c o → eqb (slotAnswer (o .answer) .refusal) 0 ≡ isAccepted (o .answer)
-unfolding refuse accept replay idleStep sendStep isAccepted
+unfolding refuse accept replay idleStep sendStep sendOutside isAccepted
 effect-accepted (refuses c n h) = ne-eqb n 0 (λ e. omega (arith, h, e))
 effect-accepted (begins u t p g) = refl
 effect-accepted (ends u d f) = refl
@@ -47,6 +47,7 @@ effect-accepted (levels l h) = refl
 effect-accepted (idles t room g b) = refl
 effect-accepted (sends t room i u g b) = refl
 effect-accepted (makes u t d f g b m) = refl
+effect-accepted (leaves u t room d f g b) = refl
 
 -- the kind and the connection of a slot, and a refusal's number
 orZero : Option ℕ → ℕ
@@ -86,7 +87,7 @@ went-to (Sent v Data a n) = refl
 
 -- Refusals.
 effect-leaves : {s : State} {c : Call} {o : Outcome} → Effect s c o → (slotAnswer (o .answer) .refusal ≡ 0 → ⊥) → (o .state ≡ s) × (o .buffer ≡ untouched)
-unfolding refuse accept replay idleStep sendStep
+unfolding refuse accept replay idleStep sendStep sendOutside
 effect-leaves (refuses c n h) z = (refl, refl)
 effect-leaves (begins u t p g) z = absurd (z refl)
 effect-leaves (ends u d f) z = absurd (z refl)
@@ -97,6 +98,7 @@ effect-leaves (levels l h) z = absurd (z refl)
 effect-leaves (idles t room g b) z = absurd (z refl)
 effect-leaves (sends t room i u g b) z = absurd (z refl)
 effect-leaves (makes u t d f g b m) z = absurd (z refl)
+effect-leaves (leaves u t room d f g b) z = absurd (z refl)
 
 leave-from : (s : State) → WellFormed s → (cs : List Call) (l : List ℕ) (os : List Observation) → AllMatch (run s cs) os → l ≡ words s → RefusedLeave l os
 leave-from s w [] l [] neither e = tt

@@ -10,6 +10,7 @@ use Rattle.connection.specs.declared.parts.Connection.{Connection}
 use Rattle.connection.specs.Parts.{fresh}
 use Rattle.connection.specs.Making.{withMade}
 use Rattle.connection.specs.Receiving.{offered, afterDataCell, afterResourceCell}
+use Rattle.connection.specs.OutOfRate.{afterOutOfRate}
 use Rattle.connection.specs.Kind.{kindAt}
 use Rattle.connection.specs.Sending.{after}
 use Rattle.connection.proofs.Keeps.{work-same, after-same}
@@ -17,9 +18,9 @@ use Rattle.model.specs.State.{State, Entry, taken, empty, find, put, withTime, 
 use Rattle.model.specs.Invariant.{NamesUnique}
 use Rattle.model.proofs.Frames.{put-read, inserted-read, freed-read}
 use Rattle.model.specs.Call.{Call, Outcome, goesTo}
-use Rattle.model.specs.Step.{refuse, accept, replay, sendStep, idleStep}
+use Rattle.model.specs.Step.{refuse, accept, replay, sendStep, idleStep, sendOutside}
 use Rattle.model.specs.Run.{final}
-use Rattle.model.proofs.Effects.{Effect, refuses, begins, ends, offers, marks, works, levels, idles, sends, makes, effect}
+use Rattle.model.proofs.Effects.{Effect, refuses, begins, ends, offers, marks, works, levels, idles, sends, makes, leaves, effect}
 use Rattle.model.proofs.Reached.{reached-well-formed}
 use Rattle.promises.specs.Interference.{cellName, names, NoInterference}
 
@@ -39,7 +40,7 @@ put-other v u s a d e f n h = put-read same v u s a d e f n ∙ other u v _ _ h
 effect-other :
     (v : ℕ) {s : State} → NamesUnique (s .entries) → {c : Call} {o : Outcome} → Effect s c o → names c (o .answer) ≢ some v
     → find v (o .state .entries) ≡ find v (s .entries)
-unfolding same names cellName refuse accept replay sendStep idleStep withTime withLevel goesTo fresh offered afterDataCell withMade
+unfolding same names cellName refuse accept replay sendStep idleStep sendOutside withTime withLevel goesTo fresh offered afterDataCell withMade afterOutOfRate
 effect-other v a (refuses c n z) h = refl
 effect-other v {s} a (begins u t p g) h = inserted-read same v s (fresh u t p) (g .new) (g .room) ∙ other u v _ _ h
 effect-other v {s} a (ends u d f) h = freed-read same v u s a ∙ other u v _ _ h
@@ -53,6 +54,7 @@ effect-other v {s} a (sends t room i u g b) h =
     let k = kindAt t (b .holder) in
     put-other v u (withTime t s) a (b .holder) (after k t (b .holder)) (b .found) (after-same k t (b .holder) .name) h
 effect-other v {s} a (makes u t d f g b m) h = put-other v u (withTime t s) a d (withMade t (s .level) d) f refl h
+effect-other v {s} a (leaves u t room d f g b) h = put-other v u (withTime t s) a d (afterOutOfRate t d) f refl h
 
 pub no-interference : NoInterference
 no-interference cs c u h = let a = reached-well-formed cs .unique in effect-other u a (effect (final empty cs) a c) h

@@ -7,11 +7,15 @@ pub mod Exports
 pub mod Witness
 pub mod Unstarred
 pub mod Makings
+pub mod OutOfRateCalls
 pub mod Refusals
 pub mod Interference
 pub mod Moves
+pub mod Kept
 pub mod Marks
 pub mod SentWaited
 pub mod Liveness
 pub mod Comparisons
+pub mod Restart
+pub mod OutOfRate
 pub mod Counts

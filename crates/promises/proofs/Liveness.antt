@@ -4,12 +4,12 @@ use mathlib.Core.Path.{_≡_, refl, ap, subst, _∙_}
 use mathlib.Core.Bool.{Bool, true, false}
 use mathlib.Core.List.{List, [], _∷_}
 use mathlib.Core.Option.{some}
-use native.Mathlib.Nat.{le-refl, le-trans}
+use native.Mathlib.Nat.{le-refl}
 use native.Mathlib.Omega.{arith}
-use lib.Dec.{leb, lit≤}
+use lib.Dec.{leb}
 use lib.ListN.{length}
 use borrow.Author.Tests.{le-leb, lt-leb}
-use Rattle.rate.specs.Bounds.{RateInBounds}
+use Rattle.rate.specs.Params.{least}
 use Rattle.rate.proofs.Gaps.{gap-is, gap-antitone}
 use Rattle.connection.specs.declared.parts.Connection.{Connection}
 use Rattle.connection.specs.declared.parts.Pace.{Pace}
@@ -19,8 +19,8 @@ use Rattle.connection.specs.declared.ready.Instant.the-variants.{Never, At}
 use Rattle.connection.specs.Ready.{anyWaits, readyInstant}
 use Rattle.connection.specs.Kind.{kindAt}
 use Rattle.connection.specs.Sending.{after}
-use Rattle.connection.specs.Invariant.{ValidAt}
-use Rattle.connection.proofs.Keeps.{after-same, after-in-bounds}
+use Rattle.connection.proofs.Keeps.{after-same}
+use Rattle.connection.proofs.Readiness.{ready-zero, ready-moving, ready-some}
 use Rattle.connection.proofs.Spaced.{dueFrom, waits-ready, sent-spaced}
 use Rattle.model.specs.State.{State, Entry, free, taken, empty, find, withTime}
 use Rattle.model.specs.Invariant.{Each, WellFormed}
@@ -37,16 +37,21 @@ use Rattle.model.proofs.Effects.{Effect, refuses, idles, sends, effect}
 use Rattle.model.proofs.Reached.{step-well-formed, reached-well-formed}
 use Rattle.promises.specs.Liveness.{latestReady, ReadySoon, Precedes, GoesTo, IsAccepted, All, Somewhere, here, there, slots, Liveness}
 use Rattle.promises.proofs.Interference.{put-other}
+use Rattle.promises.proofs.SentWaited.{serves}
 
 -- Ready in time.
-due-soon : (c : Connection) (p : Pace) → RateInBounds (c .rate) → dueFrom c p ≤ latestReady c p
+due-soon : (a : ℕ) (c : Connection) (p : Pace) → 0 < a → a ≤ c .rate .acr → dueFrom c p ≤ latestReady a c p
 unfolding dueFrom latestReady
-due-soon c Unsent h = le-refl _
-due-soon c (Running sent forward k turned) h = omega (arith, gap-antitone (le-trans (lit≤ tt) (h .floor)) (h .above))
+due-soon a c Unsent h l = le-refl _
+due-soon a c (Running sent forward k turned) h l = omega (arith, gap-antitone h l)
 
-ready-soon : (c : Connection) → RateInBounds (c .rate) → anyWaits c ≡ true → ReadySoon c
-unfolding readyInstant
-ready-soon c h e = record { instant = dueFrom c (c .pace); readyAt = waits-ready c (c .pace) e; soon = due-soon c (c .pace) h }
+-- at a rate that is not above the allowed one
+pub ready-soon : (a : ℕ) (c : Connection) → 0 < a → a ≤ c .rate .acr → anyWaits c ≡ true → ReadySoon a c
+ready-soon a c h l e = record {
+  instant = dueFrom c (c .pace);
+  readyAt = ready-moving c (λ z. omega arith) ∙ waits-ready c (c .pace) e;
+  soon = due-soon a c (c .pace) h l;
+}
 
 -- A slot from the ready instant on: to one that does not come after instant i of v
 data Goes (s : State) (t i v : ℕ) : Outcome → Type 0 where
@@ -101,11 +106,10 @@ ahead-by (sooner h) = omega arith
 ahead-by (tied e h) = omega arith
 
 -- a connection that has sent at t is not ready by t
-sent-later : (now t : ℕ) (d : Connection) → ValidAt now d → (j : ℕ) → readyInstant (after (kindAt t d) t d) ≡ At j → t < j
-sent-later now t d p j e =
+sent-later : (t : ℕ) (d : Connection) (j : ℕ) → readyInstant (after (kindAt t d) t d) ≡ At j → t < j
+sent-later t d j e =
     let d′ = after (kindAt t d) t d in
-    let h = after-in-bounds (kindAt t d) t d (p .1) .rates in
-    omega (arith, sent-spaced t d j e, gap-is (d′ .rate .acr) (omega arith))
+    omega (arith, sent-spaced t d j e, gap-is (d′ .rate .acr) (ready-some d′ j e .0))
 
 -- either the slot is v's, or v waits on and one fewer is ready by i
 data Next (i v : ℕ) (c : Connection) (s : State) (o : Outcome) : Type 0 where
@@ -117,7 +121,7 @@ unfolding sendStep goesTo withTime
 slot-next {s} w v c f i t l (goes j u b h) = go (case u v)
   where
     late : (n : ℕ) → readyInstant (after (kindAt t (b .holder)) t (b .holder)) ≡ At n → i < n
-    late n q = omega (arith, sent-later (s .last) t (b .holder) (valid-at w u (b .holder) (b .found)) n q)
+    late n q = omega (arith, sent-later t (b .holder) n q)
 
     go : Case u v → Next i v c s (sendStep (withTime t s) t u (b .holder) (kindAt t (b .holder)))
     go (same q) = own (ap some q)
@@ -150,7 +154,10 @@ liveness cs v c f =
     let slotted : (i t room : ℕ) → readyInstant c ≡ At i → i ≤ t → IsAccepted (step s (slot t room)) → Precedes s i v (step s (slot t room)) =
     λ i t room r l a. precedes (slot-goes v c i t room f r l (effect s (w .unique) (slot t room)) a) in
     record {
-      ready = ready-soon c (valid-at w v c f .1 .rates);
+      guaranteed = λ e h. ready-soon (least (c .rate .params)) c h (valid-at w v c f .1 .rates .above) e;
+      ready = λ e h. ready-soon (c .rate .acr) c h (le-refl _) e;
+      never = ready-zero c;
+      passedOver = λ t room z e. let h = serves t room v c f (effect s (w .unique) (slot t room)) e in omega (arith, ready-some c (h .instant) (h .readyAt) .0);
       ahead = slotted;
       first = λ i t room r l a h. goes-first (slotted i t room r l a) h;
       served = λ i ts r n l a. served w v c f i r ts (omega (arith, count-le (entryBy i) (s .entries), w .size)) l a;

@@ -1,9 +1,8 @@
 -- Making a backward cell, computed.
 use mathlib.Core.Path.{refl}
-use Rattle.rate.specs.Code.{rateOf}
-use Rattle.crc.specs.Remainder.{remainder}
 use Rattle.cell.specs.Turning.{turnedMarks, turnedPayload, turnedCell}
-use Rattle.connection.specs.Making.{mayMake, withMade, madeFields}
+use Rattle.connection.specs.Interval.{rested}
+use Rattle.connection.specs.Making.{withMade, madeFields}
 use Rattle.connection.specs.Receiving.{waitingCi, markKept, afterForwardCell}
 use Rattle.connection.specs.Sending.{madeLeft, sentTurned, backwardCell, bufferAfter}
 use Rattle.model.specs.State.{withLevel}
@@ -12,7 +11,7 @@ use Rattle.promises.specs.Makings.{Makings}
 use Rattle.promises.proofs.Witness.{computing}
 
 pub makings : Makings
-unfolding computing turnedMarks turnedPayload turnedCell mayMake withMade madeFields afterForwardCell waitingCi markKept madeLeft sentTurned backwardCell bufferAfter withLevel refuse levelStep makeStep
+unfolding computing turnedMarks turnedPayload turnedCell rested withMade madeFields afterForwardCell waitingCi markKept madeLeft sentTurned backwardCell bufferAfter withLevel refuse levelStep makeStep
 makings = record {
   notOpen = refl;
   uncongested = refl;

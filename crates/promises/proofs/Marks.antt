@@ -1,12 +1,11 @@
 -- No CI is lost between a received forward cell and the next turned cell that is sent.
 use Prim.Native.Nat.{ℕ, _≤_}
 use mathlib.Core.Path.{_≡_, refl, sym, ap, subst, _∙_}
-use mathlib.Core.Logic.{_≢_}
 use mathlib.Core.Bool.{Bool, true, false, cond, _||_}
 use mathlib.Core.List.{List, [], _∷_}
 use native.Mathlib.Omega.{arith}
 use lib.Dec.{eqb}
-use borrow.Author.Tests.{eq-eqb, ne-eqb}
+use borrow.Author.Tests.{eq-eqb}
 use Rattle.rate.specs.declared.params.Params.{Params}
 use Rattle.crc.specs.declared.payload.Payload.{Payload}
 use Rattle.crc.specs.Payload.{payloadOf}
@@ -22,29 +21,29 @@ use Rattle.cell.proofs.Admits.{resource-received}
 use Rattle.cell.proofs.Turned.{turned-read, turned-words}
 use Rattle.connection.specs.declared.parts.Connection.{Connection}
 use Rattle.connection.specs.declared.parts.Waiting.{Waiting}
-use Rattle.connection.specs.declared.parts.Waiting.the-variants.{Nothing, Cell}
+use Rattle.connection.specs.declared.parts.Waiting.the-variants.{Cell}
 use Rattle.connection.specs.declared.kind.Kind.{Kind}
 use Rattle.connection.specs.declared.kind.Kind.the-variants.{Forward, Turned, Data}
 use Rattle.connection.specs.Making.{withMade}
-use Rattle.connection.specs.Parts.{fresh}
 use Rattle.connection.specs.Receiving.{offered, afterDataCell, waitingCi, markKept, afterBackwardCell, afterForwardCell, afterResourceCell}
+use Rattle.connection.specs.OutOfRate.{afterOutOfRate}
 use Rattle.connection.specs.Kind.{kindAt}
-use Rattle.connection.specs.Sending.{after, sentForward, sentTurned, sentData, bufferAfter, backwardCell, written}
-use Rattle.connection.proofs.Keeps.{work-same, after-same}
-use Rattle.model.specs.State.{State, Entry, free, taken, empty, find, leafOf, put, withTime, withLevel}
-use Rattle.model.specs.Invariant.{WellFormed, NamesUnique}
+use Rattle.connection.specs.Sending.{after, sentForward, sentData, bufferAfter, backwardCell, written}
+use Rattle.connection.proofs.Keeps.{work-same}
+use Rattle.model.specs.State.{State, Entry, taken, empty, find, leafOf, put}
+use Rattle.model.specs.Invariant.{WellFormed}
 use Rattle.model.specs.declared.answer.Answer.{Answer}
-use Rattle.model.specs.declared.answer.Answer.the-variants.{Refused, Idle, Sent}
-use Rattle.model.specs.Call.{Call, receiving, slot, Outcome}
+use Rattle.model.specs.declared.answer.Answer.the-variants.{Sent}
+use Rattle.model.specs.Call.{Call, opening, closing, receiving, offering, levelling, slot, making, outOfRate, Outcome}
 use Rattle.model.specs.Step.{refuse, accept, replay, ofOpen, readStep, receiveStep, idleStep, sendStep, step}
 use Rattle.model.specs.Run.{final}
-use Rattle.model.proofs.Entries.{Case, same, other, case}
-use Rattle.model.proofs.Frames.{name-of, put-read, inserted-read, freed-read}
+use Rattle.model.proofs.Frames.{name-of, put-read}
 use Rattle.model.proofs.Preserved.{valid-at}
-use Rattle.model.proofs.Effects.{Effect, refuses, begins, ends, offers, marks, works, levels, idles, sends, makes, effect}
+use Rattle.model.proofs.Effects.{Effect, refuses, idles, sends, effect}
 use Rattle.model.proofs.Reached.{step-well-formed, final-well-formed, reached-well-formed}
 use Rattle.promises.specs.Marks.{MarkCame, withCi, withEfci, atLevel2, Quiet, AllQuiet, MarkWritten, NoMarkLost}
 use Rattle.promises.proofs.Pairs.{sent-same}
+use Rattle.promises.proofs.Kept.{Has, KeptBy, effect-kept}
 
 -- the turned cell that waits, as it will be written, is read as a turned cell of v with CI 1
 record Marked (v : ℕ) (w : Waiting) : Type 0 where
@@ -57,9 +56,9 @@ record Marked (v : ℕ) (w : Waiting) : Type 0 where
   bn : fields .bn ≡ 0
   ci : fields .ci ≡ 1
 
-abbrev HasMark : ℕ → Entry → Type 0
-HasMark v free = ⊥
-HasMark v (taken c) = Marked v (c .destination .turned)
+-- the one that waits on a connection is such
+abbrev CarriesMark : ℕ → Connection → Type 0
+CarriesMark v d = Marked v (d .destination .turned)
 
 -- its CI stands in the words that a later cell takes it from
 marked-ci : (v : ℕ) (w : Waiting) → Marked v w → waitingCi w ≡ true
@@ -120,46 +119,21 @@ sent-mark v t Forward d n m = m
 sent-mark v t Turned d n m = absurd (n refl)
 sent-mark v t Data d n m = m
 
-self : Entry → Entry
-self x = x
+quiet-kept : (v : ℕ) {s : State} → WellFormed s → (c : Call) (a : Answer) → Quiet v c a → KeptBy (CarriesMark v) v s c a
+unfolding offered afterDataCell withMade afterOutOfRate
+quiet-kept v w (opening u t p) a q = tt
+quiet-kept v w (closing u) a q = q
+quiet-kept v {s} w (receiving o) a q =
+    (λ e d m. m, λ f d r g m. work-mark v (s .level) o f d q r (rw (← name-of v s d g) (valid-at w v d g .0 .coded)) m)
+quiet-kept v w (offering u n) a q = λ d m. m
+quiet-kept v w (levelling l) a q = tt
+quiet-kept v w (slot t room) a q = λ d acr n e m. sent-mark v t (kindAt t d) d (λ k. q acr n (e ∙ sent-same refl k)) m
+quiet-kept v w (making u t) a q = λ d m. m
+quiet-kept v w (outOfRate u t room) a q = λ d _ _ m. m
 
-changed-mark :
-    (v u : ℕ) (s : State) → NamesUnique (s .entries) → (d e : Connection) → find u (s .entries) ≡ taken d → e .name ≡ d .name
-    → (u ≡ v → Marked v (d .destination .turned) → Marked v (e .destination .turned)) → HasMark v (find v (s .entries)) → HasMark v (find v (put u (taken e) s .entries))
-unfolding self
-changed-mark v u s a d e f n m h = rw (put-read self v u s a d e f n) (go (case u v))
-  where
-    go : Case u v → HasMark v (cond (eqb u v) (taken e) (find v (s .entries)))
-    go (same q) = rw (eq-eqb u v q) (m q (subst (HasMark v) (ap (λ (w : ℕ). find w (s .entries)) (sym q) ∙ f) h))
-    go (other q) = rw (ne-eqb u v q) h
-
-effect-mark :
-    (v : ℕ) {s : State} → WellFormed s → {c : Call} {o : Outcome} → Effect s c o → Quiet v c (o .answer) → HasMark v (find v (s .entries))
-    → HasMark v (find v (o .state .entries))
-unfolding self refuse accept replay sendStep idleStep withTime withLevel fresh offered afterDataCell withMade
-effect-mark v w (refuses c n h) q m = m
-effect-mark v {s} w (begins u t p g) q m = rw (inserted-read self v s (fresh u t p) (g .new) (g .room)) (go (case u v))
-  where
-    go : Case u v → HasMark v (cond (eqb u v) (taken (fresh u t p)) (find v (s .entries)))
-    go (same z) = absurd (subst (HasMark v) (ap (λ (x : ℕ). find x (s .entries)) (sym z) ∙ g .new) m)
-    go (other z) = rw (ne-eqb u v z) m
-effect-mark v {s} w (ends u d f) q m = rw (freed-read self v u s (w .unique), ne-eqb u v q) m
-effect-mark v {s} w (offers u n d f b) q m = changed-mark v u s (w .unique) d (offered n d) f refl (λ _ k. k) m
-effect-mark v {s} w (marks o u e d r f) q m = changed-mark v u s (w .unique) d (afterDataCell e d) f refl (λ _ k. k) m
-effect-mark v {s} w (works o g d r f) q m =
-    changed-mark v (g .vci) s (w .unique) d (afterResourceCell (s .level) o g d) f (work-same (s .level) o g d .name)
-    (λ z k. work-mark v (s .level) o g d q r (rw (← z, ← name-of (g .vci) s d f) (valid-at w (g .vci) d f .0 .coded)) k) m
-effect-mark v w (levels l b) q m = m
-effect-mark v w (idles t room g b) q m = m
-effect-mark v {s} w (sends t room i u g b) q m =
-    let k = kindAt t (b .holder) in
-    changed-mark v u (withTime t s) (w .unique) (b .holder) (after k t (b .holder)) (b .found) (after-same k t (b .holder) .name)
-    (λ z h. sent-mark v t k (b .holder) (λ e. q _ _ (sent-same z e)) h) m
-effect-mark v {s} w (makes u t d f g b z) q m = changed-mark v u (withTime t s) (w .unique) d (withMade t (s .level) d) f refl (λ _ k. k) m
-
-all-mark : (v : ℕ) (s : State) → WellFormed s → (cs : List Call) → AllQuiet v s cs → HasMark v (find v (s .entries)) → HasMark v (find v (final s cs .entries))
+all-mark : (v : ℕ) (s : State) → WellFormed s → (cs : List Call) → AllQuiet v s cs → Has (CarriesMark v) (find v (s .entries)) → Has (CarriesMark v) (find v (final s cs .entries))
 all-mark v s w [] q m = m
-all-mark v s w (c ∷ cs) q m = all-mark v (step s c .state) (step-well-formed w c) cs (q .1) (effect-mark v w (effect s (w .unique) c) (q .0) m)
+all-mark v s w (c ∷ cs) q m = all-mark v (step s c .state) (step-well-formed w c) cs (q .1) (effect-kept (CarriesMark v) v (w .unique) (effect s (w .unique) c) (quiet-kept v w c (step s c .answer) (q .0)) m)
 
 -- The cell that brings the mark.
 came-marks : (f : Fields) (c : Connection) (level : ℕ) → MarkCame f c level → cond (markKept (c .destination) || eqb level 2) 1 (f .ci) ≡ 1
@@ -170,7 +144,7 @@ came-marks f c level (atLevel2 e) =
     let k : Bool = markKept (c .destination) in
     set-marks (k || eqb level 2) (f .ci) (or-else k (eqb level 2) (eq-eqb level 2 e))
 
-step-works :
+pub step-works :
     (s : State) (o : List ℕ) (f : Fields) (c : Connection) → reading o ≡ Resource f → find (f .vci) (s .entries) ≡ taken c
     → step s (receiving o) ≡ replay (leafOf (f .vci) s) s (put (f .vci) (taken (afterResourceCell (s .level) o f c)) s)
 unfolding step receiveStep readStep ofOpen
@@ -178,12 +152,12 @@ step-works s o f c e q = rw (e, q)
 
 received-mark :
     (s : State) → WellFormed s → (o : List ℕ) (f : Fields) (c : Connection) → AreOctets o → reading o ≡ Resource f → f .dir ≡ 0 → find (f .vci) (s .entries) ≡ taken c
-    → MarkCame f c (s .level) → HasMark (f .vci) (find (f .vci) (step s (receiving o) .state .entries))
-unfolding self accept replay afterResourceCell afterForwardCell
+    → MarkCame f c (s .level) → Has (CarriesMark (f .vci)) (find (f .vci) (step s (receiving o) .state .entries))
+unfolding accept replay afterResourceCell afterForwardCell
 received-mark s w o f c a e d q m =
     rw (
       step-works s o f c e q,
-      put-read self (f .vci) (f .vci) s (w .unique) c (afterResourceCell (s .level) o f c) q (work-same (s .level) o f c .name),
+      put-read (λ (x : Entry). x) (f .vci) (f .vci) s (w .unique) c (afterResourceCell (s .level) o f c) q (work-same (s .level) o f c .name),
       eq-eqb (f .vci) (f .vci) refl,
       d,
     )
@@ -210,7 +184,7 @@ written-mark v d e Turned q n m = record {
 written-mark v d e Data q n m = let z : _≡_ {A = ℕ} 0 1 = cc in absurd (omega arith)
 
 slot-mark :
-    (v : ℕ) {s : State} {t room acr n : ℕ} {o : Outcome} → Effect s (slot t room) o → HasMark v (find v (s .entries)) → o .answer ≡ Sent v Turned acr n → MarkWritten v (o .buffer)
+    (v : ℕ) {s : State} {t room acr n : ℕ} {o : Outcome} → Effect s (slot t room) o → Has (CarriesMark v) (find v (s .entries)) → o .answer ≡ Sent v Turned acr n → MarkWritten v (o .buffer)
 unfolding refuse sendStep idleStep
 slot-mark v (refuses _ n h) m e = let z : _≡_ {A = ℕ} 0 1 = cc in absurd (omega arith)
 slot-mark v (idles _ _ g b) m e = let z : _≡_ {A = ℕ} 0 1 = cc in absurd (omega arith)
@@ -218,7 +192,7 @@ slot-mark v {s} {t} (sends _ _ i u g b) m e =
     let q : u ≡ v = cc in
     let k : kindAt t (b .holder) ≡ Turned = cc in
     written-mark v (b .holder) (after (kindAt t (b .holder)) t (b .holder)) (kindAt t (b .holder)) k (name-of u s (b .holder) (b .found) ∙ q)
-    (subst (HasMark v) (ap (λ (w : ℕ). find w (s .entries)) (sym q) ∙ b .found) m)
+    (subst (Has (CarriesMark v)) (ap (λ (w : ℕ). find w (s .entries)) (sym q) ∙ b .found) m)
 
 pub no-mark-lost : NoMarkLost
 no-mark-lost cs o f c ds t room acr n a e d q m quiet sent =

@@ -16,6 +16,7 @@ use Rattle.connection.specs.declared.kind.Kind.the-variants.{Forward, Turned, D
 use Rattle.connection.specs.Parts.{fresh}
 use Rattle.connection.specs.Making.{withMade}
 use Rattle.connection.specs.Receiving.{offered, afterDataCell, afterBackwardCell, afterForwardCell, afterResourceCell}
+use Rattle.connection.specs.OutOfRate.{afterOutOfRate}
 use Rattle.connection.specs.Kind.{kindAt}
 use Rattle.connection.specs.Sending.{movedBy, sentForward, sentTurned, sentData, after}
 use Rattle.connection.proofs.Keeps.{work-same, after-same}
@@ -25,10 +26,10 @@ use Rattle.model.proofs.Entries.{Case, same, other, case}
 use Rattle.model.proofs.Frames.{put-read, inserted-read, freed-read}
 use Rattle.model.specs.declared.answer.Answer.{Answer}
 use Rattle.model.specs.declared.answer.Answer.the-variants.{Refused, Accepted, Idle, Sent}
-use Rattle.model.specs.Call.{Call, opening, closing, receiving, offering, levelling, slot, Outcome, making}
-use Rattle.model.specs.Step.{refuse, accept, replay, sendStep, idleStep}
+use Rattle.model.specs.Call.{Call, opening, closing, receiving, offering, levelling, slot, making, outOfRate, Outcome}
+use Rattle.model.specs.Step.{refuse, accept, replay, sendStep, idleStep, sendOutside}
 use Rattle.model.specs.Run.{final}
-use Rattle.model.proofs.Effects.{Effect, refuses, begins, ends, offers, marks, works, levels, idles, sends, makes, effect}
+use Rattle.model.proofs.Effects.{Effect, refuses, begins, ends, offers, marks, works, levels, idles, sends, makes, leaves, effect}
 use Rattle.model.proofs.Reached.{reached-well-formed}
 use Rattle.promises.specs.Moves.{Moves, stays, first, later, fed, FourMoves}
 
@@ -42,9 +43,9 @@ rests : (v : ℕ) (c : Call) (a : Answer) (x : Entry) → MovesTo v c a x x
 rests v c a free = tt
 rests v c a (taken d) = stays
 
-leaves : (v : ℕ) (c : Call) (a : Answer) (x : Entry) → MovesTo v c a x free
-leaves v c a free = tt
-leaves v c a (taken d) = tt
+closed : (v : ℕ) (c : Call) (a : Answer) (x : Entry) → MovesTo v c a x free
+closed v c a free = tt
+closed v c a (taken d) = tt
 
 self : Entry → Entry
 self x = x
@@ -87,12 +88,12 @@ sent-moves v t room acr n Turned d = stays
 sent-moves v t room acr n Data d = stays
 
 effect-moves : (v : ℕ) {s : State} → NamesUnique (s .entries) → {c : Call} {o : Outcome} → Effect s c o → MovesTo v c (o .answer) (find v (s .entries)) (find v (o .state .entries))
-unfolding self refuse accept replay sendStep idleStep withTime withLevel fresh offered afterDataCell withMade
+unfolding self refuse accept replay sendStep idleStep sendOutside withTime withLevel fresh offered afterDataCell withMade afterOutOfRate
 effect-moves v {s} a (refuses c n h) = rests v c (Refused n) (find v (s .entries))
 effect-moves v {s} a (begins u t p g) =
     rw (inserted-read self v s (fresh u t p) (g .new) (g .room))
     (read-moves v u s (opening u t p) _ (taken (fresh u t p)) (λ h. rw (ap (λ w. find w (s .entries)) (sym h) ∙ g .new) tt))
-effect-moves v {s} a (ends u d f) = rw (freed-read self v u s a) (read-moves v u s (closing u) _ free (λ _. leaves v (closing u) _ (find v (s .entries))))
+effect-moves v {s} a (ends u d f) = rw (freed-read self v u s a) (read-moves v u s (closing u) _ free (λ _. closed v (closing u) _ (find v (s .entries))))
 effect-moves v {s} a (offers u n d f b) = changes v u s a d (offered n d) f refl (offering u n) _ (λ _. stays)
 effect-moves v {s} a (marks o u e d r f) = changes v u s a d (afterDataCell e d) f refl (receiving o) _ (λ _. stays)
 effect-moves v {s} a (works o q d r f) =
@@ -104,6 +105,7 @@ effect-moves v {s} a (sends t room i u g b) =
     changes v u (withTime t s) a (b .holder) (after k t (b .holder)) (b .found) (after-same k t (b .holder) .name) (slot t room) _
     (λ h. rw h (sent-moves v t room _ _ k (b .holder)))
 effect-moves v {s} a (makes u t d f g b m) = changes v u (withTime t s) a d (withMade t (s .level) d) f refl (making u t) _ (λ _. stays)
+effect-moves v {s} a (leaves u t room d f g b) = changes v u (withTime t s) a d (afterOutOfRate t d) f refl (outOfRate u t room) _ (λ _. stays)
 
 pub four-moves : FourMoves
 four-moves cs c v d e f h =

@@ -25,6 +25,7 @@ use Rattle.connection.specs.declared.parts.Pace.the-variants.{Unsent, Running}
 use Rattle.connection.specs.Parts.{fresh}
 use Rattle.connection.specs.Making.{withMade}
 use Rattle.connection.specs.Receiving.{offered, afterDataCell, afterBackwardCell, afterForwardCell, afterResourceCell}
+use Rattle.connection.specs.OutOfRate.{afterOutOfRate}
 use Rattle.connection.specs.Ready.{lastBefore}
 use Rattle.connection.specs.Kind.{isForward, isTurned, kindAt}
 use Rattle.connection.specs.Sending.{movedBy, sentForward, sentTurned, sentData, after}
@@ -35,8 +36,8 @@ use Rattle.model.specs.Choice.{Winner, noneReady, wins, winner}
 use Rattle.model.proofs.Preserved.{valid-at}
 use Rattle.model.specs.declared.answer.Answer.{Answer}
 use Rattle.model.specs.declared.answer.Answer.the-variants.{Refused, Accepted, Idle, Sent}
-use Rattle.model.specs.Call.{Call, opening, closing, receiving, offering, levelling, slot, making, Outcome, goesTo}
-use Rattle.model.specs.Step.{refuse, accept, replay, ofOpen, openStep, closeStep, offerStep, readStep, receiveStep, levelStep, sendStep, idleStep, serveEntry, serve, slotStep, makeStep, step}
+use Rattle.model.specs.Call.{Call, opening, closing, receiving, offering, levelling, slot, making, outOfRate, Outcome, goesTo}
+use Rattle.model.specs.Step.{refuse, accept, replay, ofOpen, openStep, closeStep, offerStep, readStep, receiveStep, levelStep, sendStep, idleStep, serveEntry, serve, slotStep, makeStep, sendOutside, outOfRateStep, step}
 use Rattle.promises.specs.Demand3.{Comparable, equal, congested, SamePlace}
 use Rattle.promises.proofs.Relation.{lowered, Lower, vacant, lower, Tables, tables, isFree-same, find-lower, put-tables, inserted-tables, roomLeft-same, last-same, withTime-tables, withLevel-tables}
 use Rattle.promises.proofs.Readings.{MoreCongested, NotLessCongested, alike, moreCongested, reading-congested}
@@ -147,7 +148,7 @@ read-meets w r o (User v e) = ofOpen-meets r (find-lower v r) _ _ λ c a _ l _. 
 read-meets w r o (Resource f) = resource-meets w r o f
 
 -- two backward cells, the second at least as congested
-work-backward : (level : ℕ) (o : List ℕ) (f : Fields) (c : Connection) → f .dir ≡ 1 → afterResourceCell level o f c ≡ afterBackwardCell f c
+pub work-backward : (level : ℕ) (o : List ℕ) (f : Fields) (c : Connection) → f .dir ≡ 1 → afterResourceCell level o f c ≡ afterBackwardCell f c
 unfolding afterResourceCell
 work-backward level o f c e = rw e
 
@@ -245,6 +246,21 @@ make-meets (tables l u hs) v t =
     (require-meets (tables l u hs) 17 _ _ refl λ _.
     accept-both _ _ (put-tables v (lower (withMade t l c) a h) (withTime-tables t (tables l u hs))))))
 
+-- A cell outside the rate, at the same places in both: its octets may differ in CCR, as a slot's may.
+outside-both : {s₁ s₂ : State} → Tables s₁ s₂ → (t v : ℕ) (c : Connection) (a : ℕ) → a ≤ c .rate .acr → Both (sendOutside s₁ t v c) (sendOutside s₂ t v (lowered c a))
+unfolding sendOutside afterOutOfRate
+outside-both r t v c a l = record { states = put-tables v (lower (afterOutOfRate t c) a l) r; answers = plain 0 0 }
+
+out-of-rate-meets : {s₁ s₂ : State} → Tables s₁ s₂ → (v t room : ℕ) → Meets (outOfRateStep s₁ v t room) (outOfRateStep s₂ v t room)
+unfolding outOfRateStep
+out-of-rate-meets r v t room =
+    require-meets r 1 _ _ refl
+    (require-meets r 8 _ _ refl
+    (ofOpen-meets r (find-lower v r) _ _ λ c a e l.
+    require-meets r 14 _ _ (ap (λ l. leb l t) (last-same r))
+    (require-meets r 18 _ _ refl λ _.
+    outside-both (withTime-tables t r) t v c a l)))
+
 -- Every call.
 same-meets : {s₁ s₂ : State} → WellFormed s₁ → Tables s₁ s₂ → (c : Call) → Meets (step s₁ c) (step s₂ c)
 unfolding step receiveStep
@@ -255,6 +271,7 @@ same-meets w r (offering v n) = offer-meets r v n
 same-meets w r (levelling l) = level-meets r l
 same-meets w r (slot t room) = slot-meets r t room
 same-meets w r (making v t) = make-meets r v t
+same-meets w r (outOfRate v t room) = out-of-rate-meets r v t room
 
 pub step-meets : {s₁ s₂ : State} → WellFormed s₁ → Tables s₁ s₂ → {c d : Call} → Comparable c d → Meets (step s₁ c) (step s₂ d)
 unfolding step receiveStep

@@ -4,15 +4,15 @@ use mathlib.Core.Path.{_≡_, refl, subst}
 use mathlib.Core.Option.{some}
 use Rattle.model.specs.State.{State, empty}
 use Rattle.model.specs.Call.{Call, Outcome, refusal}
-use Rattle.model.specs.Step.{refuse, accept, replay, sendStep, idleStep}
+use Rattle.model.specs.Step.{refuse, accept, replay, sendStep, idleStep, sendOutside}
 use Rattle.model.specs.Run.{final}
-use Rattle.model.proofs.Effects.{Effect, refuses, begins, ends, offers, marks, works, levels, idles, sends, makes, effect}
+use Rattle.model.proofs.Effects.{Effect, refuses, begins, ends, offers, marks, works, levels, idles, sends, makes, leaves, effect}
 use Rattle.model.proofs.Reached.{reached-well-formed}
 use Rattle.promises.specs.Refusals.{Unchanged, RefusedUnchanged}
 use Rattle.promises.proofs.Pairs.{none≢some}
 
 effect-refused : {s : State} {c : Call} {o : Outcome} → Effect s c o → (n : ℕ) → refusal (o .answer) ≡ some n → Unchanged s n o
-unfolding refuse accept replay sendStep idleStep refusal
+unfolding refuse accept replay sendStep idleStep sendOutside refusal
 effect-refused (refuses c m h) n e = let q : m ≡ n = cc in record { table = refl; buffer = refl; number = subst (λ (k : ℕ). 0 < k) q h }
 effect-refused (begins u t p g) n e = absurd (none≢some e)
 effect-refused (ends u d f) n e = absurd (none≢some e)
@@ -23,6 +23,7 @@ effect-refused (levels l h) n e = absurd (none≢some e)
 effect-refused (idles t room g b) n e = absurd (none≢some e)
 effect-refused (sends t room i u g b) n e = absurd (none≢some e)
 effect-refused (makes u t d f g b m) n e = absurd (none≢some e)
+effect-refused (leaves u t room d f g b) n e = absurd (none≢some e)
 
 pub refused-unchanged : RefusedUnchanged
 refused-unchanged cs c n e = effect-refused (effect (final empty cs) (reached-well-formed cs .unique) c) n e

@@ -26,15 +26,15 @@ use Rattle.promises.specs.SentWaited.{Waited, SentWaited}
 use Rattle.promises.proofs.Pairs.{none≢some, sent-same}
 
 -- what is known of a connection that a slot at t goes to
-record Serves (t : ℕ) (c : Connection) (a : Answer) (v : ℕ) : Type 0 where
-  instant : ℕ
-  readyAt : readyInstant c ≡ At instant
-  due : instant ≤ t
-  acr : ℕ
-  comparisons : ℕ
-  answer : a ≡ Sent v (kindAt t c) acr comparisons
+pub record Serves (t : ℕ) (c : Connection) (a : Answer) (v : ℕ) : Type 0 where
+  pub instant : ℕ
+  pub readyAt : readyInstant c ≡ At instant
+  pub due : instant ≤ t
+  pub acr : ℕ
+  pub comparisons : ℕ
+  pub answer : a ≡ Sent v (kindAt t c) acr comparisons
 
-serves :
+pub serves :
     {s : State} (t room v : ℕ) (c : Connection) → find v (s .entries) ≡ taken c → {o : Outcome} → Effect s (slot t room) o → goesTo (o .answer) ≡ some v
     → Serves t c (o .answer) v
 unfolding refuse sendStep idleStep goesTo

@@ -10,7 +10,7 @@ use Rattle.model.specs.Choice.{winner}
 use Rattle.model.specs.Tournament.{levels, winnerAt, inTime}
 use Rattle.model.specs.declared.answer.Answer.{Answer}
 use Rattle.model.specs.declared.answer.Answer.the-variants.{Refused, Accepted, Idle, Sent}
-use Rattle.model.specs.Call.{Call, opening, closing, receiving, offering, levelling, slot, making, comparisons}
+use Rattle.model.specs.Call.{Call, opening, closing, receiving, offering, levelling, slot, making, outOfRate, comparisons}
 use Rattle.model.specs.Step.{step}
 use Rattle.model.specs.Run.{final, isAccepted}
 use Rattle.abr.specs.Exports.{Observation, Trace, zeros}
@@ -25,6 +25,7 @@ replays (offering v n) sent = true
 replays (levelling l) sent = false
 replays (slot t room) sent = sent
 replays (making v t) sent = true
+replays (outOfRate v t room) sent = false
 
 abbrev pub opensOne : Call → Bool
 opensOne (opening v t p) = true
@@ -34,6 +35,7 @@ opensOne (offering v n) = false
 opensOne (levelling l) = false
 opensOne (slot t room) = false
 opensOne (making v t) = false
+opensOne (outOfRate v t room) = false
 
 -- the comparisons n of a call, which was accepted or not, and sent a cell or not
 pub record Counted (c : Call) (accepted sent : Bool) (n : ℕ) : Type 0 where
@@ -42,7 +44,7 @@ pub record Counted (c : Call) (accepted sent : Bool) (n : ℕ) : Type 0 where
   pub least : accepted ≡ true → replays c sent ≡ true → 1 ≤ n
   -- a connection is not ready when it is opened: its leaf wins nothing, and no winner changes
   pub begins : accepted ≡ true → opensOne c ≡ true → n ≡ 1
-  -- an idle slot and a level that is set make none, nor does a refused call
+  -- an idle slot, a level that is set and a cell outside the rate make none, nor does a refused call
   pub noReplay : replays c sent ≡ false → n ≡ 0
   pub refused : accepted ≡ false → n ≡ 0
 

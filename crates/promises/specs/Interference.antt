@@ -9,7 +9,7 @@ use Rattle.cell.specs.declared.read.Reading.the-variants.{Refused, User, Resour
 use Rattle.cell.specs.Reading.{reading}
 use Rattle.model.specs.State.{empty, find}
 use Rattle.model.specs.declared.answer.Answer.{Answer}
-use Rattle.model.specs.Call.{Call, opening, closing, receiving, offering, levelling, slot, making, goesTo}
+use Rattle.model.specs.Call.{Call, opening, closing, receiving, offering, levelling, slot, making, outOfRate, goesTo}
 use Rattle.model.specs.Step.{step}
 use Rattle.model.specs.Run.{final}
 
@@ -28,6 +28,7 @@ names (offering v n) a = some v
 names (levelling l) a = none
 names (slot t room) a = goesTo a
 names (making v t) a = some v
+names (outOfRate v t room) a = some v
 
 -- after any list of calls from the empty table
 abbrev pub NoInterference : Type 0

@@ -5,6 +5,7 @@ pub mod Exports
 pub mod Witness
 pub mod Unstarred
 pub mod Makings
+pub mod OutOfRateCalls
 pub mod Refusals
 pub mod Interference
 pub mod Moves
@@ -13,4 +14,6 @@ pub mod Spacing
 pub mod SentWaited
 pub mod Liveness
 pub mod Comparisons
+pub mod Restart
+pub mod OutOfRate
 pub mod Counts

@@ -1,6 +1,7 @@
 -- What a connection that waits can count on: it is ready in time, and slots reach it. (Beyond document 01's demands; "Slots" says who is ready when.)
-use Prim.Native.Nat.{ℕ, _+_, _≤_}
+use Prim.Native.Nat.{ℕ, _+_, _≤_, _<_}
 use mathlib.Core.Path.{_≡_}
+use mathlib.Core.Logic.{_≢_}
 use mathlib.Core.Bool.{true}
 use mathlib.Core.List.{List, [], _∷_}
 use mathlib.Core.Option.{some}
@@ -10,7 +11,7 @@ use Rattle.rate.specs.Gap.{gap}
 use Rattle.connection.specs.declared.parts.Connection.{Connection}
 use Rattle.connection.specs.declared.parts.Pace.{Pace}
 use Rattle.connection.specs.declared.parts.Pace.the-variants.{Unsent, Running}
-use Rattle.connection.specs.declared.ready.Instant.the-variants.{At}
+use Rattle.connection.specs.declared.ready.Instant.the-variants.{Never, At}
 use Rattle.connection.specs.Ready.{anyWaits, readyInstant}
 use Rattle.model.specs.State.{State, taken, capacity, empty, find}
 use Rattle.model.specs.Invariant.{Each}
@@ -19,15 +20,15 @@ use Rattle.model.specs.Call.{Call, slot, Outcome, goesTo}
 use Rattle.model.specs.Step.{step}
 use Rattle.model.specs.Run.{run, final, isAccepted}
 
--- before the first cell the opening time, afterwards a gap at the minimum rate after the last cell
-unfoldable pub latestReady : Connection → Pace → ℕ
-latestReady c Unsent = c .opened
-latestReady c (Running sent forward k turned) = sent + gap (least (c .rate .params))
+-- before the first cell the opening time, afterwards a gap at this rate after the last cell
+unfoldable pub latestReady : (rate : ℕ) → Connection → Pace → ℕ
+latestReady a c Unsent = c .opened
+latestReady a c (Running sent forward k turned) = sent + gap a
 
-pub record ReadySoon (c : Connection) : Type 0 where
+pub record ReadySoon (rate : ℕ) (c : Connection) : Type 0 where
   pub instant : ℕ
   pub readyAt : readyInstant c ≡ At instant
-  pub soon : instant ≤ latestReady c (c .pace)
+  pub soon : instant ≤ latestReady rate c (c .pace)
 
 -- the outcome is a cell of a connection of s that comes before instant i of name v, or is the same
 pub record Precedes (s : State) (i v : ℕ) (o : Outcome) : Type 0 where
@@ -60,8 +61,13 @@ slots (t ∷ ts) = slot t 53 ∷ slots ts
 
 -- In every table s that calls make from the empty one, of a connection c with the name v:
 pub record Live (s : State) (v : ℕ) (c : Connection) : Type 0 where
-  -- if data, a turned or a made cell waits, it is ready, and no later than that
-  pub ready : anyWaits c ≡ true → ReadySoon c
+  -- if data, a turned or a made cell waits, and the contract has a minimum, it is ready no later than a gap at the minimum after its last cell
+  pub guaranteed : anyWaits c ≡ true → 0 < least (c .rate .params) → ReadySoon (least (c .rate .params)) c
+  -- with a minimum or without, no later than a gap at the allowed rate, if that is above 0 (document 02, L5)
+  pub ready : anyWaits c ≡ true → 0 < c .rate .acr → ReadySoon (c .rate .acr) c
+  -- at an allowed rate of 0 it is never ready, whatever waits, and no slot goes to it
+  pub never : c .rate .acr ≡ 0 → readyInstant c ≡ Never
+  pub passedOver : (t room : ℕ) → c .rate .acr ≡ 0 → goesTo (step s (slot t room) .answer) ≢ some v
   -- from its ready instant on, an accepted slot is not idle: it goes to one that does not come after it
   pub ahead : (i t room : ℕ) → readyInstant c ≡ At i → i ≤ t → IsAccepted (step s (slot t room)) → Precedes s i v (step s (slot t room))
   -- and to itself, if no connection comes before it

@@ -15,7 +15,7 @@ use Rattle.connection.specs.Sending.{Buffer, written}
 use Rattle.model.specs.State.{State, taken, empty, find}
 use Rattle.model.specs.declared.answer.Answer.{Answer}
 use Rattle.model.specs.declared.answer.Answer.the-variants.{Sent}
-use Rattle.model.specs.Call.{Call, opening, closing, receiving, offering, levelling, slot, making}
+use Rattle.model.specs.Call.{Call, opening, closing, receiving, offering, levelling, slot, making, outOfRate}
 use Rattle.model.specs.Step.{step}
 use Rattle.model.specs.Run.{final}
 
@@ -34,6 +34,7 @@ Quiet v (offering u n) a = Unit
 Quiet v (levelling l) a = Unit
 Quiet v (slot t room) a = (acr n : ℕ) → a ≢ Sent v Turned acr n
 Quiet v (making u t) a = Unit
+Quiet v (outOfRate u t room) a = Unit
 
 abbrev pub AllQuiet : ℕ → State → List Call → Type 0
 AllQuiet v s [] = Unit

@@ -21,12 +21,12 @@ cond-mono false p q = q
 
 -- another rate between the bounds
 still-between : {p : Params} {x : ℕ} → Between p x → (a : ℕ) → least p ≤ a → a ≤ peak p → Between p a
-still-between h a l u = record { floor = h .floor; low = h .low; high = h .high; above = l; below = u }
+still-between h a l u = record { low = h .low; high = h .high; above = l; below = u }
 
 -- A connection as it is opened.
 pub opened-in-bounds : (p : Params) → paramsFit p ≡ true → RateInBounds (opened p)
 opened-in-bounds p e =
-    let f = fits p e in record { floor = f .floor; low = f .low; high = f .high; above = f .low; below = f .high }
+    let f = fits p e in record { low = f .low; high = f .high; above = f .low; below = f .high }
 
 -- First cell.
 pub firstCell-in-bounds : (q : Rate) → RateInBounds q → RateInBounds (firstCell q)

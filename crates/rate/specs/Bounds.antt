@@ -8,7 +8,7 @@ pub record Fits (p : Params) : Type 0 where
   pub pcrCode : p .pcr ≤ 65535
   pub mcrCode : p .mcr ≤ 65535
   pub icrCode : p .icr ≤ 65535
-  pub floor : 512 ≤ least p
+  pub peakLeast : 512 ≤ peak p
   pub low : least p ≤ initial p
   pub high : initial p ≤ peak p
   pub nLeast : 1 ≤ p .n
@@ -24,7 +24,6 @@ pub record Fits (p : Params) : Type 0 where
 
 -- parameters in order, and a rate between their minimum and their peak
 pub record Between (p : Params) (a : ℕ) : Type 0 where
-  pub floor : 512 ≤ least p
   pub low : least p ≤ initial p
   pub high : initial p ≤ peak p
   pub above : least p ≤ a

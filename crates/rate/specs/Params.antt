@@ -20,9 +20,9 @@ initial p = rateOf (p .icr)
 unfoldable pub within : ℕ → ℕ → ℕ → Bool
 within low high x = leb low x && leb x high
 
--- 512 ≤ MCR ≤ ICR ≤ PCR, as rates
+-- 0 ≤ MCR ≤ ICR ≤ PCR and 512 ≤ PCR, as rates (document 02, L5)
 unfoldable pub ratesFit : Params → Bool
-ratesFit p = leb 512 (least p) && (leb (least p) (initial p) && leb (initial p) (peak p))
+ratesFit p = leb 512 (peak p) && (leb (least p) (initial p) && leb (initial p) (peak p))
 
 -- codes of 16 bits
 unfoldable pub codesFit : Params → Bool

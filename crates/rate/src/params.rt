@@ -104,14 +104,14 @@ impl Params {
         self.pcr <= 65535 && (self.mcr <= 65535 && self.icr <= 65535)
     }
 
-    // The minimum is 512 or more, the initial rate not below it, the peak not below that.
+    // The peak is 512 or more, the minimum may be 0, the initial rate lies between them (document 02, L5).
     fn rates_fit(self) -> bool
         ensures { λ b. ⌜ b ≡ ratesFit self ⌝ }
     {
         let least = self.least();
         let initial = self.initial();
         let peak = self.peak();
-        512 <= least && (least <= initial && initial <= peak)
+        512 <= peak && (least <= initial && initial <= peak)
     }
 
     // CRM, ADTF and the Trm number.

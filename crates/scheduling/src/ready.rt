@@ -1,7 +1,7 @@
 // When a connection may send (document 01, "Slots").
 ghost use mathlib.Core.Path.{_≡_};
 ghost use Prim.Native.Nat.{max};
-ghost use Rattle.connection.specs.Ready.{waits, backwardWaits, anyWaits, lastBefore, readyInstant};
+ghost use Rattle.connection.specs.Ready.{waits, backwardWaits, anyWaits, lastBefore, readyFrom, readyInstant};
 ghost use Rattle.connection.specs.Range.{InRange, InstantBelow};
 use connection::parts::Connection;
 use connection::parts::Destination;
@@ -56,9 +56,10 @@ fn later(a: u64, b: u64) -> u64
     if a < b { b } else { a }
 }
 
-pub fn ready_instant(c: Connection) -> Instant
+// Of a connection whose allowed rate is not 0.
+fn ready_from(c: Connection) -> Instant
     requires { ⌜ InRange c ⌝ }
-    ensures equal { λ r. ⌜ r ≡ readyInstant c ⌝ }
+    ensures equal { λ r. ⌜ r ≡ readyFrom c (c .pace) ⌝ }
     ensures below { λ r. ⌜ InstantBelow r ⌝ }
 {
     let pace = c.pace;
@@ -88,4 +89,16 @@ pub fn ready_instant(c: Connection) -> Instant
             Instant::At(later(due, forward + c.trm))
         }
     }
+}
+
+// At an allowed rate of 0 it is never ready (document 02, L5).
+pub fn ready_instant(c: Connection) -> Instant
+    requires { ⌜ InRange c ⌝ }
+    ensures equal { λ r. ⌜ r ≡ readyInstant c ⌝ }
+    ensures below { λ r. ⌜ InstantBelow r ⌝ }
+{
+    if c.rate.acr == 0 {
+        return Instant::Never;
+    }
+    ready_from(c)
 }

@@ -102,13 +102,13 @@ module _ (l k m : List ℕ) (i : ℕ) (h : i < capacity) (d : Connection) (n : �
   updates f r = record { is = λ s w e c g p q b o. update-becomes s w i h c d g p o (f s w c g p q b e) r }
 
   pub source-updates : k ≡ sourceUpdated l i d → Replays k m i n → Updates SourceMoved l m i d n
-  source-updates g = updates {Moved = SourceMoved} (λ s w c f p q b e. g ∙ ap (λ (x : List ℕ). sourceUpdated x i d) e ∙ source-in s (w .size) i h c d f p q b)
+  source-updates g = updates {Moved = SourceMoved} (λ s w c f p q b e. g ∙ ap (λ (x : List ℕ). sourceUpdated x i d) e ∙ source-in s (w .size) i h c d f p q (b .0) (b .1))
 
   pub destination-updates : k ≡ destinationUpdated l i d → Replays k m i n → Updates DestinationMoved l m i d n
-  destination-updates g = updates {Moved = DestinationMoved} (λ s w c f p q b e. g ∙ ap (λ (x : List ℕ). destinationUpdated x i d) e ∙ destination-in s (w .size) i h c d f p q b)
+  destination-updates g = updates {Moved = DestinationMoved} (λ s w c f p q b e. g ∙ ap (λ (x : List ℕ). destinationUpdated x i d) e ∙ destination-in s (w .size) i h c d f p q (b .0) (b .1))
 
   pub both-updates : k ≡ updated l i d → Replays k m i n → Updates BothMoved l m i d n
-  both-updates g = updates {Moved = BothMoved} (λ s w c f p q b e. g ∙ ap (λ (x : List ℕ). updated x i d) e ∙ update-in s (w .size) i h c d f p q)
+  both-updates g = updates {Moved = BothMoved} (λ s w c f p q b e. g ∙ ap (λ (x : List ℕ). updated x i d) e ∙ update-in s (w .size) i h c d f p q b)
 
 pub takes :
     (l k j m : List ℕ) (i : ℕ) → i < capacity → (c : Connection) (n v : ℕ) → k ≡ entryFlipped (given l i (taken c)) i → v ≡ (c .name + 1) * capacity + i → Inserts v k j → Replays j m i n

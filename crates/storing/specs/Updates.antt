@@ -20,13 +20,13 @@ Becomes s m i x n = (m ≡ words (withEntry s i x)) × (n ≡ replayed i (s .ent
 
 -- which side of a connection may have moved
 abbrev pub SourceMoved : (before now : Connection) → Type 0
-SourceMoved c d = d .destination ≡ c .destination
+SourceMoved c d = (d .destination ≡ c .destination) × (d .outside ≡ c .outside)
 
 abbrev pub DestinationMoved : (before now : Connection) → Type 0
-DestinationMoved c d = sourceWords d ≡ sourceWords c
+DestinationMoved c d = (sourceWords d ≡ sourceWords c) × (d .outside ≡ c .outside)
 
 abbrev pub BothMoved : (before now : Connection) → Type 0
-BothMoved c d = Unit
+BothMoved c d = d .outside ≡ c .outside
 
 -- a connection that keeps its entry, its name and what its open fixed
 pub record Updates (Moved : Connection → Connection → Type 0) (l m : List ℕ) (i : ℕ) (d : Connection) (n : ℕ) : Type 0 where

@@ -4,9 +4,9 @@ ghost use mathlib.Core.Bool.{cond};
 ghost use Prim.Native.Nat.{_<_, _+_, _*_, _≤_};
 ghost use lib.ListN.{set, replicate};
 ghost use Rattle.laws.specs.Blocks.{put};
-ghost use Rattle.table.specs.Layout.{paceTag, paceSent, paceForward, paceK, waitTag, destinationTag, instantWord, waitingPayload, sourceWords, destinationWords, fixedWords, liveWidth, fixedWidth, size};
+ghost use Rattle.table.specs.Layout.{paceTag, paceSent, paceForward, paceK, waitTag, destinationTag, instantWord, waitingPayload, sourceWords, destinationWords, sideWords, fixedWords, liveFrom, liveWidth, fixedWidth, size};
 ghost use Rattle.connection.specs.Range.{InRange, InstantInRange};
-ghost use Rattle.table.specs.Storing.{efciUpdated, updated};
+ghost use Rattle.table.specs.Storing.{efciUpdated, outsideUpdated};
 ghost use Rattle.storing.specs.Updates.{Updates, SourceMoved, DestinationMoved, BothMoved, Takes, Leaves};
 ghost use Rattle.model.specs.State.{capacity};
 use crate::key::key_of;
@@ -27,6 +27,7 @@ use table::layout::KEYS;
 use table::layout::LIVE;
 use table::layout::LIVE_WIDTH;
 use table::layout::NAMES;
+use table::layout::OUTSIDE;
 use table::layout::WORDS;
 use tournament::replay::replay;
 
@@ -215,15 +216,22 @@ pub fn update_efci(t: &mut [u64; WORDS], i: usize, destination: Destination)
     t[DESTINATION + i * LIVE_WIDTH] = destination_tag(destination);
 }
 
-// Both sides and the ready key.
-fn put_live(t: &mut [u64; WORDS], i: usize, c: Connection)
+// An entry of which only the last cell outside the rate has moved: it moves no ready instant either.
+pub fn update_outside(t: &mut [u64; WORDS], i: usize, outside: Instant)
+    requires { ⌜ (i < capacity) × InstantInRange outside ⌝ }
+    ensures { λ _. ⌜ now (t .exit) ≡ outsideUpdated (now (t .entry)) i outside ⌝ }
+{
+    t[OUTSIDE + i * LIVE_WIDTH] = instant_word(outside);
+}
+
+// The words of both sides.
+fn put_sides(t: &mut [u64; WORDS], i: usize, c: Connection)
     requires { ⌜ (i < capacity) × InRange c ⌝ }
-    ensures { λ _. ⌜ now (t .exit) ≡ updated (now (t .entry)) i c ⌝ }
+    ensures { λ _. ⌜ now (t .exit) ≡ put (now (t .entry)) (liveFrom + i * liveWidth) (sideWords c) ⌝ }
 {
     put_source(t, LIVE + i * LIVE_WIDTH, c);
     let destination = c.destination;
     put_destination(t, DESTINATION + i * LIVE_WIDTH, destination);
-    t[KEYS + i] = key_of(c);
 }
 
 // An entry whose connection has moved on both sides.
@@ -231,7 +239,8 @@ pub fn update(t: &mut [u64; WORDS], i: usize, c: Connection) -> u32
     requires { ⌜ (i < capacity) × InRange c ⌝ }
     ensures { λ n. ⌜ Updates BothMoved (now (t .entry)) (now (t .exit)) i c n ⌝ }
 {
-    put_live(t, i, c);
+    put_sides(t, i, c);
+    t[KEYS + i] = key_of(c);
     replay(t, i)
 }
 
@@ -240,7 +249,10 @@ pub fn store(t: &mut [u64; WORDS], i: usize, c: Connection) -> u32
     requires { ⌜ (i < capacity) × InRange c ⌝ }
     ensures { λ n. ⌜ Takes (now (t .entry)) (now (t .exit)) i c n ⌝ }
 {
-    put_live(t, i, c);
+    put_sides(t, i, c);
+    let outside = c.outside;
+    update_outside(t, i, outside);
+    t[KEYS + i] = key_of(c);
     put_fixed(t, FIXED + i * FIXED_WIDTH, c);
     t[NAMES + i] = c.name as u64;
     flip_entry(t, i);
@@ -267,7 +279,7 @@ fn clear_fixed(t: &mut [u64; WORDS], b: usize)
 }
 
 fn clear_live(t: &mut [u64; WORDS], b: usize)
-    requires { ⌜ b + 16 ≤ size ⌝ }
+    requires { ⌜ b + 17 ≤ size ⌝ }
     ensures { λ _. ⌜ now (t .exit) ≡ put (now (t .entry)) b (replicate liveWidth 0) ⌝ }
 {
     clear_fixed(t, b);
@@ -275,6 +287,7 @@ fn clear_live(t: &mut [u64; WORDS], b: usize)
     t[b + 13] = 0;
     t[b + 14] = 0;
     t[b + 15] = 0;
+    t[b + 16] = 0;
 }
 
 // An entry that a connection of this name leaves.

@@ -95,6 +95,7 @@ words-back now c s t l h =
       efci-back (c .destination .efci) (c .destination .turned),
       turned-back (c .destination .efci) (c .destination .turned),
       made-back now (c .destination .made) l (h .2),
+      instant-back now (c .outside) l (h .3),
     )
 
 -- words further on in a list
@@ -124,6 +125,7 @@ load-ranged l i = record {
   opened = omega arith;
   trm = omega arith;
   made = instant-ranged (getD l (liveFrom + i * liveWidth + 14 + 1) 0);
+  outside = instant-ranged (getD l (liveFrom + i * liveWidth + 16) 0);
   pace = pace-ranged (getD l (liveFrom + i * liveWidth + 3) 0) (getD l (liveFrom + i * liveWidth + 3 + 1) 0) (getD l (liveFrom + i * liveWidth + 3 + 2) 0) (getD l (liveFrom + i * liveWidth + 3 + 3) 0) .0;
 }
 

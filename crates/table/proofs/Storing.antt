@@ -1,36 +1,43 @@
 -- A store's words, from what its calls have stored before.
 use Prim.Native.Nat.{ℕ, _+_, _*_}
 use mathlib.Core.Path.{_≡_, ap, _∙_}
-use mathlib.Core.List.{List}
+use mathlib.Core.List.{List, _++_}
 use native.Mathlib.Omega.{arith}
 use lib.ListN.{set, replicate}
 use Rattle.laws.specs.Blocks.{put}
 use Rattle.laws.proofs.Blocks.{put-append}
 use Rattle.connection.specs.declared.parts.Connection.{Connection}
 use Rattle.connection.specs.Ready.{readyInstant}
-use Rattle.table.specs.Layout.{key, keyOf, nameOf, liveOf, fixedOf, sourceWords, destinationWords, liveWords, namesFrom, keysFrom, liveFrom, liveWidth, destinationFrom, fixedFrom, fixedWidth}
+use Rattle.table.specs.Layout.{key, instantWord, outsideWords, outsideFrom, keyOf, nameOf, liveOf, fixedOf, sourceWords, destinationWords, sideWords, liveWords, namesFrom, keysFrom, liveFrom, liveWidth, destinationFrom, fixedFrom, fixedWidth}
 use Rattle.model.specs.State.{Entry}
-use Rattle.table.specs.Storing.{updated, given}
+use Rattle.table.specs.Storing.{outsideUpdated, given}
 
 -- the key behind what was put
 pub keyed : (l m : List ℕ) (p i k : ℕ) (v : List ℕ) (c : Connection) → m ≡ put l p v → k ≡ key (readyInstant c) → set m (keysFrom + i) k ≡ set (put l p v) (keysFrom + i) (key (readyInstant c))
 keyed l m p i k v c e g = ap (λ (x : List ℕ). set x (keysFrom + i) k) e ∙ ap (λ (x : ℕ). set (put l p v) (keysFrom + i) x) g
 
 -- both sides
-pub updated-by :
-    (l m n : List ℕ) (i k : ℕ) (c : Connection) → m ≡ put l (liveFrom + i * liveWidth) (sourceWords c) → n ≡ put m (destinationFrom + i * liveWidth) (destinationWords (c .destination)) → k ≡ key (readyInstant c)
-    → set n (keysFrom + i) k ≡ updated l i c
-updated-by l m n i k c e f g =
-    keyed l n (liveFrom + i * liveWidth) i k (liveWords c) c
-    (f ∙ ap (λ (x : List ℕ). put x (destinationFrom + i * liveWidth) (destinationWords (c .destination))) e ∙ ap (λ (p : ℕ). put (put l (liveFrom + i * liveWidth) (sourceWords c)) p (destinationWords (c .destination))) at
-    ∙ put-append l (liveFrom + i * liveWidth) (sourceWords c) (destinationWords (c .destination)))
-    g
+pub sides-by :
+    (l m n : List ℕ) (i : ℕ) (c : Connection) → m ≡ put l (liveFrom + i * liveWidth) (sourceWords c) → n ≡ put m (destinationFrom + i * liveWidth) (destinationWords (c .destination))
+    → n ≡ put l (liveFrom + i * liveWidth) (sideWords c)
+sides-by l m n i c e f =
+    f ∙ ap (λ (x : List ℕ). put x (destinationFrom + i * liveWidth) (destinationWords (c .destination))) e ∙ ap (λ (p : ℕ). put (put l (liveFrom + i * liveWidth) (sourceWords c)) p (destinationWords (c .destination))) at
+    ∙ put-append l (liveFrom + i * liveWidth) (sourceWords c) (destinationWords (c .destination))
   where
     at : destinationFrom + i * liveWidth ≡ liveFrom + i * liveWidth + 7
     at = omega arith
 
-pub cleared-live-by : (l m : List ℕ) (b : ℕ) → m ≡ put l b (replicate fixedWidth 0) → set (set (set (set m (b + 12) 0) (b + 13) 0) (b + 14) 0) (b + 15) 0 ≡ put l b (replicate liveWidth 0)
-cleared-live-by l m b e = ap (λ (x : List ℕ). set (set (set (set x (b + 12) 0) (b + 13) 0) (b + 14) 0) (b + 15) 0) e
+-- and the last cell outside the rate
+pub live-by : (l m n : List ℕ) (i : ℕ) (c : Connection) → m ≡ put l (liveFrom + i * liveWidth) (sideWords c) → n ≡ outsideUpdated m i (c .outside) → n ≡ put l (liveFrom + i * liveWidth) (liveWords c)
+live-by l m n i c e f =
+    f ∙ ap (λ (x : List ℕ). outsideUpdated x i (c .outside)) e ∙ ap (λ (p : ℕ). set (put l (liveFrom + i * liveWidth) (sideWords c)) p (instantWord (c .outside))) behind
+    ∙ put-append l (liveFrom + i * liveWidth) (sideWords c) (outsideWords c)
+  where
+    behind : outsideFrom + i * liveWidth ≡ liveFrom + i * liveWidth + 16
+    behind = omega arith
+
+pub cleared-live-by : (l m : List ℕ) (b : ℕ) → m ≡ put l b (replicate fixedWidth 0) → set (set (set (set (set m (b + 12) 0) (b + 13) 0) (b + 14) 0) (b + 15) 0) (b + 16) 0 ≡ put l b (replicate liveWidth 0)
+cleared-live-by l m b e = ap (λ (x : List ℕ). set (set (set (set (set x (b + 12) 0) (b + 13) 0) (b + 14) 0) (b + 15) 0) (b + 16) 0) e
 
 -- the whole entry, one column after the other
 pub given-by :

@@ -19,9 +19,9 @@ use Rattle.connection.specs.Ready.{readyInstant}
 use Rattle.connection.specs.Invariant.{ValidAt}
 use Rattle.model.specs.State.{State, Entry, free, taken, empty, capacity}
 use Rattle.model.specs.Tournament.{instantLead, leafLead}
-use Rattle.table.specs.Layout.{nameOf, keyOf, liveOf, fixedOf, destinationTag, waitingPayload, payloadWords, madeWords, key, sourceWords, destinationWords, liveWords, fixedWords, columns, isTaken, used, directory, nodes, tableWords, words, groups, namesFrom, keysFrom, liveFrom, liveWidth, fixedFrom, fixedWidth, size}
+use Rattle.table.specs.Layout.{nameOf, keyOf, liveOf, fixedOf, destinationTag, waitingPayload, payloadWords, madeWords, outsideWords, instantWord, key, sourceWords, destinationWords, sideWords, liveWords, fixedWords, columns, isTaken, used, directory, nodes, tableWords, words, groups, namesFrom, keysFrom, liveFrom, liveWidth, fixedFrom, fixedWidth, size}
 use Rattle.table.specs.Loading.{connectionFrom, connectionAt}
-use Rattle.table.specs.Storing.{sourceUpdated, destinationUpdated, efciUpdated, updated, given}
+use Rattle.table.specs.Storing.{sourceUpdated, destinationUpdated, efciUpdated, outsideUpdated, updated, given}
 use Rattle.table.proofs.Loaded.{words-back, from-drop}
 use Rattle.table.proofs.Columns.{name-wide, key-wide, fixed-wide, live-wide, mixed, Rows, set-name, set-key, set-part, set-live, set-fixed, get-name, get-key, get-live, get-fixed}
 use Rattle.table.proofs.Used.{used-free, used-same}
@@ -155,38 +155,46 @@ module _ (s : State) (g : length (s .entries) ≡ capacity) (i : ℕ) (h : i < c
     part-at k o v z a b l =
         ap (λ (y : List ℕ). set y (keysFrom + i) (key (readyInstant d))) (part-in (taken d) k o v z (ap liveOf e ∙ a) b l) ∙ key-in (taken d) ∙ kept
 
-    pub update-in : updated (words s) i d ≡ columnsOf ys
-    update-in = part-at [] (liveWords c) (liveWords d) [] (sym (append-nil (liveWords c))) (sym (append-nil (liveWords d))) refl
+    pub update-in : d .outside ≡ c .outside → updated (words s) i d ≡ columnsOf ys
+    update-in o = part-at [] (sideWords c) (sideWords d) (outsideWords c) refl (ap (λ (z : Instant). sideWords d ++ (instantWord z ∷ [])) o) refl
 
-    pub source-in : d .destination ≡ c .destination → sourceUpdated (words s) i d ≡ columnsOf ys
-    source-in b = part-at [] (sourceWords c) (sourceWords d) (destinationWords (c .destination)) refl (ap (λ (y : Destination). sourceWords d ++ destinationWords y) b) refl
+    pub source-in : d .destination ≡ c .destination → d .outside ≡ c .outside → sourceUpdated (words s) i d ≡ columnsOf ys
+    source-in b o =
+        part-at [] (sourceWords c) (sourceWords d) (destinationWords (c .destination) ++ outsideWords c) refl
+        (ap₂ (λ (y : Destination) (z : Instant). sourceWords d ++ (destinationWords y ++ (instantWord z ∷ []))) b o) refl
 
-    pub destination-in : sourceWords d ≡ sourceWords c → destinationUpdated (words s) i d ≡ columnsOf ys
-    destination-in f =
-        part-at (sourceWords c) (destinationWords (c .destination)) (destinationWords (d .destination)) [] refl
-        (ap (λ (y : List ℕ). y ++ destinationWords (d .destination)) f ∙ ap (λ (y : List ℕ). sourceWords c ++ y) (sym (append-nil (destinationWords (d .destination))))) refl
+    pub destination-in : sourceWords d ≡ sourceWords c → d .outside ≡ c .outside → destinationUpdated (words s) i d ≡ columnsOf ys
+    destination-in f o =
+        part-at (sourceWords c) (destinationWords (c .destination)) (destinationWords (d .destination)) (outsideWords c) refl
+        (ap₂ (λ (y : List ℕ) (z : Instant). y ++ (destinationWords (d .destination) ++ (instantWord z ∷ []))) f o) refl
 
-    -- a key that is already there changes nothing
-    efci-in :
-        sourceWords d ≡ sourceWords c → d .destination .turned ≡ c .destination .turned → d .destination .made ≡ c .destination .made → readyInstant d ≡ readyInstant c
-        → efciUpdated (words s) i (d .destination) ≡ columnsOf ys
-    efci-in f t m r =
-        part-in (taken d) (sourceWords c) (destinationTag (c .destination) ∷ []) (destinationTag (d .destination) ∷ []) (payloadWords (waitingPayload (c .destination .turned)) ++ madeWords (c .destination .made))
-        (ap liveOf e) (ap (λ (y : List ℕ). y ++ destinationWords (d .destination)) f ∙ ap₂ (λ (y : Waiting) (z : Made). sourceWords c ++ (destinationTag (d .destination) ∷ (payloadWords (waitingPayload y) ++ madeWords z))) t m) refl
+    -- A part of the live words that moves no ready instant: the key is already there, no winner changes, and the words are those of the state with the entry changed.
+    silent-at :
+        (k o v z : List ℕ) → liveWords c ≡ k ++ (o ++ z) → liveWords d ≡ k ++ (v ++ z) → length o ≡ length v → readyInstant d ≡ readyInstant c
+        → put (words s) (liveFrom + length k + i * liveWidth) v ≡ words (with (taken d))
+    unfolding words isTaken
+    silent-at k o v z a b l r =
+        part-in (taken d) k o v z (ap liveOf e ∙ a) b l
         ∙ ap (λ (y : List ℕ). header s ++ (y ++ (flat nameOf (s .entries) ++ (flat liveOf ys ++ flat fixedOf (s .entries)))))
         (sym (flat-same keyOf 1 key-wide (s .entries) i (taken d) free inside (ap (λ (x : Instant). key x ∷ []) r ∙ ap keyOf (sym e))))
         ∙ kept
-
-    -- then no winner changes, and the words are those of the state with the entry changed
-    pub efci-at :
-        sourceWords d ≡ sourceWords c → d .destination .turned ≡ c .destination .turned → d .destination .made ≡ c .destination .made → readyInstant d ≡ readyInstant c
-        → efciUpdated (words s) i (d .destination) ≡ words (with (taken d))
-    unfolding words isTaken
-    efci-at f t m r =
-        efci-in f t m r
         ∙ ap (λ (y : List ℕ). tableWords (s .level) (s .last) y (directory (s .entries)) (nodes (s .entries)) ys) (sym (used-same (s .entries) i (taken d) (sym (ap isTaken e))))
         ∙ ap (λ (y : List ℕ). tableWords (s .level) (s .last) (used ys) y (nodes (s .entries)) ys) (sym (directory-same (s .entries) i c d e p))
         ∙ ap (λ (y : List ℕ). tableWords (s .level) (s .last) (used ys) (directory ys) y ys) (sym (nodes-same (s .entries) i (taken d) inside (lead-same i c d p r ∙ ap (leafLead i) (sym e))))
+
+    pub efci-at :
+        sourceWords d ≡ sourceWords c → d .destination .turned ≡ c .destination .turned → d .destination .made ≡ c .destination .made → d .outside ≡ c .outside → readyInstant d ≡ readyInstant c
+        → efciUpdated (words s) i (d .destination) ≡ words (with (taken d))
+    efci-at f t m o =
+        silent-at (sourceWords c) (destinationTag (c .destination) ∷ []) (destinationTag (d .destination) ∷ [])
+        ((payloadWords (waitingPayload (c .destination .turned)) ++ madeWords (c .destination .made)) ++ outsideWords c) refl
+        (ap₂ (λ (y : List ℕ) (x : Instant). y ++ (destinationWords (d .destination) ++ (instantWord x ∷ []))) f o
+        ∙ ap₂ (λ (y : Waiting) (z : Made). sourceWords c ++ (destinationTag (d .destination) ∷ ((payloadWords (waitingPayload y) ++ madeWords z) ++ outsideWords c))) t m) refl
+
+    pub outside-at : sourceWords d ≡ sourceWords c → d .destination ≡ c .destination → readyInstant d ≡ readyInstant c → outsideUpdated (words s) i (d .outside) ≡ words (with (taken d))
+    outside-at f b =
+        silent-at (sourceWords c ++ destinationWords (c .destination)) (outsideWords c) (outsideWords d) [] refl
+        (ap₂ (λ (y : List ℕ) (z : Destination). y ++ (destinationWords z ++ outsideWords d)) f b) refl
 
 -- the empty table is all zero
 zeros : (n : ℕ) (k : ℕ) → n * 1 + (n * 1 + (n * liveWidth + n * fixedWidth)) ≡ k

@@ -62,10 +62,13 @@ abbrev pub destinationWidth : ℕ
 destinationWidth = 9
 
 abbrev pub liveWidth : ℕ
-liveWidth = sourceWidth + destinationWidth
+liveWidth = sourceWidth + destinationWidth + 1
 
 abbrev pub destinationFrom : ℕ
 destinationFrom = liveFrom + sourceWidth
+
+abbrev pub outsideFrom : ℕ
+outsideFrom = destinationFrom + destinationWidth
 
 abbrev pub fixedFrom : ℕ
 fixedFrom = liveFrom + capacity * liveWidth
@@ -116,7 +119,7 @@ abbrev pub sourceWords : Connection → List ℕ
 sourceWords c =
     c .rate .acr ∷ c .unacked ∷ c .queue .cells ∷ paceTag (c .pace) ∷ paceSent (c .pace) ∷ paceForward (c .pace) ∷ paceK (c .pace) ∷ []
 
--- the last making: 0 if there was none, else its instant plus 1
+-- the last making, or the last cell outside the rate: 0 if there was none, else its instant plus 1
 abbrev pub instantWord : Instant → ℕ
 instantWord Never = 0
 instantWord (At i) = i + 1
@@ -127,8 +130,15 @@ madeWords m = m .level ∷ instantWord (m .last) ∷ []
 abbrev pub destinationWords : Destination → List ℕ
 destinationWords d = destinationTag d ∷ (payloadWords (waitingPayload (d .turned)) ++ madeWords (d .made))
 
+-- behind them the last cell outside the rate
+abbrev pub outsideWords : Connection → List ℕ
+outsideWords c = instantWord (c .outside) ∷ []
+
+abbrev pub sideWords : Connection → List ℕ
+sideWords c = sourceWords c ++ destinationWords (c .destination)
+
 abbrev pub liveWords : Connection → List ℕ
-liveWords c = sourceWords c ++ destinationWords (c .destination)
+liveWords c = sideWords c ++ outsideWords c
 
 -- what its open fixed
 abbrev pub fixedWords : Connection → List ℕ

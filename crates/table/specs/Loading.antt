@@ -62,6 +62,7 @@ connectionFrom name l a m b = record {
   unacked = getD l (a + 1) 0 % 2 ^ 32;
   queue = record { cells = getD l (a + 2) 0 % 2 ^ 32 };
   destination = record { efci = eqb (getD l (a + 7) 0 % 2) 1; turned = waitingAt l (a + 7); made = madeAt l (a + 14) };
+  outside = instantOf (getD l (a + 16) 0);
 }
 
 abbrev pub connectionAt : List ℕ → (entry : ℕ) → Connection

@@ -6,9 +6,10 @@ use lib.ListN.{getD, set}
 use Rattle.laws.specs.Blocks.{put}
 use Rattle.connection.specs.declared.parts.Destination.{Destination}
 use Rattle.connection.specs.declared.parts.Connection.{Connection}
+use Rattle.connection.specs.declared.ready.Instant.{Instant}
 use Rattle.connection.specs.Ready.{readyInstant}
 use Rattle.model.specs.State.{Entry}
-use Rattle.table.specs.Layout.{destinationTag, key, sourceWords, destinationWords, liveWords, keyOf, nameOf, liveOf, fixedOf, usedFrom, namesFrom, keysFrom, liveFrom, liveWidth, destinationFrom, fixedFrom, fixedWidth}
+use Rattle.table.specs.Layout.{destinationTag, key, sourceWords, destinationWords, sideWords, keyOf, nameOf, liveOf, fixedOf, usedFrom, namesFrom, keysFrom, liveFrom, liveWidth, destinationFrom, outsideFrom, instantWord, fixedFrom, fixedWidth}
 
 -- a connection whose sending side has moved
 abbrev pub sourceUpdated : List ℕ → (entry : ℕ) → Connection → List ℕ
@@ -22,9 +23,13 @@ destinationUpdated l i c = set (put l (destinationFrom + i * liveWidth) (destina
 abbrev pub efciUpdated : List ℕ → (entry : ℕ) → Destination → List ℕ
 efciUpdated l i b = set l (destinationFrom + i * liveWidth) (destinationTag b)
 
+-- a connection of which only the last cell outside the rate has moved
+abbrev pub outsideUpdated : List ℕ → (entry : ℕ) → Instant → List ℕ
+outsideUpdated l i o = set l (outsideFrom + i * liveWidth) (instantWord o)
+
 -- both sides
 abbrev pub updated : List ℕ → (entry : ℕ) → Connection → List ℕ
-updated l i c = set (put l (liveFrom + i * liveWidth) (liveWords c)) (keysFrom + i) (key (readyInstant c))
+updated l i c = set (put l (liveFrom + i * liveWidth) (sideWords c)) (keysFrom + i) (key (readyInstant c))
 
 -- entry i enters the bits of the entries in use, or leaves them
 abbrev pub entryFlipped : List ℕ → (entry : ℕ) → List ℕ

@@ -21,7 +21,8 @@ pub const NODES: usize = DIRECTORY + CAPACITY;
 
 pub const NO_KEY: usize = NODES + CAPACITY;
 
-// The columns, with one block an entry: ready keys, names, what moves while a connection is open (of its source, then of its destination), what its open fixed.
+// The columns, with one block an entry: ready keys, names, what moves while a connection is open (of its source, then of its destination, then the last cell outside the rate),
+// what its open fixed.
 pub const KEYS: usize = NO_KEY + 1;
 
 pub const NAMES: usize = KEYS + CAPACITY;
@@ -32,9 +33,11 @@ pub const SOURCE_WIDTH: usize = 7;
 
 pub const DESTINATION_WIDTH: usize = 9;
 
-pub const LIVE_WIDTH: usize = SOURCE_WIDTH + DESTINATION_WIDTH;
+pub const LIVE_WIDTH: usize = SOURCE_WIDTH + DESTINATION_WIDTH + 1;
 
 pub const DESTINATION: usize = LIVE + SOURCE_WIDTH;
+
+pub const OUTSIDE: usize = DESTINATION + DESTINATION_WIDTH;
 
 pub const FIXED: usize = LIVE + CAPACITY * LIVE_WIDTH;
 

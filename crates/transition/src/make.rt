@@ -4,8 +4,7 @@ ghost use mathlib.Core.Bool.{true, cond};
 ghost use Prim.Native.Nat.{_≤_};
 ghost use lib.Dec.{eqb};
 ghost use Rattle.cell.specs.Fields.{fieldsFit};
-ghost use Rattle.connection.specs.Making.{mayMake, withMade, madeFields};
-ghost use Rattle.connection.specs.Range.{InstantInRange};
+ghost use Rattle.connection.specs.Making.{withMade, madeFields};
 use crate::send::canonical;
 use cell::fields::Fields;
 use connection::parts::Connection;
@@ -13,20 +12,6 @@ use connection::parts::Destination;
 use connection::parts::Made;
 use connection::ready::Instant;
 use rate::params::Params;
-
-// In nanoseconds.
-const MAKING_INTERVAL: u64 = 100000000;
-
-// Whether enough time has passed at t since the last making.
-pub fn may_make(t: u64, last: Instant) -> bool
-    requires { ⌜ InstantInRange last ⌝ }
-    ensures { λ r. ⌜ r ≡ mayMake t last ⌝ }
-{
-    match last {
-        Instant::Never => true,
-        Instant::At(m) => m + MAKING_INTERVAL <= t,
-    }
-}
 
 // A cell made at t, at this congestion level, waits in the place of an earlier made one.
 pub fn with_made(t: u64, level: u32, c: Connection) -> Connection

@@ -34,6 +34,11 @@ pub enum Call {
         vci: u32,
         time: u64,
     },
+    OutOfRate {
+        vci: u32,
+        time: u64,
+        len: usize,
+    },
     Acr {
         vci: u32,
     },
@@ -58,7 +63,7 @@ pub enum Call {
 }
 
 /// The sorts of call, in the order of [`Call::sort`].
-pub const SORTS: [&str; 13] = [
+pub const SORTS: [&str; 14] = [
     "open",
     "close",
     "receive",
@@ -66,6 +71,7 @@ pub const SORTS: [&str; 13] = [
     "set_level",
     "slot",
     "make",
+    "out_of_rate",
     "acr",
     "write_rm",
     "read",
@@ -85,23 +91,24 @@ impl Call {
             Call::SetLevel { .. } => 4,
             Call::Slot { .. } => 5,
             Call::Make { .. } => 6,
-            Call::Acr { .. } => 7,
-            Call::WriteRm { .. } => 8,
-            Call::Read { .. } => 9,
-            Call::Code { .. } => 10,
-            Call::Rate { .. } => 11,
-            Call::House { .. } => 12,
+            Call::OutOfRate { .. } => 7,
+            Call::Acr { .. } => 8,
+            Call::WriteRm { .. } => 9,
+            Call::Read { .. } => 10,
+            Call::Code { .. } => 11,
+            Call::Rate { .. } => 12,
+            Call::House { .. } => 13,
         }
     }
 
     /// Whether it is given a table.
     pub fn has_table(&self) -> bool {
-        self.sort() < 8
+        self.sort() < 9
     }
 
     /// Whether it writes the table when it is accepted.
     pub fn may_change_table(&self) -> bool {
-        self.sort() < 7
+        self.sort() < 8
     }
 
     /// The connection that it names, if it names one.
@@ -111,6 +118,7 @@ impl Call {
             | Call::Close { vci }
             | Call::Offer { vci, .. }
             | Call::Make { vci, .. }
+            | Call::OutOfRate { vci, .. }
             | Call::Acr { vci } => Some(vci),
             Call::Receive { cell } => vci_of(cell.as_slice()),
             _ => None,

@@ -157,6 +157,65 @@ events! {
     /// An open or a slot was refused for its time, which was only before that of
     /// a making.
     MadeTimeCounts,
+    /// A connection was opened with an initial rate of 0.
+    OpenedAtZero,
+    /// A slot passed over a connection with rate 0 on which something waited, before
+    /// its first cell.
+    ZeroBeforeFirst,
+    /// The same after its first cell.
+    ZeroWaits,
+    /// A slot passed over one with rate 0 at k = Nrm - 1, nothing waiting.
+    ZeroAtNrm,
+    /// A slot passed over one with rate 0 at k >= 2, after Trm, nothing waiting.
+    ZeroAtTrm,
+    /// The first cell brought the rate down to an initial rate of 0.
+    FirstToZero,
+    /// More than ADTF had passed, and the rate came down to an initial rate of 0.
+    IdleToZero,
+    /// CRM unanswered cells brought the rate down to 0.
+    UnansweredToZero,
+    /// An ER of 0 brought the rate down to 0.
+    ErToZero,
+    /// CI brought the rate down to 0, ER being above 0.
+    CutToZero,
+    /// Feedback raised a rate of 0.
+    RoseFromZero,
+    /// Feedback with CI or NI and an ER above 0 left a rate of 0.
+    MarkKeepsZero,
+    /// Feedback without marks and with an ER above 0 left a rate of 0, since PCR / 2^r
+    /// is below one unit.
+    NoIncrease,
+    /// A connection sent a cell after its rate had been 0.
+    SentAfterZero,
+    /// A cell was sent at a rate below one cell per second.
+    SentBelowOne,
+    /// A forward cell was sent whose minimum of 0 was opened with another code than
+    /// 0x0000.
+    MinimumCoded,
+    /// An out-of-rate cell at rate 0.
+    OutsideAtZero,
+    /// One at a rate above 0 and below one cell per second.
+    OutsideBelowOne,
+    /// One before the first cell of its connection.
+    OutsideBeforeFirst,
+    /// One before the first cell, with a rate above ICR, which it leaves.
+    OutsideAboveIcr,
+    /// One with CRM unanswered cells, for which a slot's forward cell would cut the
+    /// rate.
+    OutsideUnanswered,
+    /// One on a connection that is not ready, nothing waiting.
+    OutsideAlone,
+    /// One exactly 100 ms after the last.
+    OutsideExact,
+    /// One was refused a nanosecond less than 100 ms after the last.
+    OutsideLessOne,
+    /// One on a VCI that was opened anew, less than 100 ms after one before its close.
+    OutsideReopened,
+    /// One was refused on a VCI that was closed.
+    OutsideClosed,
+    /// An open, a slot or a making was refused for its time, which was only before
+    /// that of an out-of-rate cell.
+    OutsideTimeCounts,
     /// Exactly 65,535 cells wait after an offer.
     OfferFills,
     /// An offer of nothing to a full connection.
@@ -164,7 +223,7 @@ events! {
 }
 
 /// The greatest number of a refusal.
-const REFUSAL_MAX: usize = 17;
+const REFUSAL_MAX: usize = 18;
 
 /// Counts of all that was reached.
 #[derive(Debug, Clone)]
@@ -207,6 +266,7 @@ const REFUSALS: [&[usize]; SORTS.len()] = [
     &[9],
     &[1, 8, 14],
     &[8, 11, 14, 16, 17],
+    &[1, 8, 11, 14, 18],
     &[11],
     &[1, 7],
     &[1, 2, 3, 4, 5, 6],

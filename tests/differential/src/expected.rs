@@ -20,6 +20,9 @@ pub fn call(engine: &mut Engine, call: &Call, buffer: &mut Buffer) -> Outcome {
         Call::Slot { time, len } => engine
             .slot(time, buffer.octets(len))
             .map(|sent| Answer::Sent(library_sent(sent))),
+        Call::OutOfRate { vci, time, len } => {
+            done(engine.out_of_rate(vci, time, buffer.octets(len)))
+        }
         Call::Acr { vci } => engine.acr(vci).map(Answer::Number),
         Call::WriteRm { rm, len } => {
             done(reference::write_rm(&reference_rm(&rm), buffer.octets(len)))

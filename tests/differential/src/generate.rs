@@ -5,7 +5,7 @@ mod cells;
 mod times;
 
 use abr::ffi::abr_params;
-use abr::{CELL_OCTETS, RATE_MAX, VCI_MAX, WAITING_MAX};
+use abr::{CELL_OCTETS, MAKE_INTERVAL, OUT_OF_RATE_INTERVAL, RATE_MAX, VCI_MAX, WAITING_MAX};
 
 use crate::call::Call;
 use crate::observation::Observation;
@@ -69,22 +69,19 @@ impl Generator {
                 len: self.length(),
             },
             6 => self.make(seen),
-            7 => Call::Acr {
+            7 => self.out_of_rate(seen),
+            8 => Call::Acr {
                 vci: self.vci(seen),
             },
-            8 => self.write_rm(seen),
-            9 => Call::Read {
+            9 => self.write_rm(seen),
+            10 => Call::Read {
                 cell: self.cell(seen),
             },
-            10 => Call::Code { rate: self.rate() },
-            11 => Call::Rate {
+            11 => Call::Code { rate: self.rate() },
+            12 => Call::Rate {
                 code: self.code_16(),
             },
-            _ => Call::House {
-                pcr: self.rng.next() as u32,
-                mcr: self.rng.next() as u32,
-                icr: self.rng.next() as u32,
-            },
+            _ => self.house(),
         }
     }
 
@@ -159,6 +156,9 @@ impl Generator {
         if self.rng.once_in(6) {
             codes[1] = codes[self.rng.pick(&[0, 2])];
         }
+        if self.profile.no_minimum > 0 && self.rng.once_in(self.profile.no_minimum) {
+            self.remove_minimum(&mut codes);
+        }
         let bit_15 = self.rng.pick(&[0, 0, 0x8000]);
         let any = [8, 15, 15, 7, 8_388_608, 1_023, 7].map(|top| self.rng.within(1, top));
         abr_params {
@@ -175,12 +175,27 @@ impl Generator {
         }
     }
 
-    /// Puts one parameter out of its range.
+    /// Gives minimum, initial and peak rate a minimum of 0, in any of its codes;
+    /// sometimes an initial rate of 0, and sometimes a peak of a few cells per second.
+    fn remove_minimum(&mut self, codes: &mut [u32; 3]) {
+        let any = self.rng.next() as u32 & 0x3FFF;
+        codes[0] = self.rng.pick(&[0, 0, 1, 0x1FF, 0x3FFF, any]);
+        if self.rng.once_in(4) {
+            codes[2] = self.rng.within(0x4000, 0x4600);
+            codes[1] = codes[1].min(codes[2]);
+        }
+        if self.rng.once_in(4) {
+            codes[1] = self.rng.pick(&[0, 0x1FF, any]);
+        }
+    }
+
+    /// Puts one parameter out of its range. Without a minimum a lower initial rate may
+    /// be within it.
     fn put_out_of_range(&mut self, params: &mut abr_params) {
         let any = self.rng.next() as u32;
         match self.rng.below(12) {
             0 => params.pcr = self.rng.pick(&[0, 0x3FFF, 0x1_7FFF, any | 0x1_0000]),
-            1 => params.mcr = self.rng.pick(&[0, 0x3FFF, 0x1_4000, any | 0x1_0000]),
+            1 => params.mcr = self.rng.pick(&[0x1_0000, 0x1_4000, any | 0x1_0000]),
             2 => params.icr = self.rng.pick(&[0, 0x1_4000, any | 0x1_0000]),
             3 => std::mem::swap(&mut params.pcr, &mut params.mcr),
             4 => params.icr = params.mcr.wrapping_sub(1),
@@ -225,8 +240,17 @@ impl Generator {
 
     fn make(&mut self, seen: &Observation) -> Call {
         let vci = self.vci(seen);
-        let time = self.making_time(seen, vci);
+        let last = seen.connections.get(&vci).and_then(|c| c.last_made);
+        let time = self.time_after(seen, last.map(|last| last + MAKE_INTERVAL));
         Call::Make { vci, time }
+    }
+
+    fn out_of_rate(&mut self, seen: &Observation) -> Call {
+        let vci = self.vci(seen);
+        let last = seen.connections.get(&vci).and_then(|c| c.last_outside);
+        let time = self.time_after(seen, last.map(|last| last + OUT_OF_RATE_INTERVAL));
+        let len = self.length();
+        Call::OutOfRate { vci, time, len }
     }
 
     fn level(&mut self) -> u32 {
@@ -244,6 +268,11 @@ impl Generator {
             return self.rng.pick(&[0, 1, 52, 54, 64, any]);
         }
         CELL_OCTETS
+    }
+
+    fn house(&mut self) -> Call {
+        let [pcr, mcr, icr] = [0; 3].map(|_| self.rng.next() as u32);
+        Call::House { pcr, mcr, icr }
     }
 
     /// A rate to code.

@@ -53,6 +53,10 @@ impl Library {
                 let octets = buffer.octets(len).as_mut_ptr();
                 answered(unsafe { ffi::abr_slot(table, time, octets, len) })?
             }
+            Call::OutOfRate { vci, time, len } => {
+                let octets = buffer.octets(len).as_mut_ptr();
+                done(unsafe { ffi::abr_out_of_rate(table, vci, time, octets, len) })
+            }
             Call::Acr { vci } => self.acr(vci)?,
             Call::WriteRm { rm, len } => {
                 let octets = buffer.octets(len).as_mut_ptr();

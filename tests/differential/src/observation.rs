@@ -3,7 +3,9 @@
 //! counts come from it; no comparison of the two sides depends on it.
 
 mod made;
+mod outside;
 mod turned;
+mod zero;
 
 use std::collections::{BTreeMap, BTreeSet};
 
@@ -40,6 +42,10 @@ pub struct Connection {
     /// The level at which the made cell that waits was made.
     pub made: Option<u32>,
     pub last_made: Option<u64>,
+    /// When it last had an out-of-rate cell.
+    pub last_outside: Option<u64>,
+    /// Whether its rate was 0 at some time since its last cell in a slot.
+    stopped: bool,
     pub efci: bool,
     pub unanswered: u32,
 }
@@ -60,6 +66,8 @@ impl Connection {
             sent_ci: false,
             made: None,
             last_made: None,
+            last_outside: None,
+            stopped: acr == 0,
             efci: false,
             unanswered: 0,
         }
@@ -80,22 +88,18 @@ impl Connection {
         1 << self.params.n
     }
 
-    /// The last send plus the gap.
-    pub fn due(&self, sends: &Sends) -> u64 {
-        sends.last + reference::gap(self.acr)
-    }
-
     /// Whether data, a turned or a made cell waits.
     pub fn waits(&self) -> bool {
         self.data > 0 || self.turned.is_some() || self.made.is_some()
     }
 
-    /// The ready instant, if there is one.
+    /// The ready instant, if there is one; none at rate 0.
     pub fn ready(&self) -> Option<u64> {
+        let gap = reference::gap(self.acr)?;
         let Some(sends) = self.sends else {
             return self.waits().then_some(self.opened);
         };
-        let due = self.due(&sends);
+        let due = sends.last + gap;
         if self.waits() || sends.k == self.nrm() - 1 {
             Some(due)
         } else if sends.k >= 2 {
@@ -115,10 +119,15 @@ pub struct Observation {
     loaded: BTreeSet<u32>,
     /// The last making on each VCI, also if it was closed since.
     makings: BTreeMap<u32, u64>,
-    /// The time of the last accepted open, slot or making.
+    /// The last out-of-rate cell on each VCI, also if it was closed since.
+    outside: BTreeMap<u32, u64>,
+    /// The time of the last accepted open, slot, made or out-of-rate cell.
     pub last: u64,
     /// That of the last accepted open or slot.
     last_sent: u64,
+    /// That of the last made cell, and of the last out-of-rate cell.
+    last_making: u64,
+    last_outside: u64,
     pub level: u32,
 }
 
@@ -129,7 +138,10 @@ impl Observation {
         coverage.count(call, outcome);
         let answer = match outcome {
             Ok(answer) => answer,
-            Err(number) => return self.refused(call, *number, coverage),
+            Err(number) => {
+                self.refused(call, *number, coverage);
+                return self.refused_outside(call, *number, coverage);
+            }
         };
         match (*call, *answer) {
             (Call::Open { vci, time, params }, _) => {
@@ -139,6 +151,7 @@ impl Observation {
             (Call::Offer { vci, cells }, _) => self.offered(vci, cells, coverage),
             (Call::SetLevel { level }, _) => self.level = level,
             (Call::Make { vci, time }, _) => self.made(vci, time, coverage),
+            (Call::OutOfRate { vci, time, .. }, _) => self.outside(vci, time, coverage),
             (Call::Receive { cell }, _) => self.received(cell.as_slice(), acr, coverage),
             (Call::Slot { time, .. }, Answer::Sent(sent)) => self.slot(time, &sent, coverage),
             _ => {}
@@ -160,6 +173,7 @@ impl Observation {
         coverage.reach(Event::ReopenedLoaded, self.loaded.contains(&vci));
         coverage.reach(Event::Full, self.connections.len() == CONNECTIONS_MAX);
         coverage.reach(Event::TimeMax, time == TIME_MAX);
+        coverage.reach(Event::OpenedAtZero, acr == 0);
     }
 
     fn close(&mut self, vci: u32) {
@@ -201,7 +215,9 @@ impl Observation {
         } else {
             let er = reference::rate_of(u32::from(cell[7]) << 8 | u32::from(cell[8]));
             backward_received(connection, bits, er, coverage);
+            zero::received(connection, bits, er, acr, coverage);
             connection.acr = acr;
+            connection.stopped |= acr == 0;
         }
     }
 
@@ -218,10 +234,13 @@ impl Observation {
         coverage.reach(Event::ReadyExact, earliest == Some(time));
         coverage.reach(Event::ReadyLessOne, earliest == Some(time + 1));
         self.ties(time, earliest, coverage);
+        zero::passed_over(self.connections.values(), time, coverage);
         if let Some(connection) = self.connections.get_mut(&sent.vci) {
             made::sent(connection, sent.kind, self.level, coverage);
+            zero::sent(connection, time, sent, coverage);
             kind_sent(connection, time, sent.kind, coverage);
             connection.acr = sent.acr;
+            connection.stopped = sent.acr == 0;
         }
     }
 

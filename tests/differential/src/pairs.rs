@@ -1,10 +1,13 @@
 //! Two lists that differ in received backward cells only, those of the second at
 //! least as congested (document 01, "Four moves of the allowed rate" and "The
-//! lists of demand 3"; document 02, L1: makings too are the same in both): as
-//! long as the slots go to the same connections, no allowed rate of the second is
-//! above that of the first, and every allowed rate is between its minimum and its
-//! peak. Refusals and kinds are the same; comparisons may differ, since ready
-//! instants follow the rates.
+//! lists of demand 3"; document 02, L1 and L5: made and out-of-rate cells too are at
+//! the same places in both): as long as the slots go to the same connections, no
+//! allowed rate of the second is above that of the first, and every allowed rate is
+//! between its minimum, which may be 0, and its peak. Refusals and kinds are the same;
+//! comparisons may differ, since ready instants follow the rates. Two out-of-rate
+//! cells differ in CCR and CRC-10 only.
+
+use std::ops::Range;
 
 use abr::CELL_OCTETS;
 
@@ -36,8 +39,14 @@ pub struct Tally {
     pub raised: u64,
     /// Backward cells with a lower explicit rate.
     pub lowered: u64,
+    /// Those of which the second was 0 and the first was not.
+    pub stopped: u64,
     /// Cells made in both lists.
     pub made: u64,
+    /// Out-of-rate cells written in both lists.
+    pub outside: u64,
+    /// Those with different CCR.
+    pub outside_lower: u64,
 }
 
 impl Tally {
@@ -49,7 +58,10 @@ impl Tally {
         self.lower += other.lower;
         self.raised += other.raised;
         self.lowered += other.lowered;
+        self.stopped += other.stopped;
         self.made += other.made;
+        self.outside += other.outside;
+        self.outside_lower += other.outside_lower;
     }
 }
 
@@ -86,8 +98,9 @@ impl Pair {
     /// Makes one call of each list. False if a slot goes to different
     /// connections, so that the claim says no more.
     fn step(&mut self, call: &Call, worse: &Call, tally: &mut Tally) -> Result<bool, Difference> {
-        let first = self.first.call(call, &mut Buffer::new(0))?;
-        let second = self.second.call(worse, &mut Buffer::new(0))?;
+        let mut buffers = [Buffer::new(0); 2];
+        let first = self.first.call(call, &mut buffers[0])?;
+        let second = self.second.call(worse, &mut buffers[1])?;
         if goes_to(&first) != goes_to(&second) {
             return Ok(false);
         }
@@ -95,6 +108,9 @@ impl Pair {
             return Err(format!("{first:?} and {second:?}"));
         }
         tally.made += u64::from(matches!(call, Call::Make { .. }) && first.is_ok());
+        if matches!(call, Call::OutOfRate { .. }) && first.is_ok() {
+            outside(buffers, tally)?;
+        }
         let vci = concerned(call, &first).unwrap_or(0);
         let acr = number(&self.first.acr(vci)?).unwrap_or(0);
         self.seen.add(call, &first, acr, &mut Coverage::default());
@@ -119,6 +135,7 @@ impl Pair {
             }
             tally.compared += 1;
             tally.lower += u64::from(two < one);
+            tally.stopped += u64::from(two == 0 && one > 0);
         }
         Ok(())
     }
@@ -148,6 +165,28 @@ fn sends(outcome: &Outcome) -> Result<u32, u32> {
         Ok(_) => Ok(0),
         Err(number) => Err(*number),
     }
+}
+
+/// The out-of-rate cells of both lists: apart from CCR, which is not higher in the
+/// second, and the CRC-10 they are the same.
+fn outside(buffers: [Buffer; 2], tally: &mut Tally) -> Result<(), Difference> {
+    const CCR: Range<usize> = 9..11;
+    const CRC: Range<usize> = 51..53;
+    let cells = buffers.map(|mut buffer| {
+        let mut rest = [0; CELL_OCTETS];
+        rest.copy_from_slice(buffer.octets(CELL_OCTETS));
+        let ccr = u16::from_be_bytes([rest[CCR.start], rest[CCR.start + 1]]);
+        rest[CCR].fill(0);
+        rest[CRC].fill(0);
+        (ccr, rest)
+    });
+    let [(one, first), (two, second)] = cells;
+    if first != second || two > one {
+        return Err(format!("CCR {one:x} and {two:x}: {first:x?}, {second:x?}"));
+    }
+    tally.outside += 1;
+    tally.outside_lower += u64::from(two < one);
+    Ok(())
 }
 
 /// The call of the second list: of a good backward cell sometimes one that is

@@ -11,6 +11,8 @@ pub struct Profile {
     pub filled: u32,
     /// The least exponent of a rate code.
     pub exponent: u32,
+    /// One contract in so many has no minimum; none if it is 0.
+    pub no_minimum: u64,
     /// How long before 2^62 the list starts, if it does.
     pub before_end: Option<u64>,
     /// One argument in so many is out of its range or unknown.
@@ -18,21 +20,21 @@ pub struct Profile {
     /// Slots are so far apart that every connection is due again.
     pub spaced: bool,
     /// How often each sort of call is made, in the order of the sorts.
-    pub weights: [u64; 13],
+    pub weights: [u64; 14],
 }
 
-const USUAL: [u64; 13] = [4, 1, 24, 8, 2, 52, 4, 2, 2, 2, 1, 1, 1];
+const USUAL: [u64; 14] = [4, 1, 24, 8, 2, 52, 4, 4, 2, 2, 2, 1, 1, 1];
 
 /// The profiles of the differential lists.
 pub const PROFILES: [Profile; 7] = [
     Profile::usual("one", 1, 8),
     Profile::usual("few", 3, 12),
     Profile {
-        weights: [12, 3, 24, 14, 2, 40, 4, 1, 1, 1, 1, 1, 1],
+        weights: [12, 3, 24, 14, 2, 40, 4, 4, 1, 1, 1, 1, 1, 1],
         ..Profile::usual("many", 80, 16)
     },
     Profile {
-        weights: [20, 2, 10, 20, 1, 30, 4, 1, 1, 1, 1, 1, 1],
+        weights: [20, 2, 10, 20, 1, 30, 4, 4, 1, 1, 1, 1, 1, 1],
         filled: 1_016,
         ..Profile::usual("full", 1_040, 0)
     },
@@ -43,17 +45,27 @@ pub const PROFILES: [Profile; 7] = [
     },
     Profile {
         fault: 3,
-        weights: [10, 2, 30, 10, 4, 30, 4, 4, 12, 12, 4, 4, 1],
+        weights: [10, 2, 30, 10, 4, 30, 4, 4, 4, 12, 12, 4, 4, 1],
         ..Profile::usual("faulty", 4, 10)
     },
 ];
 
 /// The profile of the pairs: both lists' slots go to the same connections for
-/// long, since all are due in every slot.
+/// long, since all have a minimum and are due in every slot.
 pub const SPACED: Profile = Profile {
     spaced: true,
-    weights: [2, 0, 40, 10, 2, 46, 4, 0, 0, 0, 0, 0, 0],
+    no_minimum: 0,
+    weights: [2, 0, 40, 10, 2, 46, 4, 4, 0, 0, 0, 0, 0, 0],
     ..Profile::usual("spaced", 3, 20)
+};
+
+/// The profile of pairs without a minimum. Slots are rare, since one goes to
+/// different connections as soon as a rate is 0 in one list only.
+pub const NO_MINIMUM: Profile = Profile {
+    spaced: true,
+    no_minimum: 1,
+    weights: [4, 0, 60, 4, 1, 1, 2, 8, 0, 0, 0, 0, 0, 0],
+    ..Profile::usual("no minimum", 3, 20)
 };
 
 impl Profile {
@@ -74,6 +86,7 @@ impl Profile {
             vcis,
             filled: 0,
             exponent,
+            no_minimum: 3,
             before_end: None,
             fault: 40,
             spaced: false,

@@ -190,6 +190,11 @@ fn every_length_but_53_is_refused() {
             Call::Read { cell },
             Call::WriteRm { rm, len },
             Call::Slot { time: 0, len },
+            Call::OutOfRate {
+                vci: 32,
+                time: 0,
+                len,
+            },
         ];
         for call in calls {
             let outcome = agree(&mut both, &call).map(|_| ());
@@ -217,6 +222,34 @@ fn every_rate_code_and_the_rates_beside_it() {
         let shift = rng.below(64);
         let rate = rng.next() >> shift;
         let _ = agree(&mut both, &Call::Code { rate });
+    }
+}
+
+/// Opens VCI 32 with these codes of peak, minimum and initial rate, has an
+/// out-of-rate cell, which carries all three, and closes it; whether it opened.
+fn opens(both: &mut Both, pcr: u32, mcr: u32, icr: u32) -> bool {
+    let (vci, time, len) = (32, 0, CELL_OCTETS);
+    let params = library_params(&reference::Params::house(pcr, mcr, icr));
+    if agree(both, &Call::Open { vci, time, params }).is_err() {
+        return false;
+    }
+    let cell = agree(both, &Call::OutOfRate { vci, time, len });
+    assert_eq!(cell, Ok(Answer::Done));
+    agree(both, &Call::Close { vci }).is_ok()
+}
+
+/// Every code as minimum, as initial rate and as peak (document 02, L5).
+#[test]
+fn every_code_of_the_three_rates() {
+    let mut both = Both::default();
+    for code in 0..=0x1_FFFF {
+        for (pcr, mcr, icr) in [(0x5000, code, 0x5000), (0x5000, 0, code), (code, 0, 0)] {
+            let rates = [pcr, mcr, icr].map(reference::rate);
+            let fits = matches!(rates, [Ok(pcr), Ok(mcr), Ok(icr)]
+                if mcr <= icr && icr <= pcr && pcr >= 512);
+            let opened = opens(&mut both, pcr, mcr, icr);
+            assert_eq!(opened, fits, "{pcr:x} {mcr:x} {icr:x}");
+        }
     }
 }
 

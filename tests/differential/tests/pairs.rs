@@ -3,7 +3,7 @@
 
 use differential::library::Difference;
 use differential::pairs::{self, Tally};
-use differential::profile::{Profile, PROFILES, SPACED};
+use differential::profile::{Profile, NO_MINIMUM, PROFILES, SPACED};
 use differential::{lists, parallel};
 
 /// The pairs of one job.
@@ -36,7 +36,18 @@ fn more_congestion_never_allows_a_higher_rate() {
     assert!(tally.raised >= 200_000, "{tally:?}");
     assert!(tally.lowered >= 200_000, "{tally:?}");
     assert!(tally.made >= 100_000, "{tally:?}");
+    assert!(tally.outside >= 100_000, "{tally:?}");
+    assert!(tally.outside_lower >= 10_000, "{tally:?}");
     assert!(tally.cut_off < tally.pairs / 10, "{tally:?}");
+}
+
+#[test]
+fn nor_without_a_minimum() {
+    let tally = run_pairs(NO_MINIMUM, lists::seed(), 5_000);
+    assert!(tally.lower >= 500_000, "{tally:?}");
+    assert!(tally.stopped >= 200_000, "{tally:?}");
+    assert!(tally.outside >= 50_000, "{tally:?}");
+    assert!(tally.outside_lower >= 5_000, "{tally:?}");
 }
 
 #[test]

@@ -54,6 +54,9 @@
 //! * T2, T3: a backward cell clears Y with BN 0 only, and moves the rate with
 //!   either.
 //! * T4 to T7: the rate by CI, NI and ER. Departure: rounded down.
+//! * Both papers say that out-of-rate cells let a source whose ACR is zero learn when
+//!   it may rise, or name them, and leave them out. Document 02's L5 has them: the
+//!   last test takes a source without a minimum down to 0 and up again.
 //!
 //! `destination_machine`, with T8 to T12 of the source machine:
 //! * T1: the saved EFCI. T2, T3, T5, T6, T8: turning under the saved EFCI and

@@ -34,7 +34,7 @@ const LEAST: u64 = 200;
 /// The calls between two changes of what is open: neither opens nor closes.
 const NO_CHANGE: Profile = Profile {
     name: "no change",
-    weights: [0, 0, 24, 8, 2, 46, 4, 0, 0, 0, 0, 0, 0],
+    weights: [0, 0, 24, 8, 2, 46, 4, 4, 0, 0, 0, 0, 0, 0],
     ..PROFILES[1]
 };
 
@@ -190,8 +190,8 @@ impl Changing {
     }
 
     /// On every VCI a refused open (12, or 13 if the table is full) or close (11),
-    /// an offer, a data cell and a making; then slots for all, a millisecond
-    /// apart: longer than any gap.
+    /// an offer, a data cell, a making and an out-of-rate cell; then slots for all, a
+    /// millisecond apart: longer than any gap of a connection with a minimum.
     fn every_vci(&mut self) -> Result<(), Difference> {
         let full = self.count() == CONNECTIONS_MAX;
         self.step(&Call::SetLevel { level: 1 })?;
@@ -209,6 +209,8 @@ impl Changing {
             self.step(&Call::Receive { cell })?;
             let time = self.list.seen.last;
             self.step(&Call::Make { vci, time })?;
+            let len = CELL_OCTETS;
+            self.step(&Call::OutOfRate { vci, time, len })?;
         }
         (0..=self.count()).try_for_each(|_| self.slot(1_000_000))
     }
@@ -297,9 +299,9 @@ fn jobs() -> Vec<(u64, usize, Course)> {
 
 /// An open makes one comparison, since nothing waits on it; a slot ten or, if it
 /// is idle, none; a close, a received cell, an offer and a making any number from
-/// one to ten.
+/// one to ten; an out-of-rate cell none.
 fn every_number_of_comparisons(total: &Coverage) {
-    let [open, close, receive, offer, level, slot, make, ..] = total.comparisons;
+    let [open, close, receive, offer, level, slot, make, out_of_rate, ..] = total.comparisons;
     for counts in [close, receive, offer, make] {
         assert!(
             counts[1..].iter().all(|count| *count >= LEAST),
@@ -313,6 +315,7 @@ fn every_number_of_comparisons(total: &Coverage) {
     };
     only(&open, &[1]);
     only(&level, &[0]);
+    only(&out_of_rate, &[0]);
     only(&slot, &[0, 10]);
     assert_eq!(slot[0], total.kinds[0], "idle slots");
 }
@@ -324,8 +327,8 @@ fn up_to_1_024_connections_and_down_again() {
         total.add(&coverage);
     }
     println!("all: {}", total.summary());
-    println!("comparisons: {:?}", &total.comparisons[..7]);
-    let [open, close, receive, offer, _, _, make, ..] = total.outcomes;
+    println!("comparisons: {:?}", &total.comparisons[..8]);
+    let [open, close, receive, offer, _, _, make, out_of_rate, ..] = total.outcomes;
     let refused = [
         open[12],
         open[13],
@@ -333,6 +336,9 @@ fn up_to_1_024_connections_and_down_again() {
         receive[11],
         offer[11],
         make[11],
+        out_of_rate[0],
+        out_of_rate[11],
+        out_of_rate[18],
     ];
     let mut counts = refused.iter().chain(&total.kinds);
     assert!(counts.all(|count| *count >= LEAST), "{refused:?}");

@@ -1,7 +1,8 @@
-//! The checked values of document 01, through the safe binding, and the count
-//! of unanswered cells at the largest CRM.
+//! The checked values of document 01, through the safe binding, the count of
+//! unanswered cells at the largest CRM, and contracts without a minimum (document
+//! 02, L5).
 
-use abr::{Kind, Params, Refusal, Rm, Table, CELL_OCTETS, TIME_MAX};
+use abr::{Kind, Params, Refusal, Rm, Table, CELL_OCTETS, OUT_OF_RATE_INTERVAL, TIME_MAX};
 
 const MS: u64 = 1_000_000;
 /// The code of 1,000 cells per second, and its rate.
@@ -189,6 +190,66 @@ fn a_thousand_and_24_open_and_no_more_in_any_order() {
             "ties go to the lower VCI"
         );
     }
+}
+
+/// An out-of-rate cell of VCI 32 at rate 0, PCR being 1,000 cells per second and MCR
+/// 0: header with payload type 6 and CLP 1, its check, protocol, five bits, ER, CCR and
+/// MCR; QL and SN are 0, the reserved octets 0x6A, and the CRC-10 is 0x260.
+#[test]
+fn the_octets_of_an_out_of_rate_cell() {
+    let start = [0, 0, 2, 0x0D, 0x5C, 1, 0, 0x53, 0xE8, 0, 0, 0, 0];
+    let mut expected = [0; CELL_OCTETS];
+    expected[..13].copy_from_slice(&start);
+    expected[21..51].fill(0x6A);
+    expected[51..].copy_from_slice(&[0x02, 0x60]);
+    for mcr in [0, 1, 0x01FF, 0x3FFF, 0x8000, 0xBFFF] {
+        let mut table = opened(&Params::house(THOUSAND, mcr, 0));
+        let mut cell = [0xA5; CELL_OCTETS];
+        assert_eq!(table.out_of_rate(32, 0, &mut cell), Ok(()));
+        assert_eq!(cell, expected, "{mcr:x}");
+    }
+}
+
+#[test]
+fn one_out_of_rate_cell_in_100_ms() {
+    let mut table = opened(&Params::house(THOUSAND, 0, 0));
+    let mut cell = [0; CELL_OCTETS];
+    let mut at = |time| table.out_of_rate(32, time, &mut cell);
+    assert_eq!(at(5), Ok(()));
+    assert_eq!(at(5), Err(Refusal::TooOften));
+    assert_eq!(at(OUT_OF_RATE_INTERVAL + 4), Err(Refusal::TooOften));
+    assert_eq!(at(OUT_OF_RATE_INTERVAL + 5), Ok(()));
+    assert_eq!(at(OUT_OF_RATE_INTERVAL + 4), Err(Refusal::TimeBackward));
+    assert_eq!(at(TIME_MAX), Ok(()));
+    assert_eq!(at(TIME_MAX + 1), Err(Refusal::Time));
+}
+
+/// One unit is a cell in 512 seconds; at rate 0 there is none.
+#[test]
+fn the_least_rate_above_0() {
+    let mut params = Params::house(0x4000, 0, 0x4000);
+    (params.r, params.d) = (9, 1);
+    let mut table = opened(&params);
+    table.offer(32, 9).unwrap();
+    assert_eq!(slot(&mut table, 0), Some((Kind::Forward, 512)));
+    let er = |er| Rm {
+        er,
+        ..Rm::default()
+    };
+    backward(&mut table, er(0));
+    assert_eq!(
+        (table.acr(32), slot(&mut table, 900_000 * MS)),
+        (Ok(0), None)
+    );
+    backward(&mut table, er(0x4000)); // 512 / 2^9
+    assert_eq!(table.acr(32), Ok(1));
+    assert_eq!(slot(&mut table, 900_000 * MS), Some((Kind::Data, 1)));
+    let due = 900_000 * MS + 512_000 * MS;
+    assert_eq!(slot(&mut table, due - 1), None);
+    assert_eq!(slot(&mut table, due), Some((Kind::Data, 1)));
+    let ci = true;
+    backward(&mut table, Rm { ci, ..er(0x7FFF) }); // half of one unit
+    assert_eq!((table.acr(32), slot(&mut table, TIME_MAX)), (Ok(0), None));
 }
 
 /// Y counts up to the largest CRM. That it stops there cannot be observed: Y is

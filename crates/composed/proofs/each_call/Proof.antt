@@ -1,7 +1,7 @@
 use mathlib.Core.Path.{refl}
 use borrow.Author.Needs.{needs}
-use Rattle.abr.specs.Answers.{refusalAlone}
-use Rattle.abr.specs.Exports.{noSlot, opens, closes, receives, offers, levels, makes, slots, then, ended}
+use Rattle.abr.specs.Answers.{refusalAlone, noCell}
+use Rattle.abr.specs.Exports.{noSlot, opens, closes, receives, offers, levels, makes, leaves, slots, then, ended}
 use Rattle.composed.proofs.each_call.Statement.{statement}
 use Rattle.composed.proofs.each_call.Tie as tie
 
@@ -9,7 +9,8 @@ returns : tie.Need-returns
 returns c =
     let a = c .before .before in
     let m = a .before .before in
-    let s = m .before .before .before .before in
+    let u = m .before .before .before .before in
+    let s = u .before .before .before .before .before in
     let r = s .before .before .before in
     let l = r .before .before in
     let f = l .before .before in
@@ -21,6 +22,12 @@ returns c =
       levelled = noSlot (l .abr-set-level .last .0) (refusalAlone (l .abr-set-level .result));
       taken = noSlot (r .abr-receive .last .0) (r .abr-receive .result);
       sent = record { table = s .abr-slot .last .0; returned = s .abr-slot .result; old = start .args .cell .now; new = s .abr-slot .last .1 .1 .0 };
+      left = record {
+        table = u .abr-out-of-rate .last .0;
+        returned = noCell (u .abr-out-of-rate .result) 0;
+        old = s .abr-slot .last .1 .1 .0;
+        new = u .abr-out-of-rate .last .1 .1 .1 .0;
+      };
       made = noSlot (m .abr-make .last .0) (m .abr-make .result);
       closed = noSlot (c .abr-close .last .0) (c .abr-close .result);
       rate = a .abr-acr .ensures;
@@ -32,11 +39,12 @@ returns c =
           (then (levels (l .abr-set-level .ensures))
           (then (receives (r .abr-receive .ensures))
           (then (slots (s .abr-slot .ensures))
+          (then (leaves (u .abr-out-of-rate .ensures))
           (then (makes (m .abr-make .ensures))
-          (then (closes (c .abr-close .ensures)) ended))))));
+          (then (closes (c .abr-close .ensures)) ended)))))));
     }
 
 pub each-call-spec : {M : Type 1} → statement M
 each-call-spec =
     tie.close
-    (tie.spec (λ c κs. search needs) (λ c κs. search needs) (λ c κs. search needs) (λ c κs. search needs) (λ c κs. search needs) (λ c κs. search needs) (λ c κs. search needs) (λ c κs. search needs) (λ c. search needs) returns)
+    (tie.spec (λ c κs. search needs) (λ c κs. search needs) (λ c κs. search needs) (λ c κs. search needs) (λ c κs. search needs) (λ c κs. search needs) (λ c κs. search needs) (λ c κs. search needs) (λ c κs. search needs) (λ c. search needs) returns)

@@ -8,7 +8,7 @@ use std::time::{Duration, Instant};
 use differential::coverage::Coverage;
 use differential::lists;
 use differential::pairs::{self, Tally};
-use differential::profile::SPACED;
+use differential::profile::{NO_MINIMUM, SPACED};
 
 /// How often a progress line comes.
 const PROGRESS: Duration = Duration::from_secs(10);
@@ -36,6 +36,7 @@ fn soak(first: u64) -> Result<std::convert::Infallible, String> {
     for seed in first.. {
         lists::run(seed, lists::profile_of(seed), &mut coverage)?;
         pairs::run(seed, SPACED, &mut tally)?;
+        pairs::run(seed, NO_MINIMUM, &mut tally)?;
         if shown.elapsed() >= PROGRESS {
             shown = Instant::now();
             progress(seed, start.elapsed(), &coverage, &tally);

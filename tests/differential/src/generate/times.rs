@@ -1,6 +1,6 @@
 //! Times just before, at and after those at which a connection changes.
 
-use abr::{MAKE_INTERVAL, TIME_MAX};
+use abr::TIME_MAX;
 
 use super::Generator;
 use crate::observation::{Connection, Observation};
@@ -35,17 +35,17 @@ impl Generator {
         }
     }
 
-    /// The time of a making: mostly that of the last call, sometimes the end of
-    /// the interval since the connection's last made cell, or a nanosecond before.
-    pub(super) fn making_time(&mut self, seen: &Observation, vci: u32) -> u64 {
+    /// The time of a made or an out-of-rate cell: mostly that of the last call,
+    /// sometimes the end of the interval since the connection's last such cell, if
+    /// there was one, or a nanosecond before.
+    pub(super) fn time_after(&mut self, seen: &Observation, end: Option<u64>) -> u64 {
         if self.fault() {
             return self.time(seen);
         }
         let last = seen.last;
-        let Some(made) = seen.connections.get(&vci).and_then(|c| c.last_made) else {
+        let Some(end) = end else {
             return last;
         };
-        let end = made + MAKE_INTERVAL;
         let time = self.rng.pick(&[last, last, last, end, end, end - 1]);
         if time > TIME_MAX {
             last
@@ -75,11 +75,10 @@ impl Generator {
             .filter_map(Connection::ready)
             .min();
         let earliest = earliest.unwrap_or(last);
-        let Some(sends) = connection.sends else {
+        let (Some(sends), Some(gap)) = (connection.sends, reference::gap(connection.acr)) else {
             return self.rng.pick(&[last, last + step, earliest]);
         };
-        let gap = reference::gap(connection.acr);
-        let (due, trm, adtf) = (connection.due(&sends), connection.trm(), connection.adtf());
+        let (due, trm, adtf) = (sends.last + gap, connection.trm(), connection.adtf());
         let random = last + self.rng.below(2 * gap + 1);
         let edges = [
             (30, earliest),

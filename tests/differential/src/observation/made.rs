@@ -10,7 +10,7 @@ impl Observation {
     /// A cell was made.
     pub(super) fn made(&mut self, vci: u32, time: u64, coverage: &mut Coverage) {
         let level = self.level;
-        self.last = time;
+        (self.last, self.last_making) = (time, time);
         let before = self.makings.insert(vci, time);
         let Some(connection) = self.connections.get_mut(&vci) else {
             return;
@@ -43,7 +43,8 @@ impl Observation {
                 coverage.reach(Event::MadeClosed, self.closed.contains(&vci));
             }
             (Call::Open { time, .. } | Call::Slot { time, .. }, 14) => {
-                coverage.reach(Event::MadeTimeCounts, time >= self.last_sent);
+                let others = self.last_sent.max(self.last_outside);
+                coverage.reach(Event::MadeTimeCounts, time >= others);
             }
             _ => {}
         }

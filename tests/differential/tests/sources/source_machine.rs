@@ -1,6 +1,6 @@
 //! The source machine of source document 001, transitions T1 to T7.
 
-use abr::{Kind, Rm};
+use abr::{Kind, Params, Rm};
 
 use crate::station::{
     paper, read, Station, BELOW_INITIAL, BELOW_INITIAL_CODE, BELOW_MINIMUM_CODE, INITIAL,
@@ -143,4 +143,26 @@ fn t7_er_at_or_below_the_rate_is_taken() {
         assert_eq!(rate_after(false, ni, BELOW_MINIMUM_CODE), MINIMUM);
         assert_eq!(rate_after(false, ni, 0), MINIMUM);
     }
+}
+
+#[test]
+fn a_source_at_rate_0_rises_by_an_out_of_rate_cell() {
+    let mut station = Station::open(&Params { mcr: 0, ..paper() });
+    station.offer(2);
+    assert_eq!(station.forward(0), INITIAL);
+    station.receive_backward(feedback(false, false, 0));
+    assert_eq!(station.acr(), 0);
+    assert_eq!(station.slot(90 * MS), None); // the gap at ICR is 5 ms
+    let cell = station.out_of_rate(100 * MS);
+    assert_eq!(cell[3] & 1, 1); // CLP
+    let forward = read(&cell);
+    assert_eq!((forward.er, forward.ccr, forward.mcr), (PEAK_CODE, 0, 0));
+    assert_eq!(station.slot(100 * MS), None);
+    // Turned round by the destination: no marks, and ER is PCR. Then 512,000 / 8.
+    station.receive_backward(forward);
+    assert_eq!(station.acr(), 64_000);
+    // Due 8 ms after the last cell in a slot, at 8 ms: at once.
+    assert_eq!(station.kind(100 * MS), Some(Kind::Data));
+    assert_eq!(station.slot(108 * MS - 1), None);
+    assert_eq!(station.kind(108 * MS), Some(Kind::Data));
 }

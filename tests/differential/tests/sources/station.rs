@@ -105,6 +105,16 @@ impl Station {
         assert_eq!(ours, theirs, "comparisons of a made cell");
     }
 
+    /// The octets of an out-of-rate cell.
+    pub fn out_of_rate(&mut self, time: u64) -> Octets {
+        let (mut cell, mut other) = ([0; CELL_OCTETS], [0; CELL_OCTETS]);
+        let ours = self.library.out_of_rate(VCI, time, &mut cell);
+        let theirs = self.reference.out_of_rate(VCI, time, &mut other);
+        assert_eq!((ours, theirs), (Ok(()), Ok(())), "at {time}");
+        assert_eq!(cell, other, "library and reference at {time}");
+        cell
+    }
+
     pub fn receive(&mut self, cell: &Octets) {
         let ours = self.library.receive(cell).expect("library");
         let theirs = self.reference.receive(cell).expect("reference");

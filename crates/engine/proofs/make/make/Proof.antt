@@ -4,7 +4,8 @@ use native.Mathlib.Omega.{arith}
 use borrow.Author.Needs.{needs}
 use borrow.Author.Tests.{not-true, not-false}
 use Rattle.connection.specs.declared.parts.Connection.{Connection}
-use Rattle.connection.specs.Making.{mayMake, withMade}
+use Rattle.connection.specs.Interval.{rested}
+use Rattle.connection.specs.Making.{withMade}
 use Rattle.connection.specs.Range.{InRange}
 use Rattle.connection.proofs.Ranged.{made-ranged}
 use Rattle.model.specs.State.{State, capacity}
@@ -71,8 +72,8 @@ returns-4 c =
 load-requires : tie.Need-load-requires
 load-requires c κs = entry (c .before .before .before .before .before .before)
 
-may-make-requires : tie.Need-may-make-requires
-may-make-requires c κs = in-range (c .before .before) .made
+rested-requires : tie.Need-rested-requires
+rested-requires c κs = in-range (c .before .before) .made
 
 returns-5 : tie.Need-returns-5
 returns-5 c =
@@ -88,8 +89,8 @@ returns-5 c =
           refused-out s 17 e
           (make-soon s (a .name) (a .time) (timely .if1 .left) (p .holder) (found-at p) (subst (λ (x : ℕ). x ≤ a .time) (last-at s e) (after .if2 .left))
           (omega (arith, level-of s w e, high .if3 .left))
-          (ap (λ (x : Connection). mayMake (a .time) (x .destination .made .last)) (sym (loaded-is s w p e (entry i) (ld .load .ensures)))
-          ∙ sym (c .before .may-make .ensures) ∙ not-true _ (c .if4 .taken)));
+          (ap (λ (x : Connection). rested (a .time) (x .destination .made .last)) (sym (loaded-is s w p e (entry i) (ld .load .ensures)))
+          ∙ sym (c .before .rested .ensures) ∙ not-true _ (c .if4 .taken)));
     }
 
 update-destination-requires : tie.Need-update-destination-requires
@@ -118,7 +119,7 @@ returns-6 c =
           make-out s w e (entry i) p (a .time)
           (make-done s (a .name) (a .time) (timely .if1 .left) (p .holder) (found-at p) (subst (λ (x : ℕ). x ≤ a .time) (last-at s e) (after .if2 .left))
           (omega (arith, level-of s w e, high .if3 .left))
-          (ap (λ (x : Connection). mayMake (a .time) (x .destination .made .last)) (sym is) ∙ sym (may .before .may-make .ensures) ∙ not-false _ (may .if4 .left)))
+          (ap (λ (x : Connection). rested (a .time) (x .destination .made .last)) (sym is) ∙ sym (may .before .rested .ensures) ∙ not-false _ (may .if4 .left)))
           (subst (λ (x : Connection). Updates DestinationMoved (a .t .now) (c .update-destination .last .0) (i .i .given .0 .0) x (c .update-destination .result))
           (made .with-made .ensures ∙ ap (λ (n : ℕ). withMade (a .time) n (ld .load .result)) (level-of s w e) ∙ ap (withMade (a .time) (s .level)) is)
           (c .update-destination .ensures));
@@ -126,4 +127,4 @@ returns-6 c =
 
 pub make-spec : {M : Type 1} → statement M
 make-spec =
-    tie.close (tie.spec returns (λ c κs. search needs) (λ c. search needs) (λ c. search needs) returns-2 (λ c. search needs) returns-3 (λ c. search needs) (λ c. search needs) returns-4 load-requires may-make-requires returns-5 (λ c κs. search needs) update-destination-requires (λ c. search needs) returns-6)
+    tie.close (tie.spec returns (λ c κs. search needs) (λ c. search needs) (λ c. search needs) returns-2 (λ c. search needs) returns-3 (λ c. search needs) (λ c. search needs) returns-4 load-requires rested-requires returns-5 (λ c κs. search needs) update-destination-requires (λ c. search needs) returns-6)

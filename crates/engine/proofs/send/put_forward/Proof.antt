@@ -11,7 +11,7 @@ put-resource-requires c κs = (search needs, (search needs, c .forward-fields .e
 returns : tie.Need-returns
 returns c =
     let p = c .before .before in
-    record { is = λ h. p .put-resource .ensures ∙ ap (resourceCell 0) (p .before .forward-fields .ensures .meant h) }
+    record { is = λ h. p .put-resource .ensures ∙ ap (resourceCell (p .before .before .before .before .args .clp)) (p .before .forward-fields .ensures .meant h) }
 
 pub put-forward-spec : {M : Type 1} → statement M
 put-forward-spec = tie.close (tie.spec (λ c κs. search needs) put-resource-requires (λ c. search needs) returns)

@@ -1,9 +1,10 @@
-use Prim.Native.Nat.{ℕ}
+use Prim.Native.Nat.{ℕ, _+_, _*_}
 use mathlib.Core.Path.{ap, _∙_}
 use mathlib.Core.List.{List}
 use Rattle.model.specs.State.{taken}
 use Rattle.table.specs.Storing.{entryFlipped}
-use Rattle.table.proofs.Storing.{given-by}
+use Rattle.table.specs.Layout.{liveWords, liveFrom, liveWidth}
+use Rattle.table.proofs.Storing.{keyed, live-by, given-by}
 use Rattle.storing.proofs.Stored.{takes}
 use borrow.Author.Needs.{needs}
 use Rattle.storing.proofs.store.store.Statement.{statement}
@@ -14,12 +15,19 @@ returns c =
     let ins = c .before .before in
     let flip = ins .before .before .before in
     let fixed = flip .before .before .before in
-    let live = fixed .before .before in
-    let start = live .before .before in
+    let key = fixed .before .before in
+    let outside = key .before in
+    let sides = outside .before .before in
+    let start = sides .before .before in
     let i = start .args .i in
     takes (start .args .t .now) _ _ _ i (start .pre .0) (start .args .c) (c .replay .result) (ins .before .directory-word .result)
-    (flip .flip-entry .ensures ∙ ap (λ (x : List ℕ). entryFlipped x i) (given-by (start .args .t .now) _ _ i (taken (start .args .c)) (live .put-live .ensures) (fixed .put-fixed .ensures)))
+    (flip .flip-entry .ensures
+    ∙ ap (λ (x : List ℕ). entryFlipped x i)
+    (given-by (start .args .t .now) _ _ i (taken (start .args .c))
+    (keyed (start .args .t .now) _ (liveFrom + i * liveWidth) i _ (liveWords (start .args .c)) (start .args .c)
+    (live-by (start .args .t .now) _ _ i (start .args .c) (sides .put-sides .ensures) (outside .update-outside .ensures)) (key .key-of .ensures))
+    (fixed .put-fixed .ensures)))
     (ins .before .directory-word .ensures) (ins .insert .ensures) (c .replay .ensures)
 
 pub store-spec : {M : Type 1} → statement M
-store-spec = tie.close (tie.spec (λ c κs. search needs) (λ c. search needs) (λ c. search needs) (λ c κs. search needs) (λ c. search needs) (λ c. search needs) (λ c. search needs) (λ c. search needs) (λ c κs. search needs) (λ c κs. search needs) (λ c κs. search needs) (λ c κs. search needs) returns)
+store-spec = tie.close (tie.spec (λ c κs. search needs) (λ c κs. search needs) (λ c κs. search needs) (λ c. search needs) (λ c. search needs) (λ c. search needs) (λ c. search needs) (λ c. search needs) (λ c κs. search needs) (λ c. search needs) (λ c. search needs) (λ c. search needs) (λ c. search needs) (λ c κs. search needs) (λ c κs. search needs) (λ c κs. search needs) (λ c κs. search needs) returns)

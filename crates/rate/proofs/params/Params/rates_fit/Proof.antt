@@ -25,12 +25,13 @@ returns c =
 returns-2 : tie.Need-returns-2
 unfolding ratesFit
 returns-2 c =
-    let initial = c .before .before .before in
-    simp (sym (initial .before .least .ensures), sym (initial .initial .ensures), le-leb _ _ (c .before .if1 .taken), lt-leb _ _ (c .if2 .left))
+    let peak = c .before .before in
+    let initial = peak .before in
+    simp (sym (initial .before .least .ensures), sym (initial .initial .ensures), sym (peak .peak .ensures), le-leb _ _ (c .before .if1 .taken), lt-leb _ _ (c .if2 .left))
 
 returns-3 : tie.Need-returns-3
 unfolding ratesFit
-returns-3 c = simp (sym (c .before .before .before .least .ensures), lt-leb _ _ (c .if1 .left))
+returns-3 c = simp (sym (c .before .peak .ensures), lt-leb _ _ (c .if1 .left))
 
 pub rates-fit-spec : {M : Type 1} → statement M
 rates-fit-spec =
