@@ -2,13 +2,13 @@
 use mathlib.Core.Path.{refl}
 use Rattle.connection.specs.Interval.{rested}
 use Rattle.connection.specs.OutOfRate.{afterOutOfRate, outOfRateCell}
-use Rattle.connection.specs.Sending.{forwardFields}
-use Rattle.model.specs.Step.{refuse, idleStep, sendOutside, outOfRateStep}
+use Rattle.connection.specs.Sending.{forwardFields, bufferAfter}
+use Rattle.model.specs.Step.{refuse, closeStep, idleStep, sendOutside, outOfRateStep}
 use Rattle.promises.specs.OutOfRateCalls.{OutOfRateCalls}
 use Rattle.promises.proofs.Witness.{computing}
 
 pub out-of-rate-calls : OutOfRateCalls
-unfolding computing rested afterOutOfRate outOfRateCell forwardFields refuse idleStep sendOutside outOfRateStep
+unfolding computing rested afterOutOfRate outOfRateCell forwardFields bufferAfter refuse closeStep idleStep sendOutside outOfRateStep
 out-of-rate-calls = record {
   atZero = (refl, refl);
   atRate = (refl, refl);
@@ -17,6 +17,8 @@ out-of-rate-calls = record {
   notOpen = refl;
   soon = refl;
   rested = refl;
+  reopened = refl;
+  earlier = refl;
   shortLate = refl;
   shortNotOpen = refl;
   shortEarlier = refl;
@@ -28,5 +30,6 @@ out-of-rate-calls = record {
   slotEarlier = refl;
   passedOver = refl;
   firstCell = refl;
+  firstWritten = refl;
   goesOn = refl;
 }
