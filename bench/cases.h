@@ -1,8 +1,9 @@
 /*
  * Every call in its costliest known case, accepted: 1,024 connections are open, the one concerned has the last leaf of
- * the tournament and wins at every level, so that all ten matches are replayed (an open replays one), and its VCI is at
- * an end of the directory of names. Where the directory moves, it is the highest VCI, with all other words behind its own, and its ready
- * instant is the earliest; elsewhere the lowest VCI, and all ready instants are equal. A forward cell makes both of its
+ * the tournament and wins at every level, so that all ten matches are replayed (an open replays one), and its name is at
+ * an end of the directory of names: VPI 0 and VCI 32, or VPI 255 and VCI 65,535. Where the directory moves, it is the
+ * highest name, with all other words behind its own, and its ready instant is the earliest; elsewhere the lowest name,
+ * and all ready instants are equal. The others are on all VPIs, four to each. A forward cell makes both of its
  * moves, and a received one replaces another. bench/worst.c counts the instructions of these calls, tests/c/stack.c
  * measures their stack.
  */
@@ -19,22 +20,27 @@
 /* What a case needs beside the connections. */
 enum need { NOTHING, NRM_2, TURNED_WAITS, MADE_WAITS, OUTSIDE, FORWARD_CELL, BACKWARD_CELL, DATA_CELL, CLOSED };
 
-/* The VCI concerned. */
-enum name { LOWEST = ABR_VCI_MIN, HIGHEST = ABR_VCI_MAX };
+/* The connection concerned. */
+enum name { LOWEST, HIGHEST };
+
+/* A VPI and a VCI. */
+typedef struct {
+    uint32_t vpi, vci;
+} address;
 
 typedef struct {
     const char *name;
     enum need need;
-    enum name vci;
+    enum name at;
     void (*call)(void);
     uint32_t kind; /* of a slot or of a cell that is read, else 0 */
 } abr_case;
 
 static abr_table table;
 static uint8_t cell[ABR_CELL_OCTETS];
-static abr_rm rm = {0, 0, 0, 1, 0, 0, 0x53E8, 0x5000, 0x4000, 7, 9};
+static abr_rm rm = {0, 0, 0, 0, 1, 0, 0, 0x53E8, 0x5000, 0x4000, 7, 9};
 static abr_params params;
-static uint32_t vci; /* the one concerned */
+static address at; /* of the one concerned */
 
 /* The answers of the calls. */
 static uint32_t refusal;
@@ -48,13 +54,16 @@ static abr_rated rated;
 static void call_slot(void) { sent = abr_slot(&table, 3 * SECOND, cell, sizeof cell); }
 static void call_idle(void) { sent = abr_slot(&table, SECOND, cell, sizeof cell); }
 static void call_receive(void) { answer = abr_receive(&table, cell, sizeof cell); }
-static void call_open(void) { answer = abr_open(&table, vci, 3 * SECOND, params); }
-static void call_close(void) { answer = abr_close(&table, vci); }
-static void call_offer(void) { answer = abr_offer(&table, vci, 1); }
+static void call_open(void) { answer = abr_open(&table, at.vpi, at.vci, 3 * SECOND, params); }
+static void call_close(void) { answer = abr_close(&table, at.vpi, at.vci); }
+static void call_offer(void) { answer = abr_offer(&table, at.vpi, at.vci, 1); }
 static void call_set_level(void) { refusal = abr_set_level(&table, 2); }
-static void call_make(void) { answer = abr_make(&table, vci, 3 * SECOND); }
-static void call_out_of_rate(void) { refusal = abr_out_of_rate(&table, vci, 3 * SECOND, cell, sizeof cell); }
-static void call_acr(void) { allowed = abr_acr(&table, vci); }
+static void call_make(void) { answer = abr_make(&table, at.vpi, at.vci, 3 * SECOND); }
+static void call_out_of_rate(void)
+{
+    refusal = abr_out_of_rate(&table, at.vpi, at.vci, 3 * SECOND, cell, sizeof cell);
+}
+static void call_acr(void) { allowed = abr_acr(&table, at.vpi, at.vci); }
 static void call_write_rm(void) { refusal = abr_write_rm(rm, cell, sizeof cell); }
 static void call_read(void) { content = abr_read(cell, sizeof cell); }
 static void call_code(void) { coded = abr_code(ABR_RATE_MAX); }
@@ -88,22 +97,30 @@ static const abr_case cases[] = {
 #define CASES (sizeof cases / sizeof cases[0])
 
 /* Opens a connection with data. One unanswered cell and 10 ms are enough for the moves of a forward cell. */
-static int open_busy(uint32_t other, uint32_t icr, uint32_t n)
+static int open_busy(address other, uint32_t icr, uint32_t n)
 {
     params = abr_house(ABR_CODE_MAX, 0x4000, icr);
     params.n = n;
     params.crm = params.adtf = 1;
-    return abr_open(&table, other, 0, params).refusal != ABR_OK || abr_offer(&table, other, 100).refusal != ABR_OK;
+    return abr_open(&table, other.vpi, other.vci, 0, params).refusal != ABR_OK ||
+           abr_offer(&table, other.vpi, other.vci, 100).refusal != ABR_OK;
 }
 
-/* The others, and last the one concerned; as the highest VCI with a higher rate, and so due earlier than all others. */
-static int fill(uint32_t n)
+/* The lowest or the highest name, or one that is i names away from it, counted over VCIs that stand on every VPI. */
+static address name_from(enum name end, uint32_t i)
+{
+    address low = {i / 4, ABR_VCI_MIN + i % 4}, high = {ABR_VPI_MAX - i / 4, ABR_VCI_MAX - i % 4};
+    return end == LOWEST ? low : high;
+}
+
+/* The others, and last the one concerned; as the highest name with a higher rate, and so due earlier than all others. */
+static int fill(enum name concerned, uint32_t n)
 {
     int wrong = 0;
-    for (uint32_t i = 0; i < OTHERS; i++) {
-        wrong |= open_busy(vci == HIGHEST ? LOWEST + i : HIGHEST - i, 0x5000, n);
+    for (uint32_t i = 1; i <= OTHERS; i++) {
+        wrong |= open_busy(name_from(concerned, i), 0x5000, n);
     }
-    return wrong | open_busy(vci, vci == HIGHEST ? 0x6000 : 0x5000, n);
+    return wrong | open_busy(at, concerned == HIGHEST ? 0x6000 : 0x5000, n);
 }
 
 /* Every connection sends one cell at this time. */
@@ -117,13 +134,13 @@ static int round_at(uint64_t time)
     return wrong;
 }
 
-/* A data cell for the VCI concerned, its octet 5 found by trying all. */
+/* A data cell for the connection concerned, its octet 5 found by trying all. */
 static int make_data_cell(void)
 {
-    cell[0] = 0;
-    cell[1] = (uint8_t)(vci >> 12);
-    cell[2] = vci >> 4 & 0xFF;
-    cell[3] = (uint8_t)((vci & 0xF) << 4);
+    cell[0] = (uint8_t)(at.vpi >> 4);
+    cell[1] = (uint8_t)((at.vpi & 0xF) << 4 | at.vci >> 12);
+    cell[2] = at.vci >> 4 & 0xFF;
+    cell[3] = (uint8_t)((at.vci & 0xF) << 4);
     for (unsigned octet = 0; octet < 256; octet++) {
         cell[4] = (uint8_t)octet;
         if (abr_read(cell, sizeof cell).refusal == ABR_OK) {
@@ -142,19 +159,23 @@ static int make_rm_cell(uint32_t dir)
 /* Prepares table and cell for a case; 0 if every call of it was accepted. */
 static int prepare(const abr_case *which)
 {
-    rm.vci = vci = which->vci;
+    at = name_from(which->at, 0);
+    rm.vpi = at.vpi;
+    rm.vci = at.vci;
     memset(&table, 0, sizeof table);
-    if (fill(which->need == NRM_2 ? 1 : 5) || round_at(0) || round_at(SECOND)) {
+    if (fill(which->at, which->need == NRM_2 ? 1 : 5) || round_at(0) || round_at(SECOND)) {
         return 1;
     }
     switch (which->need) {
     case TURNED_WAITS: return make_rm_cell(0) || abr_receive(&table, cell, sizeof cell).refusal != ABR_OK;
-    case MADE_WAITS: return abr_set_level(&table, 2) != ABR_OK || abr_make(&table, vci, SECOND).refusal != ABR_OK;
-    case OUTSIDE: return abr_out_of_rate(&table, vci, SECOND, cell, sizeof cell) != ABR_OK; /* the last one before */
+    case MADE_WAITS:
+        return abr_set_level(&table, 2) != ABR_OK || abr_make(&table, at.vpi, at.vci, SECOND).refusal != ABR_OK;
+    case OUTSIDE: /* the last one before */
+        return abr_out_of_rate(&table, at.vpi, at.vci, SECOND, cell, sizeof cell) != ABR_OK;
     case FORWARD_CELL: return make_rm_cell(0);
     case BACKWARD_CELL: return make_rm_cell(1);
     case DATA_CELL: return make_data_cell();
-    case CLOSED: return abr_close(&table, vci).refusal != ABR_OK;
+    case CLOSED: return abr_close(&table, at.vpi, at.vci).refusal != ABR_OK;
     default: return 0;
     }
 }
@@ -163,7 +184,7 @@ static int prepare(const abr_case *which)
 static int accepted(const abr_case *which)
 {
     if (which->call == call_slot) {
-        return sent.refusal == ABR_OK && sent.kind == which->kind && sent.vci == vci;
+        return sent.refusal == ABR_OK && sent.kind == which->kind && sent.vpi == at.vpi && sent.vci == at.vci;
     }
     if (which->call == call_read) {
         return content.refusal == ABR_OK && content.kind == which->kind;

@@ -1,7 +1,7 @@
 /*
- * Two connections on a link of 4,000 cells per second. Both have data, and both
- * are allowed 2,000. At 3 ms a backward cell gives VCI 32 an explicit rate of
- * 500; from 8 ms on backward cells give it 2,000 again.
+ * Two connections on a link of 4,000 cells per second: VCI 32 on VPI 0, and VCI 32 on
+ * VPI 1. Both have data, and both are allowed 2,000. At 3 ms a backward cell gives
+ * the first an explicit rate of 500; from 8 ms on backward cells give it 2,000 again.
  */
 #include <stdio.h>
 #include <stdlib.h>
@@ -9,6 +9,7 @@
 #include "abr.h"
 
 #define MS UINT64_C(1000000)
+#define VCI 32u
 
 static abr_table table; /* all zero: an empty table */
 
@@ -30,13 +31,13 @@ static uint32_t code(uint64_t cells)
 }
 
 /* A backward cell with an explicit rate in cells per second is received. */
-static void feedback(uint32_t vci, uint64_t cells)
+static void feedback(uint32_t vpi, uint64_t cells)
 {
     uint8_t cell[ABR_CELL_OCTETS];
-    abr_rm rm = {.vci = vci, .dir = 1, .er = code(cells)};
+    abr_rm rm = {.vpi = vpi, .vci = VCI, .dir = 1, .er = code(cells)};
     accepted(abr_write_rm(rm, cell, sizeof cell));
     accepted(abr_receive(&table, cell, sizeof cell).refusal);
-    printf("          VCI %u receives ER %u\n", (unsigned)vci, (unsigned)cells);
+    printf("          %u/%u receives ER %u\n", (unsigned)vpi, VCI, (unsigned)cells);
 }
 
 int main(void)
@@ -49,21 +50,21 @@ int main(void)
         return 1;
     }
     abr_params params = abr_house(code(2000), code(100), code(2000));
-    for (uint32_t vci = 32; vci <= 33; vci++) {
-        accepted(abr_open(&table, vci, 0, params).refusal);
-        accepted(abr_offer(&table, vci, 1000).refusal); /* data cells that wait */
+    for (uint32_t vpi = 0; vpi <= 1; vpi++) {
+        accepted(abr_open(&table, vpi, VCI, 0, params).refusal);
+        accepted(abr_offer(&table, vpi, VCI, 1000).refusal); /* data cells that wait */
     }
-    printf("  time    VCI      kind     allowed\n");
+    printf("  time    VPI/VCI  kind     allowed\n");
     for (uint64_t time = 0; time <= 14 * MS; time += MS / 4) {
         if (time == 3 * MS) {
-            feedback(32, 500);
+            feedback(0, 500);
         } else if (time >= 8 * MS && time % (2 * MS) == 0) {
-            feedback(32, 2000);
+            feedback(0, 2000);
         }
         abr_sent sent = abr_slot(&table, time, cell, sizeof cell);
         accepted(sent.refusal);
-        printf("%5.2f ms  %3u      %-7s  %7u\n", (double)time / 1e6, (unsigned)sent.vci,
-               kinds[sent.kind], (unsigned)(sent.acr / ABR_RATE_ONE));
+        printf("%5.2f ms  %3u/%-5u%-7s  %7u\n", (double)time / 1e6, (unsigned)sent.vpi,
+               (unsigned)sent.vci, kinds[sent.kind], (unsigned)(sent.acr / ABR_RATE_ONE));
     }
     return 0;
 }

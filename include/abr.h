@@ -5,8 +5,15 @@
  * link sends, what kind of cell, and what rate it is allowed afterwards. The
  * sections named below are those of document 01, "The ABR end-system rate
  * engine", which says what every call does, with requests L1 (abr_make), L2
- * (marks of a replaced cell), L4 (1,024 connections, comparisons) and L5 (no
- * minimum rate, abr_out_of_rate) of document 02.
+ * (marks of a replaced cell), L4 (1,024 connections, comparisons), L5 (no minimum
+ * rate, abr_out_of_rate) and L6 (full addresses) of document 02.
+ *
+ * Addresses. A connection is named by its VPI and its VCI together, as VPI * 65,536
+ * + VCI (document 02, L6): the same VCI on another VPI is another connection. Every
+ * cell written carries both. A VPI over 255 or a VCI over 65,535 is refused with 7
+ * where it would be opened or written; in every other call such a pair is that of
+ * no connection and is refused with 11. Neither is ever cut to the address of
+ * another.
  *
  * Language. C99 or later, C++11 or later, or C++98 with <stdint.h>.
  *
@@ -68,8 +75,8 @@ extern "C" {
 
 /* ---- Version ------------------------------------------------------------ */
 
-/* 0.6.0: major, minor and patch number, eight bits each. */
-#define ABR_VERSION 0x000600u
+/* 0.7.0: major, minor and patch number, eight bits each. */
+#define ABR_VERSION 0x000700u
 
 /* The words of a table, which has 270,488 octets. */
 #define ABR_TABLE_WORDS 33811u
@@ -85,7 +92,10 @@ extern "C" {
 /* The most comparisons of a call. */
 #define ABR_COMPARISONS_MAX 10u
 
-/* The least and the greatest VCI that can be opened. */
+/* The greatest VPI. A VPI has eight bits here. */
+#define ABR_VPI_MAX 255u
+
+/* The least and the greatest VCI that can be opened, on any VPI. */
 #define ABR_VCI_MIN 32u
 #define ABR_VCI_MAX 65535u
 
@@ -152,24 +162,24 @@ extern "C" {
 /* Because of the input. */
 #define ABR_REFUSED_LENGTH 1u       /* cell or buffer is not 53 octets */
 #define ABR_REFUSED_HEADER_CHECK 2u /* octet 5 is wrong */
-#define ABR_REFUSED_PATH 3u         /* VPI is not 0 */
+/* 3 was a VPI other than 0. Document 02's L6 withdrew it; its number stays unused. */
 #define ABR_REFUSED_PAYLOAD_TYPE 4u /* payload type is 4, 5 or 7 */
 #define ABR_REFUSED_CRC 5u          /* CRC-10 is wrong */
 #define ABR_REFUSED_PROTOCOL 6u     /* protocol is not 1 */
-#define ABR_REFUSED_RANGE 7u        /* parameter, field or rate code is out of range */
+#define ABR_REFUSED_RANGE 7u        /* parameter, field, address or rate code is out of range */
 #define ABR_REFUSED_TIME 8u         /* time is over 2^62 */
 #define ABR_REFUSED_TOO_LARGE 9u    /* level is over 2 or rate is above the largest */
 #define ABR_REFUSED_LOW_VCI 10u     /* VCI is under 32 */
 
 /* Because of the state. */
-#define ABR_REFUSED_NOT_OPEN 11u      /* VCI is not open */
-#define ABR_REFUSED_ALREADY_OPEN 12u  /* VCI is already open */
+#define ABR_REFUSED_NOT_OPEN 11u      /* connection is not open */
+#define ABR_REFUSED_ALREADY_OPEN 12u  /* connection is already open */
 #define ABR_REFUSED_FULL 13u          /* 1,024 connections are open */
 #define ABR_REFUSED_TIME_BACKWARD 14u /* time is before the last accepted open, slot, made or out-of-rate cell */
 #define ABR_REFUSED_TOO_MUCH_DATA 15u /* waiting data would pass 65,535 cells */
 #define ABR_REFUSED_NOT_CONGESTED 16u /* congestion level is 0 */
-#define ABR_REFUSED_TOO_SOON 17u      /* less than 100 ms since the last cell made on this VCI */
-#define ABR_REFUSED_TOO_OFTEN 18u     /* less than 100 ms since the last out-of-rate cell on this VCI */
+#define ABR_REFUSED_TOO_SOON 17u      /* less than 100 ms since the last cell made on this connection */
+#define ABR_REFUSED_TOO_OFTEN 18u     /* less than 100 ms since the last out-of-rate cell on this connection */
 
 /* ---- Types -------------------------------------------------------------- */
 
@@ -195,6 +205,7 @@ typedef struct {
 
 /* The fields of an RM cell. A cell that is read has rate codes without bit 15. */
 typedef struct {
+    uint32_t vpi; /* at most 8 bits */
     uint32_t vci; /* at most 16 bits */
     uint32_t dir; /* 1 backward; this and the next four are 0 or 1 */
     uint32_t bn;  /* 1: not made by a source */
@@ -214,12 +225,13 @@ typedef struct {
     uint32_t comparisons; /* 1 to ABR_COMPARISONS_MAX; 0 if it is refused */
 } abr_answer;
 
-/* The answer of a slot. An idle slot has 0 in all five. */
+/* The answer of a slot. An idle slot has 0 in all six. */
 typedef struct {
     uint32_t refusal;
     uint32_t comparisons; /* ABR_COMPARISONS_MAX if a cell is sent */
     uint32_t kind;        /* ABR_SENT_... */
-    uint32_t vci;         /* the connection that sends */
+    uint32_t vpi;         /* the connection that sends, this and the next */
+    uint32_t vci;
     uint64_t acr;         /* its allowed rate afterwards */
 } abr_sent;
 
@@ -234,7 +246,7 @@ typedef struct {
     uint32_t refusal;
     uint32_t kind; /* ABR_CELL_DATA or ABR_CELL_RM */
     uint32_t efci; /* the congestion mark of a data cell, 0 in an RM cell */
-    abr_rm rm;     /* of a data cell only vci, the rest 0 */
+    abr_rm rm;     /* of a data cell only vpi and vci, the rest 0 */
 } abr_cell;
 
 /* The answer of abr_code. */
@@ -266,44 +278,44 @@ static inline int abr_matches(void)
 
 /*
  * Opens a connection at a time (section "Opening"). It starts at its initial
- * rate with nothing sent and nothing waiting, also if the VCI was open before, and
- * takes the lowest free place of the tournament. Nothing waits yet, so that the
+ * rate with nothing sent and nothing waiting, also if its address was open before,
+ * and takes the lowest free place of the tournament. Nothing waits yet, so that the
  * winners stay and 1 comparison is made.
  * Refusals in order:
- *   10  vci under 32
- *    7  vci over 65,535, or a parameter out of its range: a rate code over 16
- *       bits, MCR <= ICR <= PCR broken, PCR under 512, or any other of abr_params;
+ *   10  vci under 32, whatever vpi is
+ *    7  vpi over 255, vci over 65,535, or a parameter out of its range: a rate code
+ *       over 16 bits, MCR <= ICR <= PCR broken, PCR under 512, or any other of abr_params;
  *       MCR may be 0, and with it ICR (document 02, L5)
  *    8  time over 2^62
- *   12  vci is open
+ *   12  the connection is open
  *   13  1,024 connections are open
  *   14  time before that of the last accepted open, slot, made or out-of-rate
  *       cell
  */
-ABR_MUST_USE abr_answer abr_open(abr_table *table, uint32_t vci, uint64_t time, abr_params params);
+ABR_MUST_USE abr_answer abr_open(abr_table *table, uint32_t vpi, uint32_t vci, uint64_t time, abr_params params);
 
 /*
  * Closes a connection and drops all that waits on it (section "Opening").
  * Comparisons: 1 to 10.
- * Refusal: 11 vci is not open.
+ * Refusal: 11 the connection is not open, vpi over 255 or vci over 65,535.
  */
-ABR_MUST_USE abr_answer abr_close(abr_table *table, uint32_t vci);
+ABR_MUST_USE abr_answer abr_close(abr_table *table, uint32_t vpi, uint32_t vci);
 
 /*
  * Adds data cells to those that wait on a connection (section "Opening").
  * The cells themselves stay with the caller. Offering 0 is accepted.
  * Comparisons: 1 to 10.
  * Refusals in order:
- *   11  vci is not open
+ *   11  the connection is not open, vpi over 255 or vci over 65,535
  *   15  more than 65,535 cells would wait
  */
-ABR_MUST_USE abr_answer abr_offer(abr_table *table, uint32_t vci, uint64_t cells);
+ABR_MUST_USE abr_answer abr_offer(abr_table *table, uint32_t vpi, uint32_t vci, uint64_t cells);
 
 /*
  * Reads the allowed rate of a connection (section "Slots", last line).
- * Refusal: 11 vci is not open.
+ * Refusal: 11 the connection is not open, vpi over 255 or vci over 65,535.
  */
-ABR_MUST_USE abr_allowed abr_acr(const abr_table *table, uint32_t vci);
+ABR_MUST_USE abr_allowed abr_acr(const abr_table *table, uint32_t vpi, uint32_t vci);
 
 /* ---- The receive path --------------------------------------------------- */
 
@@ -317,11 +329,10 @@ ABR_MUST_USE abr_allowed abr_acr(const abr_table *table, uint32_t vci);
  * Refusals in order:
  *    1  len is not 53
  *    2  octet 5 is wrong
- *    3  VPI not 0
  *    4  payload type 4, 5 or 7
  *    5  an RM cell with a wrong CRC-10
  *    6  an RM cell with a protocol other than 1
- *   11  its VCI is not open
+ *   11  no connection with its VPI and VCI is open
  */
 ABR_MUST_USE abr_answer abr_receive(abr_table *table, const uint8_t *cell, size_t len);
 
@@ -345,23 +356,24 @@ ABR_MUST_USE uint32_t abr_set_level(abr_table *table, uint32_t level);
  * Comparisons: 1 to 10.
  * Refusals in order:
  *    8  time over 2^62
- *   11  vci is not open
+ *   11  the connection is not open, vpi over 255 or vci over 65,535
  *   14  time before that of the last accepted open, slot, made or out-of-rate
  *       cell
  *   16  the level is 0
  *   17  less than 100 ms since the last cell made on this connection, sent or
  *       not; one that is opened anew starts without
  */
-ABR_MUST_USE abr_answer abr_make(abr_table *table, uint32_t vci, uint64_t time);
+ABR_MUST_USE abr_answer abr_make(abr_table *table, uint32_t vpi, uint32_t vci, uint64_t time);
 
 /* ---- The slot ----------------------------------------------------------- */
 
 /*
  * Gives the slot at a time to the connection with the earliest ready instant
- * (section "Slots"), and says which it is, what kind of cell it sends and its
+ * (section "Slots"), of several with the same one to that with the lowest VPI *
+ * 65,536 + VCI, and says which it is, what kind of cell it sends and its
  * allowed rate afterwards. The 53 octets of a forward, a turned or a made cell
  * are written to the buffer. For data the buffer is unchanged and the caller sends
- * a data cell of that VCI. If no connection is ready, the answer is all 0 and
+ * a data cell of that address. If no connection is ready, the answer is all 0 and
  * the buffer unchanged; the slot counts as accepted at its time. A connection
  * with an allowed rate of 0 is never ready, whatever waits on it (document 02, L5).
  * A forward cell carries a minimum of 0 as 0x0000, whatever code the open gave.
@@ -386,19 +398,19 @@ ABR_MUST_USE abr_sent abr_slot(abr_table *table, uint64_t time, uint8_t *cell, s
  * Refusals in order:
  *    1  len is not 53
  *    8  time over 2^62
- *   11  vci is not open
+ *   11  the connection is not open, vpi over 255 or vci over 65,535
  *   14  time before that of the last accepted open, slot, made or out-of-rate
  *       cell
  *   18  less than 100 ms since the connection's last accepted call of this sort; one
  *       that is opened anew starts without
  */
-ABR_MUST_USE uint32_t abr_out_of_rate(abr_table *table, uint32_t vci, uint64_t time, uint8_t *cell, size_t len);
+ABR_MUST_USE uint32_t abr_out_of_rate(abr_table *table, uint32_t vpi, uint32_t vci, uint64_t time, uint8_t *cell, size_t len);
 
 /* ---- Cells and rate codes, without a table ------------------------------ */
 
 /*
- * Writes an RM cell (section "The cell, 53 octets"): VPI 0, reserved bits and
- * octets as the section gives them, both checks made.
+ * Writes an RM cell (section "The cell, 53 octets"): GFC and CLP 0, reserved bits
+ * and octets as the section gives them, both checks made.
  * Refusals in order:
  *    1  len is not 53
  *    7  a field out of its range (see abr_rm)
@@ -407,7 +419,7 @@ ABR_MUST_USE uint32_t abr_write_rm(abr_rm rm, uint8_t *cell, size_t len);
 
 /*
  * Reads a cell (section "The cell, 53 octets").
- * Refusals in order: 1, 2, 3, 4, 5, 6, as for abr_receive.
+ * Refusals in order: 1, 2, 4, 5, 6, as for abr_receive.
  */
 ABR_MUST_USE abr_cell abr_read(const uint8_t *cell, size_t len);
 
@@ -439,22 +451,21 @@ static inline const char *abr_refusal_text(uint32_t refusal)
     case ABR_OK: return "accepted";
     case ABR_REFUSED_LENGTH: return "cell or buffer is not 53 octets";
     case ABR_REFUSED_HEADER_CHECK: return "octet 5 is wrong";
-    case ABR_REFUSED_PATH: return "VPI is not 0";
     case ABR_REFUSED_PAYLOAD_TYPE: return "payload type is 4, 5 or 7";
     case ABR_REFUSED_CRC: return "CRC-10 is wrong";
     case ABR_REFUSED_PROTOCOL: return "protocol is not 1";
-    case ABR_REFUSED_RANGE: return "parameter, field or rate code is out of range";
+    case ABR_REFUSED_RANGE: return "parameter, field, address or rate code is out of range";
     case ABR_REFUSED_TIME: return "time is over 2^62";
     case ABR_REFUSED_TOO_LARGE: return "level is over 2 or rate is above the largest";
     case ABR_REFUSED_LOW_VCI: return "VCI is under 32";
-    case ABR_REFUSED_NOT_OPEN: return "VCI is not open";
-    case ABR_REFUSED_ALREADY_OPEN: return "VCI is already open";
+    case ABR_REFUSED_NOT_OPEN: return "connection is not open";
+    case ABR_REFUSED_ALREADY_OPEN: return "connection is already open";
     case ABR_REFUSED_FULL: return "1,024 connections are open";
     case ABR_REFUSED_TIME_BACKWARD: return "time is before the last accepted open, slot, made or out-of-rate cell";
     case ABR_REFUSED_TOO_MUCH_DATA: return "waiting data would pass 65,535 cells";
     case ABR_REFUSED_NOT_CONGESTED: return "congestion level is 0";
-    case ABR_REFUSED_TOO_SOON: return "less than 100 ms since the last cell made on this VCI";
-    case ABR_REFUSED_TOO_OFTEN: return "less than 100 ms since the last out-of-rate cell on this VCI";
+    case ABR_REFUSED_TOO_SOON: return "less than 100 ms since the last cell made on this connection";
+    case ABR_REFUSED_TOO_OFTEN: return "less than 100 ms since the last out-of-rate cell on this connection";
     default: return "not an answer of this library";
     }
 }
@@ -472,18 +483,20 @@ static inline const char *abr_refusal_text(uint32_t refusal)
 ABR_LAYOUT(table_size, sizeof(abr_table) == 8 * ABR_TABLE_WORDS);
 ABR_LAYOUT(params_size, sizeof(abr_params) == 40);
 ABR_LAYOUT(params_trm, offsetof(abr_params, trm) == 36);
-ABR_LAYOUT(rm_size, sizeof(abr_rm) == 44);
-ABR_LAYOUT(rm_er, offsetof(abr_rm, er) == 24);
-ABR_LAYOUT(rm_sn, offsetof(abr_rm, sn) == 40);
+ABR_LAYOUT(rm_size, sizeof(abr_rm) == 48);
+ABR_LAYOUT(rm_vci, offsetof(abr_rm, vci) == 4);
+ABR_LAYOUT(rm_er, offsetof(abr_rm, er) == 28);
+ABR_LAYOUT(rm_sn, offsetof(abr_rm, sn) == 44);
 ABR_LAYOUT(answer_size, sizeof(abr_answer) == 8);
 ABR_LAYOUT(answer_comparisons, offsetof(abr_answer, comparisons) == 4);
-ABR_LAYOUT(sent_size, sizeof(abr_sent) == 24);
+ABR_LAYOUT(sent_size, sizeof(abr_sent) == 32);
 ABR_LAYOUT(sent_comparisons, offsetof(abr_sent, comparisons) == 4);
-ABR_LAYOUT(sent_vci, offsetof(abr_sent, vci) == 12);
-ABR_LAYOUT(sent_acr, offsetof(abr_sent, acr) == 16);
+ABR_LAYOUT(sent_vpi, offsetof(abr_sent, vpi) == 12);
+ABR_LAYOUT(sent_vci, offsetof(abr_sent, vci) == 16);
+ABR_LAYOUT(sent_acr, offsetof(abr_sent, acr) == 24);
 ABR_LAYOUT(allowed_size, sizeof(abr_allowed) == 16);
 ABR_LAYOUT(allowed_acr, offsetof(abr_allowed, acr) == 8);
-ABR_LAYOUT(cell_size, sizeof(abr_cell) == 56);
+ABR_LAYOUT(cell_size, sizeof(abr_cell) == 60);
 ABR_LAYOUT(cell_efci, offsetof(abr_cell, efci) == 8);
 ABR_LAYOUT(cell_rm, offsetof(abr_cell, rm) == 12);
 ABR_LAYOUT(coded_size, sizeof(abr_coded) == 8);

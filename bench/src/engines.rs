@@ -4,7 +4,7 @@
 use std::hint::black_box;
 
 use abr::ffi;
-use reference::{Params, Rm};
+use reference::{Address, Params, Rm};
 
 /// The octets of a cell.
 pub type Octets = [u8; abr::CELL_OCTETS];
@@ -21,15 +21,15 @@ pub trait Engine {
 
     /// An empty table.
     fn empty() -> Self;
-    fn open(&mut self, vci: u32, time: u64, params: &Self::Params);
-    fn close(&mut self, vci: u32);
-    fn offer(&mut self, vci: u32, cells: u64);
+    fn open(&mut self, at: Address, time: u64, params: &Self::Params);
+    fn close(&mut self, at: Address);
+    fn offer(&mut self, at: Address, cells: u64);
     fn receive(&mut self, cell: &Octets);
     fn slot(&mut self, time: u64, buffer: &mut Octets);
     fn set_level(&mut self, level: u32);
-    fn make(&mut self, vci: u32, time: u64);
-    fn out_of_rate(&mut self, vci: u32, time: u64, buffer: &mut Octets);
-    fn acr(&self, vci: u32);
+    fn make(&mut self, at: Address, time: u64);
+    fn out_of_rate(&mut self, at: Address, time: u64, buffer: &mut Octets);
+    fn acr(&self, at: Address);
 
     fn write_rm(rm: &Self::Rm, buffer: &mut Octets);
     fn read(cell: &Octets);
@@ -63,17 +63,17 @@ impl Engine for Library {
         }
     }
 
-    fn open(&mut self, vci: u32, time: u64, params: &ffi::abr_params) {
+    fn open(&mut self, at: Address, time: u64, params: &ffi::abr_params) {
         // SAFETY: here and below every pointer is live and every length true.
-        black_box(unsafe { ffi::abr_open(&mut *self.table, vci, time, *params) });
+        black_box(unsafe { ffi::abr_open(&mut *self.table, at.vpi, at.vci, time, *params) });
     }
 
-    fn close(&mut self, vci: u32) {
-        black_box(unsafe { ffi::abr_close(&mut *self.table, vci) });
+    fn close(&mut self, at: Address) {
+        black_box(unsafe { ffi::abr_close(&mut *self.table, at.vpi, at.vci) });
     }
 
-    fn offer(&mut self, vci: u32, cells: u64) {
-        black_box(unsafe { ffi::abr_offer(&mut *self.table, vci, cells) });
+    fn offer(&mut self, at: Address, cells: u64) {
+        black_box(unsafe { ffi::abr_offer(&mut *self.table, at.vpi, at.vci, cells) });
     }
 
     fn receive(&mut self, cell: &Octets) {
@@ -89,17 +89,18 @@ impl Engine for Library {
         black_box(unsafe { ffi::abr_set_level(&mut *self.table, level) });
     }
 
-    fn make(&mut self, vci: u32, time: u64) {
-        black_box(unsafe { ffi::abr_make(&mut *self.table, vci, time) });
+    fn make(&mut self, at: Address, time: u64) {
+        black_box(unsafe { ffi::abr_make(&mut *self.table, at.vpi, at.vci, time) });
     }
 
-    fn out_of_rate(&mut self, vci: u32, time: u64, buffer: &mut Octets) {
-        let (at, len) = (buffer.as_mut_ptr(), buffer.len());
-        black_box(unsafe { ffi::abr_out_of_rate(&mut *self.table, vci, time, at, len) });
+    fn out_of_rate(&mut self, at: Address, time: u64, buffer: &mut Octets) {
+        let (cell, len) = (buffer.as_mut_ptr(), buffer.len());
+        let (vpi, vci) = (at.vpi, at.vci);
+        black_box(unsafe { ffi::abr_out_of_rate(&mut *self.table, vpi, vci, time, cell, len) });
     }
 
-    fn acr(&self, vci: u32) {
-        black_box(&unsafe { ffi::abr_acr(&*self.table, vci) });
+    fn acr(&self, at: Address) {
+        black_box(&unsafe { ffi::abr_acr(&*self.table, at.vpi, at.vci) });
     }
 
     fn write_rm(rm: &ffi::abr_rm, buffer: &mut Octets) {
@@ -148,18 +149,18 @@ impl Engine for Reference {
     }
 
     #[inline(never)]
-    fn open(&mut self, vci: u32, time: u64, params: &Params) {
-        black_box(&self.engine.open(vci, time, params));
+    fn open(&mut self, at: Address, time: u64, params: &Params) {
+        black_box(&self.engine.open(at, time, params));
     }
 
     #[inline(never)]
-    fn close(&mut self, vci: u32) {
-        black_box(&self.engine.close(vci));
+    fn close(&mut self, at: Address) {
+        black_box(&self.engine.close(at));
     }
 
     #[inline(never)]
-    fn offer(&mut self, vci: u32, cells: u64) {
-        black_box(&self.engine.offer(vci, cells));
+    fn offer(&mut self, at: Address, cells: u64) {
+        black_box(&self.engine.offer(at, cells));
     }
 
     #[inline(never)]
@@ -178,18 +179,18 @@ impl Engine for Reference {
     }
 
     #[inline(never)]
-    fn make(&mut self, vci: u32, time: u64) {
-        black_box(&self.engine.make(vci, time));
+    fn make(&mut self, at: Address, time: u64) {
+        black_box(&self.engine.make(at, time));
     }
 
     #[inline(never)]
-    fn out_of_rate(&mut self, vci: u32, time: u64, buffer: &mut Octets) {
-        black_box(&self.engine.out_of_rate(vci, time, buffer));
+    fn out_of_rate(&mut self, at: Address, time: u64, buffer: &mut Octets) {
+        black_box(&self.engine.out_of_rate(at, time, buffer));
     }
 
     #[inline(never)]
-    fn acr(&self, vci: u32) {
-        black_box(&self.engine.acr(vci));
+    fn acr(&self, at: Address) {
+        black_box(&self.engine.acr(at));
     }
 
     #[inline(never)]

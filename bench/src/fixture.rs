@@ -2,11 +2,13 @@
 
 use std::hint::black_box;
 
-use reference::{Params, Rm};
+use reference::{Address, Params, Rm};
 
 use crate::engines::{Engine, Octets};
 use crate::workload::{Sort, Workload};
 
+/// The VCIs on each VPI. Names rise over all VPIs: the i-th connection has VPI i / 4.
+const ON_A_PATH: u32 = 4;
 /// The first VCI; one below it can be opened.
 const FIRST: u32 = 33;
 /// A rate code of about 100,000 cells per second.
@@ -23,7 +25,7 @@ pub struct Fixture<E: Engine> {
     engine: E,
     connections: u32,
     params: E::Params,
-    last: u32,
+    last: Address,
     time: u64,
     step: u64,
     rm: E::Rm,
@@ -34,7 +36,7 @@ pub struct Fixture<E: Engine> {
 impl<E: Engine> Fixture<E> {
     /// Opens the connections and makes the cells.
     pub fn new(connections: u32, workload: Workload) -> Self {
-        let last = FIRST + connections.max(1) - 1;
+        let last = address(connections.max(1) - 1);
         let rms = rms(last, workload);
         let mut fixture = Fixture {
             workload,
@@ -47,15 +49,15 @@ impl<E: Engine> Fixture<E> {
             rm: E::rm(&rms[0]),
             cells: rms.map(|rm| cell_of(&rm, workload)),
         };
-        for vci in order(connections, workload) {
-            let params = E::params(&params_of(vci, workload));
-            fixture.engine.open(vci, 0, &params);
+        for place in order(connections, workload) {
+            let params = E::params(&params_of(place, workload));
+            fixture.engine.open(address(place), 0, &params);
         }
         if workload.sort() == Some(Sort::Moving) {
             fixture.first_cells();
         }
         if workload.sends() && workload != Workload::LastFirst {
-            fixture.spread(params_of(FIRST, workload).n);
+            fixture.spread(params_of(0, workload).n);
         }
         if workload == Workload::Make {
             fixture.engine.set_level(2);
@@ -81,7 +83,7 @@ impl<E: Engine> Fixture<E> {
         let nrm = 1 << n;
         for round in 0..nrm {
             for i in (0..self.connections).filter(|i| i % nrm >= nrm - 1 - round) {
-                self.engine.offer(FIRST + i, 1);
+                self.engine.offer(address(i), 1);
             }
             for _ in 0..self.connections {
                 self.engine.slot(self.time, &mut buffer);
@@ -93,8 +95,8 @@ impl<E: Engine> Fixture<E> {
     /// Offers data on every connection. Beyond what may wait an offer is
     /// refused, and enough waits.
     fn offer_all(&mut self, cells: u64) {
-        for vci in order(self.connections, self.workload) {
-            self.engine.offer(vci, cells);
+        for place in order(self.connections, self.workload) {
+            self.engine.offer(address(place), cells);
         }
     }
 
@@ -121,16 +123,16 @@ impl<E: Engine> Fixture<E> {
             Workload::Read(_) => repeat(times, |i| E::read(black_box(&self.cells[i % 2]))),
             Workload::Write => repeat(times, |_| E::write_rm(black_box(&self.rm), &mut buffer)),
             Workload::Offer => repeat(times, |_| self.engine.offer(black_box(self.last), 0)),
-            Workload::OpenClose => self.open_close(times, self.last + 1),
-            Workload::OpenCloseLow => self.open_close(times, FIRST - 1),
+            Workload::OpenClose => self.open_close(times, highest()),
+            Workload::OpenCloseLow => self.open_close(times, lowest()),
             Workload::Make => repeat(times, |_| {
                 self.time += self.step;
                 self.engine.make(black_box(self.last), self.time);
             }),
             Workload::OutOfRate => repeat(times, |_| {
                 self.time += self.step;
-                let vci = black_box(self.last);
-                self.engine.out_of_rate(vci, self.time, &mut buffer);
+                let at = black_box(self.last);
+                self.engine.out_of_rate(at, self.time, &mut buffer);
             }),
             Workload::Acr => repeat(times, |_| self.engine.acr(black_box(self.last))),
             Workload::Level => repeat(times, |_| self.engine.set_level(black_box(1))),
@@ -142,10 +144,10 @@ impl<E: Engine> Fixture<E> {
     }
 
     /// Opens and closes one more connection so many times.
-    fn open_close(&mut self, times: u64, vci: u32) {
+    fn open_close(&mut self, times: u64, at: Address) {
         repeat(times, |_| {
-            self.engine.open(black_box(vci), self.time, &self.params);
-            self.engine.close(black_box(vci));
+            self.engine.open(black_box(at), self.time, &self.params);
+            self.engine.close(black_box(at));
         });
     }
 
@@ -180,22 +182,36 @@ fn steady(code: u32) -> Params {
     }
 }
 
-/// The VCIs in the order in which they are opened. Of those that are due at one
-/// time the lowest sends first.
+/// The address of the connection with a place in the order of names.
+fn address(place: u32) -> Address {
+    Address::new(place / ON_A_PATH, FIRST + place % ON_A_PATH)
+}
+
+/// A name above all others, and one below them.
+fn highest() -> Address {
+    Address::new(abr::VPI_MAX, abr::VCI_MAX)
+}
+
+fn lowest() -> Address {
+    Address::new(0, FIRST - 1)
+}
+
+/// The places in the order in which they are opened. Of those that are due at one
+/// time the lowest name sends first.
 fn order(connections: u32, workload: Workload) -> Vec<u32> {
-    let mut order: Vec<u32> = (FIRST..FIRST + connections).collect();
+    let mut order: Vec<u32> = (0..connections).collect();
     if workload == Workload::LastFirst {
         order.reverse();
     }
     order
 }
 
-/// The parameters of a connection.
-fn params_of(vci: u32, workload: Workload) -> Params {
+/// The parameters of a connection, by its place.
+fn params_of(place: u32, workload: Workload) -> Params {
     match workload {
         Workload::Turns { n } => Params { n, ..steady(CODE) },
         // Rates between a quarter of one and the whole of it.
-        Workload::Mixed => steady(CODE - vci * 37 % 1_024),
+        Workload::Mixed => steady(CODE - (FIRST + place) * 37 % 1_024),
         // One cell lowers the rate by a sixteenth, the next raises it to its peak.
         Workload::Receive(Sort::Moving) => Params::house(CODE, SLOW, CODE),
         _ => steady(CODE),
@@ -212,7 +228,7 @@ fn step(connections: u32, workload: Workload) -> u64 {
     }
     let codes = order(connections, workload)
         .into_iter()
-        .map(|vci| params_of(vci, workload).icr);
+        .map(|place| params_of(place, workload).icr);
     let total: u64 = codes.map(reference::rate_of).sum();
     let gap = reference::gap(total.max(512)).expect("a rate above 0");
     let step = gap + 1;
@@ -225,9 +241,14 @@ fn step(connections: u32, workload: Workload) -> u64 {
 }
 
 /// The fields of the RM cells, in turn.
-fn rms(last: u32, workload: Workload) -> [Rm; 2] {
+fn rms(last: Address, workload: Workload) -> [Rm; 2] {
+    let at = match workload {
+        Workload::Unknown(_) => highest(),
+        _ => last,
+    };
     let rm = Rm {
-        vci: last + u32::from(matches!(workload, Workload::Unknown(_))),
+        vpi: at.vpi,
+        vci: at.vci,
         dir: u32::from(workload.sort() != Some(Sort::Forward)),
         er: 0x7FFF,
         ccr: CODE,
@@ -238,13 +259,13 @@ fn rms(last: u32, workload: Workload) -> [Rm; 2] {
     [Rm { ci, ..rm }, rm]
 }
 
-/// The cell with these fields, or the data cell with this VCI.
+/// The cell with these fields, or the data cell with this address.
 fn cell_of(rm: &Rm, workload: Workload) -> Octets {
     let mut cell = [0; abr::CELL_OCTETS];
     reference::write_rm(rm, &mut cell).expect("fields in range");
     match workload.sort() {
         Some(Sort::Data) => {
-            let header = (rm.vci << 4 | 2 << 1).to_be_bytes();
+            let header = (rm.vpi << 20 | rm.vci << 4 | 2 << 1).to_be_bytes();
             cell[..4].copy_from_slice(&header);
             cell[4] = reference::cell::header_check(&header);
         }

@@ -62,6 +62,11 @@ fn idle_slots_are_idle() {
     }
 }
 
+/// The connection that a slot went to.
+fn sent_by(sent: &reference::Sent) -> Address {
+    Address::new(sent.vpi, sent.vci)
+}
+
 /// The connections send in turn from the one that was opened last to the first.
 #[test]
 fn the_last_opened_sends_first() {
@@ -71,7 +76,7 @@ fn the_last_opened_sends_first() {
     assert!(sent
         .iter()
         .zip(turns)
-        .all(|(sent, vci)| sent.unwrap().vci == *vci));
+        .all(|(sent, place)| sent.is_some_and(|sent| sent_by(&sent) == address(*place))));
 }
 
 /// Both sides give a measured cell the answer of its sort.
@@ -115,13 +120,13 @@ fn moving_cells_move_the_rate() {
 fn makings_are_accepted() {
     let mut library = Fixture::<Library>::new(64, Workload::Make);
     let mut reference = Fixture::<Reference>::new(64, Workload::Make);
-    let vci = library.last;
+    let at = library.last;
     for time in (1..10).map(|i| library.time + i * library.step) {
         let table = &mut *library.engine.table;
         // SAFETY: the pointer is live.
-        let ours = unsafe { ffi::abr_make(table, vci, time) };
+        let ours = unsafe { ffi::abr_make(table, at.vpi, at.vci, time) };
         assert_eq!(ours.refusal, 0);
-        let theirs = reference.engine.engine.make(vci, time);
+        let theirs = reference.engine.engine.make(at, time);
         assert_eq!(theirs, Ok(ours.comparisons));
     }
 }
@@ -131,14 +136,15 @@ fn makings_are_accepted() {
 fn out_of_rate_cells_are_accepted() {
     let mut library = Fixture::<Library>::new(64, Workload::OutOfRate);
     let mut reference = Fixture::<Reference>::new(64, Workload::OutOfRate);
-    let vci = library.last;
+    let at = library.last;
     for time in (1..10).map(|i| library.time + i * library.step) {
         let (mut cell, mut other) = ([0; abr::CELL_OCTETS], [0; abr::CELL_OCTETS]);
         let table = &mut *library.engine.table;
         // SAFETY: both pointers are live and the length is the buffer's own.
-        let ours = unsafe { ffi::abr_out_of_rate(table, vci, time, cell.as_mut_ptr(), cell.len()) };
+        let (octets, len) = (cell.as_mut_ptr(), cell.len());
+        let ours = unsafe { ffi::abr_out_of_rate(table, at.vpi, at.vci, time, octets, len) };
         assert_eq!(ours, 0);
-        let theirs = reference.engine.engine.out_of_rate(vci, time, &mut other);
+        let theirs = reference.engine.engine.out_of_rate(at, time, &mut other);
         assert_eq!((theirs, cell), (Ok(()), other));
     }
 }
@@ -149,8 +155,8 @@ fn opens_are_accepted() {
     let mut fixture = Fixture::<Reference>::new(1_023, Workload::OpenClose);
     let time = fixture.time;
     let engine = &mut fixture.engine.engine;
-    for vci in [fixture.last + 1, FIRST - 1] {
-        assert_eq!(engine.open(vci, time, &fixture.params), Ok(1));
-        assert_eq!(engine.close(vci), Ok(1));
+    for at in [highest(), lowest()] {
+        assert_eq!(engine.open(at, time, &fixture.params), Ok(1));
+        assert_eq!(engine.close(at), Ok(1));
     }
 }

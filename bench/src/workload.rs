@@ -36,9 +36,9 @@ pub enum Workload {
     Write,
     /// No data offered, which costs what any offer costs.
     Offer,
-    /// An open and the close of it, of a VCI above all others.
+    /// An open and the close of it, of a name above all others.
     OpenClose,
-    /// The same of a VCI below all others.
+    /// The same of a name below all others.
     OpenCloseLow,
     /// A backward cell made on the last connection, replacing the one before.
     Make,
@@ -258,19 +258,19 @@ pub static ROWS: [Row; 48] = [
     ),
     row(
         "open-close-63",
-        "open and close a VCI above 63 others",
+        "open and close a name above 63 others",
         63,
         Workload::OpenClose,
     ),
     row(
         "open-close-1023",
-        "open and close a VCI above 1,023 others",
+        "open and close a name above 1,023 others",
         1_023,
         Workload::OpenClose,
     ),
     row(
         "open-close-low-1023",
-        "open and close a VCI below 1,023 others",
+        "open and close a name below 1,023 others",
         1_023,
         Workload::OpenCloseLow,
     ),

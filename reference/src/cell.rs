@@ -3,6 +3,7 @@
 //!
 //! Octets are counted from 1 in the document and from 0 here.
 
+use crate::address::{Address, VCI_MAX, VPI_MAX};
 use crate::rate::MAX_CLEAR_CODE;
 use crate::refusal::{self, Refusal};
 
@@ -11,9 +12,6 @@ pub const LENGTH: usize = 53;
 
 /// A cell that is known to have the right length.
 pub type Octets = [u8; LENGTH];
-
-/// The largest VCI.
-pub const VCI_MAX: u32 = 0xFFFF;
 
 const PAYLOAD_TYPE_RM: u32 = 6;
 const PROTOCOL_ABR: u8 = 1;
@@ -47,7 +45,8 @@ const RA_BIT: u8 = 0x08;
 /// The fields of an RM cell that the write call takes and the read call gives.
 #[derive(Debug, Clone, Copy, PartialEq, Eq, Default)]
 pub struct Rm {
-    /// The connection.
+    /// The connection, by both numbers.
+    pub vpi: u32,
     pub vci: u32,
     /// 1 in a backward cell.
     pub dir: u32,
@@ -71,12 +70,20 @@ pub struct Rm {
     pub sn: u32,
 }
 
+impl Rm {
+    /// The connection.
+    pub fn address(&self) -> Address {
+        Address::new(self.vpi, self.vci)
+    }
+}
+
 /// What reading a cell gives.
 #[derive(Debug, Clone, Copy, PartialEq, Eq)]
 pub enum Cell {
     /// User data with its congestion mark.
     Data {
-        /// The connection.
+        /// The connection, by both numbers.
+        vpi: u32,
         vci: u32,
         /// The congestion mark.
         efci: bool,
@@ -87,10 +94,10 @@ pub enum Cell {
 
 impl Cell {
     /// The connection of either sort.
-    pub fn vci(&self) -> u32 {
+    pub fn address(&self) -> Address {
         match self {
-            Cell::Data { vci, .. } => *vci,
-            Cell::Rm(rm) => rm.vci,
+            Cell::Data { vpi, vci, .. } => Address::new(*vpi, *vci),
+            Cell::Rm(rm) => rm.address(),
         }
     }
 }
@@ -173,9 +180,9 @@ fn put_crc(cell: &mut Octets) {
     cell[CRC_LOW] = crc as u8;
 }
 
-/// Gives a cell the header of an RM cell: GFC, VPI and CLP are 0.
-fn put_rm_header(cell: &mut Octets, vci: u32) {
-    let header = (vci << 4) | (PAYLOAD_TYPE_RM << 1);
+/// Gives a cell the header of an RM cell: GFC and CLP are 0.
+fn put_rm_header(cell: &mut Octets, at: Address) {
+    let header = (at.vpi << 20) | (at.vci << 4) | (PAYLOAD_TYPE_RM << 1);
     cell[..HEADER_CHECK].copy_from_slice(&header.to_be_bytes());
     cell[HEADER_CHECK] = header_check(&cell[..HEADER_CHECK]);
 }
@@ -191,7 +198,7 @@ pub fn write_rm(rm: &Rm, buffer: &mut [u8]) -> Result<(), Refusal> {
     let buffer: &mut Octets = buffer.try_into().map_err(|_| refusal::LENGTH)?;
     let bits = [rm.dir, rm.bn, rm.ci, rm.ni, rm.ra];
     let codes = [rm.er, rm.ccr, rm.mcr];
-    let fits = rm.vci <= VCI_MAX
+    let fits = rm.address().fits()
         && bits.iter().all(|bit| *bit <= 1)
         && codes.iter().all(|code| *code <= MAX_CLEAR_CODE);
     if !fits {
@@ -204,7 +211,7 @@ pub fn write_rm(rm: &Rm, buffer: &mut [u8]) -> Result<(), Refusal> {
 /// The octets of an RM cell whose fields are known to be in range.
 pub(crate) fn rm_octets(rm: &Rm) -> Octets {
     let mut cell = [0; LENGTH];
-    put_rm_header(&mut cell, rm.vci);
+    put_rm_header(&mut cell, rm.address());
     cell[PROTOCOL] = PROTOCOL_ABR;
     cell[BITS] = (rm.dir << 7 | rm.bn << 6 | rm.ci << 5 | rm.ni << 4 | rm.ra << 3) as u8;
     cell[ER..CCR].copy_from_slice(&(rm.er as u16).to_be_bytes());
@@ -217,31 +224,29 @@ pub(crate) fn rm_octets(rm: &Rm) -> Octets {
     cell
 }
 
-/// Reads a cell. Refusals: 1, 2, 3, 4, and for RM cells 5, 6.
+/// Reads a cell. Refusals: 1, 2, 4, and for RM cells 5, 6.
 pub fn read(cell: &[u8]) -> Result<Cell, Refusal> {
     let cell: &Octets = cell.try_into().map_err(|_| refusal::LENGTH)?;
     if cell[HEADER_CHECK] != header_check(&cell[..HEADER_CHECK]) {
         return Err(refusal::HEADER_CHECK);
     }
     let header = double_word(cell, 0);
-    let path = (header >> 20) & 0xFF;
+    let vpi = (header >> 20) & VPI_MAX;
     let vci = (header >> 4) & VCI_MAX;
     let payload_type = (header >> 1) & 7;
-    if path != 0 {
-        return Err(refusal::PATH);
-    }
     match payload_type {
         0..=3 => Ok(Cell::Data {
+            vpi,
             vci,
             efci: payload_type & 2 != 0,
         }),
-        PAYLOAD_TYPE_RM => read_rm(cell, vci).map(Cell::Rm),
+        PAYLOAD_TYPE_RM => read_rm(cell, Address::new(vpi, vci)).map(Cell::Rm),
         _ => Err(refusal::PAYLOAD_TYPE),
     }
 }
 
 /// Reads the payload of an RM cell. Bit 15 of the rate codes is dropped.
-fn read_rm(cell: &Octets, vci: u32) -> Result<Rm, Refusal> {
+fn read_rm(cell: &Octets, at: Address) -> Result<Rm, Refusal> {
     if carried_crc(cell) != payload_crc(cell) {
         return Err(refusal::CRC);
     }
@@ -250,7 +255,8 @@ fn read_rm(cell: &Octets, vci: u32) -> Result<Rm, Refusal> {
     }
     let bit = |mask: u8| u32::from(cell[BITS] & mask != 0);
     Ok(Rm {
-        vci,
+        vpi: at.vpi,
+        vci: at.vci,
         dir: bit(DIR_BIT),
         bn: bit(BN_BIT),
         ci: bit(CI_BIT),
@@ -279,10 +285,10 @@ pub fn has_ci(cell: &Octets) -> bool {
     cell[BITS] & CI_BIT != 0
 }
 
-/// The backward cell made of a forward RM cell: DIR set, BN cleared, CI and NI
-/// set if `ci` and `ni` say so and else as received, new header and CRC. All
+/// The backward cell made of a forward RM cell of a connection: DIR set, BN cleared,
+/// CI and NI set if `ci` and `ni` say so and else as received, new header and CRC. All
 /// other bits of the payload are unchanged, the reserved ones too.
-pub fn turn(forward: &Octets, vci: u32, ci: bool, ni: bool) -> Octets {
+pub fn turn(forward: &Octets, at: Address, ci: bool, ni: bool) -> Octets {
     let mut cell = *forward;
     cell[BITS] = (cell[BITS] | DIR_BIT) & !BN_BIT;
     if ci {
@@ -291,7 +297,7 @@ pub fn turn(forward: &Octets, vci: u32, ci: bool, ni: bool) -> Octets {
     if ni {
         cell[BITS] |= NI_BIT;
     }
-    put_rm_header(&mut cell, vci);
+    put_rm_header(&mut cell, at);
     put_crc(&mut cell);
     cell
 }

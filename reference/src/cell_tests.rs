@@ -22,6 +22,7 @@ impl Numbers {
 /// An RM cell with a different value in each field.
 fn sample() -> Rm {
     Rm {
+        vpi: 0xA5,
         vci: 0x1234,
         dir: 1,
         bn: 0,
@@ -37,9 +38,9 @@ fn sample() -> Rm {
 }
 
 /// A data cell with these header fields and a right check.
-fn header(gfc: u32, path: u32, vci: u32, payload_type: u32, clp: u32) -> Octets {
+fn header(gfc: u32, vpi: u32, vci: u32, payload_type: u32, clp: u32) -> Octets {
     let mut cell = [0; LENGTH];
-    let word = gfc << 28 | path << 20 | vci << 4 | payload_type << 1 | clp;
+    let word = gfc << 28 | vpi << 20 | vci << 4 | payload_type << 1 | clp;
     cell[..4].copy_from_slice(&word.to_be_bytes());
     cell[4] = header_check(&cell[..4]);
     cell
@@ -118,7 +119,7 @@ fn crc_by_long_division() {
 fn the_place_of_each_field() {
     let mut cell = [0; LENGTH];
     assert_eq!(write_rm(&sample(), &mut cell), Ok(()));
-    assert_eq!(cell[..4], [0x00, 0x01, 0x23, 0x4C]);
+    assert_eq!(cell[..4], [0x0A, 0x51, 0x23, 0x4C]);
     assert_eq!(cell[4], header_check(&cell[..4]));
     assert_eq!(cell[5], 1);
     assert_eq!(cell[6], 0b1010_1000);
@@ -155,6 +156,7 @@ fn what_is_written_is_read() {
     for _ in 0..2_000 {
         let mut below = |limit: u64| (numbers.next() % limit) as u32;
         let rm = Rm {
+            vpi: below(256),
             vci: below(65_536),
             dir: below(2),
             bn: below(2),
@@ -175,7 +177,8 @@ fn what_is_written_is_read() {
 
 #[test]
 fn fields_too_large_to_write_are_refused_with_7() {
-    let cases: [(Setter, u32); 9] = [
+    let cases: [(Setter, u32); 10] = [
+        (|rm, v| rm.vpi = v, 255),
         (|rm, v| rm.vci = v, 65_535),
         (|rm, v| rm.dir = v, 1),
         (|rm, v| rm.bn = v, 1),
@@ -222,31 +225,35 @@ fn low_vcis_are_written_and_read() {
 
 #[test]
 fn data_cells_and_other_payload_types() {
-    for payload_type in 0..8 {
+    let vpis = [0, 1, 0x80, 0xFF].into_iter();
+    for (payload_type, vpi) in (0..8).flat_map(|pt| vpis.clone().map(move |vpi| (pt, vpi))) {
         let expected = match payload_type {
             0 | 1 => Ok(Cell::Data {
+                vpi,
                 vci: 77,
                 efci: false,
             }),
             2 | 3 => Ok(Cell::Data {
+                vpi,
                 vci: 77,
                 efci: true,
             }),
             6 => Err(6), // CRC right, since all is 0, but the protocol is not 1
             _ => Err(4),
         };
-        assert_eq!(read(&header(0, 0, 77, payload_type, 0)), expected);
-        assert_eq!(read(&header(15, 0, 77, payload_type, 1)), expected);
+        assert_eq!(read(&header(0, vpi, 77, payload_type, 0)), expected);
+        assert_eq!(read(&header(15, vpi, 77, payload_type, 1)), expected);
     }
 }
 
 #[test]
 fn the_payload_of_data_is_not_checked() {
-    let mut cell = header(0, 0, 32, 2, 0);
+    let mut cell = header(0, 9, 32, 2, 0);
     cell[5..].fill(0xEE);
     assert_eq!(
         read(&cell),
         Ok(Cell::Data {
+            vpi: 9,
             vci: 32,
             efci: true
         })
@@ -286,9 +293,9 @@ fn the_order_of_refusals_when_reading() {
     let mut other = header(0, 0, 0x1234, 5, 0);
     other[5..].copy_from_slice(&cell[5..]);
     assert_eq!(read(&other), Err(4));
-    for path in [1, 0x10, 0x80, 0xFF] {
-        other[..5].copy_from_slice(&header(0, path, 0x1234, 5, 0)[..5]);
-        assert_eq!(read(&other), Err(3));
+    for vpi in [1, 0x10, 0x80, 0xFF] {
+        other[..5].copy_from_slice(&header(0, vpi, 0x1234, 5, 0)[..5]);
+        assert_eq!(read(&other), Err(4)); // 3 is withdrawn
     }
     other[4] ^= 0x80;
     assert_eq!(read(&other), Err(2));
@@ -319,7 +326,7 @@ fn turning_keeps_marks_and_every_other_bit() {
         cell[21..51].fill(0x99);
         cell[51] |= 0xFC;
     });
-    let turned = turn(&cell, 0x1234, false, false);
+    let turned = turn(&cell, sample().address(), false, false);
     assert_eq!(turned[..5], rm_octets(&sample())[..5]);
     assert_eq!(turned[5], 1);
     assert_eq!(turned[6], 0b1011_1101);
@@ -331,11 +338,11 @@ fn turning_keeps_marks_and_every_other_bit() {
 
 #[test]
 fn turning_sets_marks() {
-    let cell = rm_octets(&Rm {
+    let rm = Rm {
         vci: 40,
         ..Rm::default()
-    });
-    let marks = |ci, ni| turn(&cell, 40, ci, ni)[6];
+    };
+    let marks = |ci, ni| turn(&rm_octets(&rm), rm.address(), ci, ni)[6];
     assert_eq!(marks(false, false), 0x80);
     assert_eq!(marks(true, false), 0xA0);
     assert_eq!(marks(false, true), 0x90);

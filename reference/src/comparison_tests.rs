@@ -2,7 +2,7 @@
 
 use crate::cell::LENGTH;
 use crate::engine::{Engine, CONNECTIONS_MAX};
-use crate::engine_tests::{backward, data, engine_with, forward, octets, params, refused, MS};
+use crate::engine_tests::{at, backward, data, engine_with, forward, octets, params, refused, MS};
 use crate::{Params, Rm};
 
 /// An engine with VCIs 32, 33, .. opened at these times, on leaves 0, 1, ..; one
@@ -10,8 +10,8 @@ use crate::{Params, Rm};
 fn waiting(times: &[u64]) -> Engine {
     let mut engine = Engine::new();
     for (vci, time) in (32..).zip(times) {
-        engine.open(vci, *time, &params()).unwrap();
-        engine.offer(vci, 1).unwrap();
+        engine.open(at(vci), *time, &params()).unwrap();
+        engine.offer(at(vci), 1).unwrap();
     }
     engine
 }
@@ -25,32 +25,32 @@ fn slot(engine: &mut Engine, time: u64) -> Option<(u32, u32)> {
 #[test]
 fn one_connection() {
     let mut engine = Engine::new();
-    assert_eq!(engine.open(32, 0, &params()), Ok(1)); // never ready: no winner, as before
+    assert_eq!(engine.open(at(32), 0, &params()), Ok(1)); // never ready: no winner, as before
     assert_eq!(engine.receive(&data(32, true)), Ok(1));
     assert_eq!(engine.receive(&octets(&backward(32))), Ok(1));
-    assert_eq!(engine.offer(32, 0), Ok(1));
+    assert_eq!(engine.offer(at(32), 0), Ok(1));
     assert_eq!(slot(&mut engine, 0), None);
-    assert_eq!(engine.offer(32, 1), Ok(10)); // ready: it wins at every level
-    assert_eq!(engine.offer(32, 0), Ok(10)); // as before, but that leaf
+    assert_eq!(engine.offer(at(32), 1), Ok(10)); // ready: it wins at every level
+    assert_eq!(engine.offer(at(32), 0), Ok(10)); // as before, but that leaf
     assert_eq!(engine.receive(&data(32, true)), Ok(10));
     assert_eq!(slot(&mut engine, 0), Some((32, 10)));
     assert_eq!(slot(&mut engine, MS - 1), None);
     assert_eq!(slot(&mut engine, MS), Some((32, 10)));
-    assert_eq!(engine.offer(32, 0), Ok(1)); // k is 1 and nothing waits
+    assert_eq!(engine.offer(at(32), 0), Ok(1)); // k is 1 and nothing waits
     assert_eq!(engine.receive(&octets(&forward(32))), Ok(10));
-    assert_eq!(engine.close(32), Ok(10));
-    assert_eq!(engine.open(32, MS, &params()), Ok(1));
-    assert_eq!(engine.close(32), Ok(1));
+    assert_eq!(engine.close(at(32)), Ok(10));
+    assert_eq!(engine.open(at(32), MS, &params()), Ok(1));
+    assert_eq!(engine.close(at(32)), Ok(1));
 }
 
 #[test]
 fn a_made_cell_replays_as_an_offer_does() {
     let mut engine = engine_with(&params());
     engine.set_level(1).unwrap();
-    assert_eq!(engine.make(32, 0), Ok(10));
-    engine.open(33, 0, &params()).unwrap();
-    assert_eq!(engine.make(33, 0), Ok(1)); // VCI 32 wins as before
-    refused(&engine, 17, |engine| engine.make(33, 0));
+    assert_eq!(engine.make(at(32), 0), Ok(10));
+    engine.open(at(33), 0, &params()).unwrap();
+    assert_eq!(engine.make(at(33), 0), Ok(1)); // VCI 32 wins as before
+    refused(&engine, 17, |engine| engine.make(at(33), 0));
 }
 
 #[test]
@@ -61,8 +61,8 @@ fn a_cell_for_a_leaf_that_leads_some_levels() {
     assert_eq!(engine.receive(&data(37, false)), Ok(1));
     assert_eq!(engine.receive(&data(38, false)), Ok(2));
     assert_eq!(engine.receive(&data(32, false)), Ok(10));
-    assert_eq!(engine.close(36), Ok(3)); // leaf 5 at levels 1 and 2, leaf 0 at level 3
-    assert_eq!(engine.close(32), Ok(10)); // leaf 1 at every level
+    assert_eq!(engine.close(at(36)), Ok(3)); // leaf 5 at levels 1 and 2, leaf 0 at level 3
+    assert_eq!(engine.close(at(32)), Ok(10)); // leaf 1 at every level
     assert_eq!(slot(&mut engine, 7), Some((33, 10)));
 }
 
@@ -70,7 +70,7 @@ fn a_cell_for_a_leaf_that_leads_some_levels() {
 fn feedback_moves_a_ready_instant_and_with_it_the_winners() {
     let mut engine = waiting(&[0, 0, 0]);
     for vci in [32, 33, 34] {
-        engine.offer(vci, 9).unwrap();
+        engine.offer(at(vci), 9).unwrap();
         assert_eq!(slot(&mut engine, 0), Some((vci, 10)));
     }
     let slowest = Rm {
@@ -91,8 +91,8 @@ fn feedback_moves_a_ready_instant_and_with_it_the_winners() {
 fn ties_go_to_the_lower_vci_whatever_the_leaves() {
     let mut engine = Engine::new();
     for (vci, comparisons) in [(50, 10), (60, 1), (40, 10), (41, 1), (45, 3)] {
-        assert_eq!(engine.open(vci, 0, &params()), Ok(1));
-        assert_eq!(engine.offer(vci, 1), Ok(comparisons));
+        assert_eq!(engine.open(at(vci), 0, &params()), Ok(1));
+        assert_eq!(engine.offer(at(vci), 1), Ok(comparisons));
     }
     let served = [0; 5].map(|_| slot(&mut engine, 0));
     assert_eq!(served, [40, 41, 45, 50, 60].map(|vci| Some((vci, 10))));
@@ -102,13 +102,13 @@ fn ties_go_to_the_lower_vci_whatever_the_leaves() {
 fn an_open_takes_the_lowest_free_leaf() {
     let mut engine = waiting(&[0, 1, 2, 3, 4, 5, 6]); // leaf 7 is free
     for vci in [38, 34] {
-        engine.close(vci).unwrap(); // leaf 6, then leaf 2
+        engine.close(at(vci)).unwrap(); // leaf 6, then leaf 2
     }
     // On leaf 2 against leaf 3, which is earlier; on leaf 6 against nobody, then
     // leaf 4; on leaf 7 against leaf 6 with a higher VCI, then leaf 4.
     for (vci, comparisons) in [(99, 1), (98, 2), (97, 2)] {
-        engine.open(vci, 7, &params()).unwrap();
-        assert_eq!(engine.offer(vci, 1), Ok(comparisons));
+        engine.open(at(vci), 7, &params()).unwrap();
+        assert_eq!(engine.offer(at(vci), 1), Ok(comparisons));
     }
 }
 
@@ -117,34 +117,34 @@ fn the_table_filled_and_emptied() {
     let mut engine = Engine::new();
     let vcis = 32..32 + CONNECTIONS_MAX as u32;
     for vci in vcis.clone() {
-        assert_eq!(engine.open(vci, 0, &params()), Ok(1));
+        assert_eq!(engine.open(at(vci), 0, &params()), Ok(1));
     }
-    refused(&engine, 13, |engine| engine.open(5_000, 0, &params()));
+    refused(&engine, 13, |engine| engine.open(at(5_000), 0, &params()));
     // Leaf x is later than all before it in its block: it wins as many levels as
     // x has zeros at its end, and loses the next match.
     for (leaf, vci) in vcis.clone().enumerate() {
         let lost = (leaf.trailing_zeros() + 1).min(10);
-        assert_eq!(engine.offer(vci, 1), Ok(lost));
+        assert_eq!(engine.offer(at(vci), 1), Ok(lost));
     }
     for vci in vcis.clone() {
         assert_eq!(slot(&mut engine, 0), Some((vci, 10)));
     }
     assert_eq!(slot(&mut engine, 0), None);
     for vci in vcis {
-        assert_eq!(engine.close(vci), Ok(10)); // the first of those that are left
+        assert_eq!(engine.close(at(vci)), Ok(10)); // the first of those that are left
     }
-    assert_eq!(engine.open(32, 0, &params()), Ok(1));
+    assert_eq!(engine.open(at(32), 0, &params()), Ok(1));
 }
 
 #[test]
 fn refused_calls_replay_nothing() {
     let engine = waiting(&[0, 0]);
-    refused(&engine, 12, |engine| engine.open(32, 0, &params()));
+    refused(&engine, 12, |engine| engine.open(at(32), 0, &params()));
     refused(&engine, 7, |engine| {
-        engine.open(40, 0, &Params { n: 0, ..params() })
+        engine.open(at(40), 0, &Params { n: 0, ..params() })
     });
-    refused(&engine, 15, |engine| engine.offer(33, 65_535));
-    refused(&engine, 11, |engine| engine.close(34));
-    refused(&engine, 16, |engine| engine.make(33, 0));
+    refused(&engine, 15, |engine| engine.offer(at(33), 65_535));
+    refused(&engine, 11, |engine| engine.close(at(34)));
+    refused(&engine, 16, |engine| engine.make(at(33), 0));
     refused(&engine, 11, |engine| engine.receive(&data(34, true)));
 }

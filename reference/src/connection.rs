@@ -4,6 +4,7 @@
 //! connection with an allowed rate of 0 is never ready, and any may send out-of-rate
 //! forward cells).
 
+use crate::address::Address;
 use crate::cell::{self, Octets, Rm};
 use crate::destination::Destination;
 use crate::params::{Contract, CDF_ZERO, CRM_MAX, MRM};
@@ -111,7 +112,7 @@ struct History {
 /// An open connection.
 #[derive(Debug, Clone, PartialEq, Eq)]
 pub struct Connection {
-    vci: u32,
+    at: Address,
     opened: u64,
     rate: RateRecord,
     /// Nothing before the first cell.
@@ -128,9 +129,9 @@ pub struct Connection {
 
 impl Connection {
     /// A connection as its open makes it.
-    pub fn new(vci: u32, time: u64, contract: Contract) -> Self {
+    pub fn new(at: Address, time: u64, contract: Contract) -> Self {
         Connection {
-            vci,
+            at,
             opened: time,
             rate: RateRecord::new(contract),
             history: None,
@@ -162,13 +163,13 @@ impl Connection {
 
     /// A forward cell arrived under this congestion level.
     pub fn receive_forward(&mut self, cell: &Octets, level: u32) {
-        self.destination.receive_forward(self.vci, cell, level);
+        self.destination.receive_forward(self.at, cell, level);
     }
 
     /// Makes a backward cell under this congestion level. Refusals: 16, 17.
     pub fn make(&mut self, time: u64, level: u32) -> Result<(), Refusal> {
         let pcr = self.rate.contract.pcr;
-        self.destination.make(self.vci, time, level, pcr)
+        self.destination.make(self.at, time, level, pcr)
     }
 
     /// A backward cell arrived: it moves the rate, and with BN 0 it answers all
@@ -259,7 +260,8 @@ impl Connection {
     /// minimum of 0 has code 0x0000, whatever code the open gave.
     fn forward_octets(&self) -> Octets {
         cell::rm_octets(&Rm {
-            vci: self.vci,
+            vpi: self.at.vpi,
+            vci: self.at.vci,
             er: code_within(self.rate.contract.pcr),
             ccr: code_within(self.rate.acr),
             mcr: code_within(self.rate.contract.mcr),

@@ -1,6 +1,7 @@
 //! The receiving side of a connection: the saved EFCI and the backward cells
 //! that wait (document 01, "Turning cells round"; document 02, L1 and L2).
 
+use crate::address::Address;
 use crate::cell::{self, Octets, Rm};
 use crate::rate::code_within;
 use crate::refusal::{self, Refusal};
@@ -28,16 +29,16 @@ impl Destination {
     /// A forward cell arrived: it is turned at once, under the present congestion
     /// level, and replaces the turned one that waited, whose CI it keeps. The
     /// saved mark becomes 0.
-    pub fn receive_forward(&mut self, vci: u32, cell: &Octets, level: u32) {
+    pub fn receive_forward(&mut self, at: Address, cell: &Octets, level: u32) {
         let ci = self.efci || level == 2 || self.turned.as_ref().is_some_and(cell::has_ci);
         let ni = level == 1;
-        self.turned = Some(cell::turn(cell, vci, ci, ni));
+        self.turned = Some(cell::turn(cell, at, ci, ni));
         self.efci = false;
     }
 
     /// Makes a backward cell under this congestion level, in place of a made one
     /// that waits. Refusals: 16, 17.
-    pub fn make(&mut self, vci: u32, time: u64, level: u32, pcr: u64) -> Result<(), Refusal> {
+    pub fn make(&mut self, at: Address, time: u64, level: u32, pcr: u64) -> Result<(), Refusal> {
         if level == 0 {
             return Err(refusal::NOT_CONGESTED);
         }
@@ -45,7 +46,8 @@ impl Destination {
             return Err(refusal::TOO_SOON);
         }
         self.made = Some(cell::rm_octets(&Rm {
-            vci,
+            vpi: at.vpi,
+            vci: at.vci,
             dir: 1,
             bn: 1,
             ci: u32::from(level == 2),

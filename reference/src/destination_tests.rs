@@ -3,7 +3,7 @@
 use super::*;
 use crate::spacing::INTERVAL;
 
-const VCI: u32 = 32;
+const AT: Address = Address::new(0xA5, 32);
 
 /// The code and the rate of 1,000 cells per second.
 const THOUSAND: u32 = 0x53E8;
@@ -17,7 +17,8 @@ fn bits(destination: &mut Destination) -> u8 {
 /// A forward cell without marks.
 fn plain() -> Rm {
     Rm {
-        vci: VCI,
+        vpi: AT.vpi,
+        vci: AT.vci,
         ..Rm::default()
     }
 }
@@ -29,7 +30,7 @@ fn the_saved_mark_is_replaced_and_then_cleared() {
         marks
             .iter()
             .for_each(|mark| destination.receive_data(*mark));
-        destination.receive_forward(VCI, &cell::rm_octets(&plain()), 0);
+        destination.receive_forward(AT, &cell::rm_octets(&plain()), 0);
         bits(&mut destination)
     };
     assert_eq!(turned(&[]), 0x80);
@@ -43,7 +44,7 @@ fn the_saved_mark_is_replaced_and_then_cleared() {
 fn the_level_sets_one_mark_only() {
     let mut destination = Destination::default();
     let mut turned = |level, received: &Rm| {
-        destination.receive_forward(VCI, &cell::rm_octets(received), level);
+        destination.receive_forward(AT, &cell::rm_octets(received), level);
         bits(&mut destination)
     };
     assert_eq!(turned(0, &plain()), 0x80);
@@ -64,9 +65,9 @@ fn the_level_sets_one_mark_only() {
 fn a_made_cell_octet_by_octet() {
     for (level, bits) in [(1, 0xD0), (2, 0xE0)] {
         let mut destination = Destination::default();
-        assert_eq!(destination.make(VCI, 0, level, RATE), Ok(()));
+        assert_eq!(destination.make(AT, 0, level, RATE), Ok(()));
         let cell = destination.take().expect("a cell waits");
-        assert_eq!(cell[..4], [0x00, 0x00, 0x02, 0x0C]);
+        assert_eq!(cell[..4], [0x0A, 0x50, 0x02, 0x0C]);
         assert_eq!(cell[4], cell::header_check(&cell[..4]));
         assert_eq!(cell[5..7], [0x01, bits]);
         assert_eq!(cell[7..13], [0x53, 0xE8, 0, 0, 0, 0]);
@@ -81,17 +82,17 @@ fn a_made_cell_octet_by_octet() {
 fn a_made_cell_neither_takes_nor_uses_up_the_saved_mark() {
     let mut destination = Destination::default();
     destination.receive_data(true);
-    destination.make(VCI, 0, 1, RATE).unwrap();
+    destination.make(AT, 0, 1, RATE).unwrap();
     assert_eq!(bits(&mut destination), 0xD0);
-    destination.receive_forward(VCI, &cell::rm_octets(&plain()), 0);
+    destination.receive_forward(AT, &cell::rm_octets(&plain()), 0);
     assert_eq!(bits(&mut destination), 0xA0);
 }
 
 #[test]
 fn a_turned_cell_takes_nothing_from_a_made_one() {
     let mut destination = Destination::default();
-    destination.make(VCI, 0, 2, RATE).unwrap();
-    destination.receive_forward(VCI, &cell::rm_octets(&plain()), 0);
+    destination.make(AT, 0, 2, RATE).unwrap();
+    destination.receive_forward(AT, &cell::rm_octets(&plain()), 0);
     assert_eq!(bits(&mut destination), 0x80); // turned, which goes first
     assert_eq!(bits(&mut destination), 0xE0);
     assert_eq!(destination.take(), None);
@@ -100,8 +101,8 @@ fn a_turned_cell_takes_nothing_from_a_made_one() {
 #[test]
 fn a_later_made_cell_replaces_the_earlier() {
     let mut destination = Destination::default();
-    destination.make(VCI, 0, 2, RATE).unwrap();
-    destination.make(VCI, INTERVAL, 1, RATE).unwrap();
+    destination.make(AT, 0, 2, RATE).unwrap();
+    destination.make(AT, INTERVAL, 1, RATE).unwrap();
     assert_eq!(bits(&mut destination), 0xD0); // no mark of the replaced one
     assert_eq!(destination.take(), None);
 }
@@ -110,27 +111,27 @@ fn a_later_made_cell_replaces_the_earlier() {
 fn the_interval_counts_from_the_last_accepted_making() {
     let mut destination = Destination::default();
     let start = 7;
-    assert_eq!(destination.make(VCI, start, 1, RATE), Ok(()));
+    assert_eq!(destination.make(AT, start, 1, RATE), Ok(()));
     for time in [start, start + INTERVAL - 1] {
-        assert_eq!(destination.make(VCI, time, 1, RATE), Err(17));
-        assert_eq!(destination.make(VCI, time, 0, RATE), Err(16));
+        assert_eq!(destination.make(AT, time, 1, RATE), Err(17));
+        assert_eq!(destination.make(AT, time, 0, RATE), Err(16));
     }
     destination.take(); // sent or not
-    let refused = destination.make(VCI, start + INTERVAL - 1, 2, RATE);
+    let refused = destination.make(AT, start + INTERVAL - 1, 2, RATE);
     assert_eq!(refused, Err(17));
     assert!(!destination.waits());
     let next = start + INTERVAL;
-    assert_eq!(destination.make(VCI, next, 0, RATE), Err(16));
-    assert_eq!(destination.make(VCI, next, 1, RATE), Ok(()));
-    assert_eq!(destination.make(VCI, next + INTERVAL - 1, 1, RATE), Err(17));
-    assert_eq!(destination.make(VCI, next + INTERVAL, 1, RATE), Ok(()));
+    assert_eq!(destination.make(AT, next, 0, RATE), Err(16));
+    assert_eq!(destination.make(AT, next, 1, RATE), Ok(()));
+    assert_eq!(destination.make(AT, next + INTERVAL - 1, 1, RATE), Err(17));
+    assert_eq!(destination.make(AT, next + INTERVAL, 1, RATE), Ok(()));
 }
 
 /// Octet 7 of the last of these forward cells, turned at level 0 one after the
 /// other, none being sent before.
 fn last_of(destination: &mut Destination, received: &[Rm]) -> u8 {
     for rm in received {
-        destination.receive_forward(VCI, &cell::rm_octets(rm), 0);
+        destination.receive_forward(AT, &cell::rm_octets(rm), 0);
     }
     let last = bits(destination);
     assert_eq!(destination.turned, None);
@@ -158,20 +159,20 @@ fn ci_is_kept_wherever_it_came_from() {
     let mut destination = Destination::default();
     destination.receive_data(true);
     assert_eq!(last_of(&mut destination, &[plain(), plain()]), 0xA0);
-    destination.receive_forward(VCI, &cell::rm_octets(&plain()), 2);
+    destination.receive_forward(AT, &cell::rm_octets(&plain()), 2);
     assert_eq!(last_of(&mut destination, &[plain()]), 0xA0);
-    destination.receive_forward(VCI, &cell::rm_octets(&plain()), 1);
+    destination.receive_forward(AT, &cell::rm_octets(&plain()), 1);
     assert_eq!(last_of(&mut destination, &[plain()]), 0x80);
 }
 
 #[test]
 fn a_made_cell_beside_it_neither_gives_nor_takes_a_mark() {
     let mut destination = Destination::default();
-    destination.make(VCI, 0, 2, RATE).unwrap();
+    destination.make(AT, 0, 2, RATE).unwrap();
     assert_eq!(last_of(&mut destination, &[plain(), plain()]), 0x80);
     let ci = Rm { ci: 1, ..plain() };
-    destination.receive_forward(VCI, &cell::rm_octets(&ci), 0);
-    destination.make(VCI, INTERVAL, 1, RATE).unwrap();
+    destination.receive_forward(AT, &cell::rm_octets(&ci), 0);
+    destination.make(AT, INTERVAL, 1, RATE).unwrap();
     assert_eq!(last_of(&mut destination, &[plain()]), 0xA0);
     assert_eq!(bits(&mut destination), 0xD0);
 }

@@ -1,11 +1,13 @@
 //! The table of connections and the calls on it (document 01, from "Opening"
 //! to "Slots"; the orders of refusals are in "Refused because of the state", those
 //! of a made cell and an out-of-rate cell in document 02's L1 and L5). Calls
-//! that replay matches answer the comparisons (document 02, L4).
+//! that replay matches answer the comparisons (document 02, L4). A connection is
+//! named by its VPI and VCI together (document 02, L6).
 
 use std::collections::BTreeMap;
 
-use crate::cell::{self, Cell, Octets, VCI_MAX};
+use crate::address::Address;
+use crate::cell::{self, Cell, Octets};
 use crate::connection::{Connection, Kind};
 use crate::params::Params;
 use crate::refusal::{self, Refusal};
@@ -20,13 +22,14 @@ pub const TIME_MAX: u64 = 1 << 62;
 /// The highest congestion level.
 pub const LEVEL_MAX: u32 = 2;
 
-/// The least VCI that may be opened.
+/// The least VCI that may be opened, on any VPI.
 pub const VCI_MIN: u32 = 32;
 
 /// The answer of a slot that goes to a connection.
 #[derive(Debug, Clone, Copy, PartialEq, Eq)]
 pub struct Sent {
-    /// The connection.
+    /// The connection, by both numbers.
+    pub vpi: u32,
     pub vci: u32,
     /// What it sends.
     pub kind: Kind,
@@ -39,16 +42,17 @@ pub struct Sent {
 /// An open connection and its leaf in the tournament.
 #[derive(Debug, Clone, PartialEq, Eq)]
 struct Entry {
+    name: u32,
     leaf: usize,
     connection: Connection,
 }
 
-/// The whole engine: the open connections by VCI, the tournament, the congestion
+/// The whole engine: the open connections by address, the tournament, the congestion
 /// level, and the time of the last accepted open, slot, made or out-of-rate cell
 /// (0 before any, which refuses nothing).
 #[derive(Debug, Clone, PartialEq, Eq, Default)]
 pub struct Engine {
-    table: BTreeMap<u32, Entry>,
+    table: BTreeMap<Address, Entry>,
     tournament: Tournament,
     level: u32,
     last: u64,
@@ -62,16 +66,14 @@ impl Engine {
 
     /// Opens a connection on the lowest free leaf and answers the comparisons.
     /// Refusals: 10, 7, 8, 12, 13, 14.
-    pub fn open(&mut self, vci: u32, time: u64, params: &Params) -> Result<u32, Refusal> {
-        if vci < VCI_MIN {
+    pub fn open(&mut self, at: Address, time: u64, params: &Params) -> Result<u32, Refusal> {
+        if at.vci < VCI_MIN {
             return Err(refusal::LOW_VCI);
         }
-        if vci > VCI_MAX {
-            return Err(refusal::RANGE);
-        }
+        let name = at.name().ok_or(refusal::RANGE)?;
         let contract = params.contract()?;
         check_range(time)?;
-        if self.table.contains_key(&vci) {
+        if self.table.contains_key(&at) {
             return Err(refusal::ALREADY_OPEN);
         }
         if self.table.len() >= CONNECTIONS_MAX {
@@ -79,39 +81,44 @@ impl Engine {
         }
         self.advance(time)?;
         let leaf = self.tournament.take().ok_or(refusal::FULL)?;
-        let connection = Connection::new(vci, time, contract);
-        self.table.insert(vci, Entry { leaf, connection });
-        self.replay(vci)
+        let connection = Connection::new(at, time, contract);
+        let entry = Entry {
+            name,
+            leaf,
+            connection,
+        };
+        self.table.insert(at, entry);
+        self.replay(at)
     }
 
     /// Closes a connection, drops all that waits on it and answers the
     /// comparisons. Refusal: 11.
-    pub fn close(&mut self, vci: u32) -> Result<u32, Refusal> {
-        let entry = self.table.remove(&vci).ok_or(refusal::NOT_OPEN)?;
+    pub fn close(&mut self, at: Address) -> Result<u32, Refusal> {
+        let entry = self.table.remove(&at).ok_or(refusal::NOT_OPEN)?;
         Ok(self.tournament.release(entry.leaf))
     }
 
-    /// Receives a cell and answers the comparisons. Refusals: 1, 2, 3, 4, for RM
+    /// Receives a cell and answers the comparisons. Refusals: 1, 2, 4, for RM
     /// cells 5 and 6, then 11.
     pub fn receive(&mut self, cell: &[u8]) -> Result<u32, Refusal> {
         let content = cell::read(cell)?;
         let octets: &Octets = cell.try_into().map_err(|_| refusal::LENGTH)?;
         let level = self.level;
-        let vci = content.vci();
-        let connection = self.connection(vci)?;
+        let at = content.address();
+        let connection = self.connection(at)?;
         match content {
             Cell::Data { efci, .. } => connection.receive_data(efci),
             Cell::Rm(rm) if rm.dir == 0 => connection.receive_forward(octets, level),
             Cell::Rm(rm) => connection.receive_backward(&rm),
         }
-        self.replay(vci)
+        self.replay(at)
     }
 
     /// Adds data to what waits on a connection and answers the comparisons.
     /// Refusals: 11, 15.
-    pub fn offer(&mut self, vci: u32, cells: u64) -> Result<u32, Refusal> {
-        self.connection(vci)?.offer(cells)?;
-        self.replay(vci)
+    pub fn offer(&mut self, at: Address, cells: u64) -> Result<u32, Refusal> {
+        self.connection(at)?.offer(cells)?;
+        self.replay(at)
     }
 
     /// Sets the congestion level of the whole engine. Refusal: 9.
@@ -125,24 +132,29 @@ impl Engine {
 
     /// Makes a backward cell on a connection and answers the comparisons.
     /// Refusals: 8, 11, 14, 16, 17.
-    pub fn make(&mut self, vci: u32, time: u64) -> Result<u32, Refusal> {
+    pub fn make(&mut self, at: Address, time: u64) -> Result<u32, Refusal> {
         check_range(time)?;
         let (level, order) = (self.level, self.in_order(time));
-        let connection = self.connection(vci)?;
+        let connection = self.connection(at)?;
         order?;
         connection.make(time, level)?;
         self.last = time;
-        self.replay(vci)
+        self.replay(at)
     }
 
     /// Writes an out-of-rate forward cell of a connection to the buffer. No
     /// ready instant changes, so that no match is replayed. Refusals: 1, 8, 11, 14,
     /// 18.
-    pub fn out_of_rate(&mut self, vci: u32, time: u64, buffer: &mut [u8]) -> Result<(), Refusal> {
+    pub fn out_of_rate(
+        &mut self,
+        at: Address,
+        time: u64,
+        buffer: &mut [u8],
+    ) -> Result<(), Refusal> {
         let buffer: &mut Octets = buffer.try_into().map_err(|_| refusal::LENGTH)?;
         check_range(time)?;
         let order = self.in_order(time);
-        let connection = self.connection(vci)?;
+        let connection = self.connection(at)?;
         order?;
         *buffer = connection.out_of_rate(time)?;
         self.last = time;
@@ -156,15 +168,16 @@ impl Engine {
         let buffer: &mut Octets = buffer.try_into().map_err(|_| refusal::LENGTH)?;
         check_range(time)?;
         self.advance(time)?;
-        let Some(vci) = self.winner(time) else {
+        let Some(at) = self.winner(time) else {
             return Ok(None);
         };
-        let connection = self.connection(vci)?;
+        let connection = self.connection(at)?;
         let kind = connection.send(time, buffer);
         let acr = connection.acr();
-        let comparisons = self.replay(vci)?;
+        let comparisons = self.replay(at)?;
         Ok(Some(Sent {
-            vci,
+            vpi: at.vpi,
+            vci: at.vci,
             kind,
             acr,
             comparisons,
@@ -172,28 +185,28 @@ impl Engine {
     }
 
     /// The allowed rate of a connection. Refusal: 11.
-    pub fn acr(&self, vci: u32) -> Result<u64, Refusal> {
-        let entry = self.table.get(&vci).ok_or(refusal::NOT_OPEN)?;
+    pub fn acr(&self, at: Address) -> Result<u64, Refusal> {
+        let entry = self.table.get(&at).ok_or(refusal::NOT_OPEN)?;
         Ok(entry.connection.acr())
     }
 
-    /// Who wins the tournament, whatever the time: ready instant and VCI.
+    /// Who wins the tournament, whatever the time: ready instant and name.
     #[cfg(test)]
     pub(crate) fn top(&self) -> Option<(u64, u32)> {
         self.tournament.top()
     }
 
-    /// The connection under this VCI. Refusal: 11.
-    fn connection(&mut self, vci: u32) -> Result<&mut Connection, Refusal> {
-        let entry = self.table.get_mut(&vci).ok_or(refusal::NOT_OPEN)?;
+    /// The connection with this address. Refusal: 11.
+    fn connection(&mut self, at: Address) -> Result<&mut Connection, Refusal> {
+        let entry = self.table.get_mut(&at).ok_or(refusal::NOT_OPEN)?;
         Ok(&mut entry.connection)
     }
 
     /// Replays the matches of a connection, whose ready instant may have changed,
     /// and gives the comparisons. Refusal: 11.
-    fn replay(&mut self, vci: u32) -> Result<u32, Refusal> {
-        let entry = self.table.get(&vci).ok_or(refusal::NOT_OPEN)?;
-        let entrant = entry.connection.ready().map(|ready| (ready, vci));
+    fn replay(&mut self, at: Address) -> Result<u32, Refusal> {
+        let entry = self.table.get(&at).ok_or(refusal::NOT_OPEN)?;
+        let entrant = entry.connection.ready().map(|ready| (ready, entry.name));
         Ok(self.tournament.replay(entry.leaf, entrant))
     }
 
@@ -213,14 +226,14 @@ impl Engine {
     }
 
     /// The connection whose ready instant is the earliest, if it isn't after
-    /// this time; of several the one with the lowest VCI.
-    fn winner(&self, time: u64) -> Option<u32> {
+    /// this time; of several the one with the lowest name.
+    fn winner(&self, time: u64) -> Option<Address> {
         self.table
             .iter()
-            .filter_map(|(vci, entry)| Some((entry.connection.ready()?, *vci)))
-            .filter(|(ready, _)| *ready <= time)
+            .filter_map(|(at, entry)| Some((entry.connection.ready()?, entry.name, *at)))
+            .filter(|(ready, ..)| *ready <= time)
             .min()
-            .map(|(_, vci)| vci)
+            .map(|(.., at)| at)
     }
 }
 

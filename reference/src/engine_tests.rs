@@ -1,8 +1,9 @@
 //! Tests of the whole engine through its calls.
 
+use crate::address_tests::on;
 use crate::cell::{crc10, header_check, LENGTH};
 use crate::engine::{Engine, TIME_MAX};
-use crate::{code_of, rate_of, read, write_rm, Cell, Kind, Params, Rm, Sent};
+use crate::{code_of, rate_of, read, write_rm, Address, Cell, Kind, Params, Rm, Sent};
 
 /// One millisecond, the gap at 1,000 cells per second.
 pub(crate) const MS: u64 = 1_000_000;
@@ -19,10 +20,15 @@ pub(crate) fn params() -> Params {
     Params::house(0x7FFF, 0x4000, THOUSAND)
 }
 
-/// An engine with one connection, VCI 32, opened at time 0.
+/// The address of a VCI on VPI 0.
+pub(crate) fn at(vci: u32) -> Address {
+    Address::new(0, vci)
+}
+
+/// An engine with one connection, VCI 32 on VPI 0, opened at time 0.
 pub(crate) fn engine_with(params: &Params) -> Engine {
     let mut engine = Engine::new();
-    engine.open(32, 0, params).unwrap();
+    engine.open(at(32), 0, params).unwrap();
     engine
 }
 
@@ -109,11 +115,12 @@ pub(crate) fn refused<T: std::fmt::Debug + PartialEq>(
 fn the_first_cell_is_forward() {
     let mut engine = engine_with(&params());
     assert_eq!(kind(&mut engine, 5), None);
-    engine.offer(32, 1).unwrap();
+    engine.offer(at(32), 1).unwrap();
     let (sent, rm) = slot_rm(&mut engine, 5);
     assert_eq!(
         sent,
         Sent {
+            vpi: 0,
             vci: 32,
             kind: Kind::Forward,
             acr: RATE,
@@ -136,7 +143,7 @@ fn the_first_cell_is_forward() {
 #[test]
 fn forward_cells_have_no_bit_15() {
     let mut engine = engine_with(&Params::house(0xFFFF, 0xC000, 0x8000 | THOUSAND));
-    engine.offer(32, 1).unwrap();
+    engine.offer(at(32), 1).unwrap();
     let mut buffer = [0; LENGTH];
     engine.slot(0, &mut buffer).unwrap();
     assert_eq!(buffer[7..13], [0x7F, 0xFF, 0x53, 0xE8, 0x40, 0x00]);
@@ -145,7 +152,7 @@ fn forward_cells_have_no_bit_15() {
 #[test]
 fn ccr_is_the_code_below_the_rate() {
     let mut engine = engine_with(&params());
-    engine.offer(32, 1).unwrap();
+    engine.offer(at(32), 1).unwrap();
     let cut = Rm {
         ci: 1,
         ..backward(32)
@@ -154,7 +161,7 @@ fn ccr_is_the_code_below_the_rate() {
         engine.receive(&octets(&cut)).unwrap();
     }
     let acr = 421_875;
-    assert_eq!(engine.acr(32), Ok(acr));
+    assert_eq!(engine.acr(at(32)), Ok(acr));
     let (sent, rm) = slot_rm(&mut engine, 0);
     assert_eq!(sent.acr, acr);
     assert_eq!(Ok(rm.ccr), code_of(acr));
@@ -164,7 +171,7 @@ fn ccr_is_the_code_below_the_rate() {
 #[test]
 fn a_forward_cell_comes_at_nrm_less_1() {
     let mut engine = engine_with(&params());
-    engine.offer(32, 100).unwrap();
+    engine.offer(at(32), 100).unwrap();
     for cycle in 0..2 {
         for k in 0..32 {
             let expected = if k == 0 { Kind::Forward } else { Kind::Data };
@@ -176,7 +183,7 @@ fn a_forward_cell_comes_at_nrm_less_1() {
 #[test]
 fn at_nrm_less_1_nothing_need_wait() {
     let mut engine = engine_with(&Params { n: 2, ..params() });
-    engine.offer(32, 3).unwrap();
+    engine.offer(at(32), 3).unwrap();
     for time in 0..4 {
         assert!(kind(&mut engine, time * MS).is_some());
     }
@@ -188,7 +195,7 @@ fn at_nrm_less_1_nothing_need_wait() {
 #[test]
 fn nrm_2_alternates() {
     let mut engine = engine_with(&Params { n: 1, ..params() });
-    engine.offer(32, 3).unwrap();
+    engine.offer(at(32), 3).unwrap();
     for time in 0..7 {
         let expected = if time % 2 == 0 {
             Kind::Forward
@@ -203,7 +210,7 @@ fn nrm_2_alternates() {
 #[test]
 fn trm_with_nothing_waiting() {
     let mut engine = engine_with(&params());
-    engine.offer(32, 2).unwrap();
+    engine.offer(at(32), 2).unwrap();
     for time in [0, 1, 2] {
         assert!(kind(&mut engine, time * MS).is_some());
     }
@@ -216,7 +223,7 @@ fn trm_with_nothing_waiting() {
 fn trm_with_data_waiting() {
     for (time, expected) in [(100 * MS - 1, Kind::Data), (100 * MS, Kind::Forward)] {
         let mut engine = engine_with(&params());
-        engine.offer(32, 9).unwrap();
+        engine.offer(at(32), 9).unwrap();
         for time in [0, 1, 2] {
             assert!(kind(&mut engine, time * MS).is_some());
         }
@@ -227,11 +234,11 @@ fn trm_with_data_waiting() {
 #[test]
 fn trm_needs_two_cells() {
     let mut engine = engine_with(&params());
-    engine.offer(32, 1).unwrap();
+    engine.offer(at(32), 1).unwrap();
     assert_eq!(kind(&mut engine, 0), Some(Kind::Forward));
     assert_eq!(kind(&mut engine, MS), Some(Kind::Data));
     assert_eq!(kind(&mut engine, 500 * MS), None);
-    engine.offer(32, 2).unwrap();
+    engine.offer(at(32), 2).unwrap();
     assert_eq!(kind(&mut engine, 500 * MS), Some(Kind::Data));
     assert_eq!(kind(&mut engine, 501 * MS), Some(Kind::Forward));
     assert_eq!(kind(&mut engine, 502 * MS), Some(Kind::Data));
@@ -240,7 +247,7 @@ fn trm_needs_two_cells() {
 #[test]
 fn trm_does_not_shorten_the_gap() {
     let mut engine = engine_with(&Params::house(0x4000, 0x4000, 0x4000));
-    engine.offer(32, 2).unwrap();
+    engine.offer(at(32), 2).unwrap();
     for time in [0, 1_000, 2_000] {
         assert!(kind(&mut engine, time * MS).is_some());
     }
@@ -251,7 +258,7 @@ fn trm_does_not_shorten_the_gap() {
 /// Feedback raises the rate to the peak; then a forward cell goes at `time`.
 fn rate_after_pause(time: u64) -> u64 {
     let mut engine = engine_with(&Params { r: 0, ..params() });
-    engine.offer(32, 9).unwrap();
+    engine.offer(at(32), 9).unwrap();
     for time in [0, 1, 2] {
         assert!(kind(&mut engine, time * MS).is_some());
     }
@@ -261,11 +268,11 @@ fn rate_after_pause(time: u64) -> u64 {
             ..backward(32)
         }))
         .unwrap();
-    assert_eq!(engine.acr(32), Ok(2_196_875_771_904));
+    assert_eq!(engine.acr(at(32)), Ok(2_196_875_771_904));
     let (sent, rm) = slot_rm(&mut engine, time);
     assert_eq!(sent.kind, Kind::Forward);
     assert_eq!(code_of(sent.acr), Ok(rm.ccr));
-    assert_eq!(engine.acr(32), Ok(sent.acr));
+    assert_eq!(engine.acr(at(32)), Ok(sent.acr));
     sent.acr
 }
 
@@ -284,11 +291,11 @@ fn feedback_before_the_first_cell() {
             ..backward(32)
         }))
         .unwrap();
-    assert_eq!(engine.acr(32), Ok(RATE + 2_196_875_771_904 / 16));
-    engine.offer(32, 1).unwrap();
+    assert_eq!(engine.acr(at(32)), Ok(RATE + 2_196_875_771_904 / 16));
+    engine.offer(at(32), 1).unwrap();
     let (sent, rm) = slot_rm(&mut engine, 0);
     assert_eq!((sent.acr, rm.ccr), (RATE, THOUSAND));
-    assert_eq!(engine.acr(32), Ok(RATE));
+    assert_eq!(engine.acr(at(32)), Ok(RATE));
 }
 
 #[test]
@@ -299,7 +306,7 @@ fn idle_is_tested_before_unanswered() {
         c: 1,
         ..params()
     });
-    engine.offer(32, 9).unwrap();
+    engine.offer(at(32), 9).unwrap();
     for time in [0, 1, 2] {
         assert!(kind(&mut engine, time * MS).is_some());
     }
@@ -320,7 +327,7 @@ fn unanswered_cells_cut_the_rate() {
         crm: 2,
         ..params()
     });
-    engine.offer(32, 50).unwrap();
+    engine.offer(at(32), 50).unwrap();
     let mut rates = Vec::new();
     for step in 0..12 {
         let sent = engine
@@ -344,7 +351,7 @@ fn rate_after_answer(bn: u32) -> u64 {
         crm: 2,
         ..params()
     });
-    engine.offer(32, 9).unwrap();
+    engine.offer(at(32), 9).unwrap();
     for step in 0..4 {
         assert!(kind(&mut engine, step * MS).is_some());
     }
@@ -361,15 +368,15 @@ fn bn_1_is_not_an_answer() {
 #[test]
 fn feedback_moves_its_own_connection_only() {
     let mut engine = engine_with(&params());
-    engine.open(33, 0, &params()).unwrap();
+    engine.open(at(33), 0, &params()).unwrap();
     let cut = Rm {
         ci: 1,
         ..backward(33)
     };
     engine.receive(&octets(&cut)).unwrap();
     engine.receive(&octets(&cut)).unwrap();
-    assert_eq!(engine.acr(32), Ok(512_000));
-    assert_eq!(engine.acr(33), Ok(450_000));
+    assert_eq!(engine.acr(at(32)), Ok(512_000));
+    assert_eq!(engine.acr(at(33)), Ok(450_000));
 }
 
 #[test]
@@ -381,13 +388,13 @@ fn bit_15_of_er_is_ignored() {
     });
     cell[7] |= 0x80;
     engine.receive(&with_crc(cell)).unwrap();
-    assert_eq!(engine.acr(32), Ok(1_024));
+    assert_eq!(engine.acr(at(32)), Ok(1_024));
 }
 
 #[test]
 fn the_gap_is_that_of_the_present_rate() {
     let mut engine = engine_with(&params());
-    engine.offer(32, 9).unwrap();
+    engine.offer(at(32), 9).unwrap();
     assert_eq!(kind(&mut engine, 0), Some(Kind::Forward));
     engine
         .receive(&octets(&Rm {
@@ -414,6 +421,7 @@ fn a_turned_cell_alone_makes_a_connection_ready() {
     assert_eq!(
         sent,
         Sent {
+            vpi: 0,
             vci: 32,
             kind: Kind::Turned,
             acr: RATE,
@@ -433,7 +441,7 @@ fn a_turned_cell_alone_makes_a_connection_ready() {
 #[test]
 fn one_turned_cell_and_then_data() {
     let mut engine = engine_with(&params());
-    engine.offer(32, 2).unwrap();
+    engine.offer(at(32), 2).unwrap();
     let mut kinds = Vec::new();
     for step in 0..6 {
         engine.receive(&octets(&forward(32))).unwrap();
@@ -446,7 +454,7 @@ fn one_turned_cell_and_then_data() {
 #[test]
 fn after_a_forward_cell_a_turned_one_is_first_again() {
     let mut engine = engine_with(&Params { n: 2, ..params() });
-    engine.offer(32, 9).unwrap();
+    engine.offer(at(32), 9).unwrap();
     let mut kinds = Vec::new();
     for step in 0..8 {
         engine.receive(&octets(&forward(32))).unwrap();
@@ -492,7 +500,7 @@ fn a_later_forward_cell_replaces_the_waiting_one() {
 #[test]
 fn the_mark_of_a_replaced_cell_is_kept_on_its_connection() {
     let mut engine = engine_with(&params());
-    engine.open(33, 0, &params()).unwrap();
+    engine.open(at(33), 0, &params()).unwrap();
     engine.receive(&data(32, true)).unwrap();
     for vci in [32, 33, 32, 33] {
         engine.receive(&octets(&forward(vci))).unwrap();
@@ -523,9 +531,9 @@ fn the_level_at_receipt_marks_the_cell() {
 fn the_level_holds_for_all_connections() {
     let mut engine = engine_with(&params());
     engine.set_level(1).unwrap();
-    engine.close(32).unwrap();
+    engine.close(at(32)).unwrap();
     for vci in [32, 33] {
-        engine.open(vci, 0, &params()).unwrap();
+        engine.open(at(vci), 0, &params()).unwrap();
         engine.receive(&octets(&forward(vci))).unwrap();
         assert_eq!(kind(&mut engine, 0), Some(Kind::Forward));
     }
@@ -540,9 +548,10 @@ fn data_and_idle_slots_do_not_write_the_buffer() {
     let mut buffer = [0xA5; LENGTH];
     assert_eq!(engine.slot(0, &mut buffer), Ok(None));
     assert_eq!(buffer, [0xA5; LENGTH]);
-    engine.offer(32, 1).unwrap();
+    engine.offer(at(32), 1).unwrap();
     assert_eq!(kind(&mut engine, 0), Some(Kind::Forward));
     let sent = Sent {
+        vpi: 0,
         vci: 32,
         kind: Kind::Data,
         acr: RATE,
@@ -556,8 +565,8 @@ fn data_and_idle_slots_do_not_write_the_buffer() {
 fn the_earliest_goes_first_and_ties_to_the_lower_vci() {
     let mut engine = Engine::new();
     for (vci, time) in [(50, 0), (40, 7), (60, 7), (45, 7)] {
-        engine.open(vci, time, &params()).unwrap();
-        engine.offer(vci, 9).unwrap();
+        engine.open(at(vci), time, &params()).unwrap();
+        engine.offer(at(vci), 9).unwrap();
     }
     let mut served = Vec::new();
     for time in [7, 8, 9, 10, MS + 7, MS + 8, MS + 9, MS + 10, MS + 10] {
@@ -570,10 +579,10 @@ fn the_earliest_goes_first_and_ties_to_the_lower_vci() {
 #[test]
 fn the_earlier_ready_instant_is_first() {
     let mut engine = engine_with(&params());
-    engine.open(40, 0, &params()).unwrap();
-    engine.offer(32, 2).unwrap();
+    engine.open(at(40), 0, &params()).unwrap();
+    engine.offer(at(32), 2).unwrap();
     assert_eq!(kind(&mut engine, 0), Some(Kind::Forward));
-    engine.offer(40, 2).unwrap(); // ready since time 0, though data came later
+    engine.offer(at(40), 2).unwrap(); // ready since time 0, though data came later
     let sent = engine.slot(900 * MS, &mut [0; LENGTH]).unwrap().unwrap();
     assert_eq!(sent.vci, 40);
 }
@@ -581,7 +590,7 @@ fn the_earlier_ready_instant_is_first() {
 #[test]
 fn a_vci_opened_again_starts_anew() {
     let mut engine = engine_with(&params());
-    engine.offer(32, 9).unwrap();
+    engine.offer(at(32), 9).unwrap();
     engine.receive(&data(32, true)).unwrap();
     engine.receive(&octets(&forward(32))).unwrap();
     engine
@@ -591,33 +600,33 @@ fn a_vci_opened_again_starts_anew() {
         }))
         .unwrap();
     assert_eq!(kind(&mut engine, 0), Some(Kind::Forward));
-    engine.close(32).unwrap();
-    refused(&engine, 11, |engine| engine.acr(32));
-    engine.open(32, 0, &params()).unwrap();
+    engine.close(at(32)).unwrap();
+    refused(&engine, 11, |engine| engine.acr(at(32)));
+    engine.open(at(32), 0, &params()).unwrap();
     assert_eq!(engine, engine_with(&params()));
 }
 
 #[test]
 fn offers_up_to_65_535() {
     let mut engine = engine_with(&params());
-    refused(&engine, 15, |engine| engine.offer(32, 65_536));
-    refused(&engine, 15, |engine| engine.offer(32, u64::MAX));
-    assert!(engine.offer(32, 0).is_ok());
+    refused(&engine, 15, |engine| engine.offer(at(32), 65_536));
+    refused(&engine, 15, |engine| engine.offer(at(32), u64::MAX));
+    assert!(engine.offer(at(32), 0).is_ok());
     assert_eq!(engine, engine_with(&params()));
-    assert!(engine.offer(32, 65_535).is_ok());
-    assert!(engine.offer(32, 0).is_ok());
-    refused(&engine, 15, |engine| engine.offer(32, 1));
-    refused(&engine, 15, |engine| engine.offer(32, u64::MAX));
-    refused(&engine, 11, |engine| engine.offer(33, u64::MAX));
+    assert!(engine.offer(at(32), 65_535).is_ok());
+    assert!(engine.offer(at(32), 0).is_ok());
+    refused(&engine, 15, |engine| engine.offer(at(32), 1));
+    refused(&engine, 15, |engine| engine.offer(at(32), u64::MAX));
+    refused(&engine, 11, |engine| engine.offer(at(33), u64::MAX));
 }
 
 #[test]
 fn calls_on_what_is_not_open_are_refused_with_11() {
     let engine = engine_with(&params());
     for vci in [0, 31, 33, 65_535, 65_536, 65_568, u32::MAX] {
-        refused(&engine, 11, |engine| engine.close(vci));
-        refused(&engine, 11, |engine| engine.offer(vci, 0));
-        refused(&engine, 11, |engine| engine.acr(vci));
+        refused(&engine, 11, |engine| engine.close(at(vci)));
+        refused(&engine, 11, |engine| engine.offer(at(vci), 0));
+        refused(&engine, 11, |engine| engine.acr(at(vci)));
     }
     for cell in [data(33, true), octets(&forward(33)), octets(&backward(31))] {
         refused(&engine, 11, |engine| engine.receive(&cell));
@@ -638,15 +647,15 @@ fn levels_over_2_are_refused_with_9() {
 fn vcis_that_open() {
     for vci in [32, 65_535] {
         let mut engine = Engine::new();
-        assert!(engine.open(vci, 0, &params()).is_ok());
-        assert_eq!(engine.acr(vci), Ok(RATE));
+        assert!(engine.open(at(vci), 0, &params()).is_ok());
+        assert_eq!(engine.acr(at(vci)), Ok(RATE));
     }
     let engine = Engine::new();
     for vci in [0, 31] {
-        refused(&engine, 10, |engine| engine.open(vci, 0, &params()));
+        refused(&engine, 10, |engine| engine.open(at(vci), 0, &params()));
     }
     for vci in [65_536, u32::MAX] {
-        refused(&engine, 7, |engine| engine.open(vci, 0, &params()));
+        refused(&engine, 7, |engine| engine.open(at(vci), 0, &params()));
     }
 }
 
@@ -654,14 +663,14 @@ fn vcis_that_open() {
 fn the_latest_time() {
     let mut engine = Engine::new();
     refused(&engine, 8, |engine| {
-        engine.open(32, TIME_MAX + 1, &params())
+        engine.open(at(32), TIME_MAX + 1, &params())
     });
     refused(&engine, 8, |engine| {
         engine.slot(TIME_MAX + 1, &mut [0; LENGTH])
     });
     assert_eq!(TIME_MAX, 4_611_686_018_427_387_904);
-    assert!(engine.open(32, TIME_MAX, &params()).is_ok());
-    engine.offer(32, 1).unwrap();
+    assert!(engine.open(at(32), TIME_MAX, &params()).is_ok());
+    engine.offer(at(32), 1).unwrap();
     assert_eq!(kind(&mut engine, TIME_MAX), Some(Kind::Forward));
     assert_eq!(kind(&mut engine, TIME_MAX), None);
 }
@@ -670,37 +679,39 @@ fn the_latest_time() {
 fn a_thousand_and_24_may_be_open() {
     let mut engine = Engine::new();
     for vci in 32..32 + 1_024 {
-        assert!(engine.open(vci, 0, &params()).is_ok());
+        assert!(engine.open(at(vci), 0, &params()).is_ok());
     }
-    refused(&engine, 13, |engine| engine.open(1_056, 0, &params()));
-    engine.close(40).unwrap();
-    assert!(engine.open(1_056, 0, &params()).is_ok());
+    refused(&engine, 13, |engine| engine.open(at(1_056), 0, &params()));
+    engine.close(at(40)).unwrap();
+    assert!(engine.open(at(1_056), 0, &params()).is_ok());
 }
 
 #[test]
 fn the_order_of_refusals_when_opening() {
     let mut engine = Engine::new();
     for vci in 32..1_056 {
-        engine.open(vci, 9, &params()).unwrap();
+        engine.open(at(vci), 9, &params()).unwrap();
     }
     let bad = Params { n: 0, ..params() };
     let late = TIME_MAX + 1;
-    refused(&engine, 10, |engine| engine.open(31, late, &bad));
-    refused(&engine, 7, |engine| engine.open(32, late, &bad));
-    refused(&engine, 7, |engine| engine.open(65_536, late, &params()));
-    refused(&engine, 8, |engine| engine.open(32, late, &params()));
-    refused(&engine, 12, |engine| engine.open(32, 8, &params()));
-    refused(&engine, 13, |engine| engine.open(1_056, 8, &params()));
-    engine.close(95).unwrap();
-    refused(&engine, 14, |engine| engine.open(1_056, 8, &params()));
-    assert!(engine.open(1_056, 9, &params()).is_ok());
+    refused(&engine, 10, |engine| engine.open(at(31), late, &bad));
+    refused(&engine, 7, |engine| engine.open(at(32), late, &bad));
+    refused(&engine, 7, |engine| {
+        engine.open(at(65_536), late, &params())
+    });
+    refused(&engine, 8, |engine| engine.open(at(32), late, &params()));
+    refused(&engine, 12, |engine| engine.open(at(32), 8, &params()));
+    refused(&engine, 13, |engine| engine.open(at(1_056), 8, &params()));
+    engine.close(at(95)).unwrap();
+    refused(&engine, 14, |engine| engine.open(at(1_056), 8, &params()));
+    assert!(engine.open(at(1_056), 9, &params()).is_ok());
 }
 
 #[test]
 fn the_order_of_refusals_of_a_slot() {
     let mut engine = engine_with(&params());
-    engine.offer(32, 1).unwrap();
-    engine.open(33, 9, &params()).unwrap();
+    engine.offer(at(32), 1).unwrap();
+    engine.open(at(33), 9, &params()).unwrap();
     for length in [0, 52, 54] {
         let mut buffer = vec![0xA5; length];
         refused(&engine, 1, |engine| engine.slot(TIME_MAX + 1, &mut buffer));
@@ -727,9 +738,9 @@ fn the_order_of_refusals_when_receiving() {
     cell[3] |= 0x0E;
     cell[4] = header_check(&cell[..4]);
     refused(&engine, 4, |engine| engine.receive(&cell));
-    cell[1] |= 0x10;
+    cell[1] |= 0x10; // another VPI, which is judged last
     cell[4] = header_check(&cell[..4]);
-    refused(&engine, 3, |engine| engine.receive(&cell));
+    refused(&engine, 4, |engine| engine.receive(&cell));
     cell[4] ^= 1;
     refused(&engine, 2, |engine| engine.receive(&cell));
     refused(&engine, 1, |engine| engine.receive(&cell[1..]));
@@ -740,18 +751,18 @@ fn an_idle_slots_time_counts_and_a_refused_ones_does_not() {
     let mut engine = engine_with(&params());
     assert_eq!(kind(&mut engine, 10), None);
     refused(&engine, 14, |engine| engine.slot(9, &mut [0; LENGTH]));
-    refused(&engine, 14, |engine| engine.open(33, 9, &params()));
+    refused(&engine, 14, |engine| engine.open(at(33), 9, &params()));
     refused(&engine, 1, |engine| engine.slot(20, &mut []));
     assert_eq!(kind(&mut engine, 10), None);
-    assert!(engine.open(33, 10, &params()).is_ok());
+    assert!(engine.open(at(33), 10, &params()).is_ok());
 }
 
 #[test]
 fn closing_does_not_reset_the_last_time() {
     let mut engine = Engine::new();
-    engine.open(32, 10, &params()).unwrap();
-    engine.close(32).unwrap();
-    refused(&engine, 14, |engine| engine.open(32, 9, &params()));
+    engine.open(at(32), 10, &params()).unwrap();
+    engine.close(at(32)).unwrap();
+    refused(&engine, 14, |engine| engine.open(at(32), 9, &params()));
 }
 
 /// The code of the least rate of a connection in the random calls: those on even
@@ -760,31 +771,46 @@ fn least_code(vci: u32) -> u32 {
     [0x0000, 0x4000][vci as usize % 2]
 }
 
-/// A random call on the engine; on VCIs 32 to 35, accepted or refused. Its
+/// The connections of the random calls: equal VCIs on different VPIs, and VCIs that rise
+/// where the names do not.
+const RANDOM: [Address; 4] = [
+    Address::new(0, 33),
+    Address::new(1, 32),
+    Address::new(1, 33),
+    Address::new(255, 32),
+];
+
+/// The parameters of one of those.
+fn random_params(at: Address) -> Params {
+    Params::house(0x53E8, least_code(at.vci), 0x4A00)
+}
+
+/// A random call on the engine, on one of those, accepted or refused. Its
 /// comparisons, 0 for a set level, an out-of-rate cell and an idle slot.
 fn random_call(
     engine: &mut Engine,
     time: &mut u64,
     mut draw: impl FnMut(u32) -> u32,
 ) -> Result<u32, u32> {
-    let vci = 32 + draw(4);
+    let at = RANDOM[draw(4) as usize];
     match draw(10) {
-        0 if draw(8) == 0 => engine.close(vci),
-        0 => engine.open(vci, *time, &Params::house(0x53E8, least_code(vci), 0x4A00)),
-        1 => engine.offer(vci, u64::from(draw(9))),
+        0 if draw(8) == 0 => engine.close(at),
+        0 => engine.open(at, *time, &random_params(at)),
+        1 => engine.offer(at, u64::from(draw(9))),
         2 => engine.set_level(draw(4)).map(|()| 0),
-        3 => engine.receive(&data(vci, draw(2) == 1)),
-        6 => engine.make(vci, *time),
+        3 => engine.receive(&on(data(at.vci, draw(2) == 1), 0, at.vpi)),
+        6 => engine.make(at, *time),
         7 => {
             let top = engine.top();
-            let answer = engine.out_of_rate(vci, *time, &mut [0; LENGTH]);
+            let answer = engine.out_of_rate(at, *time, &mut [0; LENGTH]);
             assert_eq!(engine.top(), top);
             answer.map(|()| 0)
         }
         4 | 5 => {
             let (dir, bn, ci, ni) = (draw(2), draw(2), draw(2), draw(2));
             let rm = Rm {
-                vci,
+                vpi: at.vpi,
+                vci: at.vci,
                 dir,
                 bn,
                 ci,
@@ -806,7 +832,8 @@ fn random_call(
 fn slot_of_the_top(engine: &mut Engine, time: u64) -> Result<u32, u32> {
     let top = engine.top().filter(|(ready, _)| *ready <= time);
     let sent = engine.slot(time, &mut [0; LENGTH])?;
-    assert_eq!(sent.map(|sent| sent.vci), top.map(|(_, vci)| vci));
+    let name = |sent: Sent| Address::new(sent.vpi, sent.vci).name();
+    assert_eq!(sent.and_then(name), top.map(|(_, name)| name));
     let comparisons = sent.map_or(0, |sent| sent.comparisons);
     assert_eq!(comparisons, if sent.is_some() { 10 } else { 0 });
     Ok(comparisons)
@@ -817,17 +844,17 @@ fn rates_and_comparisons_stay_in_bounds_in_long_lists() {
     let mut engine = Engine::new();
     let (mut state, mut time, mut moved, mut stopped) = (1u64, 0, 0, 0);
     for _ in 0..200_000 {
-        let before = engine.acr(33);
+        let before = engine.acr(at(33));
         let answer = random_call(&mut engine, &mut time, |limit| {
             state = state.wrapping_mul(6_364_136_223_846_793_005);
             state = state.wrapping_add(1_442_695_040_888_963_407);
             (state >> 33) as u32 % limit
         });
         assert!(answer.is_err() || answer.is_ok_and(|comparisons| comparisons <= 10));
-        moved += u32::from(engine.acr(33) != before);
-        for vci in 32..36 {
-            let Ok(acr) = engine.acr(vci) else { continue };
-            assert!((rate_of(least_code(vci))..=512_000).contains(&acr));
+        moved += u32::from(engine.acr(at(33)) != before);
+        for at in RANDOM {
+            let Ok(acr) = engine.acr(at) else { continue };
+            assert!((rate_of(least_code(at.vci))..=512_000).contains(&acr));
             stopped += u32::from(acr == 0);
         }
     }

@@ -6,6 +6,7 @@
 //! document 02 only counts comparisons.
 //!
 //! * [`rate`]: rate codes and the gap between cells;
+//! * [`address`]: VPI and VCI, and the name that they make;
 //! * [`params`]: the parameters of an open, their ranges, the house set;
 //! * [`cell`]: header check, CRC-10, writing, reading and turning cells;
 //! * [`spacing`]: the 100 ms between made cells, and between out-of-rate cells;
@@ -17,6 +18,7 @@
 
 #![forbid(unsafe_code)]
 
+pub mod address;
 pub mod cell;
 pub mod connection;
 pub mod destination;
@@ -28,6 +30,8 @@ pub mod spacing;
 pub mod tournament;
 
 #[cfg(test)]
+mod address_tests;
+#[cfg(test)]
 mod comparison_tests;
 #[cfg(test)]
 mod engine_tests;
@@ -38,6 +42,7 @@ mod no_minimum_tests;
 #[cfg(test)]
 mod out_of_rate_tests;
 
+pub use address::Address;
 pub use cell::{read, write_rm, Cell, Rm};
 pub use connection::Kind;
 pub use engine::{Engine, Sent};

@@ -4,7 +4,7 @@
 use crate::cell::LENGTH;
 use crate::engine::{Engine, TIME_MAX};
 use crate::engine_tests::{
-    backward, engine_with, forward, kind, octets, slot_rm, MS, RATE, THOUSAND,
+    at, backward, engine_with, forward, kind, octets, slot_rm, MS, RATE, THOUSAND,
 };
 use crate::{Kind, Params, Rm};
 
@@ -25,14 +25,14 @@ fn explicit(er: u32) -> Rm {
 /// Receives such a cell on VCI 32 and gives the allowed rate afterwards.
 fn receive(engine: &mut Engine, er: u32) -> u64 {
     engine.receive(&octets(&explicit(er))).unwrap();
-    engine.acr(32).unwrap()
+    engine.acr(at(32)).unwrap()
 }
 
 /// An engine whose connection has data waiting and an allowed rate of 0, before
 /// its first cell.
 fn stopped(params: &Params) -> Engine {
     let mut engine = engine_with(params);
-    engine.offer(32, 9).unwrap();
+    engine.offer(at(32), 9).unwrap();
     assert_eq!(receive(&mut engine, 0), 0);
     engine
 }
@@ -50,7 +50,7 @@ fn never_ready(engine: &Engine) {
 fn the_code_of_a_minimum_of_0_is_0x0000_whatever_the_open_gave() {
     for mcr in [0x0000, 0x0001, 0x01FF, 0x3FFF, 0x8000, 0x81FF, 0xBFFF] {
         let mut engine = engine_with(&Params::house(0x8000 | THOUSAND, mcr, THOUSAND));
-        engine.offer(32, 1).unwrap();
+        engine.offer(at(32), 1).unwrap();
         let (_, rm) = slot_rm(&mut engine, 0);
         assert_eq!((rm.er, rm.ccr, rm.mcr), (THOUSAND, THOUSAND, 0));
     }
@@ -63,7 +63,7 @@ fn at_rate_0_nothing_is_ready_before_the_first_cell() {
     engine.receive(&octets(&forward(32))).unwrap();
     never_ready(&engine);
     engine.set_level(2).unwrap();
-    engine.make(32, 0).unwrap();
+    engine.make(at(32), 0).unwrap();
     never_ready(&engine);
     assert_eq!(receive(&mut engine, 0x7FFF), RATE / 16);
     let (sent, rm) = slot_rm(&mut engine, 0); // ready from its opening on
@@ -74,7 +74,7 @@ fn at_rate_0_nothing_is_ready_before_the_first_cell() {
 #[test]
 fn at_rate_0_nothing_is_ready_later() {
     let mut engine = engine_with(&params());
-    engine.offer(32, 2).unwrap();
+    engine.offer(at(32), 2).unwrap();
     assert_eq!(kind(&mut engine, 0), Some(Kind::Forward));
     assert_eq!(kind(&mut engine, MS), Some(Kind::Data));
     assert_eq!(receive(&mut engine, 0), 0);
@@ -88,7 +88,7 @@ fn at_rate_0_nothing_is_ready_later() {
 #[test]
 fn at_rate_0_no_forward_cell_is_due_at_nrm_less_1() {
     let mut engine = engine_with(&Params { n: 1, ..params() });
-    engine.offer(32, 1).unwrap();
+    engine.offer(at(32), 1).unwrap();
     assert_eq!(kind(&mut engine, 0), Some(Kind::Forward));
     assert_eq!(kind(&mut engine, MS), Some(Kind::Data));
     assert_eq!(kind(&mut engine.clone(), 2 * MS), Some(Kind::Forward)); // k is 1
@@ -102,7 +102,7 @@ fn at_rate_0_no_forward_cell_is_due_at_nrm_less_1() {
 #[test]
 fn at_rate_0_no_forward_cell_is_due_after_trm() {
     let mut engine = engine_with(&Params { trm: 0, ..params() });
-    engine.offer(32, 2).unwrap();
+    engine.offer(at(32), 2).unwrap();
     let kinds = [0, 1, 2].map(|time| kind(&mut engine, time * MS));
     assert_eq!(kinds, [Kind::Forward, Kind::Data, Kind::Data].map(Some));
     assert_eq!(kind(&mut engine.clone(), 3 * MS), Some(Kind::Forward)); // k is 2
@@ -113,8 +113,8 @@ fn at_rate_0_no_forward_cell_is_due_after_trm() {
 #[test]
 fn an_initial_rate_of_0_needs_a_backward_cell_and_limits_the_first_cell() {
     let mut engine = engine_with(&Params::house(THOUSAND, 0, 0));
-    assert_eq!(engine.acr(32), Ok(0));
-    engine.offer(32, 1).unwrap();
+    assert_eq!(engine.acr(at(32)), Ok(0));
+    engine.offer(at(32), 1).unwrap();
     never_ready(&engine);
     assert_eq!(receive(&mut engine, 0x7FFF), RATE / 16);
     let (sent, rm) = slot_rm(&mut engine, 5);
@@ -132,7 +132,7 @@ fn an_idle_connection_falls_to_an_initial_rate_of_0() {
         ..Params::house(THOUSAND, 0, 0)
     };
     let mut engine = engine_with(&params);
-    engine.offer(32, 1).unwrap();
+    engine.offer(at(32), 1).unwrap();
     receive(&mut engine, 0x7FFF);
     assert_eq!(kind(&mut engine, 0), Some(Kind::Forward));
     receive(&mut engine, 0x7FFF);
@@ -151,7 +151,7 @@ fn unanswered_cells_bring_the_rate_to_0() {
         ..params()
     };
     let mut engine = engine_with(&params);
-    engine.offer(32, 9).unwrap();
+    engine.offer(at(32), 9).unwrap();
     let kinds = [0, 1].map(|time| kind(&mut engine, time * MS));
     assert_eq!(kinds, [Kind::Forward, Kind::Data].map(Some));
     let (sent, rm) = slot_rm(&mut engine, 2 * MS);
@@ -167,7 +167,7 @@ fn rates_below_one_cell_per_second() {
         ..Params::house(0x4000, 0, 0)
     };
     let mut engine = engine_with(&params);
-    engine.offer(32, 9).unwrap();
+    engine.offer(at(32), 9).unwrap();
     let rates = [1, 2, 3].map(|_| receive(&mut engine, 0x4000));
     assert_eq!(rates, [1, 2, 3]); // PCR / 2^r is one unit
     let (sent, rm) = slot_rm(&mut engine, 0);
@@ -180,7 +180,7 @@ fn rates_below_one_cell_per_second() {
         ..explicit(0x4000)
     };
     engine.receive(&octets(&cut)).unwrap();
-    assert_eq!(engine.acr(32), Ok(0)); // half of one unit
+    assert_eq!(engine.acr(at(32)), Ok(0)); // half of one unit
     never_ready(&engine);
 }
 
@@ -217,7 +217,7 @@ fn only_a_cell_without_marks_raises_a_rate_of_0() {
             ..explicit(0x7FFF)
         };
         engine.receive(&octets(&marked)).unwrap();
-        assert_eq!(engine.acr(32), Ok(0));
+        assert_eq!(engine.acr(at(32)), Ok(0));
         never_ready(&engine);
     }
     for bn in [0, 1] {
@@ -227,7 +227,7 @@ fn only_a_cell_without_marks_raises_a_rate_of_0() {
             ..explicit(0x4000)
         };
         engine.receive(&octets(&rm)).unwrap();
-        assert_eq!(engine.acr(32), Ok(512)); // as far as the explicit rate
+        assert_eq!(engine.acr(at(32)), Ok(512)); // as far as the explicit rate
         assert_eq!(kind(&mut engine, 0), Some(Kind::Forward));
     }
 }
@@ -235,8 +235,8 @@ fn only_a_cell_without_marks_raises_a_rate_of_0() {
 #[test]
 fn the_others_go_on() {
     let mut engine = stopped(&params());
-    engine.open(33, 0, &params()).unwrap();
-    engine.offer(33, 1).unwrap();
+    engine.open(at(33), 0, &params()).unwrap();
+    engine.offer(at(33), 1).unwrap();
     let sent = engine.slot(0, &mut [0; LENGTH]).unwrap().unwrap();
     assert_eq!((sent.vci, sent.kind), (33, Kind::Forward));
     assert_eq!(kind(&mut engine, 0), None);
@@ -245,14 +245,14 @@ fn the_others_go_on() {
 #[test]
 fn a_leaf_at_rate_0_wins_no_match() {
     let mut engine = engine_with(&params());
-    engine.open(33, 0, &params()).unwrap();
-    assert_eq!(engine.offer(32, 1), Ok(10));
-    assert_eq!(engine.offer(33, 1), Ok(1));
+    engine.open(at(33), 0, &params()).unwrap();
+    assert_eq!(engine.offer(at(32), 1), Ok(10));
+    assert_eq!(engine.offer(at(33), 1), Ok(1));
     let stop = octets(&explicit(0));
     assert_eq!(engine.receive(&stop), Ok(10)); // leaf 1 wins at every level
     assert_eq!(engine.receive(&stop), Ok(1));
-    assert_eq!(engine.offer(32, 1), Ok(1));
-    assert_eq!(engine.close(33), Ok(10)); // nobody is left
+    assert_eq!(engine.offer(at(32), 1), Ok(1));
+    assert_eq!(engine.close(at(33)), Ok(10)); // nobody is left
     assert_eq!(engine.receive(&stop), Ok(1));
     assert_eq!(engine.receive(&octets(&explicit(0x7FFF))), Ok(10));
     assert_eq!(engine.top(), Some((0, 32)));
@@ -261,7 +261,7 @@ fn a_leaf_at_rate_0_wins_no_match() {
 #[test]
 fn a_contract_with_a_minimum_never_falls_below_it() {
     let mut engine = engine_with(&Params::house(THOUSAND, 0x4000, THOUSAND));
-    engine.offer(32, 1).unwrap();
+    engine.offer(at(32), 1).unwrap();
     assert_eq!(receive(&mut engine, 0), 512);
     assert_eq!(kind(&mut engine, 0), Some(Kind::Forward));
 }

@@ -3,7 +3,7 @@
 use crate::cell::{header_check, Octets, LENGTH};
 use crate::engine::{Engine, TIME_MAX};
 use crate::engine_tests::{
-    backward, engine_with, forward, kind, octets, params, refused, MS, RATE, THOUSAND,
+    at, backward, engine_with, forward, kind, octets, params, refused, MS, RATE, THOUSAND,
 };
 use crate::spacing::INTERVAL;
 use crate::{code_of, read, Cell, Kind, Params, Rm, Sent};
@@ -14,7 +14,7 @@ const FILL: u8 = 0xA5;
 /// The cell of an accepted call.
 fn cell(engine: &mut Engine, vci: u32, time: u64) -> Octets {
     let mut buffer = [FILL; LENGTH];
-    engine.out_of_rate(vci, time, &mut buffer).unwrap();
+    engine.out_of_rate(at(vci), time, &mut buffer).unwrap();
     buffer
 }
 
@@ -23,7 +23,7 @@ fn cell(engine: &mut Engine, vci: u32, time: u64) -> Octets {
 fn refuses(engine: &Engine, number: u32, vci: u32, time: u64, length: usize) {
     let mut buffer = vec![FILL; length];
     refused(engine, number, |engine| {
-        engine.out_of_rate(vci, time, &mut buffer)
+        engine.out_of_rate(at(vci), time, &mut buffer)
     });
     assert_eq!(buffer, vec![FILL; length]);
 }
@@ -48,7 +48,7 @@ fn the_cell_is_a_forward_one_with_clp_1() {
 #[test]
 fn it_differs_from_a_slots_forward_cell_in_clp_and_header_check_only() {
     let mut engine = engine_with(&params());
-    engine.offer(32, 1).unwrap();
+    engine.offer(at(32), 1).unwrap();
     let outside = cell(&mut engine, 32, 0);
     let mut inside = [0; LENGTH];
     engine.slot(0, &mut inside).unwrap();
@@ -72,7 +72,7 @@ fn ccr_is_the_code_of_any_rate_as_it_stands() {
             ..backward(32)
         };
         engine.receive(&octets(&rm)).unwrap();
-        let acr = engine.acr(32).unwrap();
+        let acr = engine.acr(at(32)).unwrap();
         let written = cell(&mut engine, 32, place as u64 * INTERVAL);
         let expected = Rm {
             vci: 32,
@@ -96,7 +96,7 @@ fn ccr_below_one_cell_per_second_is_0x0000() {
             ..backward(32)
         };
         engine.receive(&octets(&rise)).unwrap();
-        assert_eq!(engine.acr(32), Ok(acr));
+        assert_eq!(engine.acr(at(32)), Ok(acr));
         assert_eq!(cell(&mut engine, 32, 0)[9..11], [0, 0]);
     }
 }
@@ -112,7 +112,7 @@ fn a_minimum_of_0_is_carried_as_0x0000() {
 #[test]
 fn the_order_of_refusals() {
     let mut engine = engine_with(&params());
-    engine.open(33, 9, &params()).unwrap();
+    engine.open(at(33), 9, &params()).unwrap();
     cell(&mut engine, 33, 9);
     let late = TIME_MAX + 1;
     for length in [0, 52, 54] {
@@ -149,9 +149,9 @@ fn exactly_100_ms_later_the_next_is_accepted() {
 fn a_new_open_starts_without_one() {
     let mut engine = engine_with(&params());
     cell(&mut engine, 32, 0);
-    engine.close(32).unwrap();
+    engine.close(at(32)).unwrap();
     refuses(&engine, 11, 32, 0, LENGTH);
-    engine.open(32, 0, &params()).unwrap();
+    engine.open(at(32), 0, &params()).unwrap();
     assert_eq!(engine, engine_with(&params()));
     cell(&mut engine, 32, 0);
 }
@@ -159,47 +159,47 @@ fn a_new_open_starts_without_one() {
 #[test]
 fn each_connection_has_its_own_interval_and_made_cells_another() {
     let mut engine = engine_with(&params());
-    engine.open(33, 0, &params()).unwrap();
+    engine.open(at(33), 0, &params()).unwrap();
     engine.set_level(1).unwrap();
     cell(&mut engine, 32, 0);
-    engine.make(32, 0).unwrap();
+    engine.make(at(32), 0).unwrap();
     cell(&mut engine, 33, MS);
-    engine.make(33, 2 * MS).unwrap();
+    engine.make(at(33), 2 * MS).unwrap();
     refuses(&engine, 18, 33, INTERVAL, LENGTH);
     cell(&mut engine, 32, INTERVAL);
-    engine.make(32, INTERVAL).unwrap();
+    engine.make(at(32), INTERVAL).unwrap();
     cell(&mut engine, 33, INTERVAL + MS);
-    refused(&engine, 17, |engine| engine.make(33, INTERVAL + MS));
+    refused(&engine, 17, |engine| engine.make(at(33), INTERVAL + MS));
 }
 
 #[test]
 fn its_time_counts_for_14_and_a_refused_ones_does_not() {
     let mut engine = engine_with(&params());
-    engine.open(33, 0, &params()).unwrap();
+    engine.open(at(33), 0, &params()).unwrap();
     engine.set_level(2).unwrap();
     cell(&mut engine, 32, 10);
     refuses(&engine, 18, 32, 20, LENGTH);
     refuses(&engine, 11, 34, 20, LENGTH);
     refuses(&engine, 1, 33, 20, 0);
     refused(&engine, 14, |engine| engine.slot(9, &mut [0; LENGTH]));
-    refused(&engine, 14, |engine| engine.open(34, 9, &params()));
-    refused(&engine, 14, |engine| engine.make(33, 9));
+    refused(&engine, 14, |engine| engine.open(at(34), 9, &params()));
+    refused(&engine, 14, |engine| engine.make(at(33), 9));
     refuses(&engine, 14, 33, 9, LENGTH);
     assert_eq!(kind(&mut engine, 10), None);
-    assert!(engine.make(33, 10).is_ok());
-    assert!(engine.open(34, 10, &params()).is_ok());
+    assert!(engine.make(at(33), 10).is_ok());
+    assert!(engine.open(at(34), 10, &params()).is_ok());
     cell(&mut engine, 33, 10);
 }
 
 #[test]
 fn times_of_opens_slots_and_makings_count_for_it() {
     let mut engine = engine_with(&params());
-    engine.open(33, 5, &params()).unwrap();
+    engine.open(at(33), 5, &params()).unwrap();
     refuses(&engine, 14, 32, 4, LENGTH);
     assert_eq!(kind(&mut engine, 6), None);
     refuses(&engine, 14, 32, 5, LENGTH);
     engine.set_level(1).unwrap();
-    engine.make(33, 7).unwrap();
+    engine.make(at(33), 7).unwrap();
     refuses(&engine, 14, 32, 6, LENGTH);
     cell(&mut engine, 32, 7);
 }
@@ -220,7 +220,7 @@ fn slots(outside: bool) -> (Vec<Option<Sent>>, Vec<Octets>) {
     for round in 0..400 {
         let time = round * MS * 7 / 8;
         if round % 5 == 0 {
-            engine.offer(32, 3).unwrap();
+            engine.offer(at(32), 3).unwrap();
         }
         match round % 31 {
             3 => engine.receive(&octets(&forward(32))).unwrap(),
@@ -233,7 +233,7 @@ fn slots(outside: bool) -> (Vec<Option<Sent>>, Vec<Octets>) {
             _ => 0,
         };
         if outside {
-            let answer = engine.out_of_rate(32, time, &mut [0; LENGTH]);
+            let answer = engine.out_of_rate(at(32), time, &mut [0; LENGTH]);
             assert!(matches!(answer, Ok(()) | Err(18)));
         }
         let mut buffer = [FILL; LENGTH];
@@ -260,16 +260,16 @@ fn it_is_no_first_cell_and_moves_no_rate() {
         ..backward(32)
     };
     engine.receive(&octets(&rise)).unwrap();
-    let risen = engine.acr(32).unwrap();
+    let risen = engine.acr(at(32)).unwrap();
     assert!(risen > RATE);
     let written = cell(&mut engine, 32, 0);
     assert_eq!(
         written[9..11],
         (code_of(risen).unwrap() as u16).to_be_bytes()
     );
-    assert_eq!(engine.acr(32), Ok(risen));
+    assert_eq!(engine.acr(at(32)), Ok(risen));
     assert_eq!(engine.top(), None); // nothing waits
-    engine.offer(32, 1).unwrap();
+    engine.offer(at(32), 1).unwrap();
     let sent = engine.slot(0, &mut [0; LENGTH]).unwrap().unwrap();
     assert_eq!((sent.kind, sent.acr), (Kind::Forward, RATE)); // the first cell
 }
@@ -283,7 +283,7 @@ fn it_is_not_counted_as_unanswered_and_answers_nothing() {
         ..params()
     };
     let mut engine = engine_with(&params);
-    engine.offer(32, 9).unwrap();
+    engine.offer(at(32), 9).unwrap();
     let mut rates = Vec::new();
     for slot in 0..6 {
         let time = slot * INTERVAL;

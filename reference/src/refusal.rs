@@ -8,25 +8,24 @@ pub type Refusal = u32;
 pub const LENGTH: Refusal = 1;
 /// Octet 5 doesn't match the four octets before it.
 pub const HEADER_CHECK: Refusal = 2;
-/// A virtual path other than 0.
-pub const PATH: Refusal = 3;
+// 3 was a VPI other than 0. Document 02's L6 withdrew it; its number stays unused.
 /// A payload type that is neither user data nor RM.
 pub const PAYLOAD_TYPE: Refusal = 4;
 /// The CRC-10 of an RM cell is wrong.
 pub const CRC: Refusal = 5;
 /// The protocol octet of an RM cell isn't 1.
 pub const PROTOCOL: Refusal = 6;
-/// A parameter of an open, or a field to be written, is out of range.
+/// A parameter of an open, its VPI or VCI, or a field to be written, is out of range.
 pub const RANGE: Refusal = 7;
 /// A time later than 2^62.
 pub const TIME: Refusal = 8;
 /// A congestion level over 2, or a rate too large to have a code.
 pub const TOO_LARGE: Refusal = 9;
-/// An open of one of the VCIs 0 to 31.
+/// An open of one of the VCIs 0 to 31, on any VPI.
 pub const LOW_VCI: Refusal = 10;
-/// No connection is open under this VCI.
+/// No connection is open under this VPI and VCI.
 pub const NOT_OPEN: Refusal = 11;
-/// A connection is open under this VCI already.
+/// A connection is open under this VPI and VCI already.
 pub const ALREADY_OPEN: Refusal = 12;
 /// The table is full.
 pub const FULL: Refusal = 13;

@@ -10,8 +10,8 @@ pub const LEAVES: usize = 1_024;
 /// The levels of matches above the leaves.
 pub const LEVELS: usize = 10;
 
-/// The ready instant and the VCI of a connection. Of two the lower one wins a
-/// match: the earlier instant, and of equal instants the lower VCI.
+/// The ready instant and the name of a connection. Of two the lower one wins a
+/// match: the earlier instant, and of equal instants the lower name.
 pub type Entrant = (u64, u32);
 
 /// The leaves and the matches between them.

@@ -59,7 +59,7 @@ fn it_ends_below_a_winner_that_is_neither_new_nor_that_leaf() {
 }
 
 #[test]
-fn ties_go_to_the_lower_vci_and_not_to_the_lower_leaf() {
+fn ties_go_to_the_lower_name_and_not_to_the_lower_leaf() {
     let mut tournament = Tournament::default();
     assert_eq!(tournament.replay(3, Some((5, 40))), 10);
     assert_eq!(tournament.replay(2, Some((5, 41))), 1);

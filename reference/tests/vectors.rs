@@ -8,7 +8,7 @@
 use reference::cell::{self, Cell, Octets, Rm};
 use reference::connection::RateRecord;
 use reference::params::{Contract, TRM_TIMES};
-use reference::{code_of, gap, rate_of, read, write_rm, Params};
+use reference::{code_of, gap, rate_of, read, write_rm, Address, Params};
 
 /// What the proved program must write.
 const EXPECTED: &str = include_str!("../../crates/vectors/stdout");
@@ -169,6 +169,7 @@ fn checks() -> Lines {
 /// Fields in which each differs from its neighbours.
 fn sample() -> Rm {
     Rm {
+        vpi: 0xA5,
         vci: 0x1234,
         ra: 1,
         er: 0x7FFF,
@@ -183,6 +184,7 @@ fn sample() -> Rm {
 /// Every field at its most.
 fn most() -> Rm {
     Rm {
+        vpi: 255,
         vci: 65_535,
         dir: 1,
         bn: 1,
@@ -197,16 +199,16 @@ fn most() -> Rm {
     }
 }
 
-/// The octets, and what reading them gives: a refusal, a data cell's VCI and
-/// EFCI, or an RM cell's fields.
+/// The octets, and what reading them gives: a refusal, a data cell's VPI, VCI and
+/// EFCI, or an RM cell's fields, the VPI before the VCI.
 fn reading(cell: &[u8]) -> [String; 2] {
     let got = match read(cell) {
         Err(number) => hex(&[number]),
-        Ok(Cell::Data { vci, efci }) => hex(&[vci, u32::from(efci)]),
+        Ok(Cell::Data { vpi, vci, efci }) => hex(&[vpi, vci, u32::from(efci)]),
         Ok(Cell::Rm(rm)) => {
             let bits = [rm.dir, rm.bn, rm.ci, rm.ni, rm.ra];
             let rest = [rm.er, rm.ccr, rm.mcr, rm.ql, rm.sn];
-            hex(&[rm.vci]) + &hex(&bits) + &hex(&rest)
+            hex(&[rm.vpi, rm.vci]) + &hex(&bits) + &hex(&rest)
         }
     };
     [octets(cell), got]
@@ -232,8 +234,12 @@ fn cells() -> Lines {
         vci: 65_536,
         ..sample()
     };
+    let vpi = Rm {
+        vpi: 256,
+        ..sample()
+    };
     let mut lines = Lines::new();
-    for rm in [sample(), most(), er, ci, vci] {
+    for rm in [sample(), most(), er, ci, vci, vpi] {
         let mut cell = [0; 53];
         let first = refusal(&rm, &mut [0; 52]);
         let second = refusal(&rm, &mut cell);
@@ -260,8 +266,8 @@ fn put_crc(cell: &mut Octets) {
     cell[52] = rest as u8;
 }
 
-/// The sample on a VCI with another octet 4, and another octet at an index:
-/// read as it is, then with octet 5 right, then with the CRC-10 right too.
+/// The sample on VPI 0 and a VCI with another octet 4, and another octet at an
+/// index: read as it is, then with octet 5 right, then with the CRC-10 right too.
 fn changes() -> Lines {
     let rows = [
         (0x1234, 0x4C, 4, 0x00),
@@ -288,7 +294,8 @@ fn changes() -> Lines {
     let mut lines = Lines::new();
     for (vci, d, index, x) in rows {
         let mut cell = [0; 53];
-        write_rm(&Rm { vci, ..sample() }, &mut cell).unwrap();
+        let rm = Rm { vpi: 0, vci, ..sample() };
+        write_rm(&rm, &mut cell).unwrap();
         cell[3] = d;
         cell[index] = x;
         lines.extend(reading(&cell));
@@ -304,7 +311,7 @@ fn changes() -> Lines {
 /// to stay: bit 15 of the rates, a reserved octet, the six reserved bits.
 fn received(marks: u8) -> Octets {
     let mut cell = [0x6A; 53];
-    cell[..4].copy_from_slice(&[0x00, 0x01, 0x23, 0x4C]);
+    cell[..4].copy_from_slice(&[0x0A, 0x51, 0x23, 0x4C]);
     cell[4] = cell::header_check(&cell[..4]);
     cell[5..13].copy_from_slice(&[0x01, marks, 0xFF, 0xFF, 0xD3, 0xE8, 0xC0, 0x00]);
     cell[13..21].copy_from_slice(&[0x01, 0x23, 0x45, 0x67, 0x89, 0xAB, 0xCD, 0xEF]);
@@ -320,7 +327,7 @@ fn turning() -> Lines {
     for octet in [0x00, 0x4F, 0x30, 0x5F] {
         for (level, efci) in levels {
             let ci = efci || level == 2;
-            let back = cell::turn(&received(octet), 0x1234, ci, level == 1);
+            let back = cell::turn(&received(octet), Address::new(0xA5, 0x1234), ci, level == 1);
             lines.extend(reading(&back));
         }
     }

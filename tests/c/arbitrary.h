@@ -14,11 +14,11 @@ enum {
     LEAVES = 1024,
     LIVE_WORDS = 17,                    /* of a leaf; the last is for its last out-of-rate cell */
     USED = 2,                           /* a bit for each leaf that is taken */
-    DIRECTORY = USED + LEAVES / 64,     /* (VCI + 1) * 1024 + leaf, falling, then zeros */
+    DIRECTORY = USED + LEAVES / 64,     /* (name + 1) * 1024 + leaf, falling, then zeros */
     NODES = DIRECTORY + LEAVES,         /* at place p the winner's leaf + 1, or 0; places 2p and 2p + 1 play match p */
     NONE = NODES + LEAVES,              /* 0 */
     KEYS = NONE + 1,                    /* 2^64 - 1 - ready instant, or 0 */
-    NAMES = KEYS + LEAVES,              /* the VCI of each leaf */
+    NAMES = KEYS + LEAVES,              /* the name of each leaf, VPI * 65,536 + VCI */
     LIVE = NAMES + LEAVES,              /* LIVE_WORDS a leaf */
     FIXED = LIVE + LIVE_WORDS * LEAVES, /* 12 words a leaf */
     LAYOUT_WORDS = FIXED + 12 * LEAVES
@@ -47,8 +47,8 @@ static uint64_t next(void)
 /* A random word, often at the edge of some field's range. */
 static uint64_t edge_word(void)
 {
-    static const uint64_t edges[] = {0, 1, 2, 31, 32, 53, 63, 64, 65, 255, 256, 1023, 1024, 1025, 65535, 65536,
-                                     65536 * 1024, ABR_TABLE_WORDS - 1, ABR_TABLE_WORDS, UINT64_C(1) << 32,
+    static const uint64_t edges[] = {0, 1, 2, 31, 32, 53, 63, 64, 65, 255, 256, 1023, 1024, 1025, 65535, 65536, 65568,
+                                     65536 * 1024, 1 << 24, UINT64_C(1) << 34, ABR_TABLE_WORDS - 1, ABR_TABLE_WORDS, UINT64_C(1) << 32,
                                      UINT64_C(1) << 62, UINT64_C(1) << 63};
     uint64_t word = next();
     switch (word & 7) {
@@ -61,12 +61,24 @@ static uint64_t edge_word(void)
     }
 }
 
-/* The VCIs of a table are 32 and those that follow it in this step, rising or falling. */
-static uint32_t step, falling;
+/* A VPI and a VCI. */
+typedef struct {
+    uint32_t vpi, vci;
+} address;
 
-static uint32_t vci_of(uint32_t place)
+/* The VCIs of a table are 32 and those that follow it in this step, rising or falling; each is on so many VPIs. */
+static uint32_t step, falling, paths;
+
+static address address_of(uint32_t place)
 {
-    return falling ? 65535 - step * place : 32 + step * place;
+    uint32_t vpi = place % paths, further = step * (place / paths);
+    address at = {falling ? 255 - vpi : vpi, falling ? 65535 - further : 32 + further};
+    return at;
+}
+
+static uint64_t name_of(address at)
+{
+    return UINT64_C(65536) * at.vpi + at.vci;
 }
 
 /* A table that calls made: some open connections, perhaps with free leaves between, data, and cells of every sort. */
@@ -77,16 +89,18 @@ static void reached_table(abr_table *table)
     abr_params params = abr_house(0x7FFF, next() % 2 ? 0x4000 : 0, 0x53E8 + (uint32_t)(next() & 0xFF));
     step = next() % 2 ? 1 : 63; /* side by side, or over all VCIs */
     falling = next() % 2;
+    paths = next() % 2 ? 1 : next() % 2 ? 3 : 256;
     memset(table, 0, sizeof *table);
     for (uint32_t i = 0; i < count; i++) {
-        refused |= abr_open(table, vci_of(i), i, params).refusal;
-        refused |= abr_offer(table, vci_of(i), next() & 0xFF).refusal;
+        address at = address_of(i), other = address_of((uint32_t)(next() % count));
+        refused |= abr_open(table, at.vpi, at.vci, i, params).refusal;
+        refused |= abr_offer(table, at.vpi, at.vci, next() & 0xFF).refusal;
         refused |= abr_set_level(table, (uint32_t)(next() % 3));
-        refused |= abr_make(table, vci_of(i), i).refusal;
+        refused |= abr_make(table, at.vpi, at.vci, i).refusal;
         refused |= abr_slot(table, i, cell, sizeof cell).refusal;
-        refused |= abr_out_of_rate(table, vci_of(i), i, cell, sizeof cell);
+        refused |= abr_out_of_rate(table, at.vpi, at.vci, i, cell, sizeof cell);
         if (closes && next() % 4 == 0) {
-            refused |= abr_close(table, vci_of((uint32_t)(next() % count))).refusal;
+            refused |= abr_close(table, other.vpi, other.vci).refusal;
         }
     }
     (void)refused; /* more than 1,024 opens, closes of what is not open and makings at level 0 are among them */
@@ -96,7 +110,7 @@ static void reached_table(abr_table *table)
 static uint64_t wrong_entry(void)
 {
     uint64_t leaf = next() % LEAVES;
-    return next() % 2 ? leaf + 1 : (vci_of((uint32_t)(next() % 1040)) + 1) * LEAVES + leaf;
+    return next() % 2 ? leaf + 1 : (name_of(address_of((uint32_t)(next() % 1040))) + 1) * LEAVES + leaf;
 }
 
 /* One word of a part of a table made wrong; the words before are those of the part as calls left it. */

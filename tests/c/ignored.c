@@ -5,15 +5,15 @@ void ignored(abr_table *table, uint8_t *cell, abr_params params, abr_rm rm);
 
 void ignored(abr_table *table, uint8_t *cell, abr_params params, abr_rm rm)
 {
-    abr_open(table, 32, 0, params);
-    abr_close(table, 32);
-    abr_offer(table, 32, 1);
-    abr_acr(table, 32);
+    abr_open(table, 1, 32, 0, params);
+    abr_close(table, 1, 32);
+    abr_offer(table, 1, 32, 1);
+    abr_acr(table, 1, 32);
     abr_receive(table, cell, ABR_CELL_OCTETS);
     abr_set_level(table, 1);
-    abr_make(table, 32, 0);
+    abr_make(table, 1, 32, 0);
     abr_slot(table, 0, cell, ABR_CELL_OCTETS);
-    abr_out_of_rate(table, 32, 0, cell, ABR_CELL_OCTETS);
+    abr_out_of_rate(table, 1, 32, 0, cell, ABR_CELL_OCTETS);
     abr_write_rm(rm, cell, ABR_CELL_OCTETS);
     abr_read(cell, ABR_CELL_OCTETS);
     abr_code(512);

@@ -31,17 +31,18 @@ static void offsets_of_params(void)
 
 static void offsets_of_rm(void)
 {
-    AT(abr_rm, vci, 0, 4);
-    AT(abr_rm, dir, 4, 4);
-    AT(abr_rm, bn, 8, 4);
-    AT(abr_rm, ci, 12, 4);
-    AT(abr_rm, ni, 16, 4);
-    AT(abr_rm, ra, 20, 4);
-    AT(abr_rm, er, 24, 4);
-    AT(abr_rm, ccr, 28, 4);
-    AT(abr_rm, mcr, 32, 4);
-    AT(abr_rm, ql, 36, 4);
-    AT(abr_rm, sn, 40, 4);
+    AT(abr_rm, vpi, 0, 4);
+    AT(abr_rm, vci, 4, 4);
+    AT(abr_rm, dir, 8, 4);
+    AT(abr_rm, bn, 12, 4);
+    AT(abr_rm, ci, 16, 4);
+    AT(abr_rm, ni, 20, 4);
+    AT(abr_rm, ra, 24, 4);
+    AT(abr_rm, er, 28, 4);
+    AT(abr_rm, ccr, 32, 4);
+    AT(abr_rm, mcr, 36, 4);
+    AT(abr_rm, ql, 40, 4);
+    AT(abr_rm, sn, 44, 4);
 }
 
 static void offsets_of_answers(void)
@@ -51,14 +52,15 @@ static void offsets_of_answers(void)
     AT(abr_sent, refusal, 0, 4);
     AT(abr_sent, comparisons, 4, 4);
     AT(abr_sent, kind, 8, 4);
-    AT(abr_sent, vci, 12, 4);
-    AT(abr_sent, acr, 16, 8);
+    AT(abr_sent, vpi, 12, 4);
+    AT(abr_sent, vci, 16, 4);
+    AT(abr_sent, acr, 24, 8);
     AT(abr_allowed, refusal, 0, 4);
     AT(abr_allowed, acr, 8, 8);
     AT(abr_cell, refusal, 0, 4);
     AT(abr_cell, kind, 4, 4);
     AT(abr_cell, efci, 8, 4);
-    AT(abr_cell, rm, 12, 44);
+    AT(abr_cell, rm, 12, 48);
     AT(abr_coded, refusal, 0, 4);
     AT(abr_coded, code, 4, 4);
     AT(abr_rated, refusal, 0, 4);
@@ -68,10 +70,10 @@ static void offsets_of_answers(void)
 /* Each field of an RM cell is written from and read to its own place. */
 static void every_rm_field(void)
 {
-    static const uint32_t values[11] = {4660, 1, 1, 1, 1, 1, 0x4001, 0x5002, 0x6003, 0x89ABCDEF, 0xFEDCBA98};
+    static const uint32_t values[12] = {0xA5, 4660, 1, 1, 1, 1, 1, 0x4001, 0x5002, 0x6003, 0x89ABCDEF, 0xFEDCBA98};
     uint8_t octets[ABR_CELL_OCTETS];
-    for (int field = 0; field < 11; field++) {
-        uint32_t fields[11] = {0};
+    for (int field = 0; field < 12; field++) {
+        uint32_t fields[12] = {0};
         abr_rm rm;
         abr_cell cell;
         fields[field] = values[field];
@@ -98,7 +100,7 @@ static void every_parameter(void)
             words[field] = bad[field];
         }
         memcpy(&params, words, sizeof params);
-        CHECK(abr_open(&table, 32, 0, params).refusal == (field < 10 ? ABR_REFUSED_RANGE : ABR_OK));
+        CHECK(abr_open(&table, 1, 32, 0, params).refusal == (field < 10 ? ABR_REFUSED_RANGE : ABR_OK));
     }
 }
 
@@ -111,14 +113,26 @@ static void every_house_field(void)
     CHECK(memcmp(&params, words, sizeof params) == 0);
 }
 
+/* The connection with a place in the order of names: four VCIs on each of the 256 VPIs, the first and the last. */
+static uint32_t vpi_at(uint32_t place)
+{
+    return place / 4;
+}
+
+static uint32_t vci_at(uint32_t place)
+{
+    static const uint32_t vcis[4] = {ABR_VCI_MIN, ABR_VCI_MIN + 1, ABR_VCI_MAX - 1, ABR_VCI_MAX};
+    return vcis[place % 4];
+}
+
 /* The next slots go to the connections in order, each with this kind. */
 static void all_send(abr_table *table, uint64_t time, uint32_t kind)
 {
     uint8_t octets[ABR_CELL_OCTETS];
-    for (uint32_t vci = 32; vci < 32 + ABR_CONNECTIONS_MAX; vci++) {
+    for (uint32_t i = 0; i < ABR_CONNECTIONS_MAX; i++) {
         abr_sent sent = abr_slot(table, time, octets, sizeof octets);
-        CHECK(sent.refusal == ABR_OK && sent.vci == vci && sent.comparisons == ABR_COMPARISONS_MAX);
-        CHECK(sent.kind == kind && sent.acr == 512000);
+        CHECK(sent.refusal == ABR_OK && sent.vpi == vpi_at(i) && sent.vci == vci_at(i));
+        CHECK(sent.comparisons == ABR_COMPARISONS_MAX && sent.kind == kind && sent.acr == 512000);
     }
 }
 
@@ -135,15 +149,16 @@ static void the_whole_table(void)
     uint8_t octets[ABR_CELL_OCTETS];
     abr_params params = abr_house(0x7FFF, 0x4000, 0x53E8);
     CHECK(abr_set_level(&lent.table, 1) == ABR_OK);
-    for (uint32_t vci = 32; vci < 32 + ABR_CONNECTIONS_MAX; vci++) {
-        CHECK(abr_open(&lent.table, vci, 0, params).refusal == ABR_OK);
-        CHECK(abr_offer(&lent.table, vci, 1).refusal == ABR_OK);
-        CHECK(abr_make(&lent.table, vci, 0).refusal == ABR_OK);
-        CHECK(abr_make(&lent.table, vci, 0).refusal == ABR_REFUSED_TOO_SOON);
-        CHECK(abr_out_of_rate(&lent.table, vci, 0, octets, sizeof octets) == ABR_OK);
-        CHECK(abr_out_of_rate(&lent.table, vci, 0, octets, sizeof octets) == ABR_REFUSED_TOO_OFTEN);
+    for (uint32_t i = ABR_CONNECTIONS_MAX; i-- > 0;) {
+        uint32_t vpi = vpi_at(i), vci = vci_at(i);
+        CHECK(abr_open(&lent.table, vpi, vci, 0, params).refusal == ABR_OK);
+        CHECK(abr_offer(&lent.table, vpi, vci, 1).refusal == ABR_OK);
+        CHECK(abr_make(&lent.table, vpi, vci, 0).refusal == ABR_OK);
+        CHECK(abr_make(&lent.table, vpi, vci, 0).refusal == ABR_REFUSED_TOO_SOON);
+        CHECK(abr_out_of_rate(&lent.table, vpi, vci, 0, octets, sizeof octets) == ABR_OK);
+        CHECK(abr_out_of_rate(&lent.table, vpi, vci, 0, octets, sizeof octets) == ABR_REFUSED_TOO_OFTEN);
     }
-    CHECK(abr_open(&lent.table, 32 + ABR_CONNECTIONS_MAX, 0, params).refusal == ABR_REFUSED_FULL);
+    CHECK(abr_open(&lent.table, 0, 40, 0, params).refusal == ABR_REFUSED_FULL);
     all_send(&lent.table, 0, ABR_SENT_FORWARD);
     all_send(&lent.table, 1000000, ABR_SENT_TURNED);
     all_send(&lent.table, 2000000, ABR_SENT_DATA);
@@ -157,9 +172,9 @@ static void any_alignment(void)
 {
     static uint64_t space[16];
     static abr_table table;
-    abr_rm rm = {32, 1, 0, 1, 0, 0, 0x7FFF, 0, 0, 0, 0};
-    CHECK(abr_open(&table, 32, 0, abr_house(0x7FFF, 0x4000, 0x53E8)).refusal == ABR_OK);
-    CHECK(abr_offer(&table, 32, 100).refusal == ABR_OK);
+    abr_rm rm = {1, 32, 1, 0, 1, 0, 0, 0x7FFF, 0, 0, 0, 0};
+    CHECK(abr_open(&table, 1, 32, 0, abr_house(0x7FFF, 0x4000, 0x53E8)).refusal == ABR_OK);
+    CHECK(abr_offer(&table, 1, 32, 100).refusal == ABR_OK);
     for (size_t shift = 0; shift < 16; shift++) {
         uint8_t *octets = (uint8_t *)space + shift;
         abr_cell cell;
@@ -168,18 +183,18 @@ static void any_alignment(void)
         cell = abr_read(octets, ABR_CELL_OCTETS);
         CHECK(cell.refusal == ABR_OK && cell.rm.er == 0x7FFF);
         CHECK(abr_receive(&table, octets, ABR_CELL_OCTETS).refusal == ABR_OK);
-        CHECK(abr_out_of_rate(&table, 32, shift << 40, octets, ABR_CELL_OCTETS) == ABR_OK);
+        CHECK(abr_out_of_rate(&table, 1, 32, shift << 40, octets, ABR_CELL_OCTETS) == ABR_OK);
         CHECK(abr_read(octets, ABR_CELL_OCTETS).refusal == ABR_OK);
         sent = abr_slot(&table, shift << 40, octets, ABR_CELL_OCTETS);
-        CHECK(sent.refusal == ABR_OK && sent.vci == 32);
+        CHECK(sent.refusal == ABR_OK && sent.vpi == 1 && sent.vci == 32);
     }
 }
 
 /* Two slots' answers, field by field: padding may differ. */
 static int same(abr_sent a, abr_sent b)
 {
-    return a.refusal == b.refusal && a.comparisons == b.comparisons && a.kind == b.kind && a.vci == b.vci &&
-           a.acr == b.acr;
+    return a.refusal == b.refusal && a.comparisons == b.comparisons && a.kind == b.kind && a.vpi == b.vpi &&
+           a.vci == b.vci && a.acr == b.acr;
 }
 
 /* A table may be copied as a whole: the copy answers as the first one does. */
@@ -190,9 +205,9 @@ static void a_copy_answers_the_same(void)
     abr_table *second = (abr_table *)(space + 1);
     uint8_t octets[ABR_CELL_OCTETS] = {0}, others[ABR_CELL_OCTETS] = {0};
     abr_params params = abr_house(0x7FFF, 0x4000, 0x53E8);
-    for (uint32_t vci = 32; vci < 40; vci++) {
-        CHECK(abr_open(&first, vci, 0, params).refusal == ABR_OK);
-        CHECK(abr_offer(&first, vci, 100).refusal == ABR_OK);
+    for (uint32_t vpi = 0; vpi < 8; vpi++) {
+        CHECK(abr_open(&first, vpi, 32, 0, params).refusal == ABR_OK);
+        CHECK(abr_offer(&first, vpi, 32, 100).refusal == ABR_OK);
     }
     for (uint64_t slot = 0; slot < 400; slot++) {
         abr_sent sent, other;

@@ -11,10 +11,10 @@
 
 static abr_table table;
 
-/* Writes a cell for VCI 32 to the start of the octets. */
+/* Writes a cell for VCI 32 on VPI 1 to the start of the octets. */
 static void put_cell(uint8_t *octets)
 {
-    abr_rm rm = {32, 1, 0, 0, 0, 0, 0x7FFF, 0, 0, 0, 0};
+    abr_rm rm = {1, 32, 1, 0, 0, 0, 0, 0x7FFF, 0, 0, 0, 0};
     CHECK(abr_write_rm(rm, octets, ABR_CELL_OCTETS) == ABR_OK);
 }
 
@@ -27,20 +27,20 @@ static void zeros(uint8_t *octets, size_t len)
     CHECK(read.refusal == ABR_REFUSED_LENGTH && read.kind == 0 && read.efci == 0);
     CHECK(memcmp(&read.rm, &no_rm, sizeof no_rm) == 0);
     CHECK(sent.refusal == ABR_REFUSED_LENGTH && sent.comparisons == 0 && sent.kind == 0);
-    CHECK(sent.vci == 0 && sent.acr == 0);
+    CHECK(sent.vpi == 0 && sent.vci == 0 && sent.acr == 0);
 }
 
 static void refused(uint8_t *octets, size_t len)
 {
     static abr_table before;
     uint8_t kept[64];
-    abr_rm rm = {33, 0, 0, 0, 0, 0, 0, 0, 0, 0, 0};
+    abr_rm rm = {1, 33, 0, 0, 0, 0, 0, 0, 0, 0, 0, 0};
     memcpy(&before, &table, sizeof before);
     memcpy(kept, octets, sizeof kept);
     abr_answer answer = abr_receive(&table, octets, len);
     CHECK(answer.refusal == ABR_REFUSED_LENGTH && answer.comparisons == 0);
     CHECK(abr_write_rm(rm, octets, len) == ABR_REFUSED_LENGTH);
-    CHECK(abr_out_of_rate(&table, 32, 1000, octets, len) == ABR_REFUSED_LENGTH);
+    CHECK(abr_out_of_rate(&table, 1, 32, 1000, octets, len) == ABR_REFUSED_LENGTH);
     zeros(octets, len);
     CHECK(memcmp(kept, octets, sizeof kept) == 0);
     CHECK(memcmp(&before, &table, sizeof before) == 0);
@@ -56,8 +56,8 @@ int main(void)
         perror("mmap");
         return 1;
     }
-    CHECK(abr_open(&table, 32, 0, abr_house(0x7FFF, 0x4000, 0x53E8)).refusal == ABR_OK);
-    CHECK(abr_offer(&table, 32, 1).refusal == ABR_OK);
+    CHECK(abr_open(&table, 1, 32, 0, abr_house(0x7FFF, 0x4000, 0x53E8)).refusal == ABR_OK);
+    CHECK(abr_offer(&table, 1, 32, 1).refusal == ABR_OK);
     put_cell(octets);
     refused(octets, 0);
     for (size_t i = 0; i < sizeof widths / sizeof widths[0]; i++) {

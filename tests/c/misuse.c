@@ -42,9 +42,17 @@ static void make_objects(void)
     }
 }
 
-static uint32_t any_vci(void)
+/* One of the table's addresses, or any numbers, sometimes such an address with a number out of its range. */
+static address any_address(void)
 {
-    return next() % 4 ? vci_of((uint32_t)(next() % (next() % 4 ? 70 : 1040))) : (uint32_t)edge_word();
+    address at = address_of((uint32_t)(next() % (next() % 4 ? 70 : 1040)));
+    address any = {(uint32_t)edge_word(), (uint32_t)edge_word()};
+    switch (next() % 8) {
+    case 0: return any;
+    case 1: at.vpi += 256; return at;
+    case 2: at.vpi -= 1; at.vci += 65536; return at;
+    default: return at;
+    }
 }
 
 static uint64_t any_time(void)
@@ -84,7 +92,8 @@ static abr_rm any_rm(void)
 /* A cell with right checks, or random octets. */
 static void any_cell(void)
 {
-    abr_rm rm = {any_vci() & 0xFFFF, (uint32_t)next() & 1, (uint32_t)next() & 1, (uint32_t)next() & 1,
+    address to = any_address();
+    abr_rm rm = {to.vpi & 0xFF, to.vci & 0xFFFF, (uint32_t)next() & 1, (uint32_t)next() & 1, (uint32_t)next() & 1,
                  (uint32_t)next() & 1, 0, (uint32_t)next() & 0x7FFF, 0, 0, 0, 0};
     uint8_t *cell = at(CELL);
     if (next() % 4 && abr_write_rm(rm, cell, ABR_CELL_OCTETS) == ABR_OK) {
@@ -120,16 +129,17 @@ static uint32_t without_table(int call)
 /* Makes one call; its refusal. The comparisons of a table that no call made may be any. */
 static uint32_t one_call(int call)
 {
+    address to = any_address();
     switch (call) {
-    case OPEN: return abr_open(at(TABLE), any_vci(), any_time(), any_params()).refusal;
-    case CLOSE: return abr_close(at(TABLE), any_vci()).refusal;
+    case OPEN: return abr_open(at(TABLE), to.vpi, to.vci, any_time(), any_params()).refusal;
+    case CLOSE: return abr_close(at(TABLE), to.vpi, to.vci).refusal;
     case RECEIVE: return abr_receive(at(TABLE), at(CELL), any_length()).refusal;
-    case OFFER: return abr_offer(at(TABLE), any_vci(), edge_word()).refusal;
+    case OFFER: return abr_offer(at(TABLE), to.vpi, to.vci, edge_word()).refusal;
     case SET_LEVEL: return abr_set_level(at(TABLE), (uint32_t)(next() % 4));
-    case MAKE: return abr_make(at(TABLE), any_vci(), any_time()).refusal;
+    case MAKE: return abr_make(at(TABLE), to.vpi, to.vci, any_time()).refusal;
     case SLOT: return abr_slot(at(TABLE), any_time(), at(CELL), any_length()).refusal;
-    case OUT_OF_RATE: return abr_out_of_rate(at(TABLE), any_vci(), any_time(), at(CELL), any_length());
-    case ACR: return abr_acr(at(TABLE), any_vci()).refusal;
+    case OUT_OF_RATE: return abr_out_of_rate(at(TABLE), to.vpi, to.vci, any_time(), at(CELL), any_length());
+    case ACR: return abr_acr(at(TABLE), to.vpi, to.vci).refusal;
     default: return without_table(call);
     }
 }
@@ -189,17 +199,17 @@ static int places_are_right(void)
     abr_params params = abr_house(0x7FFF, 0x4000, 0x53E8);
     uint32_t refused = 0;
     memset(at(TABLE), 0, sizes[TABLE]);
-    refused |= abr_open(at(TABLE), 40, 7, params).refusal;
-    refused |= abr_open(at(TABLE), 50, 8, params).refusal;
-    refused |= abr_open(at(TABLE), 45, 9, params).refusal;
-    refused |= abr_close(at(TABLE), 50).refusal;
-    refused |= abr_open(at(TABLE), 60, 9, params).refusal;
-    refused |= abr_offer(at(TABLE), 60, 1).refusal;
-    return refused == ABR_OK && words[USED] == 7 && words[DIRECTORY] == 61 * LEAVES + 1 &&
-           words[DIRECTORY + 1] == 46 * LEAVES + 2 && words[DIRECTORY + 2] == 41 * LEAVES &&
+    refused |= abr_open(at(TABLE), 2, 40, 7, params).refusal;
+    refused |= abr_open(at(TABLE), 2, 50, 8, params).refusal;
+    refused |= abr_open(at(TABLE), 3, 33, 9, params).refusal;
+    refused |= abr_close(at(TABLE), 2, 50).refusal;
+    refused |= abr_open(at(TABLE), 255, 65535, 9, params).refusal;
+    refused |= abr_offer(at(TABLE), 255, 65535, 1).refusal;
+    return refused == ABR_OK && words[USED] == 7 && words[DIRECTORY] == UINT64_C(65536) * 256 * LEAVES + 1 &&
+           words[DIRECTORY + 1] == (3 * 65536 + 34) * LEAVES + 2 && words[DIRECTORY + 2] == (2 * 65536 + 41) * LEAVES &&
            words[DIRECTORY + 3] == 0 && words[NODES + 1] == 2 && words[NODES + LEAVES / 2] == 2 &&
            words[NODES + LEAVES / 2 + 1] == 0 && words[NONE] == 0 && words[KEYS] == 0 &&
-           words[KEYS + 1] == ~UINT64_C(9) && words[NAMES] == 40 && words[NAMES + 1] == 60;
+           words[KEYS + 1] == ~UINT64_C(9) && words[NAMES] == 2 * 65536 + 40 && words[NAMES + 1] == (1 << 24) - 1;
 }
 
 /* An out-of-rate cell on leaf 1, at the time of the last call, changes one word: the last live one of that leaf. */
@@ -208,7 +218,7 @@ static int one_word_changes(void)
     static abr_table before;
     const uint64_t *words = ((abr_table *)at(TABLE))->words;
     memcpy(&before, words, sizeof before);
-    if (abr_out_of_rate(at(TABLE), 60, 9, at(CELL), ABR_CELL_OCTETS) != ABR_OK) {
+    if (abr_out_of_rate(at(TABLE), 255, 65535, 9, at(CELL), ABR_CELL_OCTETS) != ABR_OK) {
         return 0;
     }
     for (unsigned i = 0; i < ABR_TABLE_WORDS; i++) {
@@ -247,7 +257,7 @@ int main(int argc, char **argv)
     guard = strtoul(argv[2], NULL, 10);
     unsigned long seed = argc > 3 ? strtoul(argv[3], NULL, 10) : 1;
     state = seed * UINT64_C(0x9E3779B97F4A7C15) | 1;
-    step = 1;
+    step = paths = 1;
     make_objects();
     if (!places_are_right() || !one_word_changes()) {
         printf("misuse: the words of a table stand elsewhere than arbitrary.h says\n");

@@ -9,7 +9,9 @@ pub const CELL_OCTETS: usize = 53;
 /// The fields of an RM cell (document 01, "The cell, 53 octets").
 #[derive(Debug, Clone, Copy, PartialEq, Eq, Hash, Default)]
 pub struct Rm {
-    /// The connection, at most 16 bits.
+    /// The virtual path, at most 8 bits.
+    pub vpi: u32,
+    /// The virtual channel, at most 16 bits.
     pub vci: u32,
     /// DIR: a backward cell.
     pub backward: bool,
@@ -38,7 +40,9 @@ pub struct Rm {
 pub enum Cell {
     /// User data.
     Data {
-        /// The connection.
+        /// The virtual path.
+        vpi: u32,
+        /// The virtual channel.
         vci: u32,
         /// The congestion mark.
         efci: bool,
@@ -55,7 +59,7 @@ pub enum Cell {
 /// ```
 /// use abr::{Cell, Refusal, Rm, CELL_OCTETS};
 ///
-/// let rm = Rm { vci: 32, backward: true, ci: true, er: 0x53E8, ..Rm::default() };
+/// let rm = Rm { vpi: 255, vci: 32, backward: true, er: 0x53E8, ..Rm::default() };
 /// let mut cell = [0; CELL_OCTETS];
 /// abr::write_rm(&rm, &mut cell)?;
 /// assert_eq!(abr::read(&cell)?, Cell::Rm(rm));
@@ -63,6 +67,8 @@ pub enum Cell {
 /// cell[20] ^= 1;
 /// assert_eq!(abr::read(&cell), Err(Refusal::Crc));
 /// assert_eq!(abr::write_rm(&rm, &mut cell[1..]), Err(Refusal::Length));
+/// let other = Rm { vpi: 256, ..rm };
+/// assert_eq!(abr::write_rm(&other, &mut cell), Err(Refusal::Range));
 /// # Ok::<(), Refusal>(())
 /// ```
 pub fn write_rm(rm: &Rm, cell: &mut [u8]) -> Result<(), Refusal> {
@@ -75,15 +81,15 @@ pub fn write_rm(rm: &Rm, cell: &mut [u8]) -> Result<(), Refusal> {
 ///
 /// # Errors
 /// In this order: [`Refusal::Length`], [`Refusal::HeaderCheck`],
-/// [`Refusal::Path`], [`Refusal::PayloadType`], and for RM cells
-/// [`Refusal::Crc`], [`Refusal::Protocol`].
+/// [`Refusal::PayloadType`], and for RM cells [`Refusal::Crc`],
+/// [`Refusal::Protocol`].
 ///
 /// ```
 /// use abr::{Cell, CELL_OCTETS};
 ///
 /// let mut cell = [0; CELL_OCTETS];
 /// cell[..5].copy_from_slice(&[0x00, 0x00, 0x00, 0x01, 0x52]);
-/// assert_eq!(abr::read(&cell), Ok(Cell::Data { vci: 0, efci: false }));
+/// assert_eq!(abr::read(&cell), Ok(Cell::Data { vpi: 0, vci: 0, efci: false }));
 /// ```
 pub fn read(cell: &[u8]) -> Result<Cell, Refusal> {
     // SAFETY: the pointer is live and the length is the cell's own.
@@ -95,6 +101,7 @@ pub fn read(cell: &[u8]) -> Result<Cell, Refusal> {
 impl From<Rm> for ffi::abr_rm {
     fn from(rm: Rm) -> Self {
         ffi::abr_rm {
+            vpi: rm.vpi,
             vci: rm.vci,
             dir: rm.backward.into(),
             bn: rm.bn.into(),
@@ -113,6 +120,7 @@ impl From<Rm> for ffi::abr_rm {
 impl From<ffi::abr_rm> for Rm {
     fn from(rm: ffi::abr_rm) -> Self {
         Rm {
+            vpi: rm.vpi,
             vci: rm.vci,
             backward: rm.dir == 1,
             bn: rm.bn == 1,
@@ -133,6 +141,7 @@ impl From<ffi::abr_cell> for Cell {
     fn from(read: ffi::abr_cell) -> Self {
         match read.kind {
             1 => Cell::Data {
+                vpi: read.rm.vpi,
                 vci: read.rm.vci,
                 efci: read.efci == 1,
             },

@@ -4,7 +4,7 @@
 #![allow(non_camel_case_types, missing_docs)]
 
 /// The version of the header: major, minor and patch number, eight bits each.
-pub const ABR_VERSION: u32 = 0x00_06_00;
+pub const ABR_VERSION: u32 = 0x00_07_00;
 
 /// The words of a table.
 pub const ABR_TABLE_WORDS: usize = 33_811;
@@ -23,6 +23,7 @@ pub use crate::Params as abr_params;
 #[repr(C)]
 #[derive(Debug, Clone, Copy, PartialEq, Eq, Default)]
 pub struct abr_rm {
+    pub vpi: u32,
     pub vci: u32,
     pub dir: u32,
     pub bn: u32,
@@ -51,6 +52,7 @@ pub struct abr_sent {
     pub refusal: u32,
     pub comparisons: u32,
     pub kind: u32,
+    pub vpi: u32,
     pub vci: u32,
     pub acr: u64,
 }
@@ -92,21 +94,28 @@ pub struct abr_rated {
 extern "C" {
     pub fn abr_version() -> u32;
     pub fn abr_table_words() -> u32;
-    pub fn abr_open(table: *mut abr_table, vci: u32, time: u64, params: abr_params) -> abr_answer;
-    pub fn abr_close(table: *mut abr_table, vci: u32) -> abr_answer;
+    pub fn abr_open(
+        table: *mut abr_table,
+        vpi: u32,
+        vci: u32,
+        time: u64,
+        params: abr_params,
+    ) -> abr_answer;
+    pub fn abr_close(table: *mut abr_table, vpi: u32, vci: u32) -> abr_answer;
     pub fn abr_receive(table: *mut abr_table, cell: *const u8, len: usize) -> abr_answer;
-    pub fn abr_offer(table: *mut abr_table, vci: u32, cells: u64) -> abr_answer;
+    pub fn abr_offer(table: *mut abr_table, vpi: u32, vci: u32, cells: u64) -> abr_answer;
     pub fn abr_set_level(table: *mut abr_table, level: u32) -> u32;
-    pub fn abr_make(table: *mut abr_table, vci: u32, time: u64) -> abr_answer;
+    pub fn abr_make(table: *mut abr_table, vpi: u32, vci: u32, time: u64) -> abr_answer;
     pub fn abr_slot(table: *mut abr_table, time: u64, cell: *mut u8, len: usize) -> abr_sent;
     pub fn abr_out_of_rate(
         table: *mut abr_table,
+        vpi: u32,
         vci: u32,
         time: u64,
         cell: *mut u8,
         len: usize,
     ) -> u32;
-    pub fn abr_acr(table: *const abr_table, vci: u32) -> abr_allowed;
+    pub fn abr_acr(table: *const abr_table, vpi: u32, vci: u32) -> abr_allowed;
     pub fn abr_write_rm(rm: abr_rm, cell: *mut u8, len: usize) -> u32;
     pub fn abr_read(cell: *const u8, len: usize) -> abr_cell;
     pub fn abr_code(rate: u64) -> abr_coded;

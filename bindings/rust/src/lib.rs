@@ -4,7 +4,8 @@
 //! link sends, what kind of cell, and what rate it is allowed afterwards. All
 //! state is in a [`Table`]. Rates are whole numbers of 1/512 cell per second,
 //! times are nanoseconds. An accepted open, close, receive, offer or make answers
-//! the comparisons that it made between ready instants, 1 to [`COMPARISONS_MAX`].
+//! the comparisons that it made between ready instants, 1 to [`COMPARISONS_MAX`]. A
+//! connection is named by its VPI and its VCI together.
 //!
 //! ```
 //! use abr::{Kind, Params, Table, CELL_OCTETS};
@@ -12,12 +13,13 @@
 //! # fn main() -> Result<(), abr::Refusal> {
 //! let mut table = Table::new();
 //! let thousand = abr::code(512_000)?; // 1,000 cells per second
-//! table.open(32, 0, &Params::house(thousand, abr::code(512)?, thousand))?;
-//! table.offer(32, 10)?;
+//! table.open(1, 32, 0, &Params::house(thousand, abr::code(512)?, thousand))?;
+//! table.offer(1, 32, 10)?;
 //!
 //! let mut cell = [0; CELL_OCTETS];
 //! let sent = table.slot(0, &mut cell)?.expect("data waits");
-//! assert_eq!((sent.vci, sent.kind, sent.acr), (32, Kind::Forward, 512_000));
+//! assert_eq!((sent.vpi, sent.vci), (1, 32));
+//! assert_eq!((sent.kind, sent.acr), (Kind::Forward, 512_000));
 //! // The next cell is allowed a millisecond later.
 //! assert_eq!(table.slot(999_999, &mut cell)?, None);
 //! let sent = table.slot(1_000_000, &mut cell)?.expect("data waits");
@@ -41,5 +43,5 @@ pub use rate::{code, rate, RATE_MAX, RATE_ONE};
 pub use refusal::Refusal;
 pub use table::{
     Kind, Sent, Table, COMPARISONS_MAX, CONNECTIONS_MAX, LEVEL_MAX, MAKE_INTERVAL,
-    OUT_OF_RATE_INTERVAL, TIME_MAX, VCI_MAX, VCI_MIN, WAITING_MAX,
+    OUT_OF_RATE_INTERVAL, TIME_MAX, VCI_MAX, VCI_MIN, VPI_MAX, WAITING_MAX,
 };

@@ -2,7 +2,7 @@
 
 use crate::ffi;
 
-/// What an open gives beside VCI and time (document 01, "Opening"; document 02,
+/// What an open gives beside VPI, VCI and time (document 01, "Opening"; document 02,
 /// L5), with the layout of the C struct. [`crate::Table::open`] checks the ranges.
 #[repr(C)]
 #[derive(Debug, Clone, Copy, PartialEq, Eq, Hash, Default)]

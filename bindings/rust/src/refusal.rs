@@ -4,13 +4,15 @@ use std::error::Error;
 use std::fmt;
 
 /// A refused call changes nothing and says why (document 01, "Refused because
-/// of the input" and "Refused because of the state"; document 02, L1 and L5).
+/// of the input" and "Refused because of the state"; document 02, L1 and
+/// L5). L6 withdrew refusal 3.
 ///
 /// ```
 /// use abr::Refusal;
 /// assert_eq!(abr::rate(0x1_0000), Err(Refusal::Range));
 /// assert_eq!(Refusal::Range.number(), 7);
 /// assert_eq!(Refusal::try_from(7), Ok(Refusal::Range));
+/// assert_eq!(Refusal::try_from(3), Err(3));
 /// assert_eq!(Refusal::try_from(19), Err(19));
 /// assert_eq!(Refusal::Full.to_string(), "1,024 connections are open");
 /// ```
@@ -21,25 +23,24 @@ pub enum Refusal {
     Length = 1,
     /// Octet 5 is wrong.
     HeaderCheck = 2,
-    /// The VPI is not 0.
-    Path = 3,
     /// The payload type is 4, 5 or 7.
     PayloadType = 4,
     /// The CRC-10 of an RM cell is wrong.
     Crc = 5,
     /// The protocol of an RM cell is not 1.
     Protocol = 6,
-    /// A parameter, a field to write or a rate code is out of range.
+    /// A parameter, a field to write, the VPI or VCI of an open, or a rate code is out
+    /// of range.
     Range = 7,
     /// The time is over 2^62.
     Time = 8,
     /// The level is over 2, or the rate to code above the largest.
     TooLarge = 9,
-    /// A VCI under 32 was to be opened.
+    /// A VCI under 32 was to be opened, on any VPI.
     LowVci = 10,
-    /// The VCI is not open.
+    /// No connection with this VPI and VCI is open.
     NotOpen = 11,
-    /// The VCI is already open.
+    /// A connection with this VPI and VCI is already open.
     AlreadyOpen = 12,
     /// 1,024 connections are open.
     Full = 13,
@@ -58,10 +59,9 @@ pub enum Refusal {
 
 impl Refusal {
     /// All refusals in the order of their numbers.
-    pub const ALL: [Refusal; 18] = [
+    pub const ALL: [Refusal; 17] = [
         Refusal::Length,
         Refusal::HeaderCheck,
-        Refusal::Path,
         Refusal::PayloadType,
         Refusal::Crc,
         Refusal::Protocol,
@@ -89,24 +89,25 @@ impl Refusal {
         match self {
             Refusal::Length => "cell or buffer is not 53 octets",
             Refusal::HeaderCheck => "octet 5 is wrong",
-            Refusal::Path => "VPI is not 0",
             Refusal::PayloadType => "payload type is 4, 5 or 7",
             Refusal::Crc => "CRC-10 is wrong",
             Refusal::Protocol => "protocol is not 1",
-            Refusal::Range => "parameter, field or rate code is out of range",
+            Refusal::Range => "parameter, field, address or rate code is out of range",
             Refusal::Time => "time is over 2^62",
             Refusal::TooLarge => "level is over 2 or rate is above the largest",
             Refusal::LowVci => "VCI is under 32",
-            Refusal::NotOpen => "VCI is not open",
-            Refusal::AlreadyOpen => "VCI is already open",
+            Refusal::NotOpen => "connection is not open",
+            Refusal::AlreadyOpen => "connection is already open",
             Refusal::Full => "1,024 connections are open",
             Refusal::TimeBackward => {
                 "time is before the last accepted open, slot, made or out-of-rate cell"
             }
             Refusal::TooMuchData => "waiting data would pass 65,535 cells",
             Refusal::NotCongested => "congestion level is 0",
-            Refusal::TooSoon => "less than 100 ms since the last cell made on this VCI",
-            Refusal::TooOften => "less than 100 ms since the last out-of-rate cell on this VCI",
+            Refusal::TooSoon => "less than 100 ms since the last cell made on this connection",
+            Refusal::TooOften => {
+                "less than 100 ms since the last out-of-rate cell on this connection"
+            }
         }
     }
 

@@ -9,6 +9,8 @@ use crate::{Params, Refusal};
 pub const CONNECTIONS_MAX: usize = 1_024;
 /// The most comparisons of a call.
 pub const COMPARISONS_MAX: u32 = 10;
+/// The greatest VPI.
+pub const VPI_MAX: u32 = 255;
 /// The least VCI that can be opened.
 pub const VCI_MIN: u32 = 32;
 /// The greatest VCI that can be opened.
@@ -39,7 +41,9 @@ pub enum Kind {
 /// What a slot that goes to a connection sends.
 #[derive(Debug, Clone, Copy, PartialEq, Eq, Hash)]
 pub struct Sent {
-    /// The connection.
+    /// The virtual path of the connection.
+    pub vpi: u32,
+    /// Its virtual channel.
     pub vci: u32,
     /// The kind of cell.
     pub kind: Kind,
@@ -86,14 +90,17 @@ impl Table {
     /// use abr::{Params, Refusal, Table};
     /// let mut table = Table::new();
     /// let params = Params::house(0x53E8, 0x4000, 0x53E8);
-    /// assert_eq!(table.open(31, 0, &params), Err(Refusal::LowVci));
-    /// assert_eq!(table.open(32, 0, &params), Ok(1));
-    /// assert_eq!(table.open(32, 0, &params), Err(Refusal::AlreadyOpen));
-    /// assert_eq!(table.acr(32), Ok(512_000));
+    /// assert_eq!(table.open(1, 31, 0, &params), Err(Refusal::LowVci));
+    /// assert_eq!(table.open(1, 32, 0, &params), Ok(1));
+    /// assert_eq!(table.open(1, 32, 0, &params), Err(Refusal::AlreadyOpen));
+    /// assert_eq!(table.open(256, 32, 0, &params), Err(Refusal::Range));
+    /// assert_eq!(table.acr(1, 32), Ok(512_000));
+    /// assert_eq!(table.acr(0, 65_568), Err(Refusal::NotOpen)); // not 1 and 32
+    /// assert_eq!(table.open(2, 32, 0, &params), Ok(1)); // another connection
     /// ```
-    pub fn open(&mut self, vci: u32, time: u64, params: &Params) -> Result<u32, Refusal> {
+    pub fn open(&mut self, vpi: u32, vci: u32, time: u64, params: &Params) -> Result<u32, Refusal> {
         // SAFETY: the pointer is live for the call.
-        comparisons(unsafe { ffi::abr_open(self.raw(), vci, time, *params) })
+        comparisons(unsafe { ffi::abr_open(self.raw(), vpi, vci, time, *params) })
     }
 
     /// Closes a connection, drops all that waits on it and answers the
@@ -105,13 +112,13 @@ impl Table {
     /// ```
     /// # use abr::{Params, Refusal, Table};
     /// # let mut table = Table::new();
-    /// # table.open(32, 0, &Params::house(0x53E8, 0x4000, 0x53E8)).unwrap();
-    /// assert_eq!(table.close(32), Ok(1));
-    /// assert_eq!(table.close(32), Err(Refusal::NotOpen));
+    /// # table.open(1, 32, 0, &Params::house(0x53E8, 0x4000, 0x53E8)).unwrap();
+    /// assert_eq!(table.close(1, 32), Ok(1));
+    /// assert_eq!(table.close(1, 32), Err(Refusal::NotOpen));
     /// ```
-    pub fn close(&mut self, vci: u32) -> Result<u32, Refusal> {
+    pub fn close(&mut self, vpi: u32, vci: u32) -> Result<u32, Refusal> {
         // SAFETY: the pointer is live for the call.
-        comparisons(unsafe { ffi::abr_close(self.raw(), vci) })
+        comparisons(unsafe { ffi::abr_close(self.raw(), vpi, vci) })
     }
 
     /// Receives a cell: a backward RM cell moves the rate of its connection, a
@@ -120,18 +127,18 @@ impl Table {
     ///
     /// # Errors
     /// In this order: [`Refusal::Length`], [`Refusal::HeaderCheck`],
-    /// [`Refusal::Path`], [`Refusal::PayloadType`], for RM cells
-    /// [`Refusal::Crc`] and [`Refusal::Protocol`], [`Refusal::NotOpen`].
+    /// [`Refusal::PayloadType`], for RM cells [`Refusal::Crc`] and
+    /// [`Refusal::Protocol`], [`Refusal::NotOpen`].
     ///
     /// ```
     /// use abr::{Params, Rm, Table, CELL_OCTETS};
     /// let mut table = Table::new();
-    /// table.open(32, 0, &Params::house(0x53E8, 0x4000, 0x53E8))?;
-    /// let rm = Rm { vci: 32, backward: true, ci: true, er: 0x7FFF, ..Rm::default() };
+    /// table.open(1, 32, 0, &Params::house(0x53E8, 0x4000, 0x53E8))?;
+    /// let rm = Rm { vpi: 1, vci: 32, backward: true, ci: true, er: 0x7FFF, ..Rm::default() };
     /// let mut cell = [0; CELL_OCTETS];
     /// abr::write_rm(&rm, &mut cell)?;
     /// table.receive(&cell)?;
-    /// assert_eq!(table.acr(32), Ok(480_000)); // a sixteenth less
+    /// assert_eq!(table.acr(1, 32), Ok(480_000)); // a sixteenth less
     /// # Ok::<(), abr::Refusal>(())
     /// ```
     pub fn receive(&mut self, cell: &[u8]) -> Result<u32, Refusal> {
@@ -148,14 +155,14 @@ impl Table {
     /// ```
     /// # use abr::{Params, Refusal, Table, COMPARISONS_MAX, WAITING_MAX};
     /// # let mut table = Table::new();
-    /// # table.open(32, 0, &Params::house(0x53E8, 0x4000, 0x53E8)).unwrap();
+    /// # table.open(1, 32, 0, &Params::house(0x53E8, 0x4000, 0x53E8)).unwrap();
     /// // It becomes ready, and wins at every level.
-    /// assert_eq!(table.offer(32, WAITING_MAX), Ok(COMPARISONS_MAX));
-    /// assert_eq!(table.offer(32, 1), Err(Refusal::TooMuchData));
+    /// assert_eq!(table.offer(1, 32, WAITING_MAX), Ok(COMPARISONS_MAX));
+    /// assert_eq!(table.offer(1, 32, 1), Err(Refusal::TooMuchData));
     /// ```
-    pub fn offer(&mut self, vci: u32, cells: u64) -> Result<u32, Refusal> {
+    pub fn offer(&mut self, vpi: u32, vci: u32, cells: u64) -> Result<u32, Refusal> {
         // SAFETY: the pointer is live for the call.
-        comparisons(unsafe { ffi::abr_offer(self.raw(), vci, cells) })
+        comparisons(unsafe { ffi::abr_offer(self.raw(), vpi, vci, cells) })
     }
 
     /// Sets the congestion level, which marks the cells turned or made from now
@@ -190,28 +197,29 @@ impl Table {
     /// ```
     /// use abr::{Cell, Kind, Params, Refusal, Rm, Table, CELL_OCTETS, MAKE_INTERVAL};
     /// let mut table = Table::new();
-    /// table.open(32, 0, &Params::house(0x53E8, 0x4000, 0x53E8))?;
-    /// assert_eq!(table.make(32, 0), Err(Refusal::NotCongested));
+    /// table.open(1, 32, 0, &Params::house(0x53E8, 0x4000, 0x53E8))?;
+    /// assert_eq!(table.make(1, 32, 0), Err(Refusal::NotCongested));
     /// table.set_level(2)?;
-    /// table.make(32, 0)?;
-    /// assert_eq!(table.make(32, MAKE_INTERVAL - 1), Err(Refusal::TooSoon));
+    /// table.make(1, 32, 0)?;
+    /// assert_eq!(table.make(1, 32, MAKE_INTERVAL - 1), Err(Refusal::TooSoon));
     ///
     /// let mut cell = [0; CELL_OCTETS];
     /// let first = table.slot(0, &mut cell)?.expect("the made cell waits");
     /// assert_eq!(first.kind, Kind::Forward);
     /// let sent = table.slot(1_000_000, &mut cell)?.expect("the made cell waits");
     /// assert_eq!(sent.kind, Kind::Turned);
-    /// let made = Rm { vci: 32, backward: true, bn: true, ci: true, er: 0x53E8, ..Rm::default() };
+    /// let made = Rm { vpi: 1, vci: 32, backward: true, bn: true, ci: true, er: 0x53E8, ..Rm::default() };
     /// assert_eq!(abr::read(&cell)?, Cell::Rm(made));
     /// # Ok::<(), Refusal>(())
     /// ```
-    pub fn make(&mut self, vci: u32, time: u64) -> Result<u32, Refusal> {
+    pub fn make(&mut self, vpi: u32, vci: u32, time: u64) -> Result<u32, Refusal> {
         // SAFETY: the pointer is live for the call.
-        comparisons(unsafe { ffi::abr_make(self.raw(), vci, time) })
+        comparisons(unsafe { ffi::abr_make(self.raw(), vpi, vci, time) })
     }
 
     /// Gives the slot at a time to the connection with the earliest ready
-    /// instant, if one is ready; one with an allowed rate of 0 never is. A forward,
+    /// instant, of several with the same one to that with the lowest VPI × 65,536 +
+    /// VCI, if one is ready; one with an allowed rate of 0 never is. A forward,
     /// turned or made cell is written to the buffer.
     ///
     /// # Errors
@@ -246,28 +254,34 @@ impl Table {
     /// ```
     /// use abr::{Cell, Params, Refusal, Rm, Table, CELL_OCTETS, OUT_OF_RATE_INTERVAL};
     /// let mut table = Table::new();
-    /// table.open(32, 0, &Params::house(0x53E8, 0, 0))?; // no minimum, initial rate 0
-    /// table.offer(32, 1)?;
+    /// table.open(1, 32, 0, &Params::house(0x53E8, 0, 0))?; // no minimum, initial rate 0
+    /// table.offer(1, 32, 1)?;
     /// let mut cell = [0; CELL_OCTETS];
     /// assert_eq!(table.slot(0, &mut cell), Ok(None)); // never ready at rate 0
     ///
-    /// table.out_of_rate(32, 0, &mut cell)?;
-    /// let forward = Rm { vci: 32, er: 0x53E8, ..Rm::default() };
+    /// table.out_of_rate(1, 32, 0, &mut cell)?;
+    /// let forward = Rm { vpi: 1, vci: 32, er: 0x53E8, ..Rm::default() };
     /// assert_eq!(abr::read(&cell)?, Cell::Rm(forward));
     /// assert_eq!(cell[3] & 1, 1); // CLP
-    /// let again = table.out_of_rate(32, OUT_OF_RATE_INTERVAL - 1, &mut cell);
+    /// let again = table.out_of_rate(1, 32, OUT_OF_RATE_INTERVAL - 1, &mut cell);
     /// assert_eq!(again, Err(Refusal::TooOften));
     ///
     /// abr::write_rm(&Rm { backward: true, ..forward }, &mut cell)?; // its answer
     /// table.receive(&cell)?;
-    /// assert_eq!(table.acr(32), Ok(32_000)); // a sixteenth of the peak
+    /// assert_eq!(table.acr(1, 32), Ok(32_000)); // a sixteenth of the peak
     /// assert!(table.slot(0, &mut cell)?.is_some());
     /// # Ok::<(), Refusal>(())
     /// ```
-    pub fn out_of_rate(&mut self, vci: u32, time: u64, cell: &mut [u8]) -> Result<(), Refusal> {
+    pub fn out_of_rate(
+        &mut self,
+        vpi: u32,
+        vci: u32,
+        time: u64,
+        cell: &mut [u8],
+    ) -> Result<(), Refusal> {
         let (octets, len) = (cell.as_mut_ptr(), cell.len());
         // SAFETY: both pointers are live and the length is the buffer's own.
-        Refusal::outcome(unsafe { ffi::abr_out_of_rate(self.raw(), vci, time, octets, len) })
+        Refusal::outcome(unsafe { ffi::abr_out_of_rate(self.raw(), vpi, vci, time, octets, len) })
     }
 
     /// The allowed rate of a connection; 0 is possible if its minimum is 0.
@@ -276,11 +290,11 @@ impl Table {
     /// [`Refusal::NotOpen`].
     ///
     /// ```
-    /// assert_eq!(abr::Table::new().acr(32), Err(abr::Refusal::NotOpen));
+    /// assert_eq!(abr::Table::new().acr(1, 32), Err(abr::Refusal::NotOpen));
     /// ```
-    pub fn acr(&self, vci: u32) -> Result<u64, Refusal> {
+    pub fn acr(&self, vpi: u32, vci: u32) -> Result<u64, Refusal> {
         // SAFETY: the pointer is live for the call.
-        let allowed = unsafe { ffi::abr_acr(self.words.as_ptr().cast(), vci) };
+        let allowed = unsafe { ffi::abr_acr(self.words.as_ptr().cast(), vpi, vci) };
         Refusal::outcome(allowed.refusal)?;
         Ok(allowed.acr)
     }
@@ -315,6 +329,7 @@ impl From<ffi::abr_sent> for Option<Sent> {
             other => unreachable!("the library answered kind {other}"),
         };
         Some(Sent {
+            vpi: sent.vpi,
             vci: sent.vci,
             kind,
             acr: sent.acr,

@@ -41,6 +41,7 @@ fn the_limits_are_those_of_the_header() {
     assert_eq!(value("ABR_CELL_OCTETS"), abr::CELL_OCTETS as u64);
     assert_eq!(value("ABR_CONNECTIONS_MAX"), abr::CONNECTIONS_MAX as u64);
     assert_eq!(value("ABR_COMPARISONS_MAX"), abr::COMPARISONS_MAX.into());
+    assert_eq!(value("ABR_VPI_MAX"), u64::from(abr::VPI_MAX));
     assert_eq!(value("ABR_VCI_MIN"), u64::from(abr::VCI_MIN));
     assert_eq!(value("ABR_VCI_MAX"), u64::from(abr::VCI_MAX));
     assert_eq!(value("ABR_WAITING_MAX"), abr::WAITING_MAX);
@@ -108,6 +109,7 @@ fn the_refusals_are_those_of_the_header() {
     }
     assert_eq!(defined("ABR_OK"), (0, "accepted"));
     assert_eq!(Refusal::try_from(0), Err(0));
+    assert_eq!(Refusal::try_from(3), Err(3)); // withdrawn by document 02's L6
     assert_eq!(Refusal::try_from(19), Err(19));
 }
 
@@ -117,17 +119,19 @@ fn the_layouts_are_those_of_the_header() {
     assert_eq!(align_of::<ffi::abr_table>(), 8);
     assert_eq!(size_of::<ffi::abr_params>(), 40);
     assert_eq!(offset_of!(ffi::abr_params, trm), 36);
-    assert_eq!(size_of::<ffi::abr_rm>(), 44);
-    assert_eq!(offset_of!(ffi::abr_rm, sn), 40);
+    assert_eq!(size_of::<ffi::abr_rm>(), 48);
+    assert_eq!(offset_of!(ffi::abr_rm, vci), 4);
+    assert_eq!(offset_of!(ffi::abr_rm, sn), 44);
     assert_eq!(size_of::<ffi::abr_answer>(), 8);
     assert_eq!(offset_of!(ffi::abr_answer, comparisons), 4);
-    assert_eq!(size_of::<ffi::abr_sent>(), 24);
+    assert_eq!(size_of::<ffi::abr_sent>(), 32);
     assert_eq!(offset_of!(ffi::abr_sent, comparisons), 4);
-    assert_eq!(offset_of!(ffi::abr_sent, vci), 12);
-    assert_eq!(offset_of!(ffi::abr_sent, acr), 16);
+    assert_eq!(offset_of!(ffi::abr_sent, vpi), 12);
+    assert_eq!(offset_of!(ffi::abr_sent, vci), 16);
+    assert_eq!(offset_of!(ffi::abr_sent, acr), 24);
     assert_eq!(size_of::<ffi::abr_allowed>(), 16);
     assert_eq!(offset_of!(ffi::abr_allowed, acr), 8);
-    assert_eq!(size_of::<ffi::abr_cell>(), 56);
+    assert_eq!(size_of::<ffi::abr_cell>(), 60);
     assert_eq!(offset_of!(ffi::abr_cell, rm), 12);
     assert_eq!(size_of::<ffi::abr_coded>(), 8);
     assert_eq!(offset_of!(ffi::abr_coded, code), 4);

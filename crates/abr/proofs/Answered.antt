@@ -1,7 +1,8 @@
 -- The contract of an export out of that of the call below it.
 use Prim.Native.Nat.{ℕ}
-use mathlib.Core.Path.{_≡_, refl, ap, _∙_}
+use mathlib.Core.Path.{_≡_, refl, ap, subst, _∙_}
 use mathlib.Core.List.{List}
+use Rattle.cell.specs.Name.{pairName}
 use Rattle.model.specs.Call.{Call, levelling, outOfRate, Outcome}
 use Rattle.model.specs.Step.{refuse, accept, levelStep, sendOutside, outOfRateStep, step}
 use Rattle.model.specs.Invariant.{WellFormed}
@@ -12,6 +13,15 @@ use Rattle.model.specs.declared.answer.Answer.{Answer}
 use Rattle.engine.specs.Contract.{Meets, MeetsWriting, MeetsAcr}
 use Rattle.abr.specs.Answers.{SlotAnswer, AcrAnswer, CallAnswer, callAnswer, slotAnswer, acrAnswer}
 use Rattle.abr.specs.Contract.{Answers, Numbered, NumberedWriting, AnswersSlot, AnswersAcr}
+
+-- a call on the name that was made of a pair
+pub named : (f : ℕ → State → Outcome) {n m : ℕ} {before after : List ℕ} {a : Answer} → n ≡ m → Meets (f n) before after a → Meets (f m) before after a
+named f {before = before} {after = after} {a = a} e h = subst (λ (v : ℕ). Meets (f v) before after a) e h
+
+pub named-writing :
+    (f : ℕ → State → Outcome) {n m : ℕ} {before after : List ℕ} {a : Answer} {old new : List ℕ} → n ≡ m → MeetsWriting (f n) before after a old new
+    → MeetsWriting (f m) before after a old new
+named-writing f {before = before} {after = after} {a = a} {old = old} {new = new} e h = subst (λ (v : ℕ). MeetsWriting (f v) before after a old new) e h
 
 -- a call that returns its refusal and the comparisons it made
 pub answers : {f : State → Outcome} {before after : List ℕ} {a : Answer} {r : CallAnswer} → r ≡ callAnswer a → Meets f before after a → Answers f before after r
@@ -36,22 +46,22 @@ numbers-writing e z m = record { meets = λ s w b. let k = m .meets s w b in (k 
 -- setting the level and sending outside the rate are such calls
 data Uncompared : Call → Type 0 where
   level : (l : ℕ) → Uncompared (levelling l)
-  outside : (v t room : ℕ) → Uncompared (outOfRate v t room)
+  outside : (vpi vci t room : ℕ) → Uncompared (outOfRate vpi vci t room)
 
 effect-alone : {s : State} {c : Call} {o : Outcome} → Uncompared c → Effect s c o → callAnswer (o .answer) .comparisons ≡ 0
 unfolding refuse accept sendOutside
 effect-alone (level l) (refuses _ n h) = refl
 effect-alone (level l) (levels _ h) = refl
-effect-alone (outside v t room) (refuses _ n h) = refl
-effect-alone (outside v t room) (leaves _ _ _ d f g h) = refl
+effect-alone (outside a b t room) (refuses _ n h) = refl
+effect-alone (outside a b t room) (leaves _ _ _ _ d f g h) = refl
 
 pub level-alone : (l : ℕ) → ComparesNone (λ s. levelStep s l)
 unfolding step
 level-alone l s w = effect-alone (level l) (effect s (w .unique) (levelling l))
 
-pub out-of-rate-alone : (v t room : ℕ) → ComparesNone (λ s. outOfRateStep s v t room)
+pub out-of-rate-alone : (vpi vci t room : ℕ) → ComparesNone (λ s. outOfRateStep s (pairName vpi vci) t room)
 unfolding step
-out-of-rate-alone v t room s w = effect-alone (outside v t room) (effect s (w .unique) (outOfRate v t room))
+out-of-rate-alone a b t room s w = effect-alone (outside a b t room) (effect s (w .unique) (outOfRate a b t room))
 
 -- a slot
 pub slots :
@@ -60,5 +70,5 @@ pub slots :
 slots e m = record { meets = λ s w b. let k = m .meets s w b in (k .0, e ∙ ap slotAnswer (k .1), k .2) }
 
 -- reading an ACR
-pub acrs : {v : ℕ} {l : List ℕ} {a : Acr} {r : AcrAnswer} → r ≡ acrAnswer a → MeetsAcr v l a → AnswersAcr v l r
-acrs e m = record { meets = λ s w b. e ∙ ap acrAnswer (m .answers s w b) }
+pub acrs : {n v : ℕ} {l : List ℕ} {a : Acr} {r : AcrAnswer} → n ≡ v → r ≡ acrAnswer a → MeetsAcr n l a → AnswersAcr v l r
+acrs {l = l} {r = r} i e m = subst (λ (u : ℕ). AnswersAcr u l r) i (record { meets = λ s w b. e ∙ ap acrAnswer (m .answers s w b) })

@@ -20,25 +20,25 @@ use Rattle.abr.specs.Exports.{Observation, noSlot, Performs, opens, clos
 
 -- a call that is no slot
 abbrev NoSlot : Call → Type 0
-NoSlot (opening v t p) = Unit
-NoSlot (closing v) = Unit
+NoSlot (opening a b t p) = Unit
+NoSlot (closing a b) = Unit
 NoSlot (receiving o) = Unit
-NoSlot (offering v n) = Unit
+NoSlot (offering a b n) = Unit
 NoSlot (levelling l) = Unit
 NoSlot (slot t room) = ⊥
-NoSlot (making v t) = Unit
-NoSlot (outOfRate v t room) = Unit
+NoSlot (making a b t) = Unit
+NoSlot (outOfRate a b t room) = Unit
 
 -- a call that is lent no buffer
 abbrev WithoutBuffer : Call → Type 0
-WithoutBuffer (opening v t p) = Unit
-WithoutBuffer (closing v) = Unit
+WithoutBuffer (opening a b t p) = Unit
+WithoutBuffer (closing a b) = Unit
 WithoutBuffer (receiving o) = Unit
-WithoutBuffer (offering v n) = Unit
+WithoutBuffer (offering a b n) = Unit
 WithoutBuffer (levelling l) = Unit
 WithoutBuffer (slot t room) = ⊥
-WithoutBuffer (making v t) = Unit
-WithoutBuffer (outOfRate v t room) = ⊥
+WithoutBuffer (making a b t) = Unit
+WithoutBuffer (outOfRate a b t room) = ⊥
 
 -- it writes none that it is not lent, and its answer is a refusal and comparisons alone
 pub record Plain (c : Call) (o : Outcome) : Type 0 where
@@ -48,16 +48,16 @@ pub record Plain (c : Call) (o : Outcome) : Type 0 where
 effect-plain : {s : State} {c : Call} {o : Outcome} → Effect s c o → NoSlot c → Plain c o
 unfolding refuse accept replay sendOutside
 effect-plain (refuses c n h) u = record { buffer = λ _. refl; answer = refl }
-effect-plain (begins v t p g) u = record { buffer = λ _. refl; answer = refl }
-effect-plain (ends v d f) u = record { buffer = λ _. refl; answer = refl }
-effect-plain (offersTo v n d f h) u = record { buffer = λ _. refl; answer = refl }
-effect-plain (marks o v e d r f) u = record { buffer = λ _. refl; answer = refl }
+effect-plain (begins a b t p g) u = record { buffer = λ _. refl; answer = refl }
+effect-plain (ends a b d f) u = record { buffer = λ _. refl; answer = refl }
+effect-plain (offersTo a b n d f h) u = record { buffer = λ _. refl; answer = refl }
+effect-plain (marks o a b e d r f) u = record { buffer = λ _. refl; answer = refl }
 effect-plain (works o q d r f) u = record { buffer = λ _. refl; answer = refl }
 effect-plain (levelsTo l h) u = record { buffer = λ _. refl; answer = refl }
 effect-plain (idles t room g b) u = absurd u
 effect-plain (sends t room i v g b) u = absurd u
-effect-plain (makesAt v t d f g h m) u = record { buffer = λ _. refl; answer = refl }
-effect-plain (leavesAt v t room d f g h) u = record { buffer = λ b. absurd b; answer = refl }
+effect-plain (makesAt a b t d f g h m) u = record { buffer = λ _. refl; answer = refl }
+effect-plain (leavesAt a b t room d f g h) u = record { buffer = λ l. absurd l; answer = refl }
 
 nothing-written : (b : Buffer) → b ≡ untouched → [] ≡ bufferContent b []
 nothing-written b e = rw e refl
@@ -74,14 +74,14 @@ plain-matches {s} w c u b m r h =
 
 performs-matches : {s : State} → WellFormed s → {c : Call} {l : List ℕ} {o : Observation} → Performs c l o → l ≡ words s → Matches (step s c) o
 unfolding step
-performs-matches {s} w (opens {v} {t} {p} {l} {m} {r} h) e = plain-matches w (opening v t p) tt tt m r (h .meets s w e)
-performs-matches {s} w (closes {v} {l} {m} {r} h) e = plain-matches w (closing v) tt tt m r (h .meets s w e)
+performs-matches {s} w (opens {vpi} {vci} {t} {p} {l} {m} {r} h) e = plain-matches w (opening vpi vci t p) tt tt m r (h .meets s w e)
+performs-matches {s} w (closes {vpi} {vci} {l} {m} {r} h) e = plain-matches w (closing vpi vci) tt tt m r (h .meets s w e)
 performs-matches {s} w (receives {o} {l} {m} {r} h) e = plain-matches w (receiving o) tt tt m r (h .meets s w e)
-performs-matches {s} w (offers {v} {n} {l} {m} {r} h) e = plain-matches w (offering v n) tt tt m r (h .meets s w e)
+performs-matches {s} w (offers {vpi} {vci} {n} {l} {m} {r} h) e = plain-matches w (offering vpi vci n) tt tt m r (h .meets s w e)
 performs-matches {s} w (levels {k} {l} {m} {r} h) e = plain-matches w (levelling k) tt tt m (refusalAlone r) (h .meets s w e)
-performs-matches {s} w (makes {v} {t} {l} {m} {r} h) e = plain-matches w (making v t) tt tt m r (h .meets s w e)
-performs-matches {s} w (leaves {v} {t} {l} {m} {old} {new} {r} h) e =
-    let g = h .meets s w e in record { table = g .0; returned = returned-plain w (outOfRate v t (length old)) tt (refusalAlone r) (g .1); buffer = g .2 }
+performs-matches {s} w (makes {vpi} {vci} {t} {l} {m} {r} h) e = plain-matches w (making vpi vci t) tt tt m r (h .meets s w e)
+performs-matches {s} w (leaves {vpi} {vci} {t} {l} {m} {old} {new} {r} h) e =
+    let g = h .meets s w e in record { table = g .0; returned = returned-plain w (outOfRate vpi vci t (length old)) tt (refusalAlone r) (g .1); buffer = g .2 }
 performs-matches {s} w (slots h) e = let g = h .meets s w e in record { table = g .0; returned = g .1; buffer = g .2 }
 
 onward :

@@ -1,6 +1,7 @@
 -- What the calls on a table return, for each case of their answers: the documents' number, 0 if there is no refusal, and zeros beside a refusal.
--- (Document 01, "Slots", "Refused because of the input" and "Refused because of the state".)
+-- (Document 01, "Slots", "Refused because of the input" and "Refused because of the state"; document 02, L6.)
 use Prim.Native.Nat.{ℕ}
+use Rattle.cell.specs.Name.{vpiIn, vciIn}
 use Rattle.connection.specs.declared.kind.Kind.{Kind}
 use Rattle.connection.specs.declared.kind.Kind.the-variants.{Forward, Turned, Data}
 use Rattle.model.specs.declared.answer.Answer.{Answer}
@@ -29,14 +30,14 @@ kindNumber Turned = 2
 kindNumber Data = 3
 
 abbrev pub noCell : (refusal comparisons : ℕ) → SlotAnswer
-noCell n k = record { refusal = n; comparisons = k; kind = 0; vci = 0; acr = 0 }
+noCell n k = record { refusal = n; comparisons = k; kind = 0; vpi = 0; vci = 0; acr = 0 }
 
 -- no slot answers Accepted
 abbrev pub slotAnswer : Answer → SlotAnswer
 slotAnswer (Refused n) = noCell n 0
 slotAnswer (Accepted n) = noCell 0 n
 slotAnswer Idle = noCell 0 0
-slotAnswer (Sent v k a n) = record { refusal = 0; comparisons = n; kind = kindNumber k; vci = v; acr = a }
+slotAnswer (Sent v k a n) = record { refusal = 0; comparisons = n; kind = kindNumber k; vpi = vpiIn v; vci = vciIn v; acr = a }
 
 abbrev pub acrAnswer : Acr → AcrAnswer
 acrAnswer NotOpen = record { refusal = 11; acr = 0 }

@@ -1,4 +1,4 @@
--- What writing and reading a cell return. (Document 01, "The cell, 53 octets" and "Refused because of the input".)
+-- What writing and reading a cell return. (Document 01, "The cell, 53 octets" and "Refused because of the input"; document 02, L6.)
 use Prim.Native.Nat.{ℕ}
 use mathlib.Core.Bool.{cond}
 use mathlib.Core.List.{List}
@@ -23,11 +23,11 @@ numberOf f old = writeNumber (writing (length old) f)
 abbrev pub octetsAfter : Fields → (old : List ℕ) → List ℕ
 octetsAfter f old = bufferAfter (writing (length old) f) (resourceCell 0 f) old
 
-abbrev pub vciAlone : (vci : ℕ) → Fields
-vciAlone v = record { vci = v; dir = 0; bn = 0; ci = 0; ni = 0; ra = 0; er = 0; ccr = 0; mcr = 0; ql = 0; sn = 0 }
+abbrev pub pairAlone : (vpi vci : ℕ) → Fields
+pairAlone vpi vci = record { vpi = vpi; vci = vci; dir = 0; bn = 0; ci = 0; ni = 0; ra = 0; er = 0; ccr = 0; mcr = 0; ql = 0; sn = 0 }
 
--- kind 1, a data cell: its EFCI, and of the fields the VCI alone; kind 2, an RM cell: its fields, and 0 for EFCI; all 0 beside a refusal
+-- kind 1, a data cell: its EFCI, and of the fields the VPI and the VCI alone; kind 2, an RM cell: its fields, and 0 for EFCI; all 0 beside a refusal
 abbrev pub cellAnswer : Reading → CellAnswer
-cellAnswer (Unread n) = record { refusal = n; kind = 0; efci = 0; rm = vciAlone 0 }
-cellAnswer (User v e) = record { refusal = 0; kind = 1; efci = cond e 1 0; rm = vciAlone v }
+cellAnswer (Unread n) = record { refusal = n; kind = 0; efci = 0; rm = pairAlone 0 0 }
+cellAnswer (User vpi vci e) = record { refusal = 0; kind = 1; efci = cond e 1 0; rm = pairAlone vpi vci }
 cellAnswer (Resource f) = record { refusal = 0; kind = 2; efci = 0; rm = f }

@@ -1,10 +1,11 @@
 -- What lists of exported calls do to one lent table, as C sees it: numbers, structs, octets and words. (Document 01, "What the library commits to", 1, and
--- "The lists of demand 3".)
+-- "The lists of demand 3"; document 02, L6.)
 use Prim.Native.Nat.{ℕ}
 use mathlib.Core.Path.{_≡_}
 use mathlib.Core.List.{List, [], _∷_}
 use lib.ListN.{length, replicate}
 use Rattle.rate.specs.declared.params.Params.{Params}
+use Rattle.cell.specs.Name.{pairName}
 use Rattle.model.specs.State.{State, empty}
 use Rattle.model.specs.Invariant.{WellFormed}
 use Rattle.model.specs.Call.{Call, opening, closing, receiving, offering, levelling, slot, making, outOfRate, Outcome}
@@ -30,15 +31,15 @@ noSlot l r = record { table = l; returned = noCell (r .refusal) (r .comparisons)
 -- One exported call on these words. What each case holds is the ensures of abr_open, abr_close, abr_receive, abr_offer, abr_set_level, abr_make, abr_out_of_rate or abr_slot, so that
 -- every such call makes one of these.
 pub data Performs : Call → (before : List ℕ) → Observation → Type 0 where
-  opens : {v t : ℕ} {p : Params} {l m : List ℕ} {r : CallAnswer} → Answers (λ s. openStep s v t p) l m r → Performs (opening v t p) l (noSlot m r)
-  closes : {v : ℕ} {l m : List ℕ} {r : CallAnswer} → Answers (λ s. closeStep s v) l m r → Performs (closing v) l (noSlot m r)
+  opens : {vpi vci t : ℕ} {p : Params} {l m : List ℕ} {r : CallAnswer} → Answers (λ s. openStep s vpi vci t p) l m r → Performs (opening vpi vci t p) l (noSlot m r)
+  closes : {vpi vci : ℕ} {l m : List ℕ} {r : CallAnswer} → Answers (λ s. closeStep s (pairName vpi vci)) l m r → Performs (closing vpi vci) l (noSlot m r)
   receives : {o : List ℕ} {l m : List ℕ} {r : CallAnswer} → Answers (λ s. receiveStep s o) l m r → Performs (receiving o) l (noSlot m r)
-  offers : {v n : ℕ} {l m : List ℕ} {r : CallAnswer} → Answers (λ s. offerStep s v n) l m r → Performs (offering v n) l (noSlot m r)
+  offers : {vpi vci n : ℕ} {l m : List ℕ} {r : CallAnswer} → Answers (λ s. offerStep s (pairName vpi vci) n) l m r → Performs (offering vpi vci n) l (noSlot m r)
   levels : {k : ℕ} {l m : List ℕ} {r : ℕ} → Numbered (λ s. levelStep s k) l m r → Performs (levelling k) l (noSlot m (refusalAlone r))
-  makes : {v t : ℕ} {l m : List ℕ} {r : CallAnswer} → Answers (λ s. makeStep s v t) l m r → Performs (making v t) l (noSlot m r)
+  makes : {vpi vci t : ℕ} {l m : List ℕ} {r : CallAnswer} → Answers (λ s. makeStep s (pairName vpi vci) t) l m r → Performs (making vpi vci t) l (noSlot m r)
   leaves :
-      {v t : ℕ} {l m old new : List ℕ} {r : ℕ} → NumberedWriting (λ s. outOfRateStep s v t (length old)) l m r old new
-      → Performs (outOfRate v t (length old)) l (record { table = m; returned = noCell r 0; old = old; new = new })
+      {vpi vci t : ℕ} {l m old new : List ℕ} {r : ℕ} → NumberedWriting (λ s. outOfRateStep s (pairName vpi vci) t (length old)) l m r old new
+      → Performs (outOfRate vpi vci t (length old)) l (record { table = m; returned = noCell r 0; old = old; new = new })
   slots :
       {t : ℕ} {l m old new : List ℕ} {r : SlotAnswer} → AnswersSlot (λ s. slotStep s t (length old)) l m r old new
       → Performs (slot t (length old)) l (record { table = m; returned = r; old = old; new = new })

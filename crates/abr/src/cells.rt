@@ -1,15 +1,15 @@
-// Writing and reading a cell, without a table (document 01, "The cell, 53 octets").
+// Writing and reading a cell, without a table (document 01, "The cell, 53 octets"; document 02, L6).
 ghost use mathlib.Core.Path.{_≡_};
 ghost use mathlib.Core.Bool.{cond};
 ghost use Rattle.cell.specs.Reading.{reading};
-ghost use Rattle.abr.specs.Cells.{writeNumber, numberOf, octetsAfter, vciAlone, cellAnswer};
+ghost use Rattle.abr.specs.Cells.{writeNumber, numberOf, octetsAfter, pairAlone, cellAnswer};
 use cell::fields::Fields;
 use cell::read::Reading;
 use cell::write::Written;
 use reading::read::read;
 use writing::write::write;
 
-// kind 1 is a data cell, of whose fields only the VCI counts; 2 is an RM cell.
+// kind 1 is a data cell, of whose fields only the VPI and the VCI count; 2 is an RM cell.
 #[repr(C)]
 pub struct CellAnswer {
     pub refusal: u32,
@@ -41,11 +41,12 @@ fn bit(b: bool) -> u32
     if b { 1 } else { 0 }
 }
 
-// The fields of no RM cell, with this VCI.
-fn vci_alone(vci: u32) -> Fields
-    ensures { λ f. ⌜ f ≡ vciAlone vci ⌝ }
+// The fields of no RM cell, with this VPI and VCI.
+fn pair_alone(vpi: u32, vci: u32) -> Fields
+    ensures { λ f. ⌜ f ≡ pairAlone vpi vci ⌝ }
 {
     Fields {
+        vpi,
         vci,
         dir: 0,
         bn: 0,
@@ -68,13 +69,13 @@ fn cell_answer(a: Reading) -> CellAnswer
             refusal: n,
             kind: 0,
             efci: 0,
-            rm: vci_alone(0),
+            rm: pair_alone(0, 0),
         },
-        Reading::User { vci, efci } => CellAnswer {
+        Reading::User { vpi, vci, efci } => CellAnswer {
             refusal: 0,
             kind: 1,
             efci: bit(efci),
-            rm: vci_alone(vci),
+            rm: pair_alone(vpi, vci),
         },
         Reading::Resource(f) => CellAnswer {
             refusal: 0,
@@ -85,7 +86,7 @@ fn cell_answer(a: Reading) -> CellAnswer
     }
 }
 
-// Refusals 1, 2, 3, 4, then 5 and 6 for RM cells.
+// Refusals 1, 2, 4, then 5 and 6 for RM cells.
 #[no_mangle]
 pub extern "C" fn abr_read(cell: &[u8]) -> CellAnswer
     ensures { λ r. ⌜ r ≡ cellAnswer (reading (now (cell .entry))) ⌝ }

@@ -1,9 +1,11 @@
-// The calls that name a connection (document 01, "Opening" and "Slots"; document 02, L1 and L5).
+// The calls that name a connection (document 01, "Opening" and "Slots"; document 02, L1, L5 and L6).
 ghost use mathlib.Core.Path.{_≡_};
 ghost use lib.ListN.{length};
+ghost use Rattle.cell.specs.Name.{pairName};
 ghost use Rattle.model.specs.Step.{openStep, closeStep, offerStep, makeStep, outOfRateStep};
 ghost use Rattle.abr.specs.Answers.{callAnswer, acrAnswer};
 ghost use Rattle.abr.specs.Contract.{Answers, NumberedWriting, AnswersAcr};
+use cell::name::pair_name;
 use engine::acr::read_acr;
 use engine::close::close;
 use engine::make::make;
@@ -54,50 +56,56 @@ pub fn call_answer(a: Answer) -> CallAnswer
 #[no_mangle]
 pub extern "C" fn abr_open(
     table: &mut [u64; WORDS],
+    vpi: u32,
     vci: u32,
     time: u64,
     params: Params,
 ) -> CallAnswer
-    ensures { λ r. ⌜ Answers (λ s. openStep s vci time params) (now (table .entry)) (now (table .exit)) r ⌝ }
+    ensures { λ r. ⌜ Answers (λ s. openStep s vpi vci time params) (now (table .entry)) (now (table .exit)) r ⌝ }
 {
-    call_answer(open(table, vci, time, params))
+    call_answer(open(table, vpi, vci, time, params))
 }
 
 // Refusal 11.
 #[no_mangle]
-pub extern "C" fn abr_close(table: &mut [u64; WORDS], vci: u32) -> CallAnswer
-    ensures { λ r. ⌜ Answers (λ s. closeStep s vci) (now (table .entry)) (now (table .exit)) r ⌝ }
+pub extern "C" fn abr_close(table: &mut [u64; WORDS], vpi: u32, vci: u32) -> CallAnswer
+    ensures { λ r. ⌜ Answers (λ s. closeStep s (pairName vpi vci)) (now (table .entry)) (now (table .exit)) r ⌝ }
 {
-    call_answer(close(table, vci))
+    let name = pair_name(vpi, vci);
+    call_answer(close(table, name))
 }
 
 // Refusals 11, 15.
 #[no_mangle]
-pub extern "C" fn abr_offer(table: &mut [u64; WORDS], vci: u32, cells: u64) -> CallAnswer
-    ensures { λ r. ⌜ Answers (λ s. offerStep s vci cells) (now (table .entry)) (now (table .exit)) r ⌝ }
+pub extern "C" fn abr_offer(table: &mut [u64; WORDS], vpi: u32, vci: u32, cells: u64) -> CallAnswer
+    ensures { λ r. ⌜ Answers (λ s. offerStep s (pairName vpi vci) cells) (now (table .entry)) (now (table .exit)) r ⌝ }
 {
-    call_answer(offer(table, vci, cells))
+    let name = pair_name(vpi, vci);
+    call_answer(offer(table, name, cells))
 }
 
 // Refusals 8, 11, 14, 16, 17.
 #[no_mangle]
-pub extern "C" fn abr_make(table: &mut [u64; WORDS], vci: u32, time: u64) -> CallAnswer
-    ensures { λ r. ⌜ Answers (λ s. makeStep s vci time) (now (table .entry)) (now (table .exit)) r ⌝ }
+pub extern "C" fn abr_make(table: &mut [u64; WORDS], vpi: u32, vci: u32, time: u64) -> CallAnswer
+    ensures { λ r. ⌜ Answers (λ s. makeStep s (pairName vpi vci) time) (now (table .entry)) (now (table .exit)) r ⌝ }
 {
-    call_answer(make(table, vci, time))
+    let name = pair_name(vpi, vci);
+    call_answer(make(table, name, time))
 }
 
 // Refusals 1, 8, 11, 14, 18. It makes no comparisons.
 #[no_mangle]
 pub extern "C" fn abr_out_of_rate(
     table: &mut [u64; WORDS],
+    vpi: u32,
     vci: u32,
     time: u64,
     cell: &mut [u8],
 ) -> u32
-    ensures { λ r. ⌜ NumberedWriting (λ s. outOfRateStep s vci time (length (now (cell .entry)))) (now (table .entry)) (now (table .exit)) r (now (cell .entry)) (now (cell .exit)) ⌝ }
+    ensures { λ r. ⌜ NumberedWriting (λ s. outOfRateStep s (pairName vpi vci) time (length (now (cell .entry)))) (now (table .entry)) (now (table .exit)) r (now (cell .entry)) (now (cell .exit)) ⌝ }
 {
-    let answer = call_answer(out_of_rate(table, vci, time, cell));
+    let name = pair_name(vpi, vci);
+    let answer = call_answer(out_of_rate(table, name, time, cell));
     answer.refusal
 }
 
@@ -121,8 +129,9 @@ fn acr_answer(a: Acr) -> AcrAnswer
 
 // Refusal 11.
 #[no_mangle]
-pub extern "C" fn abr_acr(table: &[u64; WORDS], vci: u32) -> AcrAnswer
-    ensures { λ r. ⌜ AnswersAcr vci (now (table .entry)) r ⌝ }
+pub extern "C" fn abr_acr(table: &[u64; WORDS], vpi: u32, vci: u32) -> AcrAnswer
+    ensures { λ r. ⌜ AnswersAcr (pairName vpi vci) (now (table .entry)) r ⌝ }
 {
-    acr_answer(read_acr(table, vci))
+    let name = pair_name(vpi, vci);
+    acr_answer(read_acr(table, name))
 }

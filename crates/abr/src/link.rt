@@ -1,4 +1,4 @@
-// The calls on the link as a whole: received cells, the congestion level, slots (document 01, "Turning cells round" and "Slots").
+// The calls on the link as a whole: received cells, the congestion level, slots (document 01, "Turning cells round" and "Slots"; document 02, L6).
 ghost use mathlib.Core.Path.{_≡_};
 ghost use lib.ListN.{length};
 ghost use Rattle.model.specs.Step.{receiveStep, levelStep, slotStep};
@@ -13,7 +13,7 @@ use engine::slot::slot;
 use model::answer::Answer;
 use table::layout::WORDS;
 
-// Refusals 1, 2, 3, 4, then 5 and 6 for RM cells, 11.
+// Refusals 1, 2, 4, then 5 and 6 for RM cells, 11.
 #[no_mangle]
 pub extern "C" fn abr_receive(table: &mut [u64; WORDS], cell: &[u8]) -> CallAnswer
     ensures { λ r. ⌜ Answers (λ s. receiveStep s (now (cell .entry))) (now (table .entry)) (now (table .exit)) r ⌝ }
@@ -36,6 +36,7 @@ pub struct SlotAnswer {
     pub refusal: u32,
     pub comparisons: u32,
     pub kind: u32,
+    pub vpi: u32,
     pub vci: u32,
     pub acr: u64,
 }
@@ -58,6 +59,7 @@ fn no_cell(refusal: u32, comparisons: u32) -> SlotAnswer
         refusal,
         comparisons,
         kind: 0,
+        vpi: 0,
         vci: 0,
         acr: 0,
     }
@@ -79,7 +81,8 @@ fn slot_answer(a: Answer) -> SlotAnswer
             refusal: 0,
             comparisons,
             kind: kind_number(kind),
-            vci: name,
+            vpi: name / 65536,
+            vci: name % 65536,
             acr,
         },
     }

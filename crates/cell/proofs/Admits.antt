@@ -34,7 +34,7 @@ module _ (o : List ℕ) where
   resourceRest : Reading
   resourceRest = require (Refused 4) (eqb (typeOf o) 6) (rest o)
 
-  admissible : (t : Bool) → leb (typeOf o) 3 ≡ t → Taken (cond t (User (vciOf o) (eqb (typeOf o / 2 % 2) 1)) resourceRest) → Admissible o
+  admissible : (t : Bool) → leb (typeOf o) 3 ≡ t → Taken (cond t (User (vpiOf o) (vciOf o) (eqb (typeOf o / 2 % 2) 1)) resourceRest) → Admissible o
   unfolding crcRight resourceRest
   admissible true e h = userCell (leb-true _ _ e)
   admissible false e h =
@@ -47,17 +47,15 @@ module _ (o : List ℕ) where
   taken-admitted h =
       let h2 : Taken _ = require-rest 1 (eqb (length o) 53) _ h in
       let h3 : Taken _ = require-rest 2 (headerRight o) _ h2 in
-      let h4 : Taken _ = require-rest 3 (eqb (vpiOf o) 0) _ h3 in
       record {
         size = eqb-true _ _ (require-test 1 (eqb (length o) 53) _ h);
         check = eqb-true _ _ (require-test 2 (headerRight o) _ h2);
-        vpi = eqb-true _ _ (require-test 3 (eqb (vpiOf o) 0) _ h3);
-        kind = admissible (leb (typeOf o) 3) refl h4;
+        kind = admissible (leb (typeOf o) 3) refl h3;
       }
 
   -- what an admitted cell is read as
   data Outcome : Type 0 where
-    userRead : User (vciOf o) (eqb (typeOf o / 2 % 2) 1) ≡ reading o → Outcome
+    userRead : User (vpiOf o) (vciOf o) (eqb (typeOf o / 2 % 2) 1) ≡ reading o → Outcome
     resourceRead : pair 52 o % 1024 ≡ payloadCheck (payload o) → octet 6 o ≡ 1 → Resource (fieldsOf o) ≡ reading o → Outcome
 
   outcome : Admitted o → Outcome
@@ -68,8 +66,8 @@ module _ (o : List ℕ) where
       check = eq-eqb _ _ (h .check)
 
       of : Admissible o → Outcome
-      of (userCell t) = userRead (takes-user o (h .size) check (h .vpi) t)
-      of (rmCell t w p) = resourceRead w p (takes-fields o (eq-eqb _ _ w) p ∙ takes-rest o (h .size) check (h .vpi) t)
+      of (userCell t) = userRead (takes-user o (h .size) check t)
+      of (rmCell t w p) = resourceRead w p (takes-fields o (eq-eqb _ _ w) p ∙ takes-rest o (h .size) check t)
 
   pub admitted-taken : Admitted o → Taken (reading o)
   admitted-taken h n e = refuted (outcome h)

@@ -3,6 +3,7 @@ pub mod Admits
 pub mod OctetLists
 pub mod WithCrc
 pub mod Fits
+pub mod Names
 pub mod Written
 pub mod Turned
 pub mod Stores

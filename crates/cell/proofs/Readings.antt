@@ -21,10 +21,11 @@ use Rattle.cell.specs.Refusals.{headerRefusal, restRefusal}
 use Rattle.laws.specs.Require.{require}
 
 -- the fields, from numbers that are equal to theirs
-pub fields-are : (o : List ℕ) {vci er ccr mcr ql sn : ℕ} → vci ≡ vciOf o → er ≡ pair 8 o → ccr ≡ pair 10 o → mcr ≡ pair 12 o
+pub fields-are : (o : List ℕ) {vpi vci er ccr mcr ql sn : ℕ} → vpi ≡ vpiOf o → vci ≡ vciOf o → er ≡ pair 8 o → ccr ≡ pair 10 o → mcr ≡ pair 12 o
     → ql ≡ pair 14 o * 65536 + pair 16 o → sn ≡ pair 18 o * 65536 + pair 20 o
     → _≡_ {A = Fields}
     (record {
+      vpi = vpi;
       vci = vci;
       dir = octet 7 o / 128 % 2;
       bn = octet 7 o / 64 % 2;
@@ -39,7 +40,11 @@ pub fields-are : (o : List ℕ) {vci er ccr mcr ql sn : ℕ} → vci ≡ vciOf o
     })
     (fieldsOf o)
 unfolding fieldsOf
-fields-are o hv he hc hm hq hs = rw (hv, he, hc, hm, hq, hs)
+fields-are o hp hv he hc hm hq hs = rw (hp, hv, he, hc, hm, hq, hs)
+
+-- a data cell's reading, from its parts
+pub user-same : {p p' v v' : ℕ} {e e' : Bool} → p ≡ p' → v ≡ v' → e ≡ e' → User p v e ≡ User p' v' e'
+user-same hp hv he = λ i. User (hp i) (hv i) (he i)
 
 first-four : (o : List ℕ) → length o ≡ 53 → take 4 o ≡ octet 1 o ∷ octet 2 o ∷ octet 3 o ∷ octet 4 o ∷ []
 first-four [] n = absurd (omega arith)
@@ -102,30 +107,25 @@ module _ (o : List ℕ) where
     refused-2 h = simp (eq-eqb _ _ n, h)
 
     module _ (h : headerRight o ≡ true) where
-      refused-3 : (vpiOf o ≡ 0 → ⊥) → Refused 3 ≡ reading o
+      pub takes-user : typeOf o ≤ 3 → User (vpiOf o) (vciOf o) (eqb (typeOf o / 2 % 2) 1) ≡ reading o
       unfolding reading require
-      refused-3 v = simp (eq-eqb _ _ n, h, ne-eqb _ _ v)
+      takes-user t = simp (eq-eqb _ _ n, h, le-leb _ _ t)
 
-      module _ (v : vpiOf o ≡ 0) where
-        pub takes-user : typeOf o ≤ 3 → User (vciOf o) (eqb (typeOf o / 2 % 2) 1) ≡ reading o
-        unfolding reading require
-        takes-user t = simp (eq-eqb _ _ n, h, eq-eqb _ _ v, le-leb _ _ t)
+      refused-4 : 3 < typeOf o → (typeOf o ≡ 6 → ⊥) → Refused 4 ≡ reading o
+      unfolding reading require
+      refused-4 t u = simp (eq-eqb _ _ n, h, lt-leb _ _ t, ne-eqb _ _ u)
 
-        refused-4 : 3 < typeOf o → (typeOf o ≡ 6 → ⊥) → Refused 4 ≡ reading o
-        unfolding reading require
-        refused-4 t u = simp (eq-eqb _ _ n, h, eq-eqb _ _ v, lt-leb _ _ t, ne-eqb _ _ u)
-
-        pub takes-rest : typeOf o ≡ 6 → rest o ≡ reading o
-        unfolding reading require
-        takes-rest u =
-            let above : 3 < typeOf o = omega arith in
-            simp (eq-eqb _ _ n, h, eq-eqb _ _ v, lt-leb _ _ above, eq-eqb _ _ u)
+      pub takes-rest : typeOf o ≡ 6 → rest o ≡ reading o
+      unfolding reading require
+      takes-rest u =
+          let above : 3 < typeOf o = omega arith in
+          simp (eq-eqb _ _ n, h, lt-leb _ _ above, eq-eqb _ _ u)
 
 -- What the header's refusal, 0 for none, says of the reading.
 pub record HeaderMeets (o : List ℕ) (n : ℕ) : Type 0 where
   pub refused : (n ≡ 0 → ⊥) → reading o ≡ Refused n
   pub size : n ≡ 0 → length o ≡ 53
-  pub user : n ≡ 0 → leb (typeOf o) 3 ≡ true → reading o ≡ User (vciOf o) (eqb (typeOf o / 2 % 2) 1)
+  pub user : n ≡ 0 → leb (typeOf o) 3 ≡ true → reading o ≡ User (vpiOf o) (vciOf o) (eqb (typeOf o / 2 % 2) 1)
   pub resource : n ≡ 0 → leb (typeOf o) 3 ≡ false → reading o ≡ rest o
 
 header-refused : (o : List ℕ) (k : ℕ) {n : ℕ} → n ≡ suc k → Refused (suc k) ≡ reading o → HeaderMeets o n
@@ -138,30 +138,29 @@ header-refused o k e q = record {
 
 pub header-meets : (o : List ℕ) (n : ℕ) → n ≡ headerRefusal o → HeaderMeets o n
 unfolding headerRefusal
-header-meets o n e = go (eqb (length o) 53) (headerRight o) (eqb (vpiOf o) 0) (leb (typeOf o) 3) (eqb (typeOf o) 6) refl refl refl refl refl e
+header-meets o n e = go (eqb (length o) 53) (headerRight o) (leb (typeOf o) 3) (eqb (typeOf o) 6) refl refl refl refl e
   where
-    go : (a b c d f : Bool) → eqb (length o) 53 ≡ a → headerRight o ≡ b → eqb (vpiOf o) 0 ≡ c → leb (typeOf o) 3 ≡ d → eqb (typeOf o) 6 ≡ f
-        → n ≡ cond a (cond b (cond c (cond (d || f) 0 4) 3) 2) 1 → HeaderMeets o n
-    go false b c d f p q r s t e = header-refused o 0 e (refused-1 o (eqb-false _ _ p))
-    go true false c d f p q r s t e = header-refused o 1 e (refused-2 o (eqb-true _ _ p) q)
-    go true true false d f p q r s t e = header-refused o 2 e (refused-3 o (eqb-true _ _ p) q (eqb-false _ _ r))
-    go true true true true f p q r s t e =
+    go : (a b d f : Bool) → eqb (length o) 53 ≡ a → headerRight o ≡ b → leb (typeOf o) 3 ≡ d → eqb (typeOf o) 6 ≡ f
+        → n ≡ cond a (cond b (cond (d || f) 0 4) 2) 1 → HeaderMeets o n
+    go false b d f p q s t e = header-refused o 0 e (refused-1 o (eqb-false _ _ p))
+    go true false d f p q s t e = header-refused o 1 e (refused-2 o (eqb-true _ _ p) q)
+    go true true true f p q s t e =
         let m = eqb-true _ _ p in
         record {
           refused = λ z. absurd (z e);
           size = λ _. m;
-          user = λ _ _. sym (takes-user o m q (eqb-true _ _ r) (leb-true _ _ s));
+          user = λ _ _. sym (takes-user o m q (leb-true _ _ s));
           resource = λ _ x. absurd (true≢false (sym s ∙ x));
         }
-    go true true true false true p q r s t e =
+    go true true false true p q s t e =
         let m = eqb-true _ _ p in
         record {
           refused = λ z. absurd (z e);
           size = λ _. m;
           user = λ _ x. absurd (true≢false (sym x ∙ s));
-          resource = λ _ _. sym (takes-rest o m q (eqb-true _ _ r) (eqb-true _ _ t));
+          resource = λ _ _. sym (takes-rest o m q (eqb-true _ _ t));
         }
-    go true true true false false p q r s t e = header-refused o 3 e (refused-4 o (eqb-true _ _ p) q (eqb-true _ _ r) (leb-false _ _ s) (eqb-false _ _ t))
+    go true true false false p q s t e = header-refused o 3 e (refused-4 o (eqb-true _ _ p) q (leb-false _ _ s) (eqb-false _ _ t))
 
 -- The same of the rest of an RM cell.
 pub record RestMeets (o : List ℕ) (n : ℕ) : Type 0 where
@@ -187,16 +186,16 @@ unfolding require
 require-number n p true r h m e = h m e
 require-number n p false r h m e = let q : n ≡ m = cc in subst (λ (k : ℕ). 0 < k) q p
 
-user-number : (t : Bool) (v : ℕ) (e : Bool) (r : Reading) → ((m : ℕ) → r ≡ Refused m → 0 < m) → (m : ℕ) → cond t (User v e) r ≡ Refused m → 0 < m
-user-number true v e r h m q = let z : _≡_ {A = ℕ} 0 1 = cc in absurd (omega arith)
-user-number false v e r h m q = h m q
+user-number : (t : Bool) (a v : ℕ) (e : Bool) (r : Reading) → ((m : ℕ) → r ≡ Refused m → 0 < m) → (m : ℕ) → cond t (User a v e) r ≡ Refused m → 0 < m
+user-number true a v e r h m q = let z : _≡_ {A = ℕ} 0 1 = cc in absurd (omega arith)
+user-number false a v e r h m q = h m q
 
 pub refusal-number : (o : List ℕ) (n : ℕ) → reading o ≡ Refused n → 0 < n
 unfolding reading
 refusal-number o =
-    require-number 1 (lit< tt) (eqb (length o) 53) _ (require-number 2 (lit< tt) (headerRight o) _ (require-number 3 (lit< tt) (eqb (vpiOf o) 0) _
-    (user-number (leb (typeOf o) 3) (vciOf o) (eqb (typeOf o / 2 % 2) 1) _ (require-number 4 (lit< tt) (eqb (typeOf o) 6) _
-    (require-number 5 (lit< tt) (crcRight o) _ (require-number 6 (lit< tt) (eqb (octet 6 o) 1) _ taken))))))
+    require-number 1 (lit< tt) (eqb (length o) 53) _ (require-number 2 (lit< tt) (headerRight o) _
+    (user-number (leb (typeOf o) 3) (vpiOf o) (vciOf o) (eqb (typeOf o / 2 % 2) 1) _ (require-number 4 (lit< tt) (eqb (typeOf o) 6) _
+    (require-number 5 (lit< tt) (crcRight o) _ (require-number 6 (lit< tt) (eqb (octet 6 o) 1) _ taken)))))
   where
     taken : (m : ℕ) → Resource (fieldsOf o) ≡ Refused m → 0 < m
     taken m q = let z : _≡_ {A = ℕ} 0 1 = cc in absurd (omega arith)

@@ -81,14 +81,14 @@ payload-put l p n e1 e2 e3 e4 e5 e6 =
     ∙ append-nil (take 5 l ++ octetsOf p)
 
 -- five octets from the front
-pub header-put : (l : List ℕ) (clp vci h : ℕ) → length l ≡ 53 → h ≡ headerCheck (firstFour clp vci)
-    → set (set (set (set (set l 0 0) 1 (vci / 4096 % 16)) 2 (vci / 16 % 256)) 3 (vci % 16 * 16 + 12 + clp)) 4 h ≡ header clp vci ++ drop 5 l
+pub header-put : (l : List ℕ) (clp vpi vci h : ℕ) → length l ≡ 53 → h ≡ headerCheck (firstFour clp vpi vci)
+    → set (set (set (set (set l 0 (vpi / 16 % 16)) 1 (vpi % 16 * 16 + vci / 4096 % 16)) 2 (vci / 16 % 256)) 3 (vci % 16 * 16 + 12 + clp)) 4 h ≡ header clp vpi vci ++ drop 5 l
 unfolding header
-header-put l clp vci h n e =
-    ap (λ (x : ℕ). sets l 0 (firstFour clp vci ++ (x ∷ []))) e
-    ∙ sets-eq (firstFour clp vci ++ (headerCheck (firstFour clp vci) ∷ [])) l 0 (omega arith)
+header-put l clp vpi vci h n e =
+    ap (λ (x : ℕ). sets l 0 (firstFour clp vpi vci ++ (x ∷ []))) e
+    ∙ sets-eq (firstFour clp vpi vci ++ (headerCheck (firstFour clp vpi vci) ∷ [])) l 0 (omega arith)
 
 -- a header, and then a payload
-pub cell-put : (clp vci : ℕ) (l : List ℕ) {h c : List ℕ} (p : List ℕ) → h ≡ header clp vci ++ drop 5 l → c ≡ take 5 h ++ p → c ≡ header clp vci ++ p
+pub cell-put : (clp vpi vci : ℕ) (l : List ℕ) {h c : List ℕ} (p : List ℕ) → h ≡ header clp vpi vci ++ drop 5 l → c ≡ take 5 h ++ p → c ≡ header clp vpi vci ++ p
 unfolding header
-cell-put clp vci l p e k = k ∙ ap (λ (m : List ℕ). take 5 m ++ p) e
+cell-put clp vpi vci l p e k = k ∙ ap (λ (m : List ℕ). take 5 m ++ p) e

@@ -10,14 +10,14 @@ use lib.Seq.{getD-drop}
 use Rattle.crc.specs.Payload.{payloadOf}
 use Rattle.crc.proofs.Words.{octets-of-payload}
 use Rattle.cell.specs.Octets.{octet, pair, payload, AreOctets}
-use Rattle.cell.specs.Header.{vciOf, header}
+use Rattle.cell.specs.Header.{vpiOf, vciOf, header}
 use Rattle.cell.specs.Fields.{Fields, fieldsOf, withCrc}
 use Rattle.cell.specs.Reading.{reading, Resource}
 use Rattle.cell.specs.Turning.{turnedMarks, turnedPayload, turnedCell}
 use Rattle.cell.specs.Returned.{returned, Kept}
 use Rattle.cell.proofs.OctetLists.{octets-cons, octets-drop}
 use Rattle.cell.proofs.Admits.{resource-received}
-use Rattle.cell.proofs.WithCrc.{withCrc-size, withCrc-octets, withCrc-at, withCrc-six, carried-size, carried-octets, carried-vci, carried-read}
+use Rattle.cell.proofs.WithCrc.{withCrc-size, withCrc-octets, withCrc-at, withCrc-six, carried-size, carried-octets, carried-vpi, carried-vci, carried-read}
 
 -- a bit set by a test, or as it was
 mark-le : (t : Bool) (x : ℕ) → cond t 1 (x % 2) ≤ 1
@@ -49,20 +49,20 @@ module _ (level : ℕ) (mark : Bool) (x : ℕ) where
   unfolding turnedMarks
   marks-low = omega (arith, mark-le (mark || eqb level 2) (x / 32), mark-le (eqb level 1) (x / 16))
 
-module _ (level : ℕ) (mark : Bool) (vci : ℕ) (o : List ℕ) (n : length o ≡ 53) where
+module _ (level : ℕ) (mark : Bool) (vpi vci : ℕ) (o : List ℕ) (n : length o ≡ 53) where
   -- the payload before its CRC-10 is written
   abbrev marked : List ℕ
   marked = getD (payload o) 0 0 ∷ turnedMarks level mark (getD (payload o) 1 0) ∷ drop 2 (payload o)
 
   abbrev turned : List ℕ
-  turned = header 0 vci ++ turnedPayload level mark (payload o)
+  turned = header 0 vpi vci ++ turnedPayload level mark (payload o)
 
   marked-size : length marked ≡ 48
   marked-size = simp length-drop (omega arith)
 
   pub turned-size : length turned ≡ 53
   unfolding turnedPayload
-  turned-size = carried-size marked marked-size 0 vci
+  turned-size = carried-size marked marked-size 0 vpi vci
 
   marked-octets : AreOctets o → AreOctets marked
   marked-octets a =
@@ -71,7 +71,7 @@ module _ (level : ℕ) (mark : Bool) (vci : ℕ) (o : List ℕ) (n : length o �
 
   pub turned-octets : AreOctets o → AreOctets turned
   unfolding turnedPayload
-  turned-octets a = carried-octets marked marked-size 0 vci (lit≤ tt) (marked-octets a)
+  turned-octets a = carried-octets marked marked-size 0 vpi vci (lit≤ tt) (marked-octets a)
 
   marks-at : octet 7 turned ≡ turnedMarks level mark (octet 7 o)
   unfolding header turnedPayload
@@ -103,9 +103,10 @@ module _ (level : ℕ) (mark : Bool) (vci : ℕ) (o : List ℕ) (n : length o �
       let b : octet (i + 1) turned ≡ octet (i + 1) o = middle (i + 1) (omega arith) (omega arith) in
       cc
 
-  turned-fields : vci ≤ 65535 → fieldsOf turned ≡ returned level mark vci (fieldsOf o)
+  turned-fields : vpi ≤ 255 → vci ≤ 65535 → fieldsOf turned ≡ returned level mark vpi vci (fieldsOf o)
   unfolding fieldsOf returned turnedPayload
-  turned-fields l = λ i. record {
+  turned-fields g l = λ i. record {
+    vpi = p-vpi i;
     vci = p-vci i;
     dir = p-dir i;
     bn = p-bn i;
@@ -119,8 +120,11 @@ module _ (level : ℕ) (mark : Bool) (vci : ℕ) (o : List ℕ) (n : length o �
     sn = p-long 18 (lit≤ tt) (lit≤ tt) i;
   }
     where
+      p-vpi : vpiOf turned ≡ vpi
+      p-vpi = carried-vpi marked marked-size 0 vpi vci g
+
       p-vci : vciOf turned ≡ vci
-      p-vci = carried-vci marked marked-size 0 vci (lit≤ tt) l
+      p-vci = carried-vci marked marked-size 0 vpi vci (lit≤ tt) l
 
       p-dir : octet 7 turned / 128 % 2 ≡ 1
       p-dir = rw marks-at (marks-dir level mark (octet 7 o))
@@ -146,16 +150,16 @@ module _ (level : ℕ) (mark : Bool) (vci : ℕ) (o : List ℕ) (n : length o �
           let b : pair (i + 2) turned ≡ pair (i + 2) o = pairs (i + 2) (omega arith) (omega arith) in
           cc
 
-  -- the turned cell reads as the received one, but for the VCI, DIR, BN and the marks set here
-  pub turned-read : (f : Fields) → reading o ≡ Resource f → vci ≤ 65535 → reading turned ≡ Resource (returned level mark vci f)
+  -- the turned cell reads as the received one, but for the VPI, VCI, DIR, BN and the marks set here
+  pub turned-read : (f : Fields) → reading o ≡ Resource f → vpi ≤ 255 → vci ≤ 65535 → reading turned ≡ Resource (returned level mark vpi vci f)
   unfolding turnedPayload
-  turned-read f e l =
-      carried-read marked marked-size 0 vci (lit≤ tt) l (getD-drop 5 o 0 0 ∙ resource-received o f e .protocol)
-      ∙ ap Resource (turned-fields l ∙ ap (returned level mark vci) (sym (resource-received o f e .fields)))
+  turned-read f e g l =
+      carried-read marked marked-size 0 vpi vci (lit≤ tt) (getD-drop 5 o 0 0 ∙ resource-received o f e .protocol)
+      ∙ ap Resource (turned-fields g l ∙ ap (returned level mark vpi vci) (sym (resource-received o f e .fields)))
 
   -- the same cell, from the words of its payload
-  pub turned-words : AreOctets o → turnedCell vci (payloadOf (turnedPayload level mark (payload o))) ≡ turned
+  pub turned-words : AreOctets o → turnedCell vpi vci (payloadOf (turnedPayload level mark (payload o))) ≡ turned
   unfolding turnedCell turnedPayload
   turned-words a =
-      ap (λ (l : List ℕ). header 0 vci ++ l)
+      ap (λ (l : List ℕ). header 0 vpi vci ++ l)
       (octets-of-payload (withCrc marked) (withCrc-size marked marked-size) (withCrc-octets marked marked-size (marked-octets a) .each))

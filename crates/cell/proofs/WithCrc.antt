@@ -12,7 +12,7 @@ use Rattle.crc.specs.Payload.{payloadOf}
 use Rattle.crc.proofs.Octets.{header-lt}
 use Rattle.crc.proofs.Check.{payload-lt, payload-own}
 use Rattle.cell.specs.Octets.{octet, AreOctets}
-use Rattle.cell.specs.Header.{header, firstFour, vciOf, headerRight}
+use Rattle.cell.specs.Header.{header, firstFour, vpiOf, vciOf, headerRight}
 use Rattle.cell.specs.Fields.{fieldsOf, withCrc, crcRight, Checked}
 use Rattle.cell.specs.Reading.{reading, Resource}
 use Rattle.cell.proofs.OctetLists.{octets-nil, octets-cons, octets-append, octets-take}
@@ -63,9 +63,9 @@ module _ (p : List ℕ) (n : length p ≡ 48) where
   pub withCrc-checked : AreOctets p → Checked (payloadOf (withCrc p))
   withCrc-checked a = words-checked (withCrc p) withCrc-size (withCrc-octets a) withCrc-right
 
-  module _ (clp vci : ℕ) where
+  module _ (clp vpi vci : ℕ) where
     abbrev pub carried : List ℕ
-    carried = header clp vci ++ withCrc p
+    carried = header clp vpi vci ++ withCrc p
 
     pub carried-size : length carried ≡ 53
     unfolding header
@@ -74,18 +74,23 @@ module _ (p : List ℕ) (n : length p ≡ 48) where
     pub carried-octets : clp ≤ 1 → AreOctets p → AreOctets carried
     unfolding header
     carried-octets h a =
-        let b : vci / 4096 % 16 < 256 = omega arith in
+        let a1 : vpi / 16 % 16 < 256 = omega arith in
+        let b : vpi % 16 * 16 + vci / 4096 % 16 < 256 = omega arith in
         let c : vci / 16 % 256 < 256 = omega arith in
         let d : vci % 16 * 16 + 12 + clp < 256 = omega arith in
-        octets-cons (lit< tt) (octets-cons b (octets-cons c (octets-cons d (octets-cons (header-lt (firstFour clp vci)) (withCrc-octets a)))))
+        octets-cons a1 (octets-cons b (octets-cons c (octets-cons d (octets-cons (header-lt (firstFour clp vpi vci)) (withCrc-octets a)))))
+
+    pub carried-vpi : vpi ≤ 255 → vpiOf carried ≡ vpi
+    unfolding header
+    carried-vpi l = omega arith
 
     pub carried-vci : clp ≤ 1 → vci ≤ 65535 → vciOf carried ≡ vci
     unfolding header
     carried-vci h l = omega arith
 
     -- an RM cell of protocol 1 is read as one
-    pub carried-read : clp ≤ 1 → vci ≤ 65535 → getD p 0 0 ≡ 1 → reading carried ≡ Resource (fieldsOf carried)
+    pub carried-read : clp ≤ 1 → getD p 0 0 ≡ 1 → reading carried ≡ Resource (fieldsOf carried)
     unfolding header headerRight crcRight
-    carried-read h l one =
+    carried-read h one =
         sym (takes-fields carried (eq-eqb _ _ withCrc-right) (withCrc-at 0 (omega arith) ∙ one)
-        ∙ takes-rest carried carried-size (eq-eqb (octet 5 carried) (headerCheck (firstFour clp vci)) refl) (omega arith) (omega arith))
+        ∙ takes-rest carried carried-size (eq-eqb (octet 5 carried) (headerCheck (firstFour clp vpi vci)) refl) (omega arith))

@@ -7,11 +7,11 @@ use native.Mathlib.Omega.{arith}
 use lib.Dec.{lit<}
 use lib.ListN.{length, replicate}
 use Rattle.cell.specs.Octets.{octet, pair, AreOctets}
-use Rattle.cell.specs.Header.{vciOf, header}
+use Rattle.cell.specs.Header.{vpiOf, vciOf, header}
 use Rattle.cell.specs.Fields.{Fields, fieldsFit, fieldsOf, body, withCrc, resourceCell}
 use Rattle.cell.specs.Reading.{reading, Resource}
 use Rattle.cell.proofs.OctetLists.{octets-nil, octets-cons, octets-append, octets-replicate}
-use Rattle.cell.proofs.WithCrc.{carried-size, carried-octets, carried-vci, carried-read}
+use Rattle.cell.proofs.WithCrc.{carried-size, carried-octets, carried-vpi, carried-vci, carried-read}
 use Rattle.cell.proofs.Fits.{Fit, fit}
 
 -- the payload before its CRC-10 is written
@@ -36,15 +36,16 @@ without-crc-octets f b =
 module _ (clp : ℕ) (f : Fields) where
   pub written-size : length (resourceCell clp f) ≡ 53
   unfolding resourceCell
-  written-size = carried-size (unchecked f) refl clp (f .vci)
+  written-size = carried-size (unchecked f) refl clp (f .vpi) (f .vci)
 
   pub written-octets : clp ≤ 1 → fieldsFit f ≡ true → AreOctets (resourceCell clp f)
   unfolding resourceCell
-  written-octets h e = carried-octets (unchecked f) refl clp (f .vci) h (without-crc-octets f (fit f e))
+  written-octets h e = carried-octets (unchecked f) refl clp (f .vpi) (f .vci) h (without-crc-octets f (fit f e))
 
   fields-back : clp ≤ 1 → Fit f → fieldsOf (resourceCell clp f) ≡ f
   unfolding fieldsOf header withCrc resourceCell
   fields-back h b = λ i. record {
+    vpi = p-vpi i;
     vci = p-vci i;
     dir = p-dir i;
     bn = p-bn i;
@@ -58,8 +59,11 @@ module _ (clp : ℕ) (f : Fields) where
     sn = p-sn i;
   }
     where
+      p-vpi : vpiOf (resourceCell clp f) ≡ f .vpi
+      p-vpi = carried-vpi (unchecked f) refl clp (f .vpi) (f .vci) (b .vpi)
+
       p-vci : vciOf (resourceCell clp f) ≡ f .vci
-      p-vci = carried-vci (unchecked f) refl clp (f .vci) h (b .vci)
+      p-vci = carried-vci (unchecked f) refl clp (f .vpi) (f .vci) h (b .vci)
 
       p-dir : octet 7 (resourceCell clp f) / 128 % 2 ≡ f .dir
       p-dir = omega arith
@@ -94,4 +98,4 @@ module _ (clp : ℕ) (f : Fields) where
   pub read-written : clp ≤ 1 → fieldsFit f ≡ true → reading (resourceCell clp f) ≡ Resource f
   unfolding resourceCell
   read-written h e =
-      carried-read (unchecked f) refl clp (f .vci) h (fit f e .vci) refl ∙ ap Resource (fields-back h (fit f e))
+      carried-read (unchecked f) refl clp (f .vpi) (f .vci) h refl ∙ ap Resource (fields-back h (fit f e))

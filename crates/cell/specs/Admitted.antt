@@ -5,7 +5,7 @@ use mathlib.Core.List.{List}
 use lib.ListN.{length, take}
 use Rattle.crc.specs.Checks.{headerCheck, payloadCheck}
 use Rattle.cell.specs.Octets.{octet, pair, payload}
-use Rattle.cell.specs.Header.{vpiOf, typeOf}
+use Rattle.cell.specs.Header.{typeOf}
 use Rattle.cell.specs.Reading.{Reading, Refused}
 
 -- a data cell, or an RM cell whose CRC-10 is right and whose protocol is 1
@@ -13,11 +13,10 @@ pub data Admissible (o : List ℕ) : Type 0 where
   userCell : typeOf o ≤ 3 → Admissible o
   rmCell : typeOf o ≡ 6 → pair 52 o % 1024 ≡ payloadCheck (payload o) → octet 6 o ≡ 1 → Admissible o
 
--- of 53 octets, with octet 5 right and VPI 0
+-- of 53 octets, with octet 5 right
 pub record Admitted (o : List ℕ) : Type 0 where
   pub size : length o ≡ 53
   pub check : octet 5 o ≡ headerCheck (take 4 o)
-  pub vpi : vpiOf o ≡ 0
   pub kind : Admissible o
 
 -- what is read is no refusal

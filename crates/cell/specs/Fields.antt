@@ -1,4 +1,4 @@
--- The fields of an RM cell, in its octets and out of them. (Document 01, "The cell, 53 octets"; the ranges are those of refusal 7.)
+-- The fields of an RM cell, in its octets and out of them. (Document 01, "The cell, 53 octets"; document 02, L6; the ranges are those of refusal 7.)
 use Prim.Native.Nat.{ℕ, _+_, _*_, _/_, _%_}
 use mathlib.Core.Path.{_≡_}
 use mathlib.Core.Bool.{Bool, _&&_}
@@ -9,12 +9,14 @@ use Rattle.crc.specs.Checks.{payloadCheck}
 use Rattle.crc.specs.Payload.{octetsOf}
 use Rattle.crc.specs.declared.payload.Payload.{Payload}
 use Rattle.cell.specs.Octets.{octet, pair, two, payload}
-use Rattle.cell.specs.Header.{vciOf, header}
+use Rattle.cell.specs.Header.{vpiOf, vciOf, header}
+use Rattle.cell.specs.Name.{pairName}
 pub use Rattle.cell.specs.declared.fields.Fields.{Fields}
 
 -- octet 7 from the top: DIR, BN, CI, NI, RA; ER, CCR and MCR without bit 15; QL; SN
 unfoldable pub fieldsOf : List ℕ → Fields
 fieldsOf o = record {
+  vpi = vpiOf o;
   vci = vciOf o;
   dir = octet 7 o / 128 % 2;
   bn = octet 7 o / 64 % 2;
@@ -28,12 +30,16 @@ fieldsOf o = record {
   sn = pair 18 o * 65536 + pair 20 o;
 }
 
+-- the name of the connection whose cell it is
+abbrev pub cellName : Fields → ℕ
+cellName f = pairName (f .vpi) (f .vci)
+
 -- each field fits the bits that a cell has for it; a rate code has 15, since bit 15 stays 0
 unfoldable pub fieldsFit : Fields → Bool
 fieldsFit f =
-    leb (f .vci) 65535
+    leb (f .vpi) 255 && (leb (f .vci) 65535
     && (leb (f .dir) 1 && (leb (f .bn) 1 && (leb (f .ci) 1 && (leb (f .ni) 1 && (leb (f .ra) 1
-    && (leb (f .er) 32767 && (leb (f .ccr) 32767 && (leb (f .mcr) 32767 && (leb (f .ql) 4_294_967_295 && leb (f .sn) 4_294_967_295)))))))))
+    && (leb (f .er) 32767 && (leb (f .ccr) 32767 && (leb (f .mcr) 32767 && (leb (f .ql) 4_294_967_295 && leb (f .sn) 4_294_967_295))))))))))
 
 -- octets 6 to 51: protocol 1, octet 7, the rates, QL, SN, and 0x6A
 abbrev pub body : Fields → List ℕ
@@ -47,7 +53,7 @@ withCrc p = take 46 p ++ ((getD p 46 0 / 4 * 4 + payloadCheck p / 256) ∷ (payl
 
 -- an RM cell of 53 octets, its six reserved bits 0
 unfoldable pub resourceCell : (clp : ℕ) → Fields → List ℕ
-resourceCell clp f = header clp (f .vci) ++ withCrc (body f ++ (0 ∷ 0 ∷ []))
+resourceCell clp f = header clp (f .vpi) (f .vci) ++ withCrc (body f ++ (0 ∷ 0 ∷ []))
 
 -- whether the ten bits of the CRC-10 are right
 unfoldable pub crcRight : List ℕ → Bool

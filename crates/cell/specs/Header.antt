@@ -1,4 +1,4 @@
--- A cell's header of five octets: what its first four carry, and the check over them. (Document 01, "The cell, 53 octets".)
+-- A cell's header of five octets: what its first four carry, and the check over them. (Document 01, "The cell, 53 octets"; document 02, L6.)
 use Prim.Native.Nat.{ℕ, _+_, _*_, _/_, _%_}
 use mathlib.Core.Bool.{Bool}
 use mathlib.Core.List.{List, [], _∷_, _++_}
@@ -7,6 +7,7 @@ use lib.ListN.{take}
 use Rattle.crc.specs.Checks.{headerCheck}
 use Rattle.cell.specs.Octets.{octet}
 
+-- GFC, the four bits before the VPI, is not read
 abbrev pub vpiOf : List ℕ → ℕ
 vpiOf o = octet 1 o % 16 * 16 + octet 2 o / 16
 
@@ -19,10 +20,10 @@ typeOf o = octet 4 o / 2 % 8
 unfoldable pub headerRight : List ℕ → Bool
 headerRight o = eqb (octet 5 o) (headerCheck (take 4 o))
 
--- octets 1 to 4 of an RM cell of this VCI: GFC and VPI 0, payload type 6, and the CLP
-abbrev pub firstFour : (clp vci : ℕ) → List ℕ
-firstFour clp vci = 0 ∷ (vci / 4096 % 16) ∷ (vci / 16 % 256) ∷ (vci % 16 * 16 + 12 + clp) ∷ []
+-- octets 1 to 4 of an RM cell of this VPI and VCI: GFC 0, payload type 6, and the CLP
+abbrev pub firstFour : (clp vpi vci : ℕ) → List ℕ
+firstFour clp vpi vci = (vpi / 16 % 16) ∷ (vpi % 16 * 16 + vci / 4096 % 16) ∷ (vci / 16 % 256) ∷ (vci % 16 * 16 + 12 + clp) ∷ []
 
 -- octets 1 to 5
-unfoldable pub header : (clp vci : ℕ) → List ℕ
-header clp vci = firstFour clp vci ++ (headerCheck (firstFour clp vci) ∷ [])
+unfoldable pub header : (clp vpi vci : ℕ) → List ℕ
+header clp vpi vci = firstFour clp vpi vci ++ (headerCheck (firstFour clp vpi vci) ∷ [])

@@ -1,4 +1,4 @@
--- What reading a cell gives. (Document 01, "The cell, 53 octets" and "Refused because of the input"; the orders: "Refused because of the state".)
+-- What reading a cell gives. (Document 01, "The cell, 53 octets" and "Refused because of the input"; the orders: "Refused because of the state", without 3, which document 02, L6 withdrew.)
 use Prim.Native.Nat.{ℕ, _/_, _%_}
 use mathlib.Core.Bool.{Bool, true, false, cond}
 use mathlib.Core.List.{List}
@@ -11,15 +11,14 @@ use Rattle.laws.specs.Require.{require}
 pub use Rattle.cell.specs.declared.read.Reading.{Reading}
 pub use Rattle.cell.specs.declared.read.Reading.the-variants.{Refused, User, Resource}
 
--- size, header check, VPI and payload type are judged first, the CRC-10 and the protocol of RM cells (type 6) alone; a data cell (types 0 to 3) has its EFCI in the middle bit of its type
+-- size, header check and payload type are judged first, the CRC-10 and the protocol of RM cells (type 6) alone; a data cell (types 0 to 3) has its EFCI in the middle bit of its type
 unfoldable pub reading : List ℕ → Reading
 reading o =
     require (Refused 1) (eqb (length o) 53)
     (require (Refused 2) (headerRight o)
-    (require (Refused 3) (eqb (vpiOf o) 0)
     (cond (leb (typeOf o) 3)
-    (User (vciOf o) (eqb (typeOf o / 2 % 2) 1))
+    (User (vpiOf o) (vciOf o) (eqb (typeOf o / 2 % 2) 1))
     (require (Refused 4) (eqb (typeOf o) 6)
     (require (Refused 5) (crcRight o)
     (require (Refused 6) (eqb (octet 6 o) 1)
-    (Resource (fieldsOf o))))))))
+    (Resource (fieldsOf o)))))))

@@ -5,12 +5,11 @@ use mathlib.Core.List.{List}
 use lib.Dec.{leb, eqb}
 use lib.ListN.{length}
 use Rattle.cell.specs.Octets.{octet}
-use Rattle.cell.specs.Header.{vpiOf, typeOf, headerRight}
+use Rattle.cell.specs.Header.{typeOf, headerRight}
 use Rattle.cell.specs.Fields.{crcRight}
 
 unfoldable pub headerRefusal : List ℕ → ℕ
-headerRefusal o =
-    cond (eqb (length o) 53) (cond (headerRight o) (cond (eqb (vpiOf o) 0) (cond (leb (typeOf o) 3 || eqb (typeOf o) 6) 0 4) 3) 2) 1
+headerRefusal o = cond (eqb (length o) 53) (cond (headerRight o) (cond (leb (typeOf o) 3 || eqb (typeOf o) 6) 0 4) 2) 1
 
 unfoldable pub restRefusal : List ℕ → ℕ
 restRefusal o = cond (crcRight o) (cond (eqb (octet 6 o) 1) 0 6) 5

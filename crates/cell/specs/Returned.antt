@@ -8,8 +8,9 @@ use Rattle.cell.specs.Octets.{octet}
 use Rattle.cell.specs.Fields.{Fields}
 
 -- the fields: DIR 1, BN 0, a mark set here or on the way is set; the rest as received
-unfoldable pub returned : (level : ℕ) (mark : Bool) (vci : ℕ) → Fields → Fields
-returned level mark vci f = record {
+unfoldable pub returned : (level : ℕ) (mark : Bool) (vpi vci : ℕ) → Fields → Fields
+returned level mark vpi vci f = record {
+  vpi = vpi;
   vci = vci;
   dir = 1;
   bn = 0;

@@ -1,4 +1,4 @@
--- A received forward cell turned round. (Document 01, "Turning cells round"; document 02, L2.)
+-- A received forward cell turned round. (Document 01, "Turning cells round"; document 02, L2 and L6.)
 use Prim.Native.Nat.{ℕ, _+_, _*_, _/_, _%_}
 use mathlib.Core.Bool.{Bool, cond, _||_}
 use mathlib.Core.List.{List, _∷_, _++_}
@@ -23,5 +23,5 @@ unfoldable pub turnedPayload : (level : ℕ) (mark : Bool) → List ℕ → List
 turnedPayload level mark p = withCrc (getD p 0 0 ∷ turnedMarks level mark (getD p 1 0) ∷ drop 2 p)
 
 -- the cell that carries a waiting payload
-unfoldable pub turnedCell : (vci : ℕ) → Payload → List ℕ
-turnedCell vci p = header 0 vci ++ octetsOf p
+unfoldable pub turnedCell : (vpi vci : ℕ) → Payload → List ℕ
+turnedCell vpi vci p = header 0 vpi vci ++ octetsOf p

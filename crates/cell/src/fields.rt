@@ -1,9 +1,10 @@
-// The fields of an RM cell (document 01, "The cell, 53 octets").
+// The fields of an RM cell (document 01, "The cell, 53 octets"; document 02, L6).
 ghost use mathlib.Core.Path.{_≡_};
 ghost use Rattle.cell.specs.Fields.{fieldsFit};
 
 #[repr(C)]
 pub struct Fields {
+    pub vpi: u32,
     pub vci: u32,
     pub dir: u32,
     pub bn: u32,
@@ -22,7 +23,8 @@ impl Fields {
     pub fn fits(self) -> bool
         ensures { λ r. ⌜ r ≡ fieldsFit self ⌝ }
     {
-        (self.vci <= 65535)
+        (self.vpi <= 255)
+            & (self.vci <= 65535)
             & (self.dir <= 1)
             & (self.bn <= 1)
             & (self.ci <= 1)

@@ -3,6 +3,7 @@ use Prim.Native.Nat.{ℕ}
 use mathlib.Core.Path.{_≡_}
 use mathlib.Core.List.{List, [], _∷_}
 use lib.ListN.{length}
+use Rattle.cell.specs.Name.{pairName}
 use Rattle.model.specs.Call.{Call, opening, closing, receiving, offering, levelling, slot, making, outOfRate}
 use Rattle.abr.specs.declared.connections.AcrAnswer.{AcrAnswer}
 use Rattle.abr.specs.Contract.{AnswersAcr}
@@ -12,8 +13,8 @@ use Rattle.composed.specs.declared.Arguments.{Arguments}
 -- the slot finds the lent buffer as it is at entry, the cell outside the rate as the slot leaves it
 abbrev pub calls : Arguments → (received old between : List ℕ) → List Call
 calls a received old between =
-    opening (a .vci) (a .time) (a .params) ∷ offering (a .vci) (a .cells) ∷ levelling (a .level) ∷ receiving received ∷ slot (a .time) (length old)
-    ∷ outOfRate (a .vci) (a .time) (length between) ∷ making (a .vci) (a .time) ∷ closing (a .vci) ∷ []
+    opening (a .vpi) (a .vci) (a .time) (a .params) ∷ offering (a .vpi) (a .vci) (a .cells) ∷ levelling (a .level) ∷ receiving received ∷ slot (a .time) (length old)
+    ∷ outOfRate (a .vpi) (a .vci) (a .time) (length between) ∷ making (a .vpi) (a .vci) (a .time) ∷ closing (a .vpi) (a .vci) ∷ []
 
 -- what was observed of each call on the way; the ACR is read before the close
 pub record EachCall (a : Arguments) (received before after : List ℕ) (r : AcrAnswer) (old new : List ℕ) : Type 0 where
@@ -25,7 +26,7 @@ pub record EachCall (a : Arguments) (received before after : List ℕ) (r : AcrA
   pub left : Observation
   pub made : Observation
   pub closed : Observation
-  pub rate : AnswersAcr (a .vci) (made .table) r
+  pub rate : AnswersAcr (pairName (a .vpi) (a .vci)) (made .table) r
   pub table : closed .table ≡ after
   pub buffer : left .new ≡ new
   pub trace : Trace (calls a received old (sent .new)) before (opened ∷ offered ∷ levelled ∷ taken ∷ sent ∷ left ∷ made ∷ closed ∷ [])

@@ -15,6 +15,7 @@ use rate::params::Params;
 use table::layout::WORDS;
 
 pub struct Arguments {
+    pub vpi: u32,
     pub vci: u32,
     pub time: u64,
     pub params: Params,
@@ -27,14 +28,14 @@ pub fn each_call(t: &mut [u64; WORDS], a: Arguments, received: &[u8], cell: &mut
     ensures { λ r. ⌜ EachCall a (now (received .entry)) (now (t .entry)) (now (t .exit)) r (now (cell .entry)) (now (cell .exit)) ⌝ }
 {
     let params = a.params;
-    let opened = abr_open(t, a.vci, a.time, params);
-    let offered = abr_offer(t, a.vci, a.cells);
+    let opened = abr_open(t, a.vpi, a.vci, a.time, params);
+    let offered = abr_offer(t, a.vpi, a.vci, a.cells);
     let levelled = abr_set_level(t, a.level);
     let taken = abr_receive(t, received);
     let sent = abr_slot(t, a.time, cell);
-    let left = abr_out_of_rate(t, a.vci, a.time, cell);
-    let made = abr_make(t, a.vci, a.time);
-    let rate = abr_acr(t, a.vci);
-    let closed = abr_close(t, a.vci);
+    let left = abr_out_of_rate(t, a.vpi, a.vci, a.time, cell);
+    let made = abr_make(t, a.vpi, a.vci, a.time);
+    let rate = abr_acr(t, a.vpi, a.vci);
+    let closed = abr_close(t, a.vpi, a.vci);
     rate
 }

@@ -17,6 +17,7 @@ use Rattle.rate.specs.Moves.{moved, opened, firstCell, idle, unanswered, feedba
 use Rattle.rate.specs.Bounds.{RateInBounds}
 use Rattle.rate.proofs.FourMoves.{opened-in-bounds, firstCell-in-bounds, firstCell-mono, idle-in-bounds, idle-mono, unanswered-in-bounds, unanswered-mono, feedback-in-bounds}
 use Rattle.cell.specs.declared.fields.Fields.{Fields}
+use Rattle.cell.specs.Name.{vciIn, noName}
 use Rattle.connection.specs.Parts.{Connection, Pace, Unsent, Running, waiting, fresh, Instant, Never, At, Waiting, Nothing, Cell, Made}
 use Rattle.connection.specs.Making.{withMade}
 use Rattle.connection.specs.Receiving.{offered, afterDataCell, afterBackwardCell, afterForwardCell, afterResourceCell}
@@ -129,7 +130,7 @@ valid-later now later h c p = (
   not-after-later now later h (c .outside) (p .3),
 )
 
-pub fresh-valid : (v t : ℕ) (p : Params) → 32 ≤ v → v ≤ 65535 → paramsFit p ≡ true → ValidAt t (fresh v t p)
+pub fresh-valid : (v t : ℕ) (p : Params) → 32 ≤ vciIn v → v < noName → paramsFit p ≡ true → ValidAt t (fresh v t p)
 unfolding fresh
 fresh-valid v t p l u e = (record { assigned = l; coded = u; fits = e; trmTime = refl; past = le-refl t; paced = tt }, fresh-in-bounds v t p e, record { level = omega arith; past = tt }, tt)
 

@@ -1,7 +1,7 @@
 -- What sending makes of a connection, put together from its steps; and the fields of a forward cell.
 use mathlib.Core.Path.{_≡_, refl, sym, _∙_}
 use mathlib.Core.Bool.{Bool, true, false, cond, _||_}
-use Prim.Native.Nat.{ℕ, _+_, _-_, _/_, _%_, _≤_, min}
+use Prim.Native.Nat.{ℕ, _+_, _-_, _/_, _%_, _≤_, _<_, min}
 use native.Mathlib.Omega.{arith}
 use lib.Dec.{leb, eqb}
 use borrow.Author.Tests.{leb-true, le-leb, eq-eqb, ne-eqb}
@@ -12,6 +12,7 @@ use Rattle.rate.specs.Units.{largestRate}
 use Rattle.rate.specs.Code.{rateOf, codeOf, codeOrZero}
 use Rattle.rate.specs.Moves.{firstCell, idle, unanswered}
 use Rattle.rate.proofs.Codes.{code-of-rate, code-greatest, rate-le}
+use Rattle.cell.specs.Name.{vpiIn, vciIn, noName}
 use Rattle.cell.specs.Fields.{fieldsFit}
 use Rattle.connection.specs.Parts.{Connection, Pace, Unsent, Running, Nothing, withRate, withPace, withUnacked, withQueue, withDestination, Made}
 use Rattle.connection.specs.Kind.{Kind, Forward, Turned, Data}
@@ -94,20 +95,27 @@ code-is : (x : ℕ) → x ≤ largestRate → codeOrZero x ≡ codeOf x
 unfolding codeOrZero
 code-is x h = rw (le-leb _ _ h)
 
+-- a name's VPI and VCI are in range
+vpi-fits : (v : ℕ) → v < noName → leb (vpiIn v) 255 ≡ true
+vpi-fits v h = le-leb (vpiIn v) 255 (omega (arith, h))
+
+vci-fits : (v : ℕ) → leb (vciIn v) 65535 ≡ true
+vci-fits v = le-leb (vciIn v) 65535 (omega arith)
+
 pub carried :
     (v : ℕ) (q : Rate) {e a m : ℕ} → e ≡ codeOf (rateOf (q .params .pcr)) → a ≡ codeOrZero (q .acr) → m ≡ codeOf (rateOf (q .params .mcr))
-    → ForwardCarried v q (record { vci = v; dir = 0; bn = 0; ci = 0; ni = 0; ra = 0; er = e; ccr = a; mcr = m; ql = 0; sn = 0 })
+    → ForwardCarried v q (record { vpi = vpiIn v; vci = vciIn v; dir = 0; bn = 0; ci = 0; ni = 0; ra = 0; er = e; ccr = a; mcr = m; ql = 0; sn = 0 })
 unfolding forwardFields fieldsFit
 carried v q {e} {a} {m} er ccr mcr = record {
   meant = λ h. rw (er, ccr ∙ code-is (q .acr) h, mcr);
   fits = λ h.
-      rw (le-leb v 65535 h, le-leb e 32767 (own-fits (q .params .pcr) er), le-leb a 32767 (any-fits (q .acr) ccr), le-leb m 32767 (own-fits (q .params .mcr) mcr));
+      rw (vpi-fits v h, vci-fits v, le-leb e 32767 (own-fits (q .params .pcr) er), le-leb a 32767 (any-fits (q .acr) ccr), le-leb m 32767 (own-fits (q .params .mcr) mcr));
 }
 
 pub made-carried :
     (v : ℕ) (p : Params) (level : ℕ) {ci ni e : ℕ} → (ci ≡ cond (eqb level 2) 1 0) × (ci ≤ 1) → (ni ≡ cond (eqb level 1) 1 0) × (ni ≤ 1) → e ≡ codeOf (rateOf (p .pcr))
-    → (_≡_ {A = Fields} (record { vci = v; dir = 1; bn = 1; ci = ci; ni = ni; ra = 0; er = e; ccr = 0; mcr = 0; ql = 0; sn = 0 }) (madeFields v p level))
-    × (v ≤ 65535 → fieldsFit (record { vci = v; dir = 1; bn = 1; ci = ci; ni = ni; ra = 0; er = e; ccr = 0; mcr = 0; ql = 0; sn = 0 }) ≡ true)
+    → (_≡_ {A = Fields} (record { vpi = vpiIn v; vci = vciIn v; dir = 1; bn = 1; ci = ci; ni = ni; ra = 0; er = e; ccr = 0; mcr = 0; ql = 0; sn = 0 }) (madeFields v p level))
+    × (v < noName → fieldsFit (record { vpi = vpiIn v; vci = vciIn v; dir = 1; bn = 1; ci = ci; ni = ni; ra = 0; er = e; ccr = 0; mcr = 0; ql = 0; sn = 0 }) ≡ true)
 unfolding madeFields fieldsFit
 made-carried v p level {ci} {ni} {e} c n er =
-    (rw (c .0, n .0, er), λ h. rw (le-leb v 65535 h, le-leb ci 1 (c .1), le-leb ni 1 (n .1), le-leb e 32767 (own-fits (p .pcr) er)))
+    (rw (c .0, n .0, er), λ h. rw (vpi-fits v h, vci-fits v, le-leb ci 1 (c .1), le-leb ni 1 (n .1), le-leb e 32767 (own-fits (p .pcr) er)))

@@ -7,6 +7,7 @@ use Rattle.rate.specs.declared.params.Params.{Params}
 use Rattle.rate.specs.declared.moves.Rate.{Rate}
 use Rattle.rate.specs.Params.{nrm, paramsFit, trmTime}
 use Rattle.rate.specs.Bounds.{RateInBounds}
+use Rattle.cell.specs.Name.{vciIn, noName}
 use Rattle.connection.specs.Parts.{Connection, Pace, Unsent, Running, Queue, Made, Instant, Never, At, waiting}
 
 -- whatever the time: the rate between its bounds, Y and the waiting data within theirs
@@ -23,10 +24,10 @@ abbrev pub PaceFits : (now nrm : ℕ) → Pace → Type 0
 PaceFits now n Unsent = Unit
 PaceFits now n (Running sent forward k turned) = (forward ≤ sent) × (sent ≤ now) × (k < n)
 
--- a connection's name, parameters and instants, at the time of the last accepted open, slot, making or cell outside the rate
+-- a connection's name, of 24 bits and a VCI from 32 on, parameters and instants, at the time of the last accepted open, slot, making or cell outside the rate
 pub record PartsValidAt (now name opened trm : ℕ) (p : Params) (pace : Pace) : Type 0 where
-  pub assigned : 32 ≤ name
-  pub coded : name ≤ 65535
+  pub assigned : 32 ≤ vciIn name
+  pub coded : name < noName
   pub fits : paramsFit p ≡ true
   pub trmTime : trm ≡ trmTime (p .trm)
   pub past : opened ≤ now

@@ -6,6 +6,7 @@ use mathlib.Core.Bool.{true}
 use Rattle.rate.specs.declared.moves.Rate.{Rate}
 use Rattle.rate.specs.Units.{largestRate}
 use Rattle.cell.specs.declared.fields.Fields.{Fields}
+use Rattle.cell.specs.Name.{noName}
 use Rattle.cell.specs.Fields.{fieldsFit}
 use Rattle.connection.specs.Parts.{Connection, Pace, Unsent, Running, Instant, Never, At}
 use Rattle.connection.specs.Sending.{forwardFields}
@@ -38,4 +39,4 @@ InstantBelow (At i) = i < 2 ^ 63 + 2 ^ 40
 -- the fields of a forward cell, where the allowed rate is a rate; and fields that a cell can carry, whatever stands there
 pub record ForwardCarried (name : ℕ) (q : Rate) (f : Fields) : Type 0 where
   pub meant : q .acr ≤ largestRate → f ≡ forwardFields name q
-  pub fits : name ≤ 65535 → fieldsFit f ≡ true
+  pub fits : name < noName → fieldsFit f ≡ true

@@ -1,4 +1,4 @@
--- What a slot at t makes of the connection that it goes to, and what it writes. (Document 01, "Slots".)
+-- What a slot at t makes of the connection that it goes to, and what it writes. (Document 01, "Slots"; document 02, L6.)
 use Prim.Native.Nat.{ℕ, _+_, _-_, min}
 use mathlib.Core.Bool.{Bool, true, false, _||_}
 use mathlib.Core.List.{List}
@@ -8,6 +8,7 @@ use Rattle.rate.specs.Code.{codeOf}
 use Rattle.rate.specs.Params.{peak, least}
 use Rattle.rate.specs.Moves.{firstCell, idle, unanswered}
 use Rattle.cell.specs.declared.fields.Fields.{Fields}
+use Rattle.cell.specs.Name.{vpiIn, vciIn}
 use Rattle.cell.specs.Fields.{resourceCell}
 use Rattle.cell.specs.Turning.{turnedCell}
 use Rattle.connection.specs.Parts.{Connection, Pace, Unsent, Running, Waiting, Nothing, Cell, Made, withRate, withPace, withUnacked, withQueue, withDestination, dequeued}
@@ -47,10 +48,11 @@ after Forward t c = sentForward t c
 after Turned t c = sentTurned t c
 after Data t c = sentData t c
 
--- a forward cell: the codes of PCR as ER, of ACR as CCR, and of MCR; the five bits, QL and SN 0
+-- a forward cell: its connection's VPI and VCI; the codes of PCR as ER, of ACR as CCR, and of MCR; the five bits, QL and SN 0
 unfoldable pub forwardFields : (name : ℕ) → Rate → Fields
 forwardFields v q = record {
-  vci = v;
+  vpi = vpiIn v;
+  vci = vciIn v;
   dir = 0;
   bn = 0;
   ci = 0;
@@ -66,7 +68,7 @@ forwardFields v q = record {
 -- the backward cell that goes: the turned one that waits, else the made one
 unfoldable pub backwardCell : (name : ℕ) → Params → Waiting → (level : ℕ) → List ℕ
 backwardCell v p Nothing level = resourceCell 0 (madeFields v p level)
-backwardCell v p (Cell w) level = turnedCell v w
+backwardCell v p (Cell w) level = turnedCell (vpiIn v) (vciIn v) w
 
 -- what the lent buffer holds after a call: what it held, or these octets
 pub data Buffer : Type 0 where

@@ -3,6 +3,7 @@ use Prim.Native.Nat.{ℕ, _+_, _≤_, _<_}
 use mathlib.Core.Path.{_≡_, refl, sym, ap, subst, _∙_}
 use mathlib.Core.List.{List}
 use borrow.Author.Tests.{le-leb, lt-leb}
+use Rattle.cell.specs.Name.{vpiIn, vciIn}
 use Rattle.connection.specs.declared.parts.Connection.{Connection}
 use Rattle.connection.specs.Parts.{waiting}
 use Rattle.connection.specs.Receiving.{offered}
@@ -20,7 +21,7 @@ use Rattle.storing.specs.Updates.{Updates, SourceMoved, Leaves}
 use Rattle.tournament.specs.Replaying.{Ordered}
 use Rattle.model.specs.declared.acr.Acr.the-variants.{NotOpen, Rate}
 use Rattle.model.specs.Queries.{acrOf, entryAcr}
-use Rattle.engine.proofs.Outcomes.{refused-out, replayed-out, replay-well-formed, ordered, loaded-is, put-at, put-becomes, updated-is}
+use Rattle.engine.proofs.Outcomes.{refused-out, replayed-out, replay-well-formed, ordered, pair-of, loaded-is, put-at, put-becomes, updated-is}
 use Rattle.laws.specs.Require.{require}
 
 -- Set level.
@@ -47,7 +48,7 @@ pub close-out :
 unfolding step
 close-out s w e {v} {i} p u =
     let done = close-done s v (p .holder) (found-at p) in
-    let z = replay-well-formed w (closing v) (leafOf v s) (put v free s) done in
+    let z = replay-well-formed w (closing (vpiIn v) (vciIn v)) (leafOf v s) (put v free s) (ap (closeStep s) (pair-of s w p) ∙ done) in
     replayed-out (leafOf v s) s (put v free s)
     (put-becomes s v (p .place) free
     (u .is s w e (p .holder) (p .here) (p .named) (subst (λ (r : State). Ordered (r .entries)) (put-at s v (p .place) free) (ordered z)))) done
@@ -101,4 +102,4 @@ module _ (s : State) (w : WellFormed s) {l : List ℕ} (e : l ≡ words s) (v n 
       let done = done-step s v n (p .holder) (found-at p) (subst (λ (z : Connection). waiting (z .queue) + n ≤ 65535) is g) in
       replayed-out (leafOf v s) s (put v (taken c) s)
       (updated-is s w e h p c (offered-same n (p .holder)) (subst (λ (z : Connection). Updates SourceMoved l m i z k) (a ∙ ap (offered n) is) u) (offered-moved n (p .holder))
-      (replay-well-formed w (offering v n) (leafOf v s) (put v (taken c) s) done)) done
+      (replay-well-formed w (offering (vpiIn v) (vciIn v) n) (leafOf v s) (put v (taken c) s) (ap (λ (u : ℕ). offerStep s u n) (pair-of s w p) ∙ done))) done

@@ -7,6 +7,7 @@ use lib.ListN.{set}
 use borrow.Author.Tests.{le-leb, lt-leb, lt-ltb, le-ltb}
 use Rattle.laws.specs.Require.{require}
 use Rattle.rate.specs.Units.{latestTime}
+use Rattle.cell.specs.Name.{vpiIn, vciIn}
 use Rattle.connection.specs.declared.parts.Connection.{Connection}
 use Rattle.connection.specs.Interval.{rested}
 use Rattle.connection.specs.Making.{withMade}
@@ -22,7 +23,7 @@ use Rattle.tournament.specs.Replaying.{Ordered}
 use Rattle.table.specs.Layout.{words, lastAt}
 use Rattle.names.specs.Finding.{Located}
 use Rattle.model.specs.State.{capacity}
-use Rattle.engine.proofs.Outcomes.{replayed-out, replay-well-formed, ordered, time-word, later-put, put-at, put-becomes, same-fixed}
+use Rattle.engine.proofs.Outcomes.{pair-of, replayed-out, replay-well-formed, ordered, time-word, later-put, put-at, put-becomes, same-fixed}
 
 module _ (s : State) (v t : ℕ) where
   pub make-late : latestTime < t → makeStep s v t ≡ refuse s 8
@@ -65,7 +66,7 @@ pub make-out :
 unfolding step put withTime
 make-out s w e {v} {i} h p t done u =
     let d : Connection = withMade t (s .level) (p .holder) in
-    let z = replay-well-formed w (making v t) (leafOf v s) (put v (taken d) (withTime t s)) done in
+    let z = replay-well-formed w (making (vpiIn v) (vciIn v) t) (leafOf v s) (put v (taken d) (withTime t s)) (ap (λ (u : ℕ). makeStep s u t) (pair-of s w p) ∙ done) in
     let b =
     put-becomes s v (p .place) (taken d)
     (u .is s w e (p .holder) (p .here) (made-same t (s .level) (p .holder) .name) (same-fixed (p .holder) d (made-same t (s .level) (p .holder))) (made-moved t (s .level) (p .holder))

@@ -9,6 +9,7 @@ use borrow.Author.Tests.{le-leb, lt-leb}
 use Rattle.rate.specs.declared.params.Params.{Params}
 use Rattle.rate.specs.Units.{latestTime}
 use Rattle.rate.specs.Params.{paramsFit}
+use Rattle.cell.specs.Name.{pairName}
 use Rattle.connection.specs.declared.parts.Connection.{Connection}
 use Rattle.connection.specs.Parts.{fresh}
 use Rattle.model.specs.State.{State, Entry, free, taken, find, inserted, roomLeft, withTime, isFree, position, capacity}
@@ -27,51 +28,57 @@ use Rattle.tournament.specs.Replaying.{Ordered}
 use Rattle.engine.proofs.Outcomes.{replayed-out, replay-well-formed, ordered, time-word, last-word}
 use Rattle.laws.specs.Require.{require}
 
-module _ (s : State) (v t : ℕ) (p : Params) where
-  pub open-low : v < 32 → openStep s v t p ≡ refuse s 10
+module _ (s : State) (a b t : ℕ) (p : Params) where
+  pub open-low : b < 32 → openStep s a b t p ≡ refuse s 10
   unfolding openStep require
-  open-low h = rw (lt-leb 32 v h)
+  open-low h = rw (lt-leb 32 b h)
 
-  pub open-wide : 32 ≤ v → 65535 < v → openStep s v t p ≡ refuse s 7
+  pub open-far : 32 ≤ b → 255 < a → openStep s a b t p ≡ refuse s 7
   unfolding openStep require
-  open-wide l h = rw (le-leb 32 v l, lt-leb v 65535 h)
+  open-far l h = rw (le-leb 32 b l, lt-leb a 255 h)
 
-  pub open-unfit : 32 ≤ v → v ≤ 65535 → paramsFit p ≡ false → openStep s v t p ≡ refuse s 7
+  pub open-wide : 32 ≤ b → a ≤ 255 → 65535 < b → openStep s a b t p ≡ refuse s 7
   unfolding openStep require
-  open-unfit l h f = rw (le-leb 32 v l, le-leb v 65535 h, f)
+  open-wide l g h = rw (le-leb 32 b l, le-leb a 255 g, lt-leb b 65535 h)
 
-  pub open-late : 32 ≤ v → v ≤ 65535 → paramsFit p ≡ true → latestTime < t → openStep s v t p ≡ refuse s 8
+  pub open-unfit : 32 ≤ b → a ≤ 255 → b ≤ 65535 → paramsFit p ≡ false → openStep s a b t p ≡ refuse s 7
   unfolding openStep require
-  open-late l h f g = rw (le-leb 32 v l, le-leb v 65535 h, f, lt-leb t latestTime g)
+  open-unfit l g h f = rw (le-leb 32 b l, le-leb a 255 g, le-leb b 65535 h, f)
+
+  pub open-late : 32 ≤ b → a ≤ 255 → b ≤ 65535 → paramsFit p ≡ true → latestTime < t → openStep s a b t p ≡ refuse s 8
+  unfolding openStep require
+  open-late l g h f y = rw (le-leb 32 b l, le-leb a 255 g, le-leb b 65535 h, f, lt-leb t latestTime y)
 
 -- the tests of the input that an open has passed
-pub record Passed (v t : ℕ) (p : Params) : Type 0 where
-  pub low : 32 ≤ v
-  pub high : v ≤ 65535
+pub record Passed (a b t : ℕ) (p : Params) : Type 0 where
+  pub low : 32 ≤ b
+  pub near : a ≤ 255
+  pub high : b ≤ 65535
   pub fits : paramsFit p ≡ true
   pub timely : t ≤ latestTime
 
-module _ (s : State) {v t : ℕ} {p : Params} (i : Passed v t p) where
+module _ (s : State) {a b t : ℕ} {p : Params} (i : Passed a b t p) where
   rest :
-      openStep s v t p
-      ≡ require (refuse s 12) (isFree (find v (s .entries))) (require (refuse s 13) (roomLeft s) (require (refuse s 14) (leb (s .last) t) (replay (position isFree (s .entries)) s (withTime t (inserted (fresh v t p) s)))))
+      openStep s a b t p
+      ≡ require (refuse s 12) (isFree (find (pairName a b) (s .entries)))
+      (require (refuse s 13) (roomLeft s) (require (refuse s 14) (leb (s .last) t) (replay (position isFree (s .entries)) s (withTime t (inserted (fresh (pairName a b) t p) s)))))
   unfolding openStep require
-  rest = rw (le-leb 32 v (i .low), le-leb v 65535 (i .high), i .fits, le-leb t latestTime (i .timely))
+  rest = rw (le-leb 32 b (i .low), le-leb a 255 (i .near), le-leb b 65535 (i .high), i .fits, le-leb t latestTime (i .timely))
 
-  pub open-taken : (c : Connection) → find v (s .entries) ≡ taken c → openStep s v t p ≡ refuse s 12
+  pub open-taken : (c : Connection) → find (pairName a b) (s .entries) ≡ taken c → openStep s a b t p ≡ refuse s 12
   unfolding require isFree
   open-taken c e = rest ∙ rw e
 
-  module _ (new : find v (s .entries) ≡ free) where
-    pub open-full : roomLeft s ≡ false → openStep s v t p ≡ refuse s 13
+  module _ (new : find (pairName a b) (s .entries) ≡ free) where
+    pub open-full : roomLeft s ≡ false → openStep s a b t p ≡ refuse s 13
     unfolding require isFree
     open-full e = rest ∙ rw (new, e)
 
-    pub open-early : roomLeft s ≡ true → t < s .last → openStep s v t p ≡ refuse s 14
+    pub open-early : roomLeft s ≡ true → t < s .last → openStep s a b t p ≡ refuse s 14
     unfolding require isFree
     open-early e h = rest ∙ rw (new, e, lt-leb (s .last) t h)
 
-    pub open-done : roomLeft s ≡ true → s .last ≤ t → openStep s v t p ≡ replay (position isFree (s .entries)) s (withTime t (inserted (fresh v t p) s))
+    pub open-done : roomLeft s ≡ true → s .last ≤ t → openStep s a b t p ≡ replay (position isFree (s .entries)) s (withTime t (inserted (fresh (pairName a b) t p) s))
     unfolding require isFree
     open-done e h = rest ∙ rw (new, e, le-leb (s .last) t h)
 
@@ -101,19 +108,19 @@ later t s r q = rw q
 
 -- the entry stored, then the time
 pub open-out :
-    (s : State) → WellFormed s → {l m : List ℕ} {n : ℕ} → l ≡ words s → (v t : ℕ) (p : Params) (i : ℕ) → position isFree (s .entries) ≡ i
-    → openStep s v t p ≡ replay (position isFree (s .entries)) s (withTime t (inserted (fresh v t p) s)) → Takes l m i (fresh v t p) n
-    → (set m lastAt t ≡ words (openStep s v t p .state)) × (Accepted n ≡ openStep s v t p .answer)
+    (s : State) → WellFormed s → {l m : List ℕ} {n : ℕ} → l ≡ words s → (a b t : ℕ) (p : Params) (i : ℕ) → position isFree (s .entries) ≡ i
+    → openStep s a b t p ≡ replay (position isFree (s .entries)) s (withTime t (inserted (fresh (pairName a b) t p) s)) → Takes l m i (fresh (pairName a b) t p) n
+    → (set m lastAt t ≡ words (openStep s a b t p .state)) × (Accepted n ≡ openStep s a b t p .answer)
 unfolding step
-open-out s w e v t p i q done u =
-    let c : Connection = fresh v t p in
+open-out s w e a b t p i q done u =
+    let c : Connection = fresh (pairName a b) t p in
     let at : inserted c s ≡ withEntry s i (taken c) = inserted-at s c q in
-    let z = replay-well-formed w (opening v t p) (position isFree (s .entries)) (withTime t (inserted c s)) done in
-    let b =
+    let z = replay-well-formed w (opening a b t p) (position isFree (s .entries)) (withTime t (inserted c s)) done in
+    let y =
     u .is s w e (ap (λ (k : ℕ). getD (s .entries) k free) (sym q) ∙ lowest-free (s .entries))
     (subst Ordered (later t (inserted c s) (withEntry s i (taken c)) at) (ordered z)) in
     replayed-out (position isFree (s .entries)) s (withTime t (inserted c s)) (
-      ap (λ (x : List ℕ). set x lastAt t) (b .0 ∙ ap words (sym at)) ∙ time-word (inserted c s) t,
-      b .1 ∙ ap (λ (k : ℕ). replayed k (s .entries) (set (s .entries) i (taken c))) (sym q)
+      ap (λ (x : List ℕ). set x lastAt t) (y .0 ∙ ap words (sym at)) ∙ time-word (inserted c s) t,
+      y .1 ∙ ap (λ (k : ℕ). replayed k (s .entries) (set (s .entries) i (taken c))) (sym q)
           ∙ ap (λ (x : List Entry). replayed (position isFree (s .entries)) (s .entries) x) (sym (later t (inserted c s) (withEntry s i (taken c)) at)),
     ) done

@@ -4,6 +4,8 @@ use mathlib.Core.Path.{_≡_, refl, sym, ap, subst, _∙_}
 use mathlib.Core.List.{List}
 use native.Mathlib.Omega.{arith}
 use lib.ListN.{getD, set}
+use Rattle.cell.specs.Name.{vpiIn, vciIn, noName, pairName}
+use Rattle.cell.proofs.Names.{pair-back}
 use Rattle.connection.specs.declared.parts.Connection.{Connection}
 use Rattle.connection.specs.Invariant.{ValidAt}
 use Rattle.connection.specs.Range.{InRange, HasRoom}
@@ -106,6 +108,10 @@ roomy l i q = subst (λ (x : Connection). HasRoom (x .pace)) (sym q) (load-room 
 module _ (s : State) (w : WellFormed s) {v i : ℕ} (p : Located (s .entries) v i) where
   pub valid-in : ValidAt (s .last) (p .holder)
   valid-in = subst (OnEntry (ValidAt (s .last))) (p .here) (each-get (ValidAt (s .last)) (s .entries) (w .each) i)
+
+  -- its name is that of a pair
+  pub pair-of : pairName (vpiIn v) (vciIn v) ≡ v
+  pair-of = pair-back v (subst (λ (n : ℕ). n < noName) (p .named) (valid-in .0 .coded))
 
   pub loaded-is : {l : List ℕ} {d : Connection} → l ≡ words s → i < capacity → d ≡ connectionAt l i → d ≡ p .holder
   loaded-is e h q =

@@ -11,6 +11,8 @@ use Rattle.crc.specs.Payload.{payloadOf}
 use Rattle.cell.specs.declared.fields.Fields.{Fields}
 use Rattle.cell.specs.declared.read.Reading.the-variants.{Refused as Unread, User, Resource}
 use Rattle.cell.specs.Octets.{payload}
+use Rattle.cell.specs.Name.{pairName}
+use Rattle.cell.specs.Fields.{cellName}
 use Rattle.cell.specs.Reading.{reading}
 use Rattle.connection.specs.declared.parts.Connection.{Connection}
 use Rattle.connection.specs.Receiving.{afterDataCell, afterBackwardCell, afterForwardCell, afterForwardPayload, afterResourceCell}
@@ -61,11 +63,11 @@ after-data-cell-same e c = record { name = refl; opened = refl; trm = refl; para
 abbrev changing : State → ℕ → (Connection → Connection) → Outcome
 changing s v g = ofOpen s (find v (s .entries)) λ c. replay (leafOf v s) s (put v (taken (g c)) s)
 
-data-step : (s : State) (v : ℕ) (e : Bool) → readStep s [] (User v e) ≡ changing s v (afterDataCell e)
+data-step : (s : State) (a b : ℕ) (e : Bool) → readStep s [] (User a b e) ≡ changing s (pairName a b) (afterDataCell e)
 unfolding readStep
-data-step s v e = refl
+data-step s a b e = refl
 
-work-step : (s : State) (o : List ℕ) (f : Fields) → readStep s o (Resource f) ≡ changing s (f .vci) (afterResourceCell (s .level) o f)
+work-step : (s : State) (o : List ℕ) (f : Fields) → readStep s o (Resource f) ≡ changing s (cellName f) (afterResourceCell (s .level) o f)
 unfolding readStep
 work-step s o f = refl
 
@@ -77,11 +79,11 @@ met : (s : State) (v : ℕ) (g : Connection → Connection) (c : Connection) →
 unfolding ofOpen
 met s v g c q = rw q
 
-pub data-missing : (s : State) (v : ℕ) (e : Bool) → find v (s .entries) ≡ free → readStep s [] (User v e) ≡ refuse s 11
-data-missing s v e q = data-step s v e ∙ missed s v (afterDataCell e) q
+pub data-missing : (s : State) (a b : ℕ) (e : Bool) → find (pairName a b) (s .entries) ≡ free → readStep s [] (User a b e) ≡ refuse s 11
+data-missing s a b e q = data-step s a b e ∙ missed s (pairName a b) (afterDataCell e) q
 
-pub work-missing : (s : State) (o : List ℕ) (f : Fields) → find (f .vci) (s .entries) ≡ free → readStep s o (Resource f) ≡ refuse s 11
-work-missing s o f q = work-step s o f ∙ missed s (f .vci) (afterResourceCell (s .level) o f) q
+pub work-missing : (s : State) (o : List ℕ) (f : Fields) → find (cellName f) (s .entries) ≡ free → readStep s o (Resource f) ≡ refuse s 11
+work-missing s o f q = work-step s o f ∙ missed s (cellName f) (afterResourceCell (s .level) o f) q
 
 -- the step's outcome, where the words are those of the changed connection
 changed : (s : State) {v i : ℕ} (p : Located (s .entries) v i) {m : List ℕ} {n : ℕ} {o : Outcome} (g : Connection → Connection) → o ≡ changing s v g
@@ -90,7 +92,7 @@ changed s {v} p g r q = replayed-out (leafOf v s) s (put v (taken (g (p .holder)
 
 -- a connection whose name and validity stay leaves a well-formed table
 work-well-formed :
-    (s : State) (w : WellFormed s) {v i : ℕ} (p : Located (s .entries) v i) (o : List ℕ) (f : Fields) → f .vci ≡ v → WellFormed (put v (taken (afterResourceCell (s .level) o f (p .holder))) s)
+    (s : State) (w : WellFormed s) {v i : ℕ} (p : Located (s .entries) v i) (o : List ℕ) (f : Fields) → cellName f ≡ v → WellFormed (put v (taken (afterResourceCell (s .level) o f (p .holder))) s)
 work-well-formed s w {v} p o f q =
     put-well-formed w v (taken (afterResourceCell (s .level) o f (p .holder))) (work-valid (s .level) o f (p .holder) (valid-in s w p)) (work-same (s .level) o f (p .holder) .name ∙ p .named)
 
@@ -116,17 +118,17 @@ unfolding afterForwardCell
 after-forward-cell-moved level o c = (refl, refl)
 
 -- the entry's connection, as it was loaded
-module _ (s : State) (w : WellFormed s) {l : List ℕ} (e : l ≡ words s) {v : ℕ} (i : ℕ) (h : i < capacity) (p : Located (s .entries) v i) (d : Connection) (q : d ≡ connectionAt l i) (x : Connection) where
+module _ (s : State) (w : WellFormed s) {l : List ℕ} (e : l ≡ words s) (a b i : ℕ) (h : i < capacity) (p : Located (s .entries) (pairName a b) i) (d : Connection) (q : d ≡ connectionAt l i) (x : Connection) where
   pub data-done :
       {m : List ℕ} {n : ℕ} → m ≡ efciUpdated l i (x .destination) → Leads l i n → (t : Bool) → x ≡ afterDataCell t d
-      → (m ≡ words (readStep s [] (User v t) .state)) × (Accepted n ≡ readStep s [] (User v t) .answer)
-  data-done b u t a =
+      → (m ≡ words (readStep s [] (User a b t) .state)) × (Accepted n ≡ readStep s [] (User a b t) .answer)
+  data-done g u t y =
       let k = after-data-cell-kept t (p .holder) in
-      changed s p (afterDataCell t) (data-step s v t)
+      changed s p (afterDataCell t) (data-step s a b t)
       (efci-is s w e h p (afterDataCell t (p .holder)) (after-data-cell-same t (p .holder)) (k .0) (k .1) (k .2) (k .3) (after-data-cell-ready t (p .holder))
-      (b ∙ ap (λ (y : Connection). efciUpdated l i (y .destination)) (a ∙ ap (afterDataCell t) (loaded-is s w p e h q))) u)
+      (g ∙ ap (λ (z : Connection). efciUpdated l i (z .destination)) (y ∙ ap (afterDataCell t) (loaded-is s w p e h q))) u)
 
-module _ (s : State) (w : WellFormed s) {l : List ℕ} (e : l ≡ words s) (o : List ℕ) (f : Fields) (i : ℕ) (h : i < capacity) (p : Located (s .entries) (f .vci) i) (d : Connection) (q : d ≡ connectionAt l i) (x : Connection) where
+module _ (s : State) (w : WellFormed s) {l : List ℕ} (e : l ≡ words s) (o : List ℕ) (f : Fields) (i : ℕ) (h : i < capacity) (p : Located (s .entries) (cellName f) i) (d : Connection) (q : d ≡ connectionAt l i) (x : Connection) where
   pub answer-done :
       {m : List ℕ} {n : ℕ} → f .dir ≡ 1 → x ≡ afterBackwardCell f d → Updates SourceMoved l m i x n
       → (m ≡ words (readStep s o (Resource f) .state)) × (Accepted n ≡ readStep s o (Resource f) .answer)
@@ -156,9 +158,9 @@ pub unread : (s : State) (o : List ℕ) (n : ℕ) → reading o ≡ Unread n →
 unfolding receiveStep readStep
 unread s o n e = rw e
 
-pub user-read : (o : List ℕ) (v : ℕ) (e : Bool) → reading o ≡ User v e → (s : State) → receiveStep s o ≡ readStep s [] (User v e)
+pub user-read : (o : List ℕ) (a b : ℕ) (e : Bool) → reading o ≡ User a b e → (s : State) → receiveStep s o ≡ readStep s [] (User a b e)
 unfolding receiveStep readStep
-user-read o v e q s = rw q
+user-read o a b e q s = rw q
 
 pub resource-read : (o : List ℕ) (f : Fields) → reading o ≡ Resource f → (s : State) → receiveStep s o ≡ readStep s o (Resource f)
 unfolding receiveStep

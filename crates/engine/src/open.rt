@@ -1,6 +1,7 @@
-// Opening a connection (document 01, "Opening").
+// Opening a connection (document 01, "Opening"; document 02, L6).
 ghost use Rattle.model.specs.Step.{openStep};
 ghost use Rattle.engine.specs.Contract.{Meets};
+use cell::name::pair_name;
 use connection::parts::Connection;
 use model::answer::Answer;
 use names::find::Found;
@@ -12,14 +13,17 @@ use storing::store::store;
 use table::layout::LAST;
 use table::layout::WORDS;
 
-// Refusals 10, 7, 8, 12, 13, 14.
-pub fn open(t: &mut [u64; WORDS], name: u32, time: u64, params: Params) -> Answer
-    ensures { λ r. ⌜ Meets (λ s. openStep s name time params) (now (t .entry)) (now (t .exit)) r ⌝ }
+// Refusals 10, which looks at the VCI alone, 7, 8, 12, 13, 14.
+pub fn open(t: &mut [u64; WORDS], vpi: u32, vci: u32, time: u64, params: Params) -> Answer
+    ensures { λ r. ⌜ Meets (λ s. openStep s vpi vci time params) (now (t .entry)) (now (t .exit)) r ⌝ }
 {
-    if name < 32 {
+    if vci < 32 {
         return Answer::Refused(10);
     }
-    if 65535 < name {
+    if 255 < vpi {
+        return Answer::Refused(7);
+    }
+    if 65535 < vci {
         return Answer::Refused(7);
     }
     if !params.fits() {
@@ -28,6 +32,7 @@ pub fn open(t: &mut [u64; WORDS], name: u32, time: u64, params: Params) -> Answe
     if LATEST_TIME < time {
         return Answer::Refused(8);
     }
+    let name = pair_name(vpi, vci);
     let Found::Nothing = find(t, name) else {
         return Answer::Refused(12);
     };

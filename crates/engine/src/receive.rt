@@ -9,6 +9,7 @@ ghost use Rattle.cell.specs.declared.read.Reading.the-variants.{User, Resource}
 ghost use Rattle.model.specs.Step.{readStep, receiveStep};
 ghost use Rattle.engine.specs.Contract.{Meets};
 use cell::fields::Fields;
+use cell::name::pair_name;
 use crc::payload::payload_at;
 use loading::load::load;
 use model::answer::Answer;
@@ -16,6 +17,7 @@ use names::find::Found;
 use names::find::find;
 use reading::fields::fields_of;
 use reading::fields::vci_of;
+use reading::fields::vpi_of;
 use reading::read::efci_of;
 use reading::read::header_refusal;
 use reading::read::is_data;
@@ -31,10 +33,11 @@ use transition::receive::after_data_cell;
 use transition::receive::after_forward_payload;
 
 // A data cell, whose octets no longer count: refusal 11.
-fn receive_data(t: &mut [u64; WORDS], vci: u32, efci: bool) -> Answer
-    ensures { λ r. ⌜ Meets (λ s. readStep s [] (User vci efci)) (now (t .entry)) (now (t .exit)) r ⌝ }
+fn receive_data(t: &mut [u64; WORDS], vpi: u32, vci: u32, efci: bool) -> Answer
+    ensures { λ r. ⌜ Meets (λ s. readStep s [] (User vpi vci efci)) (now (t .entry)) (now (t .exit)) r ⌝ }
 {
-    let Found::At(i) = find(t, vci) else {
+    let name = pair_name(vpi, vci);
+    let Found::At(i) = find(t, name) else {
         return Answer::Refused(11);
     };
     let c = load(t, i);
@@ -50,7 +53,8 @@ fn receive_resource(t: &mut [u64; WORDS], cell: &[u8], f: Fields) -> Answer
     requires { ⌜ (length (now cell) ≡ 53) × Checked (payloadOf (payload (now cell))) ⌝ }
     ensures { λ r. ⌜ Meets (λ s. readStep s (now (cell .entry)) (Resource f)) (now (t .entry)) (now (t .exit)) r ⌝ }
 {
-    let Found::At(i) = find(t, f.vci) else {
+    let name = pair_name(f.vpi, f.vci);
+    let Found::At(i) = find(t, name) else {
         return Answer::Refused(11);
     };
     let c = load(t, i);
@@ -65,7 +69,7 @@ fn receive_resource(t: &mut [u64; WORDS], cell: &[u8], f: Fields) -> Answer
     Answer::Accepted { comparisons }
 }
 
-// Refusals 1, 2, 3, 4, then 5 and 6 for RM cells, 11. The steps are those of `read`, taken one by one so that a data cell makes no fields.
+// Refusals 1, 2, 4, then 5 and 6 for RM cells, 11. The steps are those of `read`, taken one by one so that a data cell makes no fields.
 pub fn receive(t: &mut [u64; WORDS], cell: &[u8]) -> Answer
     ensures { λ r. ⌜ Meets (λ s. receiveStep s (now (cell .entry))) (now (t .entry)) (now (t .exit)) r ⌝ }
 {
@@ -74,7 +78,7 @@ pub fn receive(t: &mut [u64; WORDS], cell: &[u8]) -> Answer
         return Answer::Refused(first);
     }
     if is_data(cell) {
-        return receive_data(t, vci_of(cell), efci_of(cell));
+        return receive_data(t, vpi_of(cell), vci_of(cell), efci_of(cell));
     }
     let second = resource_refusal(cell);
     if second != 0 {

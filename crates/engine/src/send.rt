@@ -3,6 +3,7 @@ ghost use mathlib.Core.Path.{_≡_};
 ghost use Prim.Native.Nat.{_≤_, _<_};
 ghost use lib.ListN.{length};
 ghost use Rattle.rate.specs.Units.{latestTime};
+ghost use Rattle.cell.specs.Name.{noName};
 ghost use Rattle.connection.specs.Range.{InRange};
 ghost use Rattle.connection.specs.Sending.{backwardCell};
 ghost use Rattle.engine.specs.Slots.{ForwardIn, Carried, MovedBy, Sends};
@@ -27,18 +28,18 @@ use writing::write::put_resource;
 
 // The backward cell that goes: the turned one that waits, else the made one.
 fn put_backward(cell: &mut [u8], name: u32, params: Params, w: Waiting, level: u32)
-    requires { ⌜ (length (now cell) ≡ 53) × (name ≤ 65535) ⌝ }
+    requires { ⌜ (length (now cell) ≡ 53) × (name < noName) ⌝ }
     ensures { λ _. ⌜ now (cell .exit) ≡ backwardCell name params w level ⌝ }
 {
     match w {
         Waiting::Nothing => put_resource(cell, 0, made_fields(name, params, level)),
-        Waiting::Cell(p) => put_turned(cell, name, p),
+        Waiting::Cell(p) => put_turned(cell, name / 65536, name % 65536, p),
     }
 }
 
 // A forward cell, with CLP 1 if it goes outside the rate (document 02, L5).
 pub fn put_forward(cell: &mut [u8], clp: u32, name: u32, rate: Rate)
-    requires { ⌜ (length (now cell) ≡ 53) × ((clp ≤ 1) × (name ≤ 65535)) ⌝ }
+    requires { ⌜ (length (now cell) ≡ 53) × ((clp ≤ 1) × (name < noName)) ⌝ }
     ensures { λ _. ⌜ ForwardIn clp name rate (now (cell .exit)) ⌝ }
 {
     put_resource(cell, clp, forward_fields(name, rate));
@@ -46,7 +47,7 @@ pub fn put_forward(cell: &mut [u8], clp: u32, name: u32, rate: Rate)
 
 // Data is the caller's own: the buffer stays.
 fn put_cell(cell: &mut [u8], kind: Kind, c: Connection, next: Connection)
-    requires { ⌜ (length (now cell) ≡ 53) × ((c .name ≤ 65535) × (next .name ≤ 65535)) ⌝ }
+    requires { ⌜ (length (now cell) ≡ 53) × ((c .name < noName) × (next .name < noName)) ⌝ }
     ensures { λ _. ⌜ Carried kind c next (now (cell .entry)) (now (cell .exit)) ⌝ }
 {
     match kind {

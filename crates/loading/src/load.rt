@@ -116,7 +116,7 @@ pub fn load(t: &[u64; WORDS], i: usize) -> Connection
     let made = made_at(t, a + 14);
     let outside = instant_of(t[a + 16]);
     Connection {
-        name: (t[NAMES + i] % 65536) as u32,
+        name: (t[NAMES + i] % 16777216) as u32,
         opened: t[b] % 9223372036854775808,
         trm: t[b + 1] % 4294967296,
         rate: Rate { acr: t[a], params },

@@ -3,6 +3,7 @@ use Prim.Native.Nat.{ℕ, _<_, _+_, _≤_}
 use mathlib.Core.Path.{_≡_, refl}
 use mathlib.Core.Bool.{Bool, true, false, _&&_}
 use mathlib.Core.List.{List}
+use native.Mathlib.Omega.{arith}
 use lib.Dec.{leb, T, lit<, ltb}
 use borrow.Author.Tests.{leb-true, ltb-true}
 use Rattle.rate.specs.declared.params.Params.{Params}
@@ -11,7 +12,10 @@ use Rattle.rate.specs.Params.{paramsFit}
 use Rattle.cell.specs.declared.fields.Fields.{Fields}
 use Rattle.cell.specs.declared.read.Reading.{Reading}
 use Rattle.cell.specs.declared.read.Reading.the-variants.{Refused as Unread, User, Resource}
+use Rattle.cell.specs.Name.{vciIn, noName, pairFits, pairName}
+use Rattle.cell.specs.Fields.{cellName}
 use Rattle.cell.specs.Reading.{reading}
+use Rattle.cell.proofs.Names.{name-lt, Named, pair-named}
 use Rattle.cell.proofs.Readings.{refusal-number}
 use Rattle.connection.specs.declared.parts.Connection.{Connection}
 use Rattle.connection.specs.Parts.{fresh, waiting}
@@ -32,10 +36,10 @@ pub record Timely (s : State) (t : ℕ) : Type 0 where
   pub since : s .last ≤ t
   pub until : t ≤ latestTime
 
--- what an open has passed
+-- what an open of a name has passed
 pub record Enters (s : State) (u t : ℕ) (p : Params) : Type 0 where
-  pub assigned : 32 ≤ u
-  pub coded : u ≤ 65535
+  pub assigned : 32 ≤ vciIn u
+  pub coded : u < noName
   pub fits : paramsFit p ≡ true
   pub new : find u (s .entries) ≡ free
   pub room : roomLeft s ≡ true
@@ -43,28 +47,32 @@ pub record Enters (s : State) (u t : ℕ) (p : Params) : Type 0 where
 
 pub data Effect (s : State) : Call → Outcome → Type 0 where
   refuses : (c : Call) (n : ℕ) → 0 < n → Effect s c (refuse s n)
-  begins : (u t : ℕ) (p : Params) → Enters s u t p → Effect s (opening u t p) (replay (position isFree (s .entries)) s (withTime t (inserted (fresh u t p) s)))
-  ends : (u : ℕ) (d : Connection) → find u (s .entries) ≡ taken d → Effect s (closing u) (replay (leafOf u s) s (put u free s))
+  begins :
+      (a b t : ℕ) (p : Params) → Enters s (pairName a b) t p
+      → Effect s (opening a b t p) (replay (position isFree (s .entries)) s (withTime t (inserted (fresh (pairName a b) t p) s)))
+  ends :
+      (a b : ℕ) (d : Connection) → find (pairName a b) (s .entries) ≡ taken d
+      → Effect s (closing a b) (replay (leafOf (pairName a b) s) s (put (pairName a b) free s))
   offers :
-      (u n : ℕ) (d : Connection) → find u (s .entries) ≡ taken d → waiting (d .queue) + n ≤ 65535
-      → Effect s (offering u n) (replay (leafOf u s) s (put u (taken (offered n d)) s))
+      (a b n : ℕ) (d : Connection) → find (pairName a b) (s .entries) ≡ taken d → waiting (d .queue) + n ≤ 65535
+      → Effect s (offering a b n) (replay (leafOf (pairName a b) s) s (put (pairName a b) (taken (offered n d)) s))
   marks :
-      (o : List ℕ) (u : ℕ) (e : Bool) (d : Connection) → reading o ≡ User u e → find u (s .entries) ≡ taken d
-      → Effect s (receiving o) (replay (leafOf u s) s (put u (taken (afterDataCell e d)) s))
+      (o : List ℕ) (a b : ℕ) (e : Bool) (d : Connection) → reading o ≡ User a b e → find (pairName a b) (s .entries) ≡ taken d
+      → Effect s (receiving o) (replay (leafOf (pairName a b) s) s (put (pairName a b) (taken (afterDataCell e d)) s))
   works :
-      (o : List ℕ) (f : Fields) (d : Connection) → reading o ≡ Resource f → find (f .vci) (s .entries) ≡ taken d
-      → Effect s (receiving o) (replay (leafOf (f .vci) s) s (put (f .vci) (taken (afterResourceCell (s .level) o f d)) s))
+      (o : List ℕ) (f : Fields) (d : Connection) → reading o ≡ Resource f → find (cellName f) (s .entries) ≡ taken d
+      → Effect s (receiving o) (replay (leafOf (cellName f) s) s (put (cellName f) (taken (afterResourceCell (s .level) o f d)) s))
   levels : (l : ℕ) → l ≤ 2 → Effect s (levelling l) (accept 0 (withLevel l s))
   idles : (t room : ℕ) → Timely s t → Best t (s .entries) noneReady → Effect s (slot t room) (idleStep (withTime t s))
   sends :
       (t room i u : ℕ) → Timely s t → (b : Chosen t i u (s .entries))
       → Effect s (slot t room) (sendStep (withTime t s) t u (b .holder) (kindAt t (b .holder)))
   makes :
-      (u t : ℕ) (d : Connection) → find u (s .entries) ≡ taken d → Timely s t → 0 < s .level → rested t (d .destination .made .last) ≡ true
-      → Effect s (making u t) (replay (leafOf u s) s (put u (taken (withMade t (s .level) d)) (withTime t s)))
+      (a b t : ℕ) (d : Connection) → find (pairName a b) (s .entries) ≡ taken d → Timely s t → 0 < s .level → rested t (d .destination .made .last) ≡ true
+      → Effect s (making a b t) (replay (leafOf (pairName a b) s) s (put (pairName a b) (taken (withMade t (s .level) d)) (withTime t s)))
   leaves :
-      (u t room : ℕ) (d : Connection) → find u (s .entries) ≡ taken d → Timely s t → rested t (d .outside) ≡ true
-      → Effect s (outOfRate u t room) (sendOutside (withTime t s) t u d)
+      (a b t room : ℕ) (d : Connection) → find (pairName a b) (s .entries) ≡ taken d → Timely s t → rested t (d .outside) ≡ true
+      → Effect s (outOfRate a b t room) (sendOutside (withTime t s) t (pairName a b) d)
 
 module _ {s : State} (c : Call) where
   require-effect : (n : ℕ) → T (ltb 0 n) → (t : Bool) (o : Outcome) → (t ≡ true → Effect s c o) → Effect s c (require (refuse s n) t o)
@@ -90,40 +98,47 @@ both : (a b : Bool) → (a && b) ≡ true → (a ≡ true) × (b ≡ true)
 both true b e = (refl, e)
 both false b e = (e, cc)
 
-open-effect : (s : State) (u t : ℕ) (p : Params) → Effect s (opening u t p) (openStep s u t p)
+open-effect : (s : State) (a b t : ℕ) (p : Params) → Effect s (opening a b t p) (openStep s a b t p)
 unfolding openStep
-open-effect s u t p =
-    require-effect (opening u t p) 10 tt _ _ λ low.
-    require-effect (opening u t p) 7 tt _ _ λ fit.
-    require-effect (opening u t p) 8 tt _ _ λ until.
-    require-effect (opening u t p) 12 tt _ _ λ new.
-    require-effect (opening u t p) 13 tt _ _ λ room.
-    require-effect (opening u t p) 14 tt _ _ λ since.
-    begins u t p (record {
-      assigned = leb-true _ _ low;
-      coded = leb-true _ _ (both (leb u 65535) (paramsFit p) fit .0);
-      fits = both (leb u 65535) (paramsFit p) fit .1;
-      new = is-free (find u (s .entries)) new;
+open-effect s a b t p =
+    require-effect (opening a b t p) 10 tt _ _ λ low.
+    require-effect (opening a b t p) 7 tt _ _ λ fit.
+    require-effect (opening a b t p) 8 tt _ _ λ until.
+    require-effect (opening a b t p) 12 tt _ _ λ new.
+    require-effect (opening a b t p) 13 tt _ _ λ room.
+    require-effect (opening a b t p) 14 tt _ _ λ since.
+    begins a b t p (record {
+      assigned = omega (arith, leb-true 32 b low, named fit .vciBack);
+      coded = in-range fit;
+      fits = both (pairFits a b) (paramsFit p) fit .1;
+      new = is-free (find (pairName a b) (s .entries)) new;
       room = room;
       timely = timely s t since until;
     })
+  where
+    in-range : (pairFits a b && paramsFit p) ≡ true → pairName a b < noName
+    in-range fit =
+        let z = both (leb a 255) (leb b 65535) (both (pairFits a b) (paramsFit p) fit .0) in name-lt a b (leb-true _ _ (z .0)) (leb-true _ _ (z .1))
 
-close-effect : (s : State) (u : ℕ) → Effect s (closing u) (closeStep s u)
+    named : (pairFits a b && paramsFit p) ≡ true → Named a b (pairName a b)
+    named fit = pair-named a b (in-range fit)
+
+close-effect : (s : State) (a b : ℕ) → Effect s (closing a b) (closeStep s (pairName a b))
 unfolding closeStep
-close-effect s u = ofOpen-effect (closing u) (find u (s .entries)) _ λ d e. ends u d e
+close-effect s a b = ofOpen-effect (closing a b) (find (pairName a b) (s .entries)) _ λ d e. ends a b d e
 
-offer-effect : (s : State) (u n : ℕ) → Effect s (offering u n) (offerStep s u n)
+offer-effect : (s : State) (a b n : ℕ) → Effect s (offering a b n) (offerStep s (pairName a b) n)
 unfolding offerStep
-offer-effect s u n =
-    ofOpen-effect (offering u n) (find u (s .entries)) _ λ d e.
-    require-effect (offering u n) 15 tt _ _ λ fit.
-    offers u n d e (leb-true _ _ fit)
+offer-effect s a b n =
+    ofOpen-effect (offering a b n) (find (pairName a b) (s .entries)) _ λ d e.
+    require-effect (offering a b n) 15 tt _ _ λ fit.
+    offers a b n d e (leb-true _ _ fit)
 
 read-effect : (s : State) (o : List ℕ) (r : Reading) → reading o ≡ r → Effect s (receiving o) (readStep s o r)
 unfolding readStep
 read-effect s o (Unread n) q = refuses (receiving o) n (refusal-number o n q)
-read-effect s o (User u e) q = ofOpen-effect (receiving o) (find u (s .entries)) _ λ d h. marks o u e d q h
-read-effect s o (Resource f) q = ofOpen-effect (receiving o) (find (f .vci) (s .entries)) _ λ d h. works o f d q h
+read-effect s o (User a b e) q = ofOpen-effect (receiving o) (find (pairName a b) (s .entries)) _ λ d h. marks o a b e d q h
+read-effect s o (Resource f) q = ofOpen-effect (receiving o) (find (cellName f) (s .entries)) _ λ d h. works o f d q h
 
 level-effect : (s : State) (l : ℕ) → Effect s (levelling l) (levelStep s l)
 unfolding levelStep
@@ -142,34 +157,34 @@ slot-effect s t room a =
     require-effect (slot t room) 14 tt _ _ λ since.
     serve-effect s t room (timely s t since until) (winner t (s .entries)) (winner-best t (s .entries) a)
 
-make-effect : (s : State) (u t : ℕ) → Effect s (making u t) (makeStep s u t)
+make-effect : (s : State) (a b t : ℕ) → Effect s (making a b t) (makeStep s (pairName a b) t)
 unfolding makeStep
-make-effect s u t =
-    require-effect (making u t) 8 tt _ _ λ until.
-    ofOpen-effect (making u t) (find u (s .entries)) _ λ d e.
-    require-effect (making u t) 14 tt _ _ λ since.
-    require-effect (making u t) 16 tt _ _ λ high.
-    require-effect (making u t) 17 tt _ _ λ rested.
-    makes u t d e (timely s t since until) (ltb-true _ _ high) rested
+make-effect s a b t =
+    require-effect (making a b t) 8 tt _ _ λ until.
+    ofOpen-effect (making a b t) (find (pairName a b) (s .entries)) _ λ d e.
+    require-effect (making a b t) 14 tt _ _ λ since.
+    require-effect (making a b t) 16 tt _ _ λ high.
+    require-effect (making a b t) 17 tt _ _ λ rested.
+    makes a b t d e (timely s t since until) (ltb-true _ _ high) rested
 
-out-of-rate-effect : (s : State) (u t room : ℕ) → Effect s (outOfRate u t room) (outOfRateStep s u t room)
+out-of-rate-effect : (s : State) (a b t room : ℕ) → Effect s (outOfRate a b t room) (outOfRateStep s (pairName a b) t room)
 unfolding outOfRateStep
-out-of-rate-effect s u t room =
-    require-effect (outOfRate u t room) 1 tt _ _ λ _.
-    require-effect (outOfRate u t room) 8 tt _ _ λ until.
-    ofOpen-effect (outOfRate u t room) (find u (s .entries)) _ λ d e.
-    require-effect (outOfRate u t room) 14 tt _ _ λ since.
-    require-effect (outOfRate u t room) 18 tt _ _ λ rest.
-    leaves u t room d e (timely s t since until) rest
+out-of-rate-effect s a b t room =
+    require-effect (outOfRate a b t room) 1 tt _ _ λ _.
+    require-effect (outOfRate a b t room) 8 tt _ _ λ until.
+    ofOpen-effect (outOfRate a b t room) (find (pairName a b) (s .entries)) _ λ d e.
+    require-effect (outOfRate a b t room) 14 tt _ _ λ since.
+    require-effect (outOfRate a b t room) 18 tt _ _ λ rest.
+    leaves a b t room d e (timely s t since until) rest
 
 -- every call has one of these effects
 pub effect : (s : State) → NamesUnique (s .entries) → (c : Call) → Effect s c (step s c)
 unfolding step receiveStep
-effect s a (opening u t p) = open-effect s u t p
-effect s a (closing u) = close-effect s u
-effect s a (receiving o) = read-effect s o (reading o) refl
-effect s a (offering u n) = offer-effect s u n
-effect s a (levelling l) = level-effect s l
-effect s a (slot t room) = slot-effect s t room a
-effect s a (making u t) = make-effect s u t
-effect s a (outOfRate u t room) = out-of-rate-effect s u t room
+effect s u (opening a b t p) = open-effect s a b t p
+effect s u (closing a b) = close-effect s a b
+effect s u (receiving o) = read-effect s o (reading o) refl
+effect s u (offering a b n) = offer-effect s a b n
+effect s u (levelling l) = level-effect s l
+effect s u (slot t room) = slot-effect s t room u
+effect s u (making a b t) = make-effect s a b t
+effect s u (outOfRate a b t room) = out-of-rate-effect s a b t room

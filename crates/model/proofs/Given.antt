@@ -8,6 +8,8 @@ use mathlib.Core.Bool.{cond}
 use lib.Dec.{eqb}
 use lib.ListN.{replicate}
 use Rattle.rate.specs.declared.params.Params.{Params}
+use Rattle.cell.specs.Name.{pairName}
+use Rattle.cell.specs.Fields.{cellName}
 use Rattle.connection.specs.declared.parts.Connection.{Connection}
 use Rattle.connection.specs.Parts.{fresh}
 use Rattle.connection.specs.Making.{withMade}
@@ -37,14 +39,14 @@ paramsAt v s = entryParams (find v (s .entries))
 -- a refusal gives and takes nothing
 refused-given : (v : ℕ) (c : Call) (s : State) (n : ℕ) (p : Option Params) → p ≡ given v c (isAccepted (refuse s n .answer)) p
 unfolding refuse given isAccepted
-refused-given v (opening u t q) s n p = refl
-refused-given v (closing u) s n p = refl
+refused-given v (opening a b t q) s n p = refl
+refused-given v (closing a b) s n p = refl
 refused-given v (receiving o) s n p = refl
-refused-given v (offering u k) s n p = refl
+refused-given v (offering a b k) s n p = refl
 refused-given v (levelling l) s n p = refl
 refused-given v (slot t room) s n p = refl
-refused-given v (making u t) s n p = refl
-refused-given v (outOfRate u t room) s n p = refl
+refused-given v (making a b t) s n p = refl
+refused-given v (outOfRate a b t room) s n p = refl
 
 begun-params :
     (v : ℕ) (s : State) (u t : ℕ) (p : Params) → Enters s u t p → paramsAt v (inserted (fresh u t p) s) ≡ cond (eqb u v) (some p) (paramsAt v s)
@@ -63,21 +65,21 @@ kept-params v u s a d e f n h = put-kept entryParams v u s a d e f n (ap some h)
 
 effect-given : (v : ℕ) {s : State} → NamesUnique (s .entries) → {c : Call} {o : Outcome} → Effect s c o → paramsAt v (o .state) ≡ given v c (isAccepted (o .answer)) (paramsAt v s)
 unfolding refuse accept replay withLevel idleStep sendStep sendOutside withTime given isAccepted offered afterDataCell withMade afterOutOfRate
-effect-given v {s} a (refuses c n h) = refused-given v c s n (paramsAt v s)
-effect-given v {s} a (begins u t p g) = begun-params v s u t p g
-effect-given v {s} a (ends u d f) = ended-params v u s a
-effect-given v {s} a (offers u n d f h) = kept-params v u s a d (offered n d) f refl refl
-effect-given v {s} a (marks o u e d r f) = kept-params v u s a d (afterDataCell e d) f refl refl
-effect-given v {s} a (works o q d r f) =
+effect-given v {s} u (refuses c n h) = refused-given v c s n (paramsAt v s)
+effect-given v {s} u (begins a b t p g) = begun-params v s (pairName a b) t p g
+effect-given v {s} u (ends a b d f) = ended-params v (pairName a b) s u
+effect-given v {s} u (offers a b n d f h) = kept-params v (pairName a b) s u d (offered n d) f refl refl
+effect-given v {s} u (marks o a b e d r f) = kept-params v (pairName a b) s u d (afterDataCell e d) f refl refl
+effect-given v {s} u (works o q d r f) =
     let same = work-same (s .level) o q d in
-    kept-params v (q .vci) s a d (afterResourceCell (s .level) o q d) f (same .name) (same .params)
-effect-given v {s} a (levels l h) = refl
-effect-given v {s} a (idles t room g b) = refl
-effect-given v {s} a (sends t room i u g b) =
+    kept-params v (cellName q) s u d (afterResourceCell (s .level) o q d) f (same .name) (same .params)
+effect-given v {s} u (levels l h) = refl
+effect-given v {s} u (idles t room g b) = refl
+effect-given v {s} u (sends t room i n g b) =
     let same = after-same (kindAt t (b .holder)) t (b .holder) in
-    kept-params v u (withTime t s) a (b .holder) (after (kindAt t (b .holder)) t (b .holder)) (b .found) (same .name) (same .params)
-effect-given v {s} a (makes u t d f g h m) = kept-params v u (withTime t s) a d (withMade t (s .level) d) f refl refl
-effect-given v {s} a (leaves u t room d f g h) = kept-params v u (withTime t s) a d (afterOutOfRate t d) f refl refl
+    kept-params v n (withTime t s) u (b .holder) (after (kindAt t (b .holder)) t (b .holder)) (b .found) (same .name) (same .params)
+effect-given v {s} u (makes a b t d f g h m) = kept-params v (pairName a b) (withTime t s) u d (withMade t (s .level) d) f refl refl
+effect-given v {s} u (leaves a b t room d f g h) = kept-params v (pairName a b) (withTime t s) u d (afterOutOfRate t d) f refl refl
 
 run-given : (v : ℕ) (s : State) → WellFormed s → (before : Option Params) → paramsAt v s ≡ before → (cs : List Call) → paramsAt v (final s cs) ≡ givenFrom v s before cs
 run-given v s w b e [] = e

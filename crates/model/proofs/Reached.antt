@@ -1,8 +1,13 @@
 -- Every call keeps a table well-formed; so every table that calls make from the empty one is well-formed, and its slots choose as document 01 says.
-use Prim.Native.Nat.{ℕ}
+use Prim.Native.Nat.{ℕ, _≤_}
 use mathlib.Core.Path.{_≡_, refl, _∙_}
+use mathlib.Core.Bool.{false}
 use mathlib.Core.List.{List, [], _∷_}
+use native.Mathlib.Omega.{arith}
 use Rattle.rate.specs.declared.params.Params.{Params}
+use Rattle.cell.specs.Name.{noName, pairFits, pairName}
+use Rattle.cell.proofs.Names.{pair-out}
+use Rattle.cell.specs.Fields.{cellName}
 use Rattle.connection.specs.declared.parts.Connection.{Connection}
 use Rattle.connection.specs.Parts.{fresh}
 use Rattle.connection.specs.Making.{withMade}
@@ -12,7 +17,7 @@ use Rattle.connection.specs.Sending.{after}
 use Rattle.connection.specs.OutOfRate.{afterOutOfRate}
 use Rattle.connection.specs.Invariant.{ValidAt}
 use Rattle.connection.proofs.Keeps.{made-valid, out-of-rate-valid, fresh-valid, offered-valid, after-data-cell-valid, work-same, work-valid, after-same, after-valid}
-use Rattle.model.specs.State.{State, free, taken, empty, find, put, inserted, withTime}
+use Rattle.model.specs.State.{State, Entry, free, taken, empty, find, put, inserted, withTime}
 use Rattle.model.specs.Invariant.{WellFormed}
 use Rattle.model.specs.Choice.{winner, Best}
 use Rattle.model.proofs.Frames.{name-of}
@@ -42,19 +47,19 @@ sent-well-formed w t u g d f =
 effect-well-formed : {s : State} → WellFormed s → {c : Call} {o : Outcome} → Effect s c o → WellFormed (o .state)
 unfolding refuse accept replay idleStep sendStep sendOutside offered afterDataCell withTime withMade afterOutOfRate
 effect-well-formed w (refuses c n h) = w
-effect-well-formed w (begins u t p g) = begun-well-formed w u t p g
-effect-well-formed w (ends u d f) = put-well-formed w u free tt tt
-effect-well-formed w (offers u n d f h) = changed-well-formed w u d (offered n d) f refl (offered-valid n d h)
-effect-well-formed w (marks o u e d r f) = changed-well-formed w u d (afterDataCell e d) f refl (after-data-cell-valid e d)
+effect-well-formed w (begins a b t p g) = begun-well-formed w (pairName a b) t p g
+effect-well-formed w (ends a b d f) = put-well-formed w (pairName a b) free tt tt
+effect-well-formed w (offers a b n d f h) = changed-well-formed w (pairName a b) d (offered n d) f refl (offered-valid n d h)
+effect-well-formed w (marks o a b e d r f) = changed-well-formed w (pairName a b) d (afterDataCell e d) f refl (after-data-cell-valid e d)
 effect-well-formed {s} w (works o q d r f) =
-    changed-well-formed w (q .vci) d (afterResourceCell (s .level) o q d) f (work-same (s .level) o q d .name) (work-valid (s .level) o q d)
+    changed-well-formed w (cellName q) d (afterResourceCell (s .level) o q d) f (work-same (s .level) o q d .name) (work-valid (s .level) o q d)
 effect-well-formed w (levels l h) = withLevel-well-formed w l h
 effect-well-formed w (idles t room g b) = withTime-well-formed w t (g .since) (g .until)
 effect-well-formed w (sends t room i u g b) = sent-well-formed w t u g (b .holder) (b .found)
-effect-well-formed {s} w (makes u t d f g h m) =
-    changed-well-formed (withTime-well-formed w t (g .since) (g .until)) u d (withMade t (s .level) d) f refl (made-valid t (s .level) d (w .levels))
-effect-well-formed w (leaves u t room d f g h) =
-    changed-well-formed (withTime-well-formed w t (g .since) (g .until)) u d (afterOutOfRate t d) f refl (out-of-rate-valid t d)
+effect-well-formed {s} w (makes a b t d f g h m) =
+    changed-well-formed (withTime-well-formed w t (g .since) (g .until)) (pairName a b) d (withMade t (s .level) d) f refl (made-valid t (s .level) d (w .levels))
+effect-well-formed w (leaves a b t room d f g h) =
+    changed-well-formed (withTime-well-formed w t (g .since) (g .until)) (pairName a b) d (afterOutOfRate t d) f refl (out-of-rate-valid t d)
 
 pub step-well-formed : {s : State} → WellFormed s → (c : Call) → WellFormed (step s c .state)
 step-well-formed {s} w c = effect-well-formed w (effect s (w .unique) c)
@@ -66,6 +71,17 @@ final-well-formed w (c ∷ cs) = final-well-formed (step-well-formed w c) cs
 -- every table that calls make from the empty one
 pub reached-well-formed : (cs : List Call) → WellFormed (final empty cs)
 reached-well-formed = final-well-formed empty-well-formed
+
+-- a pair out of the ranges is unknown in every table that calls make, so that it meets 11 (document 02, L6)
+unknown : {s : State} → WellFormed s → (v : ℕ) → noName ≤ v → find v (s .entries) ≡ free
+unknown {s} w v h = go (find v (s .entries)) refl
+  where
+    go : (x : Entry) → find v (s .entries) ≡ x → x ≡ free
+    go free e = refl
+    go (taken d) e = absurd (omega (arith, h, name-of v s d e, valid-at w v d e .0 .coded))
+
+pub reached-unknown : (cs : List Call) (a b : ℕ) → pairFits a b ≡ false → find (pairName a b) (final empty cs .entries) ≡ free
+reached-unknown cs a b e = unknown (reached-well-formed cs) (pairName a b) (omega (arith, pair-out a b e))
 
 pub reached-choice : (cs : List Call) (t : ℕ) → Best t (final empty cs .entries) (winner t (final empty cs .entries))
 reached-choice cs t = winner-best t (final empty cs .entries) (reached-well-formed cs .unique)

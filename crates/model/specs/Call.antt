@@ -1,4 +1,4 @@
--- The calls of a list, and their outcomes. (Document 01, "The lists of demand 3".)
+-- The calls of a list, and their outcomes. (Document 01, "The lists of demand 3"; document 02.)
 use Prim.Native.Nat.{ℕ}
 use mathlib.Core.List.{List}
 use mathlib.Core.Option.{Option, none, some}
@@ -11,14 +11,14 @@ pub use Rattle.model.specs.declared.answer.Answer.the-variants.{Refused,
 
 -- Nothing bounds the arguments. What a lent buffer holds before a slot, or a cell outside the rate, is no argument, so room is its length.
 pub data Call : Type 0 where
-  opening : (name time : ℕ) → Params → Call
-  closing : (name : ℕ) → Call
+  opening : (vpi vci time : ℕ) → Params → Call
+  closing : (vpi vci : ℕ) → Call
   receiving : (octets : List ℕ) → Call
-  offering : (name cells : ℕ) → Call
+  offering : (vpi vci cells : ℕ) → Call
   levelling : (level : ℕ) → Call
   slot : (time room : ℕ) → Call
-  making : (name time : ℕ) → Call
-  outOfRate : (name time room : ℕ) → Call
+  making : (vpi vci time : ℕ) → Call
+  outOfRate : (vpi vci time room : ℕ) → Call
 
 -- the table that a call leaves, its answer, and what it writes
 pub record Outcome : Type 0 where

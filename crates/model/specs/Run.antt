@@ -6,6 +6,7 @@ use mathlib.Core.List.{List, [], _∷_}
 use mathlib.Core.Option.{Option, none, some}
 use lib.Dec.{eqb}
 use Rattle.rate.specs.declared.params.Params.{Params}
+use Rattle.cell.specs.Name.{pairName}
 use Rattle.model.specs.State.{State, Entry, free, taken, empty, find}
 use Rattle.model.specs.Call.{Call, opening, closing, receiving, offering, levelling, slot, making, outOfRate, Answer, Refused, Accepted, Idle, Sent, Outcome}
 use Rattle.model.specs.Step.{step}
@@ -28,14 +29,14 @@ isAccepted (Sent v k a n) = true
 
 -- the parameters under which a name is open: an accepted open gives them, an accepted close takes them away
 unfoldable pub given : ℕ → Call → (accepted : Bool) → Option Params → Option Params
-given v (opening u t p) a before = cond (a && eqb u v) (some p) before
-given v (closing u) a before = cond (a && eqb u v) none before
+given v (opening vpi vci t p) a before = cond (a && eqb (pairName vpi vci) v) (some p) before
+given v (closing vpi vci) a before = cond (a && eqb (pairName vpi vci) v) none before
 given v (receiving o) a before = before
-given v (offering u n) a before = before
+given v (offering vpi vci n) a before = before
 given v (levelling l) a before = before
 given v (slot t room) a before = before
-given v (making u t) a before = before
-given v (outOfRate u t room) a before = before
+given v (making vpi vci t) a before = before
+given v (outOfRate vpi vci t room) a before = before
 
 abbrev pub givenFrom : ℕ → State → Option Params → List Call → Option Params
 givenFrom v s before [] = before

@@ -8,6 +8,8 @@ use Rattle.rate.specs.Units.{latestTime}
 use Rattle.rate.specs.Params.{paramsFit}
 use Rattle.cell.specs.declared.read.Reading.{Reading}
 use Rattle.cell.specs.declared.read.Reading.the-variants.{Refused as Unread, User, Resource}
+use Rattle.cell.specs.Name.{pairFits, pairName}
+use Rattle.cell.specs.Fields.{cellName}
 use Rattle.cell.specs.Reading.{reading}
 use Rattle.connection.specs.declared.parts.Connection.{Connection}
 use Rattle.connection.specs.declared.kind.Kind.{Kind}
@@ -40,16 +42,16 @@ unfoldable pub ofOpen : State → Entry → (Connection → Outcome) → Outcome
 ofOpen s free f = refuse s 11
 ofOpen s (taken c) f = f c
 
--- Open: 10, 7, 8, 12, 13, 14.
-unfoldable pub openStep : State → (name time : ℕ) → Params → Outcome
-openStep s v t p =
-    require (refuse s 10) (leb 32 v)
-    (require (refuse s 7) (leb v 65535 && paramsFit p)
+-- Open: 10, which looks at the VCI alone, 7, 8, 12, 13, 14.
+unfoldable pub openStep : State → (vpi vci time : ℕ) → Params → Outcome
+openStep s vpi vci t p =
+    require (refuse s 10) (leb 32 vci)
+    (require (refuse s 7) (pairFits vpi vci && paramsFit p)
     (require (refuse s 8) (leb t latestTime)
-    (require (refuse s 12) (isFree (find v (s .entries)))
+    (require (refuse s 12) (isFree (find (pairName vpi vci) (s .entries)))
     (require (refuse s 13) (roomLeft s)
     (require (refuse s 14) (leb (s .last) t)
-    (replay (position isFree (s .entries)) s (withTime t (inserted (fresh v t p) s))))))))
+    (replay (position isFree (s .entries)) s (withTime t (inserted (fresh (pairName vpi vci) t p) s))))))))
 
 -- Close: 11. All that waits on the connection goes with it.
 unfoldable pub closeStep : State → (name : ℕ) → Outcome
@@ -65,8 +67,10 @@ offerStep s v n =
 -- Receive: the refusals of reading, then 11.
 unfoldable pub readStep : State → List ℕ → Reading → Outcome
 readStep s o (Unread n) = refuse s n
-readStep s o (User v e) = ofOpen s (find v (s .entries)) λ c. replay (leafOf v s) s (put v (taken (afterDataCell e c)) s)
-readStep s o (Resource f) = ofOpen s (find (f .vci) (s .entries)) λ c. replay (leafOf (f .vci) s) s (put (f .vci) (taken (afterResourceCell (s .level) o f c)) s)
+readStep s o (User vpi vci e) =
+    ofOpen s (find (pairName vpi vci) (s .entries)) λ c. replay (leafOf (pairName vpi vci) s) s (put (pairName vpi vci) (taken (afterDataCell e c)) s)
+readStep s o (Resource f) =
+    ofOpen s (find (cellName f) (s .entries)) λ c. replay (leafOf (cellName f) s) s (put (cellName f) (taken (afterResourceCell (s .level) o f c)) s)
 
 unfoldable pub receiveStep : State → List ℕ → Outcome
 receiveStep s o = readStep s o (reading o)
@@ -126,12 +130,13 @@ outOfRateStep s v t room =
     (require (refuse s 18) (rested t (c .outside))
     (sendOutside (withTime t s) t v c))))
 
+-- a pair outside the ranges makes no connection's name, so that it meets 11 (document 02, L6)
 unfoldable pub step : State → Call → Outcome
-step s (opening v t p) = openStep s v t p
-step s (closing v) = closeStep s v
+step s (opening vpi vci t p) = openStep s vpi vci t p
+step s (closing vpi vci) = closeStep s (pairName vpi vci)
 step s (receiving o) = receiveStep s o
-step s (offering v n) = offerStep s v n
+step s (offering vpi vci n) = offerStep s (pairName vpi vci) n
 step s (levelling l) = levelStep s l
 step s (slot t room) = slotStep s t room
-step s (making v t) = makeStep s v t
-step s (outOfRate v t room) = outOfRateStep s v t room
+step s (making vpi vci t) = makeStep s (pairName vpi vci) t
+step s (outOfRate vpi vci t room) = outOfRateStep s (pairName vpi vci) t room

@@ -8,6 +8,7 @@ use lib.Dec.{leb, eqb}
 use lib.ListN.{length}
 use borrow.Author.Tests.{ltb-true}
 use Rattle.rate.specs.declared.params.Params.{Params}
+use Rattle.cell.specs.Name.{pairName}
 use Rattle.connection.specs.declared.parts.Connection.{Connection}
 use Rattle.connection.specs.declared.kind.Kind.the-variants.{Forward, Turned, Data}
 use Rattle.connection.specs.Parts.{fresh}
@@ -75,14 +76,14 @@ found-in u ss c e = taken-in ss (position (holds u) ss) c e
 
 -- Each call.
 opened-replays : (c : Call) (sent : Bool) → opensOne c ≡ true → replays c sent ≡ true
-opened-replays (opening v t p) sent e = refl
-opened-replays (closing v) sent e = refl
+opened-replays (opening vpi vci t p) sent e = refl
+opened-replays (closing vpi vci) sent e = refl
 opened-replays (receiving o) sent e = refl
-opened-replays (offering v n) sent e = refl
+opened-replays (offering vpi vci n) sent e = refl
 opened-replays (levelling l) sent e = absurd (false≢true e)
 opened-replays (slot t room) sent e = absurd (false≢true e)
-opened-replays (making v t) sent e = refl
-opened-replays (outOfRate v t room) sent e = absurd (false≢true e)
+opened-replays (making vpi vci t) sent e = refl
+opened-replays (outOfRate vpi vci t room) sent e = absurd (false≢true e)
 
 none-counted : (c : Call) (accepted : Bool) → (accepted ≡ true → replays c false ≡ true → ⊥) → Counted c accepted false 0
 none-counted c accepted h = record {
@@ -133,18 +134,18 @@ opened-counted {s} w u t p r =
 effect-counted : {s : State} → WellFormed s → {c : Call} {o : Outcome} → Effect s c o → CountedAnswer c (o .answer)
 unfolding refuse accept replay sendStep idleStep sendOutside withTime isAccepted comparisons
 effect-counted w (refuses c n h) = none-counted c false (λ e _. false≢true e)
-effect-counted w (begins u t p g) = leaf-counted _ refl _ _ _ (λ _. opened-counted w u t p (g .room))
-effect-counted w (ends u d f) = leaf-counted _ refl _ _ _ (λ e. absurd (false≢true e))
-effect-counted w (offers u n d f h) = leaf-counted _ refl _ _ _ (λ e. absurd (false≢true e))
-effect-counted w (marks o u e d r f) = leaf-counted _ refl _ _ _ (λ e. absurd (false≢true e))
+effect-counted w (begins vpi vci t p g) = leaf-counted _ refl _ _ _ (λ _. opened-counted w (pairName vpi vci) t p (g .room))
+effect-counted w (ends vpi vci d f) = leaf-counted _ refl _ _ _ (λ e. absurd (false≢true e))
+effect-counted w (offers vpi vci n d f h) = leaf-counted _ refl _ _ _ (λ e. absurd (false≢true e))
+effect-counted w (marks o vpi vci e d r f) = leaf-counted _ refl _ _ _ (λ e. absurd (false≢true e))
 effect-counted w (works o q d r f) = leaf-counted _ refl _ _ _ (λ e. absurd (false≢true e))
 effect-counted w (levelsTo l h) = none-counted _ true (λ _ e. false≢true e)
 effect-counted w (idles t room g b) = none-counted _ true (λ _ e. false≢true e)
 effect-counted {s} w (sends t room i u g b) =
     cell-counted _ refl refl _
     (replayed-all (position (holds u) (s .entries)) (omega (arith, found-in u (s .entries) (b .holder) (b .found), w .size)) (s .entries) (w .unique) _ (root-leaf w b))
-effect-counted w (makes u t d f g b m) = leaf-counted _ refl _ _ _ (λ e. absurd (false≢true e))
-effect-counted w (leaves u t room d f g b) = none-counted _ true (λ _ e. false≢true e)
+effect-counted w (makes vpi vci t d f g b m) = leaf-counted _ refl _ _ _ (λ e. absurd (false≢true e))
+effect-counted w (leaves vpi vci t room d f g b) = none-counted _ true (λ _ e. false≢true e)
 
 pub comparisons-counted : Comparisons
 comparisons-counted cs c = let w = reached-well-formed cs in effect-counted w (effect (final empty cs) (w .unique) c)

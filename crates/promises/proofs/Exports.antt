@@ -9,6 +9,7 @@ use native.Mathlib.Omega.{arith}
 use lib.Dec.{eqb}
 use borrow.Author.Tests.{ne-eqb}
 use Rattle.rate.specs.declared.params.Params.{Params}
+use Rattle.cell.specs.Name.{nameOf, vpiIn, vciIn}
 use Rattle.connection.specs.declared.kind.Kind.{Kind}
 use Rattle.connection.specs.declared.kind.Kind.the-variants.{Forward, Turned, Data}
 use Rattle.model.specs.State.{State, Entry, free, taken, empty, find}
@@ -38,16 +39,16 @@ use Rattle.promises.proofs.Demand3.{demand3}
 pub effect-accepted : {s : State} {c : Call} {o : Outcome} → Effect s c o → eqb (slotAnswer (o .answer) .refusal) 0 ≡ isAccepted (o .answer)
 unfolding refuse accept replay idleStep sendStep sendOutside isAccepted
 effect-accepted (refuses c n h) = ne-eqb n 0 (λ e. omega (arith, h, e))
-effect-accepted (begins u t p g) = refl
-effect-accepted (ends u d f) = refl
-effect-accepted (offers u n d f h) = refl
-effect-accepted (marks o u e d r f) = refl
+effect-accepted (begins vpi vci t p g) = refl
+effect-accepted (ends vpi vci d f) = refl
+effect-accepted (offers vpi vci n d f h) = refl
+effect-accepted (marks o vpi vci e d r f) = refl
 effect-accepted (works o q d r f) = refl
 effect-accepted (levels l h) = refl
 effect-accepted (idles t room g b) = refl
 effect-accepted (sends t room i u g b) = refl
-effect-accepted (makes u t d f g b m) = refl
-effect-accepted (leaves u t room d f g b) = refl
+effect-accepted (makes vpi vci t d f g b m) = refl
+effect-accepted (leaves vpi vci t room d f g b) = refl
 
 -- the kind and the connection of a slot, and a refusal's number
 orZero : Option ℕ → ℕ
@@ -76,29 +77,33 @@ kind-number (Sent v Forward a n) = refl
 kind-number (Sent v Turned a n) = refl
 kind-number (Sent v Data a n) = refl
 
+-- the pair that a slot returned makes the name again
+back : (v : ℕ) → nameOf (vpiIn v) (vciIn v) ≡ v
+back v = omega arith
+
 went-to : (a : Answer) → wentTo (slotAnswer a) ≡ goesTo a
 unfolding goesTo
 went-to (Refused n) = refl
 went-to (Accepted n) = refl
 went-to Idle = refl
-went-to (Sent v Forward a n) = refl
-went-to (Sent v Turned a n) = refl
-went-to (Sent v Data a n) = refl
+went-to (Sent v Forward a n) = ap some (back v)
+went-to (Sent v Turned a n) = ap some (back v)
+went-to (Sent v Data a n) = ap some (back v)
 
 -- Refusals.
 effect-leaves : {s : State} {c : Call} {o : Outcome} → Effect s c o → (slotAnswer (o .answer) .refusal ≡ 0 → ⊥) → (o .state ≡ s) × (o .buffer ≡ untouched)
 unfolding refuse accept replay idleStep sendStep sendOutside
 effect-leaves (refuses c n h) z = (refl, refl)
-effect-leaves (begins u t p g) z = absurd (z refl)
-effect-leaves (ends u d f) z = absurd (z refl)
-effect-leaves (offers u n d f h) z = absurd (z refl)
-effect-leaves (marks o u e d r f) z = absurd (z refl)
+effect-leaves (begins vpi vci t p g) z = absurd (z refl)
+effect-leaves (ends vpi vci d f) z = absurd (z refl)
+effect-leaves (offers vpi vci n d f h) z = absurd (z refl)
+effect-leaves (marks o vpi vci e d r f) z = absurd (z refl)
 effect-leaves (works o q d r f) z = absurd (z refl)
 effect-leaves (levels l h) z = absurd (z refl)
 effect-leaves (idles t room g b) z = absurd (z refl)
 effect-leaves (sends t room i u g b) z = absurd (z refl)
-effect-leaves (makes u t d f g b m) z = absurd (z refl)
-effect-leaves (leaves u t room d f g b) z = absurd (z refl)
+effect-leaves (makes vpi vci t d f g b m) z = absurd (z refl)
+effect-leaves (leaves vpi vci t room d f g b) z = absurd (z refl)
 
 leave-from : (s : State) → WellFormed s → (cs : List Call) (l : List ℕ) (os : List Observation) → AllMatch (run s cs) os → l ≡ words s → RefusedLeave l os
 leave-from s w [] l [] neither e = tt

@@ -6,6 +6,8 @@ use mathlib.Core.Bool.{cond}
 use mathlib.Core.Option.{some}
 use lib.Dec.{eqb}
 use borrow.Author.Tests.{ne-eqb}
+use Rattle.cell.specs.Name.{pairName}
+use Rattle.cell.specs.Fields.{cellName}
 use Rattle.connection.specs.declared.parts.Connection.{Connection}
 use Rattle.connection.specs.Parts.{fresh}
 use Rattle.connection.specs.Making.{withMade}
@@ -22,7 +24,7 @@ use Rattle.model.specs.Step.{refuse, accept, replay, sendStep, idleStep, sendOu
 use Rattle.model.specs.Run.{final}
 use Rattle.model.proofs.Effects.{Effect, refuses, begins, ends, offers, marks, works, levels, idles, sends, makes, leaves, effect}
 use Rattle.model.proofs.Reached.{reached-well-formed}
-use Rattle.promises.specs.Interference.{cellName, names, NoInterference}
+use Rattle.promises.specs.Interference.{readName, names, NoInterference}
 
 same : Entry → Entry
 same x = x
@@ -40,21 +42,21 @@ put-other v u s a d e f n h = put-read same v u s a d e f n ∙ other u v _ _ h
 effect-other :
     (v : ℕ) {s : State} → NamesUnique (s .entries) → {c : Call} {o : Outcome} → Effect s c o → names c (o .answer) ≢ some v
     → find v (o .state .entries) ≡ find v (s .entries)
-unfolding same names cellName refuse accept replay sendStep idleStep sendOutside withTime withLevel goesTo fresh offered afterDataCell withMade afterOutOfRate
+unfolding same names readName refuse accept replay sendStep idleStep sendOutside withTime withLevel goesTo fresh offered afterDataCell withMade afterOutOfRate
 effect-other v a (refuses c n z) h = refl
-effect-other v {s} a (begins u t p g) h = inserted-read same v s (fresh u t p) (g .new) (g .room) ∙ other u v _ _ h
-effect-other v {s} a (ends u d f) h = freed-read same v u s a ∙ other u v _ _ h
-effect-other v {s} a (offers u n d f b) h = put-other v u s a d (offered n d) f refl h
-effect-other v {s} a (marks o u e d r f) h = put-other v u s a d (afterDataCell e d) f refl (rw r at h)
+effect-other v {s} a (begins vpi vci t p g) h = inserted-read same v s (fresh (pairName vpi vci) t p) (g .new) (g .room) ∙ other (pairName vpi vci) v _ _ h
+effect-other v {s} a (ends vpi vci d f) h = freed-read same v (pairName vpi vci) s a ∙ other (pairName vpi vci) v _ _ h
+effect-other v {s} a (offers vpi vci n d f b) h = put-other v (pairName vpi vci) s a d (offered n d) f refl h
+effect-other v {s} a (marks o vpi vci e d r f) h = put-other v (pairName vpi vci) s a d (afterDataCell e d) f refl (rw r at h)
 effect-other v {s} a (works o q d r f) h =
-    put-other v (q .vci) s a d (afterResourceCell (s .level) o q d) f (work-same (s .level) o q d .name) (rw r at h)
+    put-other v (cellName q) s a d (afterResourceCell (s .level) o q d) f (work-same (s .level) o q d .name) (rw r at h)
 effect-other v a (levels l b) h = refl
 effect-other v a (idles t room g b) h = refl
 effect-other v {s} a (sends t room i u g b) h =
     let k = kindAt t (b .holder) in
     put-other v u (withTime t s) a (b .holder) (after k t (b .holder)) (b .found) (after-same k t (b .holder) .name) h
-effect-other v {s} a (makes u t d f g b m) h = put-other v u (withTime t s) a d (withMade t (s .level) d) f refl h
-effect-other v {s} a (leaves u t room d f g b) h = put-other v u (withTime t s) a d (afterOutOfRate t d) f refl h
+effect-other v {s} a (makes vpi vci t d f g b m) h = put-other v (pairName vpi vci) (withTime t s) a d (withMade t (s .level) d) f refl h
+effect-other v {s} a (leaves vpi vci t room d f g b) h = put-other v (pairName vpi vci) (withTime t s) a d (afterOutOfRate t d) f refl h
 
 pub no-interference : NoInterference
 no-interference cs c u h = let a = reached-well-formed cs .unique in effect-other u a (effect (final empty cs) a c) h

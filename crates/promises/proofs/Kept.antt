@@ -5,6 +5,8 @@ use mathlib.Core.Logic.{_≢_}
 use mathlib.Core.Bool.{Bool, cond}
 use lib.Dec.{eqb}
 use borrow.Author.Tests.{eq-eqb, ne-eqb}
+use Rattle.cell.specs.Name.{pairName}
+use Rattle.cell.specs.Fields.{cellName}
 use Rattle.cell.specs.Reading.{reading}
 use Rattle.cell.specs.declared.fields.Fields.{Fields}
 use Rattle.cell.specs.declared.read.Reading.the-variants.{Resource}
@@ -33,16 +35,16 @@ Has P (taken c) = P c
 
 -- what a call with this answer makes of the connection of v, if it is about it, keeps P; and it does not close it
 abbrev pub KeptBy : (Connection → Type 0) → ℕ → State → Call → Answer → Type 0
-KeptBy P v s (opening u t p) a = Unit
-KeptBy P v s (closing u) a = u ≢ v
+KeptBy P v s (opening vpi vci t p) a = Unit
+KeptBy P v s (closing vpi vci) a = pairName vpi vci ≢ v
 KeptBy P v s (receiving o) a =
     ((e : Bool) (d : Connection) → P d → P (afterDataCell e d))
     × ((f : Fields) (d : Connection) → reading o ≡ Resource f → find v (s .entries) ≡ taken d → P d → P (afterResourceCell (s .level) o f d))
-KeptBy P v s (offering u n) a = (d : Connection) → P d → P (offered n d)
+KeptBy P v s (offering vpi vci n) a = (d : Connection) → P d → P (offered n d)
 KeptBy P v s (levelling l) a = Unit
 KeptBy P v s (slot t room) a = (d : Connection) (acr n : ℕ) → a ≡ Sent v (kindAt t d) acr n → P d → P (after (kindAt t d) t d)
-KeptBy P v s (making u t) a = (d : Connection) → P d → P (withMade t (s .level) d)
-KeptBy P v s (outOfRate u t room) a = (d : Connection) → s .last ≤ t → find v (s .entries) ≡ taken d → P d → P (afterOutOfRate t d)
+KeptBy P v s (making vpi vci t) a = (d : Connection) → P d → P (withMade t (s .level) d)
+KeptBy P v s (outOfRate vpi vci t room) a = (d : Connection) → s .last ≤ t → find v (s .entries) ≡ taken d → P d → P (afterOutOfRate t d)
 
 module _ (P : Connection → Type 0) (v : ℕ) where
   changed-kept :
@@ -61,21 +63,21 @@ module _ (P : Connection → Type 0) (v : ℕ) where
       → Has P (find v (o .state .entries))
   unfolding refuse accept replay sendStep idleStep sendOutside withTime withLevel fresh offered afterDataCell withMade afterOutOfRate
   effect-kept a (refuses c n h) q m = m
-  effect-kept {s} a (begins u t p g) q m = rw (inserted-read (λ (x : Entry). x) v s (fresh u t p) (g .new) (g .room)) (go (case u v))
+  effect-kept {s} a (begins vpi vci t p g) q m = rw (inserted-read (λ (x : Entry). x) v s (fresh (pairName vpi vci) t p) (g .new) (g .room)) (go (case (pairName vpi vci) v))
     where
-      go : Case u v → Has P (cond (eqb u v) (taken (fresh u t p)) (find v (s .entries)))
+      go : Case (pairName vpi vci) v → Has P (cond (eqb (pairName vpi vci) v) (taken (fresh (pairName vpi vci) t p)) (find v (s .entries)))
       go (same z) = absurd (subst (Has P) (ap (λ (x : ℕ). find x (s .entries)) (sym z) ∙ g .new) m)
-      go (other z) = rw (ne-eqb u v z) m
-  effect-kept {s} a (ends u d f) q m = rw (freed-read (λ (x : Entry). x) v u s a, ne-eqb u v q) m
-  effect-kept {s} a (offers u n d f b) q m = changed-kept u s a d (offered n d) f refl (λ _ _. q d) m
-  effect-kept {s} a (marks o u e d r f) q m = changed-kept u s a d (afterDataCell e d) f refl (λ _ _. q .0 e d) m
+      go (other z) = rw (ne-eqb (pairName vpi vci) v z) m
+  effect-kept {s} a (ends vpi vci d f) q m = rw (freed-read (λ (x : Entry). x) v (pairName vpi vci) s a, ne-eqb (pairName vpi vci) v q) m
+  effect-kept {s} a (offers vpi vci n d f b) q m = changed-kept (pairName vpi vci) s a d (offered n d) f refl (λ _ _. q d) m
+  effect-kept {s} a (marks o vpi vci e d r f) q m = changed-kept (pairName vpi vci) s a d (afterDataCell e d) f refl (λ _ _. q .0 e d) m
   effect-kept {s} a (works o g d r f) q m =
-      changed-kept (g .vci) s a d (afterResourceCell (s .level) o g d) f (work-same (s .level) o g d .name) (λ _ h. q .1 g d r h) m
+      changed-kept (cellName g) s a d (afterResourceCell (s .level) o g d) f (work-same (s .level) o g d .name) (λ _ h. q .1 g d r h) m
   effect-kept a (levels l b) q m = m
   effect-kept a (idles t room g b) q m = m
   effect-kept {s} a (sends t room i u g b) q m =
       let k = kindAt t (b .holder) in
       changed-kept u (withTime t s) a (b .holder) (after k t (b .holder)) (b .found) (after-same k t (b .holder) .name)
       (λ z _. q (b .holder) _ _ (sent-same z refl)) m
-  effect-kept {s} a (makes u t d f g b z) q m = changed-kept u (withTime t s) a d (withMade t (s .level) d) f refl (λ _ _. q d) m
-  effect-kept {s} a (leaves u t room d f g b) q m = changed-kept u (withTime t s) a d (afterOutOfRate t d) f refl (λ _ h. q d (g .since) h) m
+  effect-kept {s} a (makes vpi vci t d f g b z) q m = changed-kept (pairName vpi vci) (withTime t s) a d (withMade t (s .level) d) f refl (λ _ _. q d) m
+  effect-kept {s} a (leaves vpi vci t room d f g b) q m = changed-kept (pairName vpi vci) (withTime t s) a d (afterOutOfRate t d) f refl (λ _ h. q d (g .since) h) m

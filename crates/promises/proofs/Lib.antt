@@ -19,3 +19,5 @@ pub mod Comparisons
 pub mod Restart
 pub mod OutOfRate
 pub mod Counts
+pub mod Addresses
+pub mod AddressCalls

@@ -1,5 +1,5 @@
 -- No CI is lost between a received forward cell and the next turned cell that is sent.
-use Prim.Native.Nat.{ℕ, _≤_}
+use Prim.Native.Nat.{ℕ, _<_}
 use mathlib.Core.Path.{_≡_, refl, sym, ap, subst, _∙_}
 use mathlib.Core.Bool.{Bool, true, false, cond, _||_}
 use mathlib.Core.List.{List, [], _∷_}
@@ -10,13 +10,15 @@ use Rattle.rate.specs.declared.params.Params.{Params}
 use Rattle.crc.specs.declared.payload.Payload.{Payload}
 use Rattle.crc.specs.Payload.{payloadOf}
 use Rattle.cell.specs.Octets.{AreOctets, payload}
+use Rattle.cell.specs.Name.{vpiIn, vciIn, noName, pairName}
 use Rattle.cell.specs.Header.{header}
-use Rattle.cell.specs.Fields.{fieldsOf}
+use Rattle.cell.specs.Fields.{fieldsOf, cellName}
 use Rattle.cell.specs.Reading.{reading}
 use Rattle.cell.specs.Turning.{turnedPayload, turnedCell}
 use Rattle.cell.specs.Returned.{returned}
 use Rattle.cell.specs.declared.fields.Fields.{Fields}
 use Rattle.cell.specs.declared.read.Reading.the-variants.{Resource}
+use Rattle.cell.proofs.Names.{pair-back}
 use Rattle.cell.proofs.Admits.{resource-received}
 use Rattle.cell.proofs.Turned.{turned-read, turned-words}
 use Rattle.connection.specs.declared.parts.Connection.{Connection}
@@ -50,8 +52,8 @@ record Marked (v : ℕ) (w : Waiting) : Type 0 where
   payload : Payload
   waits : w ≡ Cell payload
   fields : Fields
-  read : reading (turnedCell v payload) ≡ Resource fields
-  vci : fields .vci ≡ v
+  read : reading (turnedCell (vpiIn v) (vciIn v) payload) ≡ Resource fields
+  name : cellName fields ≡ v
   backward : fields .dir ≡ 1
   bn : fields .bn ≡ 0
   ci : fields .ci ≡ 1
@@ -64,20 +66,22 @@ CarriesMark v d = Marked v (d .destination .turned)
 marked-ci : (v : ℕ) (w : Waiting) → Marked v w → waitingCi w ≡ true
 unfolding waitingCi turnedCell header fieldsOf
 marked-ci v w m =
-    let f = resource-received (turnedCell v (m .payload)) (m .fields) (m .read) .fields in
+    let f = resource-received (turnedCell (vpiIn v) (vciIn v) (m .payload)) (m .fields) (m .read) .fields in
     rw (m .waits) (eq-eqb _ 1 (ap (λ (x : Fields). x .ci) (sym f) ∙ m .ci))
 
 -- a forward cell that is turned with a mark
 turned-marked :
-    (level : ℕ) (b : Bool) (o : List ℕ) (f : Fields) (v : ℕ) → AreOctets o → reading o ≡ Resource f → v ≤ 65535 → cond (b || eqb level 2) 1 (f .ci) ≡ 1
+    (level : ℕ) (b : Bool) (o : List ℕ) (f : Fields) (v : ℕ) → AreOctets o → reading o ≡ Resource f → v < noName → cond (b || eqb level 2) 1 (f .ci) ≡ 1
     → Marked v (Cell (payloadOf (turnedPayload level b (payload o))))
 unfolding returned
 turned-marked level b o f v a e l m = record {
   payload = payloadOf (turnedPayload level b (payload o));
   waits = refl;
-  fields = returned level b v f;
-  read = ap reading (turned-words level b v o (resource-received o f e .size) a) ∙ turned-read level b v o (resource-received o f e .size) f e l;
-  vci = refl;
+  fields = returned level b (vpiIn v) (vciIn v) f;
+  read =
+      ap reading (turned-words level b (vpiIn v) (vciIn v) o (resource-received o f e .size) a)
+      ∙ turned-read level b (vpiIn v) (vciIn v) o (resource-received o f e .size) f e (omega (arith, l)) (omega arith);
+  name = pair-back v l;
   backward = refl;
   bn = refl;
   ci = m;
@@ -100,7 +104,7 @@ own-marks false x e = e
 
 -- Each call: what it makes of a connection keeps the mark.
 work-mark :
-    (v level : ℕ) (o : List ℕ) (f : Fields) (d : Connection) → AreOctets o → reading o ≡ Resource f → v ≤ 65535 → Marked v (d .destination .turned)
+    (v level : ℕ) (o : List ℕ) (f : Fields) (d : Connection) → AreOctets o → reading o ≡ Resource f → v < noName → Marked v (d .destination .turned)
     → Marked v (afterResourceCell level o f d .destination .turned)
 unfolding afterResourceCell afterBackwardCell afterForwardCell markKept
 work-mark v level o f d a e l m = go (eqb (f .dir) 1)
@@ -121,15 +125,15 @@ sent-mark v t Data d n m = m
 
 quiet-kept : (v : ℕ) {s : State} → WellFormed s → (c : Call) (a : Answer) → Quiet v c a → KeptBy (CarriesMark v) v s c a
 unfolding offered afterDataCell withMade afterOutOfRate
-quiet-kept v w (opening u t p) a q = tt
-quiet-kept v w (closing u) a q = q
+quiet-kept v w (opening vpi vci t p) a q = tt
+quiet-kept v w (closing vpi vci) a q = q
 quiet-kept v {s} w (receiving o) a q =
     (λ e d m. m, λ f d r g m. work-mark v (s .level) o f d q r (rw (← name-of v s d g) (valid-at w v d g .0 .coded)) m)
-quiet-kept v w (offering u n) a q = λ d m. m
+quiet-kept v w (offering vpi vci n) a q = λ d m. m
 quiet-kept v w (levelling l) a q = tt
 quiet-kept v w (slot t room) a q = λ d acr n e m. sent-mark v t (kindAt t d) d (λ k. q acr n (e ∙ sent-same refl k)) m
-quiet-kept v w (making u t) a q = λ d m. m
-quiet-kept v w (outOfRate u t room) a q = λ d _ _ m. m
+quiet-kept v w (making vpi vci t) a q = λ d m. m
+quiet-kept v w (outOfRate vpi vci t room) a q = λ d _ _ m. m
 
 all-mark : (v : ℕ) (s : State) → WellFormed s → (cs : List Call) → AllQuiet v s cs → Has (CarriesMark v) (find v (s .entries)) → Has (CarriesMark v) (find v (final s cs .entries))
 all-mark v s w [] q m = m
@@ -145,26 +149,26 @@ came-marks f c level (atLevel2 e) =
     set-marks (k || eqb level 2) (f .ci) (or-else k (eqb level 2) (eq-eqb level 2 e))
 
 pub step-works :
-    (s : State) (o : List ℕ) (f : Fields) (c : Connection) → reading o ≡ Resource f → find (f .vci) (s .entries) ≡ taken c
-    → step s (receiving o) ≡ replay (leafOf (f .vci) s) s (put (f .vci) (taken (afterResourceCell (s .level) o f c)) s)
+    (s : State) (o : List ℕ) (f : Fields) (c : Connection) → reading o ≡ Resource f → find (cellName f) (s .entries) ≡ taken c
+    → step s (receiving o) ≡ replay (leafOf (cellName f) s) s (put (cellName f) (taken (afterResourceCell (s .level) o f c)) s)
 unfolding step receiveStep readStep ofOpen
 step-works s o f c e q = rw (e, q)
 
 received-mark :
-    (s : State) → WellFormed s → (o : List ℕ) (f : Fields) (c : Connection) → AreOctets o → reading o ≡ Resource f → f .dir ≡ 0 → find (f .vci) (s .entries) ≡ taken c
-    → MarkCame f c (s .level) → Has (CarriesMark (f .vci)) (find (f .vci) (step s (receiving o) .state .entries))
+    (s : State) → WellFormed s → (o : List ℕ) (f : Fields) (c : Connection) → AreOctets o → reading o ≡ Resource f → f .dir ≡ 0 → find (cellName f) (s .entries) ≡ taken c
+    → MarkCame f c (s .level) → Has (CarriesMark (cellName f)) (find (cellName f) (step s (receiving o) .state .entries))
 unfolding accept replay afterResourceCell afterForwardCell
 received-mark s w o f c a e d q m =
     rw (
       step-works s o f c e q,
-      put-read (λ (x : Entry). x) (f .vci) (f .vci) s (w .unique) c (afterResourceCell (s .level) o f c) q (work-same (s .level) o f c .name),
-      eq-eqb (f .vci) (f .vci) refl,
+      put-read (λ (x : Entry). x) (cellName f) (cellName f) s (w .unique) c (afterResourceCell (s .level) o f c) q (work-same (s .level) o f c .name),
+      eq-eqb (cellName f) (cellName f) refl,
       d,
     )
-    (turned-marked (s .level) (markKept (c .destination)) o f (f .vci) a e (rw (← name-of (f .vci) s c q) (valid-at w (f .vci) c q .0 .coded)) (came-marks f c (s .level) m))
+    (turned-marked (s .level) (markKept (c .destination)) o f (cellName f) a e (rw (← name-of (cellName f) s c q) (valid-at w (cellName f) c q .0 .coded)) (came-marks f c (s .level) m))
 
 -- The slot that sends it.
-backward-octets : (n : ℕ) (p : Params) (w : Waiting) (level v : ℕ) (x : Payload) → w ≡ Cell x → n ≡ v → backwardCell n p w level ≡ turnedCell v x
+backward-octets : (n : ℕ) (p : Params) (w : Waiting) (level v : ℕ) (x : Payload) → w ≡ Cell x → n ≡ v → backwardCell n p w level ≡ turnedCell (vpiIn v) (vciIn v) x
 unfolding backwardCell
 backward-octets n p w level v x e q = rw (e, q)
 
@@ -172,11 +176,11 @@ written-mark : (v : ℕ) (d e : Connection) (k : Kind) → k ≡ Turned → d .n
 unfolding bufferAfter
 written-mark v d e Forward q n m = let z : _≡_ {A = ℕ} 0 1 = cc in absurd (omega arith)
 written-mark v d e Turned q n m = record {
-  octets = turnedCell v (m .payload);
+  octets = turnedCell (vpiIn v) (vciIn v) (m .payload);
   buffer = ap written (backward-octets (d .name) (d .rate .params) (d .destination .turned) (d .destination .made .level) v (m .payload) (m .waits) n);
   fields = m .fields;
   read = m .read;
-  vci = m .vci;
+  name = m .name;
   backward = m .backward;
   turned = m .bn;
   ci = m .ci;
@@ -199,5 +203,5 @@ no-mark-lost cs o f c ds t room acr n a e d q m quiet sent =
     let w = reached-well-formed cs in
     let s : State = step (final empty cs) (receiving o) .state in
     let x : WellFormed s = step-well-formed w (receiving o) in
-    let h = all-mark (f .vci) s x ds quiet (received-mark (final empty cs) w o f c a e d q m) in
-    slot-mark (f .vci) (effect (final s ds) (final-well-formed x ds .unique) (slot t room)) h sent
+    let h = all-mark (cellName f) s x ds quiet (received-mark (final empty cs) w o f c a e d q m) in
+    slot-mark (cellName f) (effect (final s ds) (final-well-formed x ds .unique) (slot t room)) h sent

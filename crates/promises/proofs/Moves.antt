@@ -7,6 +7,8 @@ use lib.Dec.{eqb}
 use borrow.Author.Tests.{eqb-true, eq-eqb, ne-eqb}
 use Rattle.cell.specs.declared.fields.Fields.{Fields}
 use Rattle.cell.specs.declared.read.Reading.the-variants.{Resource}
+use Rattle.cell.specs.Name.{pairName}
+use Rattle.cell.specs.Fields.{cellName}
 use Rattle.cell.specs.Reading.{reading}
 use Rattle.connection.specs.declared.parts.Connection.{Connection}
 use Rattle.connection.specs.declared.parts.Pace.{Pace}
@@ -68,7 +70,7 @@ changes v u s z d e f n c a m =
     rw (put-read self v u s z d e f n) (read-moves v u s c a (taken e) (λ h. rw (ap (λ w. find w (s .entries)) (sym h) ∙ f) (m h)))
 
 works-move :
-    (v level n : ℕ) (o : List ℕ) (f : Fields) (d : Connection) → reading o ≡ Resource f → f .vci ≡ v → Moves v d (receiving o) (Accepted n) (afterResourceCell level o f d .rate)
+    (v level n : ℕ) (o : List ℕ) (f : Fields) (d : Connection) → reading o ≡ Resource f → cellName f ≡ v → Moves v d (receiving o) (Accepted n) (afterResourceCell level o f d .rate)
 unfolding afterResourceCell afterBackwardCell afterForwardCell
 works-move v level n o f d r h = go (eqb (f .dir) 1) refl
   where
@@ -90,22 +92,22 @@ sent-moves v t room acr n Data d = stays
 effect-moves : (v : ℕ) {s : State} → NamesUnique (s .entries) → {c : Call} {o : Outcome} → Effect s c o → MovesTo v c (o .answer) (find v (s .entries)) (find v (o .state .entries))
 unfolding self refuse accept replay sendStep idleStep sendOutside withTime withLevel fresh offered afterDataCell withMade afterOutOfRate
 effect-moves v {s} a (refuses c n h) = rests v c (Refused n) (find v (s .entries))
-effect-moves v {s} a (begins u t p g) =
-    rw (inserted-read self v s (fresh u t p) (g .new) (g .room))
-    (read-moves v u s (opening u t p) _ (taken (fresh u t p)) (λ h. rw (ap (λ w. find w (s .entries)) (sym h) ∙ g .new) tt))
-effect-moves v {s} a (ends u d f) = rw (freed-read self v u s a) (read-moves v u s (closing u) _ free (λ _. closed v (closing u) _ (find v (s .entries))))
-effect-moves v {s} a (offers u n d f b) = changes v u s a d (offered n d) f refl (offering u n) _ (λ _. stays)
-effect-moves v {s} a (marks o u e d r f) = changes v u s a d (afterDataCell e d) f refl (receiving o) _ (λ _. stays)
+effect-moves v {s} a (begins vpi vci t p g) =
+    rw (inserted-read self v s (fresh (pairName vpi vci) t p) (g .new) (g .room))
+    (read-moves v (pairName vpi vci) s (opening vpi vci t p) _ (taken (fresh (pairName vpi vci) t p)) (λ h. rw (ap (λ w. find w (s .entries)) (sym h) ∙ g .new) tt))
+effect-moves v {s} a (ends vpi vci d f) = rw (freed-read self v (pairName vpi vci) s a) (read-moves v (pairName vpi vci) s (closing vpi vci) _ free (λ _. closed v (closing vpi vci) _ (find v (s .entries))))
+effect-moves v {s} a (offers vpi vci n d f b) = changes v (pairName vpi vci) s a d (offered n d) f refl (offering vpi vci n) _ (λ _. stays)
+effect-moves v {s} a (marks o vpi vci e d r f) = changes v (pairName vpi vci) s a d (afterDataCell e d) f refl (receiving o) _ (λ _. stays)
 effect-moves v {s} a (works o q d r f) =
-    changes v (q .vci) s a d (afterResourceCell (s .level) o q d) f (work-same (s .level) o q d .name) (receiving o) _ (works-move v (s .level) _ o q d r)
+    changes v (cellName q) s a d (afterResourceCell (s .level) o q d) f (work-same (s .level) o q d .name) (receiving o) _ (works-move v (s .level) _ o q d r)
 effect-moves v {s} a (levels l b) = rests v (levelling l) (Accepted 0) (find v (s .entries))
 effect-moves v {s} a (idles t room g b) = rests v (slot t room) Idle (find v (s .entries))
 effect-moves v {s} a (sends t room i u g b) =
     let k = kindAt t (b .holder) in
     changes v u (withTime t s) a (b .holder) (after k t (b .holder)) (b .found) (after-same k t (b .holder) .name) (slot t room) _
     (λ h. rw h (sent-moves v t room _ _ k (b .holder)))
-effect-moves v {s} a (makes u t d f g b m) = changes v u (withTime t s) a d (withMade t (s .level) d) f refl (making u t) _ (λ _. stays)
-effect-moves v {s} a (leaves u t room d f g b) = changes v u (withTime t s) a d (afterOutOfRate t d) f refl (outOfRate u t room) _ (λ _. stays)
+effect-moves v {s} a (makes vpi vci t d f g b m) = changes v (pairName vpi vci) (withTime t s) a d (withMade t (s .level) d) f refl (making vpi vci t) _ (λ _. stays)
+effect-moves v {s} a (leaves vpi vci t room d f g b) = changes v (pairName vpi vci) (withTime t s) a d (afterOutOfRate t d) f refl (outOfRate vpi vci t room) _ (λ _. stays)
 
 pub four-moves : FourMoves
 four-moves cs c v d e f h =

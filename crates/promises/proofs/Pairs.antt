@@ -16,6 +16,8 @@ use Rattle.rate.proofs.FourMoves.{feedback-mono}
 use Rattle.cell.specs.declared.fields.Fields.{Fields}
 use Rattle.cell.specs.declared.read.Reading.{Reading}
 use Rattle.cell.specs.declared.read.Reading.the-variants.{Refused as Unread, User, Resource}
+use Rattle.cell.specs.Name.{pairName}
+use Rattle.cell.specs.Fields.{cellName}
 use Rattle.cell.specs.Reading.{reading}
 use Rattle.connection.specs.declared.parts.Connection.{Connection}
 use Rattle.connection.specs.declared.kind.Kind.{Kind}
@@ -85,16 +87,16 @@ ofOpen-meets r vacant f g h = λ _. refuse-both r 11
 ofOpen-meets r (lower c a l) f g h = h c a refl l
 
 -- Open, close, offer and level.
-open-meets : {s₁ s₂ : State} → Tables s₁ s₂ → (v t : ℕ) (p : Params) → Meets (openStep s₁ v t p) (openStep s₂ v t p)
+open-meets : {s₁ s₂ : State} → Tables s₁ s₂ → (vpi vci t : ℕ) (p : Params) → Meets (openStep s₁ vpi vci t p) (openStep s₂ vpi vci t p)
 unfolding openStep replay
-open-meets r v t p =
+open-meets r vpi vci t p =
     require-meets r 10 _ _ refl
     (require-meets r 7 _ _ refl
     (require-meets r 8 _ _ refl
-    (require-meets r 12 _ _ (isFree-same _ _ (find-lower v r))
+    (require-meets r 12 _ _ (isFree-same _ _ (find-lower (pairName vpi vci) r))
     (require-meets r 13 _ _ (roomLeft-same r)
     (require-meets r 14 _ _ (ap (λ l. leb l t) (last-same r)) λ _.
-    accept-both _ _ (withTime-tables t (inserted-tables (fresh v t p) r)))))))
+    accept-both _ _ (withTime-tables t (inserted-tables (fresh (pairName vpi vci) t p) r)))))))
 
 close-meets : {s₁ s₂ : State} → Tables s₁ s₂ → (v : ℕ) → Meets (closeStep s₁ v) (closeStep s₂ v)
 unfolding closeStep replay
@@ -129,7 +131,7 @@ unfolding afterResourceCell afterForwardCell
 work-lower level o f c a u l = go (eqb (f .dir) 1) refl
   where
     go : (t : Bool) → eqb (f .dir) 1 ≡ t → Lower (taken (cond t (afterBackwardCell f c) (afterForwardCell level o c))) (taken (cond t (afterBackwardCell f (lowered c a)) (afterForwardCell level o (lowered c a))))
-    go true e = after-backward-cell-lower f f (record { vci = refl; first = eqb-true _ _ e; second = eqb-true _ _ e; bn = refl; rate = le-refl _; level = le-refl _ }) c a u l
+    go true e = after-backward-cell-lower f f (record { name = refl; first = eqb-true _ _ e; second = eqb-true _ _ e; bn = refl; rate = le-refl _; level = le-refl _ }) c a u l
     go false e = lower (afterForwardCell level o c) a l
 
 below-peak : {s : State} → WellFormed s → (v : ℕ) (c : Connection) → find v (s .entries) ≡ taken c → c .rate .acr ≤ peak (c .rate .params)
@@ -139,12 +141,13 @@ resource-meets : {s₁ s₂ : State} → WellFormed s₁ → Tables s₁ s₂ �
 unfolding readStep replay
 resource-meets w (tables l t hs) o f =
     let r = tables l t hs in
-    ofOpen-meets r (find-lower (f .vci) r) _ _ λ c a e h _. accept-both _ _ (put-tables (f .vci) (work-lower l o f c a (below-peak w (f .vci) c e) h) r)
+    ofOpen-meets r (find-lower (cellName f) r) _ _ λ c a e h _. accept-both _ _ (put-tables (cellName f) (work-lower l o f c a (below-peak w (cellName f) c e) h) r)
 
 read-meets : {s₁ s₂ : State} → WellFormed s₁ → Tables s₁ s₂ → (o : List ℕ) (q : Reading) → Meets (readStep s₁ o q) (readStep s₂ o q)
 unfolding readStep replay afterDataCell
 read-meets w r o (Unread n) = λ _. refuse-both r n
-read-meets w r o (User v e) = ofOpen-meets r (find-lower v r) _ _ λ c a _ l _. accept-both _ _ (put-tables v (lower (afterDataCell e c) a l) r)
+read-meets w r o (User vpi vci e) =
+    ofOpen-meets r (find-lower (pairName vpi vci) r) _ _ λ c a _ l _. accept-both _ _ (put-tables (pairName vpi vci) (lower (afterDataCell e c) a l) r)
 read-meets w r o (Resource f) = resource-meets w r o f
 
 -- two backward cells, the second at least as congested
@@ -167,7 +170,7 @@ moreCongested-at {s₁} {s₂} wh r a b f g k v w q =
 moreCongested-meets : {s₁ s₂ : State} → WellFormed s₁ → Tables s₁ s₂ → (a b : List ℕ) {q r : Reading} → NotLessCongested q r → Meets (readStep s₁ a q) (readStep s₂ b r)
 unfolding readStep
 moreCongested-meets w r a b (alike n) = λ _. refuse-both r n
-moreCongested-meets w r a b (moreCongested f g k) = moreCongested-at w r a b f g k (f .vci) (g .vci) (k .vci)
+moreCongested-meets w r a b (moreCongested f g k) = moreCongested-at w r a b f g k (cellName f) (cellName g) (k .name)
 
 -- Slot.
 forward-same : (t : ℕ) (c : Connection) (a : ℕ) (p : Pace) → isForward t (lowered c a) p ≡ isForward t c p
@@ -264,14 +267,14 @@ out-of-rate-meets r v t room =
 -- Every call.
 same-meets : {s₁ s₂ : State} → WellFormed s₁ → Tables s₁ s₂ → (c : Call) → Meets (step s₁ c) (step s₂ c)
 unfolding step receiveStep
-same-meets w r (opening v t p) = open-meets r v t p
-same-meets w r (closing v) = close-meets r v
+same-meets w r (opening vpi vci t p) = open-meets r vpi vci t p
+same-meets w r (closing vpi vci) = close-meets r (pairName vpi vci)
 same-meets w r (receiving o) = read-meets w r o (reading o)
-same-meets w r (offering v n) = offer-meets r v n
+same-meets w r (offering vpi vci n) = offer-meets r (pairName vpi vci) n
 same-meets w r (levelling l) = level-meets r l
 same-meets w r (slot t room) = slot-meets r t room
-same-meets w r (making v t) = make-meets r v t
-same-meets w r (outOfRate v t room) = out-of-rate-meets r v t room
+same-meets w r (making vpi vci t) = make-meets r (pairName vpi vci) t
+same-meets w r (outOfRate vpi vci t room) = out-of-rate-meets r (pairName vpi vci) t room
 
 pub step-meets : {s₁ s₂ : State} → WellFormed s₁ → Tables s₁ s₂ → {c d : Call} → Comparable c d → Meets (step s₁ c) (step s₂ d)
 unfolding step receiveStep

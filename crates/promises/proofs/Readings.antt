@@ -13,14 +13,15 @@ use Rattle.cell.specs.declared.read.Reading.{Reading}
 use Rattle.cell.specs.declared.read.Reading.the-variants.{Refused, Resource}
 use Rattle.cell.specs.Octets.{octet}
 use Rattle.cell.specs.Header.{vpiOf, vciOf, typeOf}
-use Rattle.cell.specs.Fields.{fieldsOf}
+use Rattle.cell.specs.Name.{pairName}
+use Rattle.cell.specs.Fields.{fieldsOf, cellName}
 use Rattle.cell.specs.Reading.{reading}
 use Rattle.promises.specs.Congestion.{levelOf, RightChecks, Backward, AtLeastAsCongested}
 use Rattle.laws.specs.Require.{require}
 
 -- fields of two backward cells, the second at least as congested
 pub record MoreCongested (f g : Fields) : Type 0 where
-  pub vci : g .vci ≡ f .vci
+  pub name : cellName g ≡ cellName f
   pub first : f .dir ≡ 1
   pub second : g .dir ≡ 1
   pub bn : g .bn ≡ f .bn
@@ -37,25 +38,22 @@ require-congested n true h = h
 require-congested n false h = alike n
 
 -- what is left to test of an RM cell whose checks are right
-reading-right : (o : List ℕ) → RightChecks o → typeOf o ≡ 6 → reading o ≡ require (Refused 3) (eqb (vpiOf o) 0) (require (Refused 6) (eqb (octet 6 o) 1) (Resource (fieldsOf o)))
+reading-right : (o : List ℕ) → RightChecks o → typeOf o ≡ 6 → reading o ≡ require (Refused 6) (eqb (octet 6 o) 1) (Resource (fieldsOf o))
 unfolding reading require
 reading-right o h p = rw (h .size, h .header, p, h .crc)
 
 pub reading-congested : (a b : List ℕ) → Backward b → AtLeastAsCongested b a → NotLessCongested (reading a) (reading b)
 unfolding fieldsOf
 reading-congested a b k h =
-    rw (reading-right a (h .rightFirst) (type ∙ k .isResource), reading-right b (h .rightSecond) (k .isResource), ← vpi, ← kept 5 (omega arith))
-    (require-congested 3 (eqb (vpiOf a) 0) (require-congested 6 (eqb (octet 6 a) 1)
-    (moreCongested (fieldsOf a) (fieldsOf b) (record { vci = vci; first = dir ∙ k .isBackward; second = k .isBackward; bn = bn; rate = h .rate; level = h .level }))))
+    rw (reading-right a (h .rightFirst) (type ∙ k .isResource), reading-right b (h .rightSecond) (k .isResource), ← kept 5 (omega arith))
+    (require-congested 6 (eqb (octet 6 a) 1)
+    (moreCongested (fieldsOf a) (fieldsOf b) (record { name = name; first = dir ∙ k .isBackward; second = k .isBackward; bn = bn; rate = h .rate; level = h .level })))
   where
     kept : (i : ℕ) → i < 6 → getD a i 0 ≡ getD b i 0
     kept i l = sym (getD-take 6 a i 0 l) ∙ ap (λ o. getD o i 0) (h .rest .start) ∙ getD-take 6 b i 0 l
 
-    vpi : vpiOf a ≡ vpiOf b
-    vpi = rw (kept 0 (omega arith), kept 1 (omega arith))
-
-    vci : vciOf b ≡ vciOf a
-    vci = rw (kept 1 (omega arith), kept 2 (omega arith), kept 3 (omega arith))
+    name : pairName (vpiOf b) (vciOf b) ≡ pairName (vpiOf a) (vciOf a)
+    name = rw (kept 0 (omega arith), kept 1 (omega arith), kept 2 (omega arith), kept 3 (omega arith))
 
     type : typeOf a ≡ typeOf b
     type = rw (kept 3 (omega arith))

@@ -14,16 +14,16 @@ use Rattle.promises.proofs.Pairs.{none≢some}
 effect-refused : {s : State} {c : Call} {o : Outcome} → Effect s c o → (n : ℕ) → refusal (o .answer) ≡ some n → Unchanged s n o
 unfolding refuse accept replay sendStep idleStep sendOutside refusal
 effect-refused (refuses c m h) n e = let q : m ≡ n = cc in record { table = refl; buffer = refl; number = subst (λ (k : ℕ). 0 < k) q h }
-effect-refused (begins u t p g) n e = absurd (none≢some e)
-effect-refused (ends u d f) n e = absurd (none≢some e)
-effect-refused (offers u k d f h) n e = absurd (none≢some e)
-effect-refused (marks o u b d r f) n e = absurd (none≢some e)
+effect-refused (begins vpi vci t p g) n e = absurd (none≢some e)
+effect-refused (ends vpi vci d f) n e = absurd (none≢some e)
+effect-refused (offers vpi vci k d f h) n e = absurd (none≢some e)
+effect-refused (marks o vpi vci b d r f) n e = absurd (none≢some e)
 effect-refused (works o q d r f) n e = absurd (none≢some e)
 effect-refused (levels l h) n e = absurd (none≢some e)
 effect-refused (idles t room g b) n e = absurd (none≢some e)
 effect-refused (sends t room i u g b) n e = absurd (none≢some e)
-effect-refused (makes u t d f g b m) n e = absurd (none≢some e)
-effect-refused (leaves u t room d f g b) n e = absurd (none≢some e)
+effect-refused (makes vpi vci t d f g b m) n e = absurd (none≢some e)
+effect-refused (leaves vpi vci t room d f g b) n e = absurd (none≢some e)
 
 pub refused-unchanged : RefusedUnchanged
 refused-unchanged cs c n e = effect-refused (effect (final empty cs) (reached-well-formed cs .unique) c) n e

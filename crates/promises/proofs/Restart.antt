@@ -14,6 +14,7 @@ use Rattle.rate.specs.Gap.{gap}
 use Rattle.rate.specs.Moves.{firstCell, idle, unanswered, rateByMarks, feedback}
 use Rattle.rate.proofs.Cuts.{cut-le}
 use Rattle.cell.specs.declared.fields.Fields.{Fields}
+use Rattle.cell.specs.Fields.{cellName}
 use Rattle.connection.specs.declared.parts.Connection.{Connection}
 use Rattle.connection.specs.declared.parts.Pace.{Pace}
 use Rattle.connection.specs.declared.parts.Pace.the-variants.{Unsent, Running}
@@ -86,14 +87,14 @@ unfolding afterBackwardCell
 fed-pace f c = refl
 
 received :
-    (s : State) → NamesUnique (s .entries) → (o : List ℕ) (f : Fields) (c : Connection) → Raises o f → find (f .vci) (s .entries) ≡ taken c
-    → find (f .vci) (step s (receiving o) .state .entries) ≡ taken (afterBackwardCell f c)
+    (s : State) → NamesUnique (s .entries) → (o : List ℕ) (f : Fields) (c : Connection) → Raises o f → find (cellName f) (s .entries) ≡ taken c
+    → find (cellName f) (step s (receiving o) .state .entries) ≡ taken (afterBackwardCell f c)
 unfolding accept replay
 received s a o f c r q =
     rw (
       step-works s o f c (r .read) q,
-      put-read (λ (x : Entry). x) (f .vci) (f .vci) s a c (afterResourceCell (s .level) o f c) q (work-same (s .level) o f c .name),
-      eq-eqb (f .vci) (f .vci) refl,
+      put-read (λ (x : Entry). x) (cellName f) (cellName f) s a c (afterResourceCell (s .level) o f c) q (work-same (s .level) o f c .name),
+      eq-eqb (cellName f) (cellName f) refl,
       work-backward (s .level) o f c (r .backward),
     )
 

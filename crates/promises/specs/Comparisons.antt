@@ -18,24 +18,24 @@ use Rattle.promises.specs.Demand3.{InPlace}
 
 -- whether a call replays a leaf if it is accepted: a slot does so if it sends a cell
 abbrev pub replays : Call → (sent : Bool) → Bool
-replays (opening v t p) sent = true
-replays (closing v) sent = true
+replays (opening vpi vci t p) sent = true
+replays (closing vpi vci) sent = true
 replays (receiving o) sent = true
-replays (offering v n) sent = true
+replays (offering vpi vci n) sent = true
 replays (levelling l) sent = false
 replays (slot t room) sent = sent
-replays (making v t) sent = true
-replays (outOfRate v t room) sent = false
+replays (making vpi vci t) sent = true
+replays (outOfRate vpi vci t room) sent = false
 
 abbrev pub opensOne : Call → Bool
-opensOne (opening v t p) = true
-opensOne (closing v) = false
+opensOne (opening vpi vci t p) = true
+opensOne (closing vpi vci) = false
 opensOne (receiving o) = false
-opensOne (offering v n) = false
+opensOne (offering vpi vci n) = false
 opensOne (levelling l) = false
 opensOne (slot t room) = false
-opensOne (making v t) = false
-opensOne (outOfRate v t room) = false
+opensOne (making vpi vci t) = false
+opensOne (outOfRate vpi vci t room) = false
 
 -- the comparisons n of a call, which was accepted or not, and sent a cell or not
 pub record Counted (c : Call) (accepted sent : Bool) (n : ℕ) : Type 0 where

@@ -7,6 +7,7 @@ use mathlib.Core.List.{List, [], _∷_}
 use mathlib.Core.Option.{Option, none, some}
 use lib.Dec.{eqb}
 use Rattle.rate.specs.declared.params.Params.{Params}
+use Rattle.cell.specs.Name.{nameOf}
 use Rattle.model.specs.Call.{Call}
 use Rattle.model.specs.Run.{given}
 use Rattle.abr.specs.declared.link.SlotAnswer.{SlotAnswer}
@@ -25,9 +26,9 @@ paramsObserved v before (c ∷ cs) (o ∷ os) = paramsObserved v (given v c (eqb
 abbrev pub rateReturned : AcrAnswer → Option ℕ
 rateReturned a = cond (eqb (a .refusal) 0) (some (a .acr)) none
 
--- the connection that a slot went to: none of an idle or refused slot, and of a call that is no slot
+-- the name of the connection that a slot went to, of the VPI and VCI that it returned: none of an idle or refused slot, and of a call that is no slot
 abbrev pub wentTo : SlotAnswer → Option ℕ
-wentTo r = cond (eqb (r .kind) 0) none (some (r .vci))
+wentTo r = cond (eqb (r .kind) 0) none (some (nameOf (r .vpi) (r .vci)))
 
 -- slots go to the same connection in both, or to none in both
 abbrev pub ObservedSamePlace : Observation → Observation → Type 0

@@ -17,3 +17,5 @@ pub mod Comparisons
 pub mod Restart
 pub mod OutOfRate
 pub mod Counts
+pub mod Addresses
+pub mod AddressCalls

@@ -13,26 +13,26 @@ use Rattle.promises.specs.Unstarred.{refused, accepted, sent, next, hous
 
 -- VCI 33 is open, at this level
 abbrev pub open33 : (level : ℕ) → List Call
-open33 l = opening 33 0 house ∷ levelling l ∷ []
+open33 l = opening 0 33 0 house ∷ levelling l ∷ []
 
 -- a cell made at 5 ns, at level 1
 abbrev pub made : List Call
-made = opening 33 0 house ∷ levelling 1 ∷ making 33 5 ∷ []
+made = opening 0 33 0 house ∷ levelling 1 ∷ making 0 33 5 ∷ []
 
 -- an RM cell of VCI 33 with these bits and this ER
 abbrev pub rm : (dir bn ni er : ℕ) → List ℕ
-rm dir bn ni er = resourceCell 0 (record { vci = 33; dir = dir; bn = bn; ci = 0; ni = ni; ra = 0; er = er; ccr = 0; mcr = 0; ql = 0; sn = 0 })
+rm dir bn ni er = resourceCell 0 (record { vpi = 0; vci = 33; dir = dir; bn = bn; ci = 0; ni = ni; ra = 0; er = er; ccr = 0; mcr = 0; ql = 0; sn = 0 })
 
 -- and the level falls to 0
 abbrev pub relieved : List Call
-relieved = opening 33 0 house ∷ levelling 1 ∷ making 33 5 ∷ levelling 0 ∷ []
+relieved = opening 0 33 0 house ∷ levelling 1 ∷ making 0 33 5 ∷ levelling 0 ∷ []
 
 -- the level falls to 0, and a forward cell comes, so that a turned and a made cell wait; then the first cell, which is a forward one
 abbrev pub bothWait : List Call
-bothWait = opening 33 0 house ∷ levelling 1 ∷ making 33 5 ∷ levelling 0 ∷ receiving (rm 0 0 0 0x4A00) ∷ slot 5 53 ∷ []
+bothWait = opening 0 33 0 house ∷ levelling 1 ∷ making 0 33 5 ∷ levelling 0 ∷ receiving (rm 0 0 0 0x4A00) ∷ slot 5 53 ∷ []
 
 abbrev pub turnedSent : List Call
-turnedSent = opening 33 0 house ∷ levelling 1 ∷ making 33 5 ∷ levelling 0 ∷ receiving (rm 0 0 0 0x4A00) ∷ slot 5 53 ∷ slot 1_000_005 53 ∷ []
+turnedSent = opening 0 33 0 house ∷ levelling 1 ∷ making 0 33 5 ∷ levelling 0 ∷ receiving (rm 0 0 0 0x4A00) ∷ slot 5 53 ∷ slot 1_000_005 53 ∷ []
 
 -- what the next slot writes
 abbrev pub wrote : List Call → ℕ → Buffer
@@ -40,17 +40,17 @@ wrote cs t = step (final empty cs) (slot t 53) .buffer
 
 pub record Makings : Type 0 where
   -- the refusals 11, 16, 14 and 17, and exactly 100 ms
-  pub notOpen : next [] (making 33 0) ≡ refused 11
-  pub uncongested : next (open33 0) (making 33 0) ≡ refused 16
-  pub congested : next (open33 1) (making 33 5) ≡ accepted
-  pub earlier : next made (making 33 4) ≡ refused 14
-  pub soon : next made (making 33 100_000_004) ≡ refused 17
-  pub rested : next made (making 33 100_000_005) ≡ accepted
+  pub notOpen : next [] (making 0 33 0) ≡ refused 11
+  pub uncongested : next (open33 0) (making 0 33 0) ≡ refused 16
+  pub congested : next (open33 1) (making 0 33 5) ≡ accepted
+  pub earlier : next made (making 0 33 4) ≡ refused 14
+  pub soon : next made (making 0 33 100_000_004) ≡ refused 17
+  pub rested : next made (making 0 33 100_000_005) ≡ accepted
   -- their order, where two apply
-  pub lateNotOpen : next [] (making 33 4_611_686_018_427_387_905) ≡ refused 8
-  pub notOpenEarlier : next made (making 34 4) ≡ refused 11
-  pub earlierUncongested : next relieved (making 33 4) ≡ refused 14
-  pub uncongestedSoon : next relieved (making 33 6) ≡ refused 16
+  pub lateNotOpen : next [] (making 0 33 4_611_686_018_427_387_905) ≡ refused 8
+  pub notOpenEarlier : next made (making 0 34 4) ≡ refused 11
+  pub earlierUncongested : next relieved (making 0 33 4) ≡ refused 14
+  pub uncongestedSoon : next relieved (making 0 33 6) ≡ refused 16
   -- its time counts for a slot; only a made cell waits, and the connection is ready from its opening on, with a forward cell first
   pub slotEarlier : next made (slot 4 53) ≡ refused 14
   pub firstCell : next made (slot 5 53) ≡ sent 33 Forward 512_000

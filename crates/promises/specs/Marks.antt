@@ -1,11 +1,13 @@
 -- No CI is lost between a received forward cell and the next turned cell that is sent on its connection. (Document 01, "Turning cells round";
--- document 02, L2.)
+-- document 02, L2 and L6.)
 use Prim.Native.Nat.{ℕ}
 use mathlib.Core.Path.{_≡_}
 use mathlib.Core.Logic.{_≢_}
 use mathlib.Core.Bool.{true}
 use mathlib.Core.List.{List, [], _∷_}
 use Rattle.cell.specs.Octets.{AreOctets}
+use Rattle.cell.specs.Name.{pairName}
+use Rattle.cell.specs.Fields.{cellName}
 use Rattle.cell.specs.Reading.{reading}
 use Rattle.cell.specs.declared.fields.Fields.{Fields}
 use Rattle.cell.specs.declared.read.Reading.the-variants.{Resource}
@@ -27,14 +29,14 @@ pub data MarkCame (f : Fields) (c : Connection) (level : ℕ) : Type 0 where
 
 -- a call that neither closes v nor sends a turned cell of it; a received cell consists of octets
 abbrev pub Quiet : ℕ → Call → Answer → Type 0
-Quiet v (opening u t p) a = Unit
-Quiet v (closing u) a = u ≢ v
+Quiet v (opening vpi vci t p) a = Unit
+Quiet v (closing vpi vci) a = pairName vpi vci ≢ v
 Quiet v (receiving o) a = AreOctets o
-Quiet v (offering u n) a = Unit
+Quiet v (offering vpi vci n) a = Unit
 Quiet v (levelling l) a = Unit
 Quiet v (slot t room) a = (acr n : ℕ) → a ≢ Sent v Turned acr n
-Quiet v (making u t) a = Unit
-Quiet v (outOfRate u t room) a = Unit
+Quiet v (making vpi vci t) a = Unit
+Quiet v (outOfRate vpi vci t room) a = Unit
 
 abbrev pub AllQuiet : ℕ → State → List Call → Type 0
 AllQuiet v s [] = Unit
@@ -46,7 +48,7 @@ pub record MarkWritten (v : ℕ) (b : Buffer) : Type 0 where
   pub buffer : b ≡ written octets
   pub fields : Fields
   pub read : reading octets ≡ Resource fields
-  pub vci : fields .vci ≡ v
+  pub name : cellName fields ≡ v
   pub backward : fields .dir ≡ 1
   pub turned : fields .bn ≡ 0
   pub ci : fields .ci ≡ 1
@@ -56,6 +58,6 @@ pub record MarkWritten (v : ℕ) (b : Buffer) : Type 0 where
 abbrev pub NoMarkLost : Type 0
 NoMarkLost =
     (cs : List Call) (o : List ℕ) (f : Fields) (c : Connection) (ds : List Call) (t room acr n : ℕ) → AreOctets o → reading o ≡ Resource f → f .dir ≡ 0
-    → find (f .vci) (final empty cs .entries) ≡ taken c → MarkCame f c (final empty cs .level)
+    → find (cellName f) (final empty cs .entries) ≡ taken c → MarkCame f c (final empty cs .level)
     → let s = step (final empty cs) (receiving o) .state in
-    AllQuiet (f .vci) s ds → step (final s ds) (slot t room) .answer ≡ Sent (f .vci) Turned acr n → MarkWritten (f .vci) (step (final s ds) (slot t room) .buffer)
+    AllQuiet (cellName f) s ds → step (final s ds) (slot t room) .answer ≡ Sent (cellName f) Turned acr n → MarkWritten (cellName f) (step (final s ds) (slot t room) .buffer)

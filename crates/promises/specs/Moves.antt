@@ -9,6 +9,7 @@ use Rattle.rate.specs.Code.{rateOf}
 use Rattle.rate.specs.Moves.{firstCell, idle, unanswered, feedback}
 use Rattle.cell.specs.declared.fields.Fields.{Fields}
 use Rattle.cell.specs.declared.read.Reading.the-variants.{Resource}
+use Rattle.cell.specs.Fields.{cellName}
 use Rattle.cell.specs.Reading.{reading}
 use Rattle.connection.specs.declared.parts.Connection.{Connection}
 use Rattle.connection.specs.declared.parts.Pace.the-variants.{Unsent, Running}
@@ -28,7 +29,7 @@ pub data Moves (v : ℕ) (d : Connection) : Call → Answer → Rate → Type 0 
       {t room acr n sent forward k : ℕ} {turned : Bool} → d .pace ≡ Running sent forward k turned
       → Moves v d (slot t room) (Sent v Forward acr n) (unanswered (d .unacked) (idle (t - forward) (d .rate)))
   fed :
-      {o : List ℕ} {n : ℕ} (f : Fields) → reading o ≡ Resource f → f .vci ≡ v → f .dir ≡ 1
+      {o : List ℕ} {n : ℕ} (f : Fields) → reading o ≡ Resource f → cellName f ≡ v → f .dir ≡ 1
       → Moves v d (receiving o) (Accepted n) (feedback (eqb (f .ci) 1) (eqb (f .ni) 1) (rateOf (f .er)) (d .rate))
 
 -- after any list of calls from the empty table, of a connection that is open before and after the next call

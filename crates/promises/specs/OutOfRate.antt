@@ -1,4 +1,4 @@
--- A cell outside the rate changes nothing but its own instant and the time of the table, and carries what a slot's forward cell would. (Document 02, L5; source rule 11.)
+-- A cell outside the rate changes nothing but its own instant and the time of the table, and carries what a slot's forward cell would. (Document 02, L5 and L6; source rule 11.)
 use Prim.Native.Nat.{ℕ, _+_, _≤_}
 use mathlib.Core.Path.{_≡_}
 use mathlib.Core.Logic.{_≢_}
@@ -6,6 +6,7 @@ use mathlib.Core.Bool.{true}
 use mathlib.Core.List.{List}
 use Rattle.rate.specs.declared.moves.Rate.{Rate}
 use Rattle.rate.specs.Params.{least}
+use Rattle.cell.specs.Name.{pairName}
 use Rattle.cell.specs.Fields.{resourceCell}
 use Rattle.cell.specs.Reading.{reading}
 use Rattle.cell.specs.declared.read.Reading.the-variants.{Resource}
@@ -54,12 +55,12 @@ pub record OutsideAlone (s : State) (v t : ℕ) (o : Outcome) : Type 0 where
 -- after any list of calls from the empty table
 abbrev pub OutOfRateAlone : Type 0
 OutOfRateAlone =
-    (cs : List Call) (v t room : ℕ) → isAccepted (step (final empty cs) (outOfRate v t room) .answer) ≡ true
-    → OutsideAlone (final empty cs) v t (step (final empty cs) (outOfRate v t room))
+    (cs : List Call) (vpi vci t room : ℕ) → isAccepted (step (final empty cs) (outOfRate vpi vci t room) .answer) ≡ true
+    → OutsideAlone (final empty cs) (pairName vpi vci) t (step (final empty cs) (outOfRate vpi vci t room))
 
--- At most ten a second on a connection: two accepted calls for v, with any calls ds between them that do not close it, lie 100 ms or more apart.
+-- At most ten a second on a connection: two accepted calls for it, with any calls ds between them that do not close it, lie 100 ms or more apart.
 abbrev pub OutOfRateSpaced : Type 0
 OutOfRateSpaced =
-    (cs ds : List Call) (v t room later laterRoom : ℕ) → All (λ c. c ≢ closing v) ds
-    → let o = step (final empty cs) (outOfRate v t room) in
-    isAccepted (o .answer) ≡ true → isAccepted (step (final (o .state) ds) (outOfRate v later laterRoom) .answer) ≡ true → t + 100_000_000 ≤ later
+    (cs ds : List Call) (vpi vci t room later laterRoom : ℕ) → All (λ c. c ≢ closing vpi vci) ds
+    → let o = step (final empty cs) (outOfRate vpi vci t room) in
+    isAccepted (o .answer) ≡ true → isAccepted (step (final (o .state) ds) (outOfRate vpi vci later laterRoom) .answer) ≡ true → t + 100_000_000 ≤ later

@@ -9,6 +9,7 @@ use Rattle.rate.specs.Code.{rateOf}
 use Rattle.rate.specs.Params.{peak, least}
 use Rattle.cell.specs.declared.fields.Fields.{Fields}
 use Rattle.cell.specs.declared.read.Reading.the-variants.{Resource}
+use Rattle.cell.specs.Fields.{cellName}
 use Rattle.cell.specs.Reading.{reading}
 use Rattle.connection.specs.declared.parts.Connection.{Connection}
 use Rattle.connection.specs.declared.parts.Pace.{Pace}
@@ -45,7 +46,7 @@ pub record Ready (c : Connection) : Type 0 where
 -- the connection of a received cell in the table after it, c being what it was before
 pub record Restarted (f : Fields) (c : Connection) (s : State) : Type 0 where
   pub holder : Connection
-  pub found : find (f .vci) (s .entries) ≡ taken holder
+  pub found : find (cellName f) (s .entries) ≡ taken holder
   -- its rate is at least the increase, or ER if that is less, and so above 0
   pub raised : min (rateOf (f .er)) (increase (c .rate .params)) ≤ holder .rate .acr
   pub moving : 0 < holder .rate .acr
@@ -56,7 +57,7 @@ pub record Restarted (f : Fields) (c : Connection) (s : State) : Type 0 where
 -- after any list of calls from the empty table, whatever the allowed rate is, 0 too
 abbrev pub Rises : Type 0
 Rises =
-    (cs : List Call) (o : List ℕ) (f : Fields) (c : Connection) → Raises o f → find (f .vci) (final empty cs .entries) ≡ taken c → 1 ≤ increase (c .rate .params)
+    (cs : List Call) (o : List ℕ) (f : Fields) (c : Connection) → Raises o f → find (cellName f) (final empty cs .entries) ≡ taken c → 1 ≤ increase (c .rate .params)
     → Restarted f c (step (final empty cs) (receiving o) .state)
 
 -- The increase must be at least one unit: without it, and without a minimum, no call raises a rate of 0.

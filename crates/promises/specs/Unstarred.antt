@@ -58,11 +58,11 @@ abbrev pub house : Params
 house = houseSet 0x53E8 0x4000 0x53E8
 
 abbrev pub busy : (cells n : ℕ) → List Call
-busy cells n = opening 33 0 house ∷ offering 33 cells ∷ slotsFrom 0 n
+busy cells n = opening 0 33 0 house ∷ offering 0 33 cells ∷ slotsFrom 0 n
 
 -- VCI 33 starts at ICR 16,384 under the same peak; after its forward cell at 0 a backward cell without marks takes it to 48,384, above ICR; then two data cells
 abbrev pub raised : List Call
-raised = opening 33 0 (houseSet 0x53E8 0x4000 0x4A00) ∷ offering 33 9 ∷ slot 0 53 ∷ receiving unmarked ∷ slot 40_000_000 53 ∷ slot 80_000_000 53 ∷ []
+raised = opening 0 33 0 (houseSet 0x53E8 0x4000 0x4A00) ∷ offering 0 33 9 ∷ slot 0 53 ∷ receiving unmarked ∷ slot 40_000_000 53 ∷ slot 80_000_000 53 ∷ []
 
 pub record Unstarred : Type 0 where
   -- Nrm 32, within Trm: at k = 30 no forward cell, at 31 one
@@ -77,10 +77,10 @@ pub record Unstarred : Type 0 where
   pub atAdtf : next raised (slot 500_000_000 53) ≡ sent 33 Forward 48_384
   pub afterAdtf : next raised (slot 500_000_001 53) ≡ sent 33 Forward 16_384
   -- time 2^62 is accepted, one more is refused
-  pub lastOpen : next [] (opening 33 latestTime house) ≡ accepted
-  pub lateOpen : next [] (opening 33 (latestTime + 1) house) ≡ refused 8
+  pub lastOpen : next [] (opening 0 33 latestTime house) ≡ accepted
+  pub lateOpen : next [] (opening 0 33 (latestTime + 1) house) ≡ refused 8
   pub lastSlot : next [] (slot latestTime 53) ≡ idle
   pub lateSlot : next [] (slot (latestTime + 1) 53) ≡ refused 8
   -- VCI 32 opens, 31 does not
-  pub lowestVci : next [] (opening 32 0 house) ≡ accepted
-  pub reservedVci : next [] (opening 31 0 house) ≡ refused 10
+  pub lowestVci : next [] (opening 0 32 0 house) ≡ accepted
+  pub reservedVci : next [] (opening 0 31 0 house) ≡ refused 10

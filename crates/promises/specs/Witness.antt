@@ -12,7 +12,7 @@ use Rattle.promises.specs.Demand3.{InPlace, Comparable, SamePlace}
 
 -- a backward cell for VCI 33, with this CI and this ER
 abbrev pub backwardOctets : (ci er : ℕ) → List ℕ
-backwardOctets ci er = resourceCell 0 (record { vci = 33; dir = 1; bn = 0; ci = ci; ni = 0; ra = 0; er = er; ccr = 0; mcr = 0; ql = 0; sn = 0 })
+backwardOctets ci er = resourceCell 0 (record { vpi = 0; vci = 33; dir = 1; bn = 0; ci = ci; ni = 0; ra = 0; er = er; ccr = 0; mcr = 0; ql = 0; sn = 0 })
 
 -- no marks; and CI 1 with a lower ER
 abbrev pub unmarked : List ℕ
@@ -23,7 +23,7 @@ congestedCell = backwardOctets 1 0x4A00
 
 -- open, offer, a forward cell, the backward cell, a data cell
 abbrev pub calls : List ℕ → List Call
-calls o = opening 33 1000 (houseSet 0x53E8 0x4000 0x4A00) ∷ offering 33 9 ∷ slot 1000 53 ∷ receiving o ∷ slot 34_000_000 53 ∷ []
+calls o = opening 0 33 1000 (houseSet 0x53E8 0x4000 0x4A00) ∷ offering 0 33 9 ∷ slot 1000 53 ∷ receiving o ∷ slot 34_000_000 53 ∷ []
 
 pub record Witness : Type 0 where
   pub comparable : InPlace Comparable (calls unmarked) (calls congestedCell)

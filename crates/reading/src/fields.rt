@@ -1,8 +1,8 @@
-// The fields of an RM cell out of its octets (document 01, "The cell, 53 octets").
+// The fields of an RM cell out of its octets (document 01, "The cell, 53 octets"; document 02, L6).
 ghost use mathlib.Core.Path.{_≡_};
 ghost use Prim.Native.Nat.{_+_, _*_, _/_, _%_};
 ghost use lib.ListN.{length};
-ghost use Rattle.cell.specs.Header.{vciOf};
+ghost use Rattle.cell.specs.Header.{vpiOf, vciOf};
 ghost use Rattle.cell.specs.Fields.{fieldsOf};
 use cell::fields::Fields;
 
@@ -20,11 +20,26 @@ fn long(a: u8, b: u8, c: u8, d: u8) -> u32
     pair(a, b) * 65536 + pair(c, d)
 }
 
+// The eight bits from the low half of a to the high half of b: GFC is left out.
+fn vpi(a: u8, b: u8) -> u32
+    ensures { λ r. ⌜ r ≡ a % 16 * 16 + b / 16 ⌝ }
+{
+    (a % 16) as u32 * 16 + (b / 16) as u32
+}
+
 // The 16 bits from the low half of b to the high half of d.
 fn vci(b: u8, c: u8, d: u8) -> u32
     ensures { λ r. ⌜ r ≡ b % 16 * 4096 + c * 16 + d / 16 ⌝ }
 {
     (b % 16) as u32 * 4096 + c as u32 * 16 + (d / 16) as u32
+}
+
+// The VPI, from octets 1 and 2.
+pub fn vpi_of(cell: &[u8]) -> u32
+    requires { ⌜ length (now cell) ≡ 53 ⌝ }
+    ensures { λ r. ⌜ r ≡ vpiOf (now (cell .entry)) ⌝ }
+{
+    vpi(cell[0], cell[1])
 }
 
 // The VCI, from octets 2 to 4.
@@ -42,6 +57,7 @@ pub fn fields_of(cell: &[u8]) -> Fields
 {
     let marks = cell[6] as u32;
     Fields {
+        vpi: vpi_of(cell),
         vci: vci_of(cell),
         dir: marks / 128 % 2,
         bn: marks / 64 % 2,

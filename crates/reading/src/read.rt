@@ -1,4 +1,4 @@
-// Reading a cell (document 01, "The cell, 53 octets" and "Refused because of the input").
+// Reading a cell (document 01, "The cell, 53 octets" and "Refused because of the input"; document 02, L6).
 ghost use mathlib.Core.Path.{_≡_};
 ghost use Prim.Native.Nat.{_/_, _%_};
 ghost use lib.Dec.{leb, eqb};
@@ -9,6 +9,7 @@ ghost use Rattle.cell.specs.Reading.{reading};
 ghost use Rattle.cell.specs.Refusals.{headerRefusal, restRefusal};
 use crate::fields::fields_of;
 use crate::fields::vci_of;
+use crate::fields::vpi_of;
 use cell::read::Reading;
 use crc::crc10::crc10;
 use crc::header::header_check;
@@ -40,9 +41,6 @@ pub fn header_refusal(cell: &[u8]) -> u32
     }
     if !header_right(cell) {
         return 2;
-    }
-    if cell[0] % 16 * 16 + cell[1] / 16 != 0 {
-        return 3;
     }
     let kind = cell[3] / 2 % 8;
     if kind <= 3 {
@@ -94,6 +92,7 @@ pub fn read(cell: &[u8]) -> Reading
     }
     if is_data(cell) {
         return Reading::User {
+            vpi: vpi_of(cell),
             vci: vci_of(cell),
             efci: efci_of(cell),
         };

@@ -14,6 +14,7 @@ use Rattle.rate.specs.Units.{latestTime}
 use Rattle.rate.specs.Params.{nrm}
 use Rattle.rate.specs.Bounds.{Fits}
 use Rattle.rate.proofs.Ranges.{fits}
+use Rattle.cell.specs.Name.{noName}
 use Rattle.connection.specs.declared.parts.Pace.{Pace}
 use Rattle.connection.specs.declared.parts.Pace.the-variants.{Unsent, Running}
 use Rattle.connection.specs.declared.parts.Waiting.{Waiting}
@@ -83,7 +84,7 @@ pub words-back :
     (now : ℕ) (c : Connection) (s t : List ℕ) → now ≤ latestTime → ValidAt now c → connectionFrom (c .name) (liveWords c ++ s) 0 (fixedWords c ++ t) 0 ≡ c
 words-back now c s t l h =
     let r = in-range now c l h in
-    let short : c .name % 65536 ≡ c .name = mod-eq-of-lt (omega (arith, h .0 .coded)) in
+    let short : c .name % noName ≡ c .name = mod-eq-of-lt (omega (arith, h .0 .coded)) in
     rw (
       short,
       mod-eq-of-lt (r .opened),
@@ -133,5 +134,5 @@ pub load-room : (l : List ℕ) (i : ℕ) → HasRoom (connectionAt l i .pace)
 load-room l i =
     pace-ranged (getD l (liveFrom + i * liveWidth + 3) 0) (getD l (liveFrom + i * liveWidth + 3 + 1) 0) (getD l (liveFrom + i * liveWidth + 3 + 2) 0) (getD l (liveFrom + i * liveWidth + 3 + 3) 0) .1
 
-pub load-named : (l : List ℕ) (i : ℕ) → connectionAt l i .name ≤ 65535
+pub load-named : (l : List ℕ) (i : ℕ) → connectionAt l i .name < noName
 load-named l i = omega arith

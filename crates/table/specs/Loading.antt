@@ -7,6 +7,7 @@ use lib.Dec.{ltb, eqb}
 use lib.ListN.{getD}
 use Rattle.rate.specs.declared.params.Params.{Params}
 use Rattle.crc.specs.declared.payload.Payload.{Payload}
+use Rattle.cell.specs.Name.{noName}
 use Rattle.connection.specs.declared.parts.Pace.{Pace}
 use Rattle.connection.specs.declared.parts.Pace.the-variants.{Unsent, Running}
 use Rattle.connection.specs.declared.parts.Waiting.the-variants.{Nothing, Cell}
@@ -54,7 +55,7 @@ paramsAt l b = record {
 -- a name; the live words, from index a of the first list on; the fixed words, from index b of the second on
 abbrev pub connectionFrom : (name : ℕ) → List ℕ → (a : ℕ) → List ℕ → (b : ℕ) → Connection
 connectionFrom name l a m b = record {
-  name = name % 65536;
+  name = name % noName;
   opened = getD m b 0 % 2 ^ 63;
   trm = getD m (b + 1) 0 % 2 ^ 32;
   rate = record { acr = getD l a 0; params = paramsAt m (b + 2) };

@@ -1,8 +1,9 @@
 // Backward cells that a connection makes itself (document 02, L1).
 ghost use mathlib.Core.Path.{_≡_};
 ghost use mathlib.Core.Bool.{true, cond};
-ghost use Prim.Native.Nat.{_≤_};
+ghost use Prim.Native.Nat.{_≤_, _<_};
 ghost use lib.Dec.{eqb};
+ghost use Rattle.cell.specs.Name.{noName};
 ghost use Rattle.cell.specs.Fields.{fieldsFit};
 ghost use Rattle.connection.specs.Making.{withMade, madeFields};
 use crate::send::canonical;
@@ -39,10 +40,11 @@ fn mark(level: u32, at: u32) -> u32
 
 // The fields of a made cell.
 pub fn made_fields(name: u32, params: Params, level: u32) -> Fields
-    ensures { λ f. ⌜ (f ≡ madeFields name params level) × (name ≤ 65535 → fieldsFit f ≡ true) ⌝ }
+    ensures { λ f. ⌜ (f ≡ madeFields name params level) × (name < noName → fieldsFit f ≡ true) ⌝ }
 {
     Fields {
-        vci: name,
+        vpi: name / 65536,
+        vci: name % 65536,
         dir: 1,
         bn: 1,
         ci: mark(level, 2),

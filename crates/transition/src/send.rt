@@ -156,7 +156,8 @@ pub fn forward_fields(name: u32, rate: Rate) -> Fields
 {
     let params = rate.params;
     Fields {
-        vci: name,
+        vpi: name / 65536,
+        vci: name % 65536,
         dir: 0,
         bn: 0,
         ci: 0,

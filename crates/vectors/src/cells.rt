@@ -1,4 +1,4 @@
-// Whole cells, written and read back (document 01, "The cell, 53 octets").
+// Whole cells, written and read back (document 01, "The cell, 53 octets"; document 02, L6).
 use crate::print;
 use cell::fields::Fields;
 use cell::read::Reading;
@@ -6,15 +6,16 @@ use cell::write::Written;
 use reading::read::read;
 use writing::write::write;
 
-// Octets; then what reading them gives: a refusal, a data cell's VCI and EFCI, or an RM cell's fields.
+// Octets; then what reading them gives: a refusal, a data cell's VPI, VCI and EFCI, or an RM cell's fields.
 pub fn reading(cell: &[u8]) {
     print::octets(cell);
     let got = read(cell);
     match got {
         Reading::Refused(number) => print::codes(&[number]),
-        Reading::User { vci, efci } => print::codes(&[vci, efci as u32]),
+        Reading::User { vpi, vci, efci } => print::codes(&[vpi, vci, efci as u32]),
         Reading::Resource(f) => print::codes(
             &[
+                f.vpi,
                 f.vci,
                 f.dir,
                 f.bn,
@@ -32,8 +33,9 @@ pub fn reading(cell: &[u8]) {
 }
 
 // Fields in which each differs from its neighbours, but for those given.
-pub fn sample(vci: u32, ci: u32, er: u32) -> Fields {
+pub fn sample(vpi: u32, vci: u32, ci: u32, er: u32) -> Fields {
     Fields {
+        vpi,
         vci,
         dir: 0,
         bn: 0,
@@ -66,10 +68,11 @@ fn written(f: Fields) {
     reading(&cell);
 }
 
-// A sample, all at their most, ER, CI and VCI out of range; buffers of 52 and 54 octets.
+// A sample, all at their most, ER, CI, VCI and VPI out of range; buffers of 52 and 54 octets.
 pub fn show() {
-    written(sample(0x1234, 0, 0x7fff));
+    written(sample(0xa5, 0x1234, 0, 0x7fff));
     written(Fields {
+        vpi: 255,
         vci: 65535,
         dir: 1,
         bn: 1,
@@ -82,9 +85,10 @@ pub fn show() {
         ql: 0xffffffff,
         sn: 0xffffffff,
     });
-    written(sample(0x1234, 0, 0x8000));
-    written(sample(0x1234, 2, 0x7fff));
-    written(sample(65536, 0, 0x7fff));
+    written(sample(0xa5, 0x1234, 0, 0x8000));
+    written(sample(0xa5, 0x1234, 2, 0x7fff));
+    written(sample(0xa5, 65536, 0, 0x7fff));
+    written(sample(256, 0x1234, 0, 0x7fff));
     let short = [0u8; 52];
     reading(&short);
     let long = [0u8; 54];

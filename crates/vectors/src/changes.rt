@@ -1,4 +1,4 @@
-// Cells with octets changed (document 01, "The cell, 53 octets" and "Refused because of the input").
+// Cells with octets changed (document 01, "The cell, 53 octets" and "Refused because of the input"; document 02, L6).
 ghost use mathlib.Core.Path.{_≡_};
 ghost use lib.ListN.{length};
 use crate::cells::reading;
@@ -9,12 +9,12 @@ use writing::put::put_payload;
 use writing::with_crc::with_crc;
 use writing::write::write;
 
-// The sample on this VCI.
+// The sample on this VCI of VPI 0.
 fn written(vci: u32) -> [u8; 53]
     ensures { λ r. ⌜ 53 ≡ length r ⌝ }
 {
     let mut cell = [0u8; 53];
-    write(&mut cell, sample(vci, 0, 0x7fff));
+    write(&mut cell, sample(0, vci, 0, 0x7fff));
     cell
 }
 
@@ -37,7 +37,7 @@ fn row(vci: u32, d: u8, index: usize, x: u8) {
     with_right_crc(cell);
 }
 
-// Octet 5, and an octet that it covers; VPI 1 and 128; payload types 4, 5 and 7; the first octet that the CRC-10 covers, which is the protocol, a middle one
+// Octet 5, and an octet that it covers; VPI 1 and 128, which are read; payload types 4, 5 and 7; the first octet that the CRC-10 covers, which is the protocol, a middle one
 // and the last; what is ignored when read: GFC, CLP, bit 15 of CCR, reserved bits of octet 7, octet 22, six bits of octet 52; data cells of payload types 0 to
 // 3, whatever octet 6 is.
 pub fn show() {

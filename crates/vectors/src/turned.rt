@@ -1,4 +1,4 @@
-// Forward cells turned round (document 01, "Turning cells round" and "Traps in this trade").
+// Forward cells turned round (document 01, "Turning cells round" and "Traps in this trade"; document 02, L6).
 use crate::cells::reading;
 use crc::payload::Payload;
 use turning::turn::turn;
@@ -17,7 +17,7 @@ fn row(octet: u8, level: u32, efci: bool) {
         f: 0x6a6a6a6a6a6afc00,
     };
     let mut cell = [0u8; 53];
-    put_turned(&mut cell, 0x1234, turn(with_crc(p), level, efci));
+    put_turned(&mut cell, 0xa5, 0x1234, turn(with_crc(p), level, efci));
     reading(&cell);
 }
 

@@ -53,15 +53,16 @@ pub fn put_payload(cell: &mut [u8], p: Payload)
 }
 
 // Octets 1 to 5, of an RM cell.
-pub fn put_header(cell: &mut [u8], clp: u32, vci: u32)
+pub fn put_header(cell: &mut [u8], clp: u32, vpi: u32, vci: u32)
     requires { ⌜ (length (now cell) ≡ 53) × (clp ≤ 1) ⌝ }
-    ensures { λ _. ⌜ now (cell .exit) ≡ header clp vci ++ drop 5 (now (cell .entry)) ⌝ }
+    ensures { λ _. ⌜ now (cell .exit) ≡ header clp vpi vci ++ drop 5 (now (cell .entry)) ⌝ }
 {
-    let b = (vci / 4096 % 16) as u8;
+    let a = (vpi / 16 % 16) as u8;
+    let b = (vpi % 16 * 16 + vci / 4096 % 16) as u8;
     let c = (vci / 16 % 256) as u8;
     let d = (vci % 16 * 16 + 12 + clp) as u8;
-    let check = header_check(0, b, c, d);
-    cell[0] = 0;
+    let check = header_check(a, b, c, d);
+    cell[0] = a;
     cell[1] = b;
     cell[2] = c;
     cell[3] = d;

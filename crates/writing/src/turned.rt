@@ -7,10 +7,10 @@ use crate::put::put_payload;
 use crc::payload::Payload;
 
 // The cell that carries a turned payload.
-pub fn put_turned(cell: &mut [u8], vci: u32, p: Payload)
+pub fn put_turned(cell: &mut [u8], vpi: u32, vci: u32, p: Payload)
     requires { ⌜ length (now cell) ≡ 53 ⌝ }
-    ensures { λ _. ⌜ now (cell .exit) ≡ turnedCell vci p ⌝ }
+    ensures { λ _. ⌜ now (cell .exit) ≡ turnedCell vpi vci p ⌝ }
 {
-    put_header(cell, 0, vci);
+    put_header(cell, 0, vpi, vci);
     put_payload(cell, p);
 }

@@ -62,7 +62,7 @@ pub fn put_resource(cell: &mut [u8], clp: u32, f: Fields)
     requires { ⌜ (length (now cell) ≡ 53) × ((clp ≤ 1) × (fieldsFit f ≡ true)) ⌝ }
     ensures { λ _. ⌜ now (cell .exit) ≡ resourceCell clp f ⌝ }
 {
-    put_header(cell, clp, f.vci);
+    put_header(cell, clp, f.vpi, f.vci);
     put_payload(cell, with_crc(without_crc(f)));
 }
 

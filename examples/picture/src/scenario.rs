@@ -13,6 +13,9 @@ const SLOT: u64 = 50_000;
 /// From a forward cell to its answer.
 const ROUND_TRIP: u64 = 20 * MS;
 
+/// The path of both connections.
+const VPI: u32 = 1;
+
 /// The two connections.
 pub const VCIS: [u32; 2] = [32, 33];
 
@@ -69,8 +72,8 @@ pub struct Track {
 /// Runs the scenario.
 pub fn run() -> Result<Vec<Track>, Refusal> {
     let mut table = Table::new();
-    table.open(32, 0, &contract(8_000, 1_000, 6)?)?;
-    table.open(33, 0, &contract(5_000, 500, 5)?)?;
+    table.open(VPI, 32, 0, &contract(8_000, 1_000, 6)?)?;
+    table.open(VPI, 33, 0, &contract(5_000, 500, 5)?)?;
     let mut tracks = VCIS.map(|vci| Track {
         vci,
         points: Vec::new(),
@@ -82,7 +85,7 @@ pub fn run() -> Result<Vec<Track>, Refusal> {
             table.receive(&cell)?;
         }
         for vci in VCIS {
-            table.offer(vci, 1).map(drop).or_else(no_room)?;
+            table.offer(VPI, vci, 1).map(drop).or_else(no_room)?;
         }
         let mut cell = [0; CELL_OCTETS];
         if let Some(sent) = table.slot(time, &mut cell)? {
@@ -91,7 +94,7 @@ pub fn run() -> Result<Vec<Track>, Refusal> {
             }
         }
         for track in &mut tracks {
-            track.add(time, table.acr(track.vci)?);
+            track.add(time, table.acr(VPI, track.vci)?);
         }
     }
     Ok(tracks.into())

@@ -19,7 +19,7 @@ macro_rules! copied_params {
 
 macro_rules! copied_rm {
     ($to:ident, $from:expr) => {
-        copied!($to, $from, vci dir bn ci ni ra er ccr mcr ql sn)
+        copied!($to, $from, vpi vci dir bn ci ni ra er ccr mcr ql sn)
     };
 }
 
@@ -57,6 +57,7 @@ pub fn library_sent(sent: Option<Sent>) -> abr_sent {
         refusal: 0,
         comparisons: sent.comparisons,
         kind,
+        vpi: sent.vpi,
         vci: sent.vci,
         acr: sent.acr,
     }
@@ -65,10 +66,11 @@ pub fn library_sent(sent: Option<Sent>) -> abr_sent {
 /// The library's answer of an accepted read.
 pub fn library_cell(cell: &Cell) -> abr_cell {
     let (kind, efci, rm) = match *cell {
-        Cell::Data { vci, efci } => (
+        Cell::Data { vpi, vci, efci } => (
             1,
             efci.into(),
             Rm {
+                vpi,
                 vci,
                 ..Rm::default()
             },

@@ -1,6 +1,6 @@
 //! One call made on both sides; answer, octets, allowed rate and table compared.
 
-use reference::Engine;
+use reference::{Address, Engine};
 
 use crate::call::{Answer, Call, Outcome};
 use crate::expected;
@@ -50,11 +50,11 @@ impl Both {
         if compared && self.library != self.before {
             return Err(format!("{outcome:x?}, but the table changed"));
         }
-        if let Some(vci) = call.vci() {
-            self.same_acr(vci)?;
+        if let Some(at) = call.address() {
+            self.same_acr(at)?;
         }
         if let Ok(Answer::Sent(sent)) = outcome {
-            self.same_acr(sent.vci)?;
+            self.same_acr(Address::new(sent.vpi, sent.vci))?;
         }
         Ok(outcome)
     }
@@ -69,21 +69,21 @@ impl Both {
         self.leaving % LEAVES_TABLE == 1
     }
 
-    /// Compares the allowed rate of one VCI, open or not.
-    pub fn same_acr(&mut self, vci: u32) -> Result<(), Difference> {
+    /// Compares the allowed rate of one address, open or not.
+    pub fn same_acr(&mut self, at: Address) -> Result<(), Difference> {
         self.rates += 1;
-        let ours = self.library.acr(vci)?;
-        let theirs = self.engine.acr(vci).map(Answer::Number);
+        let ours = self.library.acr(at)?;
+        let theirs = self.engine.acr(at).map(Answer::Number);
         if ours == theirs {
             return Ok(());
         }
         Err(format!(
-            "ACR of {vci}: library {ours:?}, reference {theirs:?}"
+            "ACR of {at:?}: library {ours:?}, reference {theirs:?}"
         ))
     }
 
     /// The allowed rate as the reference has it.
-    pub fn acr(&self, vci: u32) -> Option<u64> {
-        self.engine.acr(vci).ok()
+    pub fn acr(&self, at: Address) -> Option<u64> {
+        self.engine.acr(at).ok()
     }
 }

@@ -1,6 +1,7 @@
 //! A call with its arguments.
 
 use abr::ffi::{abr_params, abr_rm};
+use reference::Address;
 
 use crate::octets::Octets;
 
@@ -9,18 +10,18 @@ use crate::octets::Octets;
 #[derive(Debug, Clone, Copy)]
 pub enum Call {
     Open {
-        vci: u32,
+        at: Address,
         time: u64,
         params: abr_params,
     },
     Close {
-        vci: u32,
+        at: Address,
     },
     Receive {
         cell: Octets,
     },
     Offer {
-        vci: u32,
+        at: Address,
         cells: u64,
     },
     SetLevel {
@@ -31,16 +32,16 @@ pub enum Call {
         len: usize,
     },
     Make {
-        vci: u32,
+        at: Address,
         time: u64,
     },
     OutOfRate {
-        vci: u32,
+        at: Address,
         time: u64,
         len: usize,
     },
     Acr {
-        vci: u32,
+        at: Address,
     },
     WriteRm {
         rm: abr_rm,
@@ -112,24 +113,24 @@ impl Call {
     }
 
     /// The connection that it names, if it names one.
-    pub fn vci(&self) -> Option<u32> {
+    pub fn address(&self) -> Option<Address> {
         match *self {
-            Call::Open { vci, .. }
-            | Call::Close { vci }
-            | Call::Offer { vci, .. }
-            | Call::Make { vci, .. }
-            | Call::OutOfRate { vci, .. }
-            | Call::Acr { vci } => Some(vci),
-            Call::Receive { cell } => vci_of(cell.as_slice()),
+            Call::Open { at, .. }
+            | Call::Close { at }
+            | Call::Offer { at, .. }
+            | Call::Make { at, .. }
+            | Call::OutOfRate { at, .. }
+            | Call::Acr { at } => Some(at),
+            Call::Receive { cell } => address_of(cell.as_slice()),
             _ => None,
         }
     }
 }
 
-/// The VCI in the header of some octets, if there are enough.
-fn vci_of(octets: &[u8]) -> Option<u32> {
-    let header = octets.get(..4)?.try_into().ok()?;
-    Some((u32::from_be_bytes(header) >> 4) & 0xFFFF)
+/// The VPI and VCI in the header of some octets, if there are enough.
+pub fn address_of(octets: &[u8]) -> Option<Address> {
+    let header = u32::from_be_bytes(octets.get(..4)?.try_into().ok()?);
+    Some(Address::new(header >> 20 & 0xFF, header >> 4 & 0xFFFF))
 }
 
 /// What a call that is accepted answers.

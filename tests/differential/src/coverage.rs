@@ -66,6 +66,8 @@ events! {
     TieFirst,
     /// Two later cells were ready at the same instant.
     TieLater,
+    /// A tie went to the lower name although another of its connections had a lower VCI.
+    TiePaths,
     /// A slot at exactly the earliest ready instant.
     ReadyExact,
     /// An idle slot a nanosecond before the earliest ready instant.
@@ -105,9 +107,9 @@ events! {
     UnmarkedBesideMade,
     /// A data cell cleared a saved EFCI.
     EfciCleared,
-    /// A closed VCI was opened again.
+    /// A closed address was opened again.
     Reopened,
-    /// A closed VCI with data, a backward cell or unanswered cells on it was
+    /// A closed address with data, a backward cell or unanswered cells on it was
     /// opened again.
     ReopenedLoaded,
     /// The 1,024th connection was opened.
@@ -149,9 +151,9 @@ events! {
     MadeAlone,
     /// A made cell was sent at another level than that of its making.
     MadeLevelChanged,
-    /// A making on a VCI that was closed.
+    /// A making on an address that was closed.
     MadeClosed,
-    /// A cell was made on a VCI that was opened anew, less than 100 ms after one
+    /// A cell was made on an address that was opened anew, less than 100 ms after one
     /// that was made before its close.
     MadeReopened,
     /// An open or a slot was refused for its time, which was only before that of
@@ -209,13 +211,23 @@ events! {
     OutsideExact,
     /// One was refused a nanosecond less than 100 ms after the last.
     OutsideLessOne,
-    /// One on a VCI that was opened anew, less than 100 ms after one before its close.
+    /// One on an address that was opened anew, less than 100 ms after one before its close.
     OutsideReopened,
-    /// One was refused on a VCI that was closed.
+    /// One was refused on an address that was closed.
     OutsideClosed,
     /// An open, a slot or a making was refused for its time, which was only before
     /// that of an out-of-rate cell.
     OutsideTimeCounts,
+    /// A VCI was opened that is open on another VPI.
+    OpenedBeside,
+    /// A pair was unknown whose VCI is open on another VPI.
+    OtherPath,
+    /// The same of a received cell.
+    ReceivedOtherPath,
+    /// A write was refused for its VPI alone.
+    WritePath,
+    /// A cell with a GFC other than 0 was accepted.
+    GfcIgnored,
     /// Exactly 65,535 cells wait after an offer.
     OfferFills,
     /// An offer of nothing to a full connection.
@@ -238,6 +250,9 @@ pub struct Coverage {
     pub kinds: [u64; 4],
     /// By sort of call and comparisons, of accepted calls.
     pub comparisons: [[u64; COMPARISONS_MAX as usize + 1]; SORTS.len()],
+    /// By sort of call, of those refused for a pair out of range that would be an open
+    /// one if its numbers were cut, and if they were added.
+    pub out_of_range: [[u64; 2]; SORTS.len()],
     /// By damaged octet of a refused cell.
     pub damaged: [u64; 53],
     events: [u64; EVENTS.len()],
@@ -251,6 +266,7 @@ impl Default for Coverage {
             outcomes: [[0; REFUSAL_MAX + 1]; SORTS.len()],
             kinds: [0; 4],
             comparisons: [[0; COMPARISONS_MAX as usize + 1]; SORTS.len()],
+            out_of_range: [[0; 2]; SORTS.len()],
             damaged: [0; 53],
             events: [0; EVENTS.len()],
         }
@@ -261,7 +277,7 @@ impl Default for Coverage {
 const REFUSALS: [&[usize]; SORTS.len()] = [
     &[7, 8, 10, 12, 13, 14],
     &[11],
-    &[1, 2, 3, 4, 5, 6, 11],
+    &[1, 2, 4, 5, 6, 11],
     &[11, 15],
     &[9],
     &[1, 8, 14],
@@ -269,11 +285,15 @@ const REFUSALS: [&[usize]; SORTS.len()] = [
     &[1, 8, 11, 14, 18],
     &[11],
     &[1, 7],
-    &[1, 2, 3, 4, 5, 6],
+    &[1, 2, 4, 5, 6],
     &[9],
     &[7],
     &[],
 ];
+
+/// The sorts of call that name a connection by its two numbers, by their places in
+/// [`SORTS`].
+const NAMING: [usize; 6] = [0, 1, 3, 6, 7, 8];
 
 impl Coverage {
     /// Counts a call and its outcome.
@@ -283,6 +303,15 @@ impl Coverage {
         self.outcomes[call.sort()][number] += 1;
         if let Ok(answer) = outcome {
             self.comparisons[call.sort()][answer.comparisons() as usize] += 1;
+        }
+    }
+
+    /// Counts a call that was refused for a pair out of range, by whether that pair
+    /// would be an open one if its numbers were cut, and if they were added.
+    pub fn count_out_of_range(&mut self, call: &Call, like_open: [bool; 2]) {
+        let counts = &mut self.out_of_range[call.sort()];
+        for (count, like) in counts.iter_mut().zip(like_open) {
+            *count += u64::from(like);
         }
     }
 
@@ -309,6 +338,9 @@ impl Coverage {
         for (to, from) in self.comparisons.iter_mut().zip(&other.comparisons) {
             add(to, from);
         }
+        for (to, from) in self.out_of_range.iter_mut().zip(&other.out_of_range) {
+            add(to, from);
+        }
         add(&mut self.kinds, &other.kinds);
         add(&mut self.damaged, &other.damaged);
         add(&mut self.events, &other.events);
@@ -328,6 +360,14 @@ impl Coverage {
                 let name = format!("{} refused {number}", SORTS[sort]);
                 require(self.outcomes[sort][*number], name);
             }
+        }
+        for sort in NAMING {
+            let [cut, added] = self.out_of_range[sort];
+            require(cut, format!("{} of a pair that is one if cut", SORTS[sort]));
+            require(
+                added,
+                format!("{} of a pair that is one if added", SORTS[sort]),
+            );
         }
         for (kind, count) in self.kinds.iter().enumerate() {
             require(*count, format!("slot of kind {kind}"));

@@ -9,21 +9,19 @@ use crate::octets::Buffer;
 /// Makes a call on the reference.
 pub fn call(engine: &mut Engine, call: &Call, buffer: &mut Buffer) -> Outcome {
     match *call {
-        Call::Open { vci, time, params } => engine
-            .open(vci, time, &reference_params(&params))
+        Call::Open { at, time, params } => engine
+            .open(at, time, &reference_params(&params))
             .map(Answer::Comparisons),
-        Call::Close { vci } => engine.close(vci).map(Answer::Comparisons),
+        Call::Close { at } => engine.close(at).map(Answer::Comparisons),
         Call::Receive { cell } => engine.receive(cell.as_slice()).map(Answer::Comparisons),
-        Call::Offer { vci, cells } => engine.offer(vci, cells).map(Answer::Comparisons),
+        Call::Offer { at, cells } => engine.offer(at, cells).map(Answer::Comparisons),
         Call::SetLevel { level } => done(engine.set_level(level)),
-        Call::Make { vci, time } => engine.make(vci, time).map(Answer::Comparisons),
+        Call::Make { at, time } => engine.make(at, time).map(Answer::Comparisons),
         Call::Slot { time, len } => engine
             .slot(time, buffer.octets(len))
             .map(|sent| Answer::Sent(library_sent(sent))),
-        Call::OutOfRate { vci, time, len } => {
-            done(engine.out_of_rate(vci, time, buffer.octets(len)))
-        }
-        Call::Acr { vci } => engine.acr(vci).map(Answer::Number),
+        Call::OutOfRate { at, time, len } => done(engine.out_of_rate(at, time, buffer.octets(len))),
+        Call::Acr { at } => engine.acr(at).map(Answer::Number),
         Call::WriteRm { rm, len } => {
             done(reference::write_rm(&reference_rm(&rm), buffer.octets(len)))
         }

@@ -1,11 +1,13 @@
 //! Lists of calls at the edges: times at which a connection changes, marks, full
 //! tables, numbers in and out of range and damaged cells.
 
+mod addresses;
 mod cells;
 mod times;
 
 use abr::ffi::abr_params;
-use abr::{CELL_OCTETS, MAKE_INTERVAL, OUT_OF_RATE_INTERVAL, RATE_MAX, VCI_MAX, WAITING_MAX};
+use abr::{CELL_OCTETS, MAKE_INTERVAL, OUT_OF_RATE_INTERVAL, RATE_MAX, WAITING_MAX};
+use reference::Address;
 
 use crate::call::Call;
 use crate::observation::Observation;
@@ -17,9 +19,10 @@ use crate::rng::Rng;
 pub struct Generator {
     rng: Rng,
     profile: Profile,
-    base: u32,
-    /// The VCIs that are still to be opened before all else, the last one first.
-    filling: Vec<u32>,
+    /// The addresses of the list, rising.
+    addresses: Vec<Address>,
+    /// Those that are still to be opened before all else, the last one first.
+    filling: Vec<Address>,
     /// The octet that the last cell was damaged in.
     pub damaged: Option<usize>,
 }
@@ -28,8 +31,8 @@ impl Generator {
     /// The list of a seed.
     pub fn new(seed: u64, profile: Profile) -> Self {
         let mut rng = Rng::new(seed);
-        let base = rng.pick(&[32, 32, 100, 4_000, VCI_MAX + 1 - profile.vcis]);
-        let mut filling: Vec<u32> = (base..base + profile.vcis).collect();
+        let addresses = addresses::pool(&mut rng, profile.addresses);
+        let mut filling = addresses.clone();
         match rng.below(3) {
             0 => rng.shuffle(&mut filling),
             1 => filling.reverse(),
@@ -39,7 +42,7 @@ impl Generator {
         Generator {
             rng,
             profile,
-            base,
+            addresses,
             filling,
             damaged: None,
         }
@@ -48,14 +51,14 @@ impl Generator {
     /// The next call, given what the calls before it did.
     pub fn next(&mut self, seen: &Observation) -> Call {
         self.damaged = None;
-        if let Some(vci) = self.filling.pop() {
+        if let Some(at) = self.filling.pop() {
             let (time, params) = (self.opening_time(seen), self.params());
-            return Call::Open { vci, time, params };
+            return Call::Open { at, time, params };
         }
         match self.rng.weighted(&self.profile.weights) {
             0 => self.open(seen),
             1 => Call::Close {
-                vci: self.vci(seen),
+                at: self.address(seen),
             },
             2 => Call::Receive {
                 cell: self.cell(seen),
@@ -71,7 +74,7 @@ impl Generator {
             6 => self.make(seen),
             7 => self.out_of_rate(seen),
             8 => Call::Acr {
-                vci: self.vci(seen),
+                at: self.address(seen),
             },
             9 => self.write_rm(seen),
             10 => Call::Read {
@@ -89,29 +92,11 @@ impl Generator {
         self.rng.once_in(self.profile.fault)
     }
 
-    /// A VCI, mostly an open one.
-    fn vci(&mut self, seen: &Observation) -> u32 {
-        if self.fault() || seen.connections.is_empty() {
-            let any = self.rng.next() as u32;
-            return self
-                .rng
-                .pick(&[0, 31, 32, 65_535, 65_536, 65_568, any & 0xFFFF, any]);
-        }
-        let place = self.rng.below(seen.connections.len() as u64) as usize;
-        *seen
-            .connections
-            .keys()
-            .nth(place)
-            .expect("a place below the count")
-    }
-
     fn open(&mut self, seen: &Observation) -> Call {
-        let vci = if self.fault() {
-            let any = self.rng.next() as u32;
-            self.rng
-                .pick(&[0, 1, 30, 31, 65_536, 65_568, u32::MAX, any])
+        let at = if self.fault() {
+            self.not_to_open(seen)
         } else {
-            self.vci_to_open(seen)
+            self.to_open(seen)
         };
         let time = if !first(seen) && self.fault() {
             self.time(seen)
@@ -122,21 +107,7 @@ impl Generator {
         if self.fault() {
             self.put_out_of_range(&mut params);
         }
-        Call::Open { vci, time, params }
-    }
-
-    /// A VCI of the list; in every second open of a list that began with a full
-    /// table one that is not open.
-    fn vci_to_open(&mut self, seen: &Observation) -> u32 {
-        let (base, vcis) = (self.base, self.profile.vcis);
-        let place = self.rng.below(vcis.into()) as u32;
-        let any = base + place;
-        if self.profile.filled == 0 || self.rng.once_in(2) {
-            return any;
-        }
-        let mut from_there = (place..vcis).chain(0..place).map(|place| base + place);
-        let closed = from_there.find(|vci| !seen.connections.contains_key(vci));
-        closed.unwrap_or(any)
+        Call::Open { at, time, params }
     }
 
     /// The time of an open that is accepted.
@@ -210,10 +181,10 @@ impl Generator {
     }
 
     fn offer(&mut self, seen: &Observation) -> Call {
-        let vci = self.vci(seen);
+        let at = self.address(seen);
         let waiting = seen
             .connections
-            .get(&vci)
+            .get(&at)
             .map_or(0, |connection| connection.data);
         let room = WAITING_MAX - waiting;
         let few = self.rng.below(9);
@@ -235,22 +206,22 @@ impl Generator {
             true => self.rng.pick(&edges),
             false => few,
         };
-        Call::Offer { vci, cells }
+        Call::Offer { at, cells }
     }
 
     fn make(&mut self, seen: &Observation) -> Call {
-        let vci = self.vci(seen);
-        let last = seen.connections.get(&vci).and_then(|c| c.last_made);
+        let at = self.address(seen);
+        let last = seen.connections.get(&at).and_then(|c| c.last_made);
         let time = self.time_after(seen, last.map(|last| last + MAKE_INTERVAL));
-        Call::Make { vci, time }
+        Call::Make { at, time }
     }
 
     fn out_of_rate(&mut self, seen: &Observation) -> Call {
-        let vci = self.vci(seen);
-        let last = seen.connections.get(&vci).and_then(|c| c.last_outside);
+        let at = self.address(seen);
+        let last = seen.connections.get(&at).and_then(|c| c.last_outside);
         let time = self.time_after(seen, last.map(|last| last + OUT_OF_RATE_INTERVAL));
         let len = self.length();
-        Call::OutOfRate { vci, time, len }
+        Call::OutOfRate { at, time, len }
     }
 
     fn level(&mut self) -> u32 {

@@ -5,6 +5,7 @@ use std::fmt::Debug;
 use abr::ffi::{
     self, abr_allowed, abr_answer, abr_cell, abr_coded, abr_rated, abr_sent, abr_table,
 };
+use reference::Address;
 
 use crate::call::{Answer, Call, Outcome};
 use crate::octets::Buffer;
@@ -38,47 +39,61 @@ impl Library {
         let table: *mut abr_table = &mut *self.table;
         // SAFETY: every pointer is to live memory of the length given with it.
         Ok(match *call {
-            Call::Open { vci, time, params } => {
-                answered(unsafe { ffi::abr_open(table, vci, time, params) })?
+            Call::Open { at, time, params } => {
+                answered(unsafe { ffi::abr_open(table, at.vpi, at.vci, time, params) })?
             }
-            Call::Close { vci } => answered(unsafe { ffi::abr_close(table, vci) })?,
+            Call::Close { at } => answered(unsafe { ffi::abr_close(table, at.vpi, at.vci) })?,
             Call::Receive { cell } => {
                 let octets = cell.as_slice();
                 answered(unsafe { ffi::abr_receive(table, octets.as_ptr(), octets.len()) })?
             }
-            Call::Offer { vci, cells } => answered(unsafe { ffi::abr_offer(table, vci, cells) })?,
+            Call::Offer { at, cells } => {
+                answered(unsafe { ffi::abr_offer(table, at.vpi, at.vci, cells) })?
+            }
             Call::SetLevel { level } => done(unsafe { ffi::abr_set_level(table, level) }),
-            Call::Make { vci, time } => answered(unsafe { ffi::abr_make(table, vci, time) })?,
+            Call::Make { at, time } => {
+                answered(unsafe { ffi::abr_make(table, at.vpi, at.vci, time) })?
+            }
             Call::Slot { time, len } => {
                 let octets = buffer.octets(len).as_mut_ptr();
                 answered(unsafe { ffi::abr_slot(table, time, octets, len) })?
             }
-            Call::OutOfRate { vci, time, len } => {
+            Call::OutOfRate { at, time, len } => {
+                let (vpi, vci) = (at.vpi, at.vci);
                 let octets = buffer.octets(len).as_mut_ptr();
-                done(unsafe { ffi::abr_out_of_rate(table, vci, time, octets, len) })
+                done(unsafe { ffi::abr_out_of_rate(table, vpi, vci, time, octets, len) })
             }
-            Call::Acr { vci } => self.acr(vci)?,
-            Call::WriteRm { rm, len } => {
-                let octets = buffer.octets(len).as_mut_ptr();
-                done(unsafe { ffi::abr_write_rm(rm, octets, len) })
-            }
-            Call::Read { cell } => {
-                let octets = cell.as_slice();
-                answered(unsafe { ffi::abr_read(octets.as_ptr(), octets.len()) })?
-            }
-            Call::Code { rate } => answered(unsafe { ffi::abr_code(rate) })?,
-            Call::Rate { code } => answered(unsafe { ffi::abr_rate(code) })?,
-            Call::House { pcr, mcr, icr } => {
-                Ok(Answer::Params(unsafe { ffi::abr_house(pcr, mcr, icr) }))
-            }
+            Call::Acr { at } => self.acr(at)?,
+            _ => without_table(call, buffer)?,
         })
     }
 
-    /// The allowed rate of a VCI, open or not.
-    pub fn acr(&self, vci: u32) -> Result<Outcome, Difference> {
+    /// The allowed rate of an address, open or not.
+    pub fn acr(&self, at: Address) -> Result<Outcome, Difference> {
         // SAFETY: the pointer is live.
-        answered(unsafe { ffi::abr_acr(&*self.table, vci) })
+        answered(unsafe { ffi::abr_acr(&*self.table, at.vpi, at.vci) })
     }
+}
+
+/// Makes a call that is given no table.
+fn without_table(call: &Call, buffer: &mut Buffer) -> Result<Outcome, Difference> {
+    // SAFETY: every pointer is to live memory of the length given with it.
+    Ok(match *call {
+        Call::WriteRm { rm, len } => {
+            let octets = buffer.octets(len).as_mut_ptr();
+            done(unsafe { ffi::abr_write_rm(rm, octets, len) })
+        }
+        Call::Read { cell } => {
+            let octets = cell.as_slice();
+            answered(unsafe { ffi::abr_read(octets.as_ptr(), octets.len()) })?
+        }
+        Call::Code { rate } => answered(unsafe { ffi::abr_code(rate) })?,
+        Call::Rate { code } => answered(unsafe { ffi::abr_rate(code) })?,
+        Call::House { pcr, mcr, icr } => {
+            Ok(Answer::Params(unsafe { ffi::abr_house(pcr, mcr, icr) }))
+        }
+        _ => return Err("a call that is given a table".to_owned()),
+    })
 }
 
 /// The outcome of a call that answers nothing but its refusal.

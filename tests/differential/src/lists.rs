@@ -1,5 +1,7 @@
 //! Whole lists, run on both sides.
 
+use reference::Address;
+
 use crate::both::Both;
 use crate::call::{Answer, Call, Outcome};
 use crate::coverage::Coverage;
@@ -45,16 +47,16 @@ impl List {
     /// Makes a call on both sides and adds it to what is known.
     pub fn step(&mut self, call: &Call, coverage: &mut Coverage) -> Result<Outcome, Difference> {
         let outcome = self.both.call(call)?;
-        let acr = concerned(call, &outcome).and_then(|vci| self.both.acr(vci));
+        let acr = concerned(call, &outcome).and_then(|at| self.both.acr(at));
         self.seen.add(call, &outcome, acr.unwrap_or(0), coverage);
         Ok(outcome)
     }
 
-    /// Compares the allowed rates of all open connections, and those of VCIs
-    /// that were closed.
+    /// Compares the allowed rates of all open connections, and those of
+    /// addresses that were closed.
     fn same_rates(&mut self) -> Result<(), Difference> {
-        let mut vcis = self.seen.connections.keys().chain(&self.seen.closed);
-        vcis.try_for_each(|vci| self.both.same_acr(*vci))
+        let mut addresses = self.seen.connections.keys().chain(&self.seen.closed);
+        addresses.try_for_each(|at| self.both.same_acr(*at))
     }
 }
 
@@ -82,9 +84,9 @@ pub fn run(seed: u64, profile: Profile, coverage: &mut Coverage) -> Result<(), D
 }
 
 /// The connection that a call concerns.
-pub fn concerned(call: &Call, outcome: &Outcome) -> Option<u32> {
+pub fn concerned(call: &Call, outcome: &Outcome) -> Option<Address> {
     match outcome {
-        Ok(Answer::Sent(sent)) => Some(sent.vci),
-        _ => call.vci(),
+        Ok(Answer::Sent(sent)) => Some(Address::new(sent.vpi, sent.vci)),
+        _ => call.address(),
     }
 }

@@ -2,6 +2,7 @@
 //! answers. The generator uses it to choose calls at edges, and the coverage
 //! counts come from it; no comparison of the two sides depends on it.
 
+mod address;
 mod made;
 mod outside;
 mod turned;
@@ -11,8 +12,9 @@ use std::collections::{BTreeMap, BTreeSet};
 
 use abr::ffi::{abr_params, abr_sent};
 use abr::{CONNECTIONS_MAX, TIME_MAX, WAITING_MAX};
+use reference::Address;
 
-use crate::call::{Answer, Call, Outcome};
+use crate::call::{address_of, Answer, Call, Outcome};
 use crate::coverage::{Coverage, Event};
 use turned::Turned;
 
@@ -113,14 +115,14 @@ impl Connection {
 /// All connections of a list.
 #[derive(Debug, Clone, Default)]
 pub struct Observation {
-    pub connections: BTreeMap<u32, Connection>,
-    pub closed: BTreeSet<u32>,
+    pub connections: BTreeMap<Address, Connection>,
+    pub closed: BTreeSet<Address>,
     /// Closed with data, a backward cell or unanswered cells on them.
-    loaded: BTreeSet<u32>,
-    /// The last making on each VCI, also if it was closed since.
-    makings: BTreeMap<u32, u64>,
-    /// The last out-of-rate cell on each VCI, also if it was closed since.
-    outside: BTreeMap<u32, u64>,
+    loaded: BTreeSet<Address>,
+    /// The last making on each address, also if it was closed since.
+    makings: BTreeMap<Address, u64>,
+    /// The last out-of-rate cell on each address, also if it was closed since.
+    outside: BTreeMap<Address, u64>,
     /// The time of the last accepted open, slot, made or out-of-rate cell.
     pub last: u64,
     /// That of the last accepted open or slot.
@@ -139,19 +141,20 @@ impl Observation {
         let answer = match outcome {
             Ok(answer) => answer,
             Err(number) => {
+                self.refused_address(call, *number, coverage);
                 self.refused(call, *number, coverage);
                 return self.refused_outside(call, *number, coverage);
             }
         };
         match (*call, *answer) {
-            (Call::Open { vci, time, params }, _) => {
-                self.opened(vci, time, params, acr, coverage);
+            (Call::Open { at, time, params }, _) => {
+                self.opened(at, time, params, acr, coverage);
             }
-            (Call::Close { vci }, _) => self.close(vci),
-            (Call::Offer { vci, cells }, _) => self.offered(vci, cells, coverage),
+            (Call::Close { at }, _) => self.close(at),
+            (Call::Offer { at, cells }, _) => self.offered(at, cells, coverage),
             (Call::SetLevel { level }, _) => self.level = level,
-            (Call::Make { vci, time }, _) => self.made(vci, time, coverage),
-            (Call::OutOfRate { vci, time, .. }, _) => self.outside(vci, time, coverage),
+            (Call::Make { at, time }, _) => self.made(at, time, coverage),
+            (Call::OutOfRate { at, time, .. }, _) => self.outside(at, time, coverage),
             (Call::Receive { cell }, _) => self.received(cell.as_slice(), acr, coverage),
             (Call::Slot { time, .. }, Answer::Sent(sent)) => self.slot(time, &sent, coverage),
             _ => {}
@@ -160,7 +163,7 @@ impl Observation {
 
     fn opened(
         &mut self,
-        vci: u32,
+        at: Address,
         time: u64,
         params: abr_params,
         acr: u64,
@@ -168,28 +171,29 @@ impl Observation {
     ) {
         (self.last, self.last_sent) = (time, time);
         self.connections
-            .insert(vci, Connection::new(params, time, acr));
-        coverage.reach(Event::Reopened, self.closed.contains(&vci));
-        coverage.reach(Event::ReopenedLoaded, self.loaded.contains(&vci));
+            .insert(at, Connection::new(params, time, acr));
+        coverage.reach(Event::Reopened, self.closed.contains(&at));
+        coverage.reach(Event::ReopenedLoaded, self.loaded.contains(&at));
+        coverage.reach(Event::OpenedBeside, self.elsewhere(at));
         coverage.reach(Event::Full, self.connections.len() == CONNECTIONS_MAX);
         coverage.reach(Event::TimeMax, time == TIME_MAX);
         coverage.reach(Event::OpenedAtZero, acr == 0);
     }
 
-    fn close(&mut self, vci: u32) {
-        self.closed.insert(vci);
-        let Some(connection) = self.connections.remove(&vci) else {
+    fn close(&mut self, at: Address) {
+        self.closed.insert(at);
+        let Some(connection) = self.connections.remove(&at) else {
             return;
         };
         if connection.waits() || connection.unanswered > 0 {
-            self.loaded.insert(vci);
+            self.loaded.insert(at);
         } else {
-            self.loaded.remove(&vci);
+            self.loaded.remove(&at);
         }
     }
 
-    fn offered(&mut self, vci: u32, cells: u64, coverage: &mut Coverage) {
-        let Some(connection) = self.connections.get_mut(&vci) else {
+    fn offered(&mut self, at: Address, cells: u64, coverage: &mut Coverage) {
+        let Some(connection) = self.connections.get_mut(&at) else {
             return;
         };
         let full = connection.data == WAITING_MAX;
@@ -200,12 +204,13 @@ impl Observation {
 
     fn received(&mut self, cell: &[u8], acr: u64, coverage: &mut Coverage) {
         let header = u32::from_be_bytes([cell[0], cell[1], cell[2], cell[3]]);
-        let (vci, bits) = ((header >> 4) & 0xFFFF, cell[6]);
+        let (at, bits) = (address_of(cell).unwrap_or_default(), cell[6]);
+        coverage.reach(Event::GfcIgnored, header >> 28 != 0);
         let rm = header >> 1 & 7 == 6;
         if rm && bits & 0x80 == 0 {
-            return self.forward_received(vci, bits, coverage);
+            return self.forward_received(at, bits, coverage);
         }
-        let Some(connection) = self.connections.get_mut(&vci) else {
+        let Some(connection) = self.connections.get_mut(&at) else {
             return;
         };
         if !rm {
@@ -233,9 +238,10 @@ impl Observation {
             .min();
         coverage.reach(Event::ReadyExact, earliest == Some(time));
         coverage.reach(Event::ReadyLessOne, earliest == Some(time + 1));
-        self.ties(time, earliest, coverage);
+        let at = Address::new(sent.vpi, sent.vci);
+        self.ties(time, earliest, at, coverage);
         zero::passed_over(self.connections.values(), time, coverage);
-        if let Some(connection) = self.connections.get_mut(&sent.vci) {
+        if let Some(connection) = self.connections.get_mut(&at) {
             made::sent(connection, sent.kind, self.level, coverage);
             zero::sent(connection, time, sent, coverage);
             kind_sent(connection, time, sent.kind, coverage);
@@ -244,13 +250,17 @@ impl Observation {
         }
     }
 
-    fn ties(&self, time: u64, earliest: Option<u64>, coverage: &mut Coverage) {
+    /// The slot went to this address; others may have been ready at that instant.
+    fn ties(&self, time: u64, earliest: Option<u64>, at: Address, coverage: &mut Coverage) {
         let Some(earliest) = earliest.filter(|ready| *ready <= time) else {
             return;
         };
-        let tied = |connection: &&Connection| connection.ready() == Some(earliest);
-        let (mut first, mut later) = (0, 0);
-        for connection in self.connections.values().filter(tied) {
+        let (mut first, mut later, mut lower_vci) = (0, 0, false);
+        for (other, connection) in &self.connections {
+            if connection.ready() != Some(earliest) {
+                continue;
+            }
+            lower_vci |= other.vci < at.vci;
             match connection.sends {
                 None => first += 1,
                 Some(_) => later += 1,
@@ -258,6 +268,7 @@ impl Observation {
         }
         coverage.reach(Event::TieFirst, first > 1);
         coverage.reach(Event::TieLater, later > 1);
+        coverage.reach(Event::TiePaths, lower_vci);
     }
 }
 

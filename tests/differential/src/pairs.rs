@@ -10,6 +10,7 @@
 use std::ops::Range;
 
 use abr::CELL_OCTETS;
+use reference::Address;
 
 use crate::call::{Answer, Call, Outcome};
 use crate::coverage::Coverage;
@@ -111,8 +112,8 @@ impl Pair {
         if matches!(call, Call::OutOfRate { .. }) && first.is_ok() {
             outside(buffers, tally)?;
         }
-        let vci = concerned(call, &first).unwrap_or(0);
-        let acr = number(&self.first.acr(vci)?).unwrap_or(0);
+        let at = concerned(call, &first).unwrap_or_default();
+        let acr = number(&self.first.acr(at)?).unwrap_or(0);
         self.seen.add(call, &first, acr, &mut Coverage::default());
         self.compare(tally)?;
         Ok(true)
@@ -120,17 +121,17 @@ impl Pair {
 
     /// Checks the claim for all allowed rates of both lists.
     fn compare(&self, tally: &mut Tally) -> Result<(), Difference> {
-        for (vci, connection) in &self.seen.connections {
-            let first = self.first.acr(*vci)?;
-            let second = self.second.acr(*vci)?;
+        for (at, connection) in &self.seen.connections {
+            let first = self.first.acr(*at)?;
+            let second = self.second.acr(*at)?;
             let (Some(one), Some(two)) = (number(&first), number(&second)) else {
-                return Err(format!("ACR of {vci}: {first:?} and {second:?}"));
+                return Err(format!("ACR of {at:?}: {first:?} and {second:?}"));
             };
             let ordered = connection.mcr <= two && two <= one && one <= connection.pcr;
             if !ordered {
                 let (mcr, pcr) = (connection.mcr, connection.pcr);
                 return Err(format!(
-                    "ACR of {vci}: {one} and {two}, from {mcr} to {pcr}"
+                    "ACR of {at:?}: {one} and {two}, from {mcr} to {pcr}"
                 ));
             }
             tally.compared += 1;
@@ -150,9 +151,9 @@ fn number(outcome: &Outcome) -> Option<u64> {
 }
 
 /// The connection that a slot goes to; none if it is idle or refused.
-fn goes_to(outcome: &Outcome) -> Option<u32> {
+fn goes_to(outcome: &Outcome) -> Option<Address> {
     match outcome {
-        Ok(Answer::Sent(sent)) if sent.kind != 0 => Some(sent.vci),
+        Ok(Answer::Sent(sent)) if sent.kind != 0 => Some(Address::new(sent.vpi, sent.vci)),
         _ => None,
     }
 }

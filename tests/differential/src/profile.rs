@@ -5,8 +5,8 @@
 pub struct Profile {
     /// Its name.
     pub name: &'static str,
-    /// How many VCIs the list uses.
-    pub vcis: u32,
+    /// How many addresses the list uses.
+    pub addresses: u32,
     /// How many of them it opens before all else.
     pub filled: u32,
     /// The least exponent of a rate code.
@@ -80,10 +80,10 @@ impl Profile {
         }
     }
 
-    const fn usual(name: &'static str, vcis: u32, exponent: u32) -> Self {
+    const fn usual(name: &'static str, addresses: u32, exponent: u32) -> Self {
         Profile {
             name,
-            vcis,
+            addresses,
             filled: 0,
             exponent,
             no_minimum: 3,

@@ -10,6 +10,10 @@ use differential::library::Library;
 use differential::lists;
 use differential::octets::{put_crc, put_header, Buffer, Header, Octets};
 use differential::rng::Rng;
+use reference::Address;
+
+/// The connection that is open.
+const AT: Address = Address::new(0xA5, 32);
 
 /// Makes a call on both sides and gives their common outcome.
 fn agree(both: &mut Both, call: &Call) -> Result<Answer, u32> {
@@ -19,7 +23,7 @@ fn agree(both: &mut Both, call: &Call) -> Result<Answer, u32> {
     }
 }
 
-/// Both sides with VCI 32 open.
+/// Both sides with that connection open.
 fn with_connection() -> Both {
     let mut both = Both::default();
     let Ok(Answer::Params(params)) = agree(
@@ -33,7 +37,7 @@ fn with_connection() -> Both {
         panic!("no house set");
     };
     let open = Call::Open {
-        vci: 32,
+        at: AT,
         time: 0,
         params,
     };
@@ -46,6 +50,7 @@ fn random_rm(rng: &mut Rng) -> abr_rm {
     let mut bit = || rng.next() as u32 & 1;
     let [dir, bn, ci, ni, ra] = [bit(), bit(), bit(), bit(), bit()];
     abr_rm {
+        vpi: rng.within(0, 255),
         vci: rng.within(0, 65_535),
         dir,
         bn,
@@ -105,7 +110,7 @@ fn both_sides_read_random_octets_the_same() {
         rng.fill(&mut octets);
         let header = Header {
             gfc: rng.within(0, 15),
-            vpi: rng.pick(&[0, 0, 0, 1, 128]),
+            vpi: rng.pick(&[0xA5, 0xA5, 0xA5, 0xA4, 0x25]),
             vci: rng.pick(&[32, 33]),
             pt: rng.within(0, 7),
             clp: rng.within(0, 1),
@@ -121,7 +126,7 @@ fn both_sides_read_random_octets_the_same() {
     }
 }
 
-/// A good RM cell of VCI 32.
+/// A good RM cell of the open connection.
 fn good(dir: u8) -> [u8; CELL_OCTETS] {
     let mut octets = [0x6A; CELL_OCTETS];
     octets[5..21].copy_from_slice(&[
@@ -145,8 +150,8 @@ fn good(dir: u8) -> [u8; CELL_OCTETS] {
     octets[51] = 0;
     let header = Header {
         gfc: 0,
-        vpi: 0,
-        vci: 32,
+        vpi: AT.vpi,
+        vci: AT.vci,
         pt: 6,
         clp: 0,
     };
@@ -191,7 +196,7 @@ fn every_length_but_53_is_refused() {
             Call::WriteRm { rm, len },
             Call::Slot { time: 0, len },
             Call::OutOfRate {
-                vci: 32,
+                at: AT,
                 time: 0,
                 len,
             },
@@ -225,17 +230,17 @@ fn every_rate_code_and_the_rates_beside_it() {
     }
 }
 
-/// Opens VCI 32 with these codes of peak, minimum and initial rate, has an
+/// Opens a connection with these codes of peak, minimum and initial rate, has an
 /// out-of-rate cell, which carries all three, and closes it; whether it opened.
 fn opens(both: &mut Both, pcr: u32, mcr: u32, icr: u32) -> bool {
-    let (vci, time, len) = (32, 0, CELL_OCTETS);
+    let (at, time, len) = (AT, 0, CELL_OCTETS);
     let params = library_params(&reference::Params::house(pcr, mcr, icr));
-    if agree(both, &Call::Open { vci, time, params }).is_err() {
+    if agree(both, &Call::Open { at, time, params }).is_err() {
         return false;
     }
-    let cell = agree(both, &Call::OutOfRate { vci, time, len });
+    let cell = agree(both, &Call::OutOfRate { at, time, len });
     assert_eq!(cell, Ok(Answer::Done));
-    agree(both, &Call::Close { vci }).is_ok()
+    agree(both, &Call::Close { at }).is_ok()
 }
 
 /// Every code as minimum, as initial rate and as peak (document 02, L5).
@@ -271,7 +276,7 @@ fn every_parameter_at_and_past_its_ends() {
             let mut params = library_params(&house);
             set(&mut params, value);
             let open = Call::Open {
-                vci: 32,
+                at: AT,
                 time: 0,
                 params,
             };
@@ -279,5 +284,85 @@ fn every_parameter_at_and_past_its_ends() {
             let inside = (low..=high).contains(&value);
             assert_eq!(outcome, if inside { Ok(()) } else { Err(7) }, "{params:?}");
         }
+    }
+}
+
+/// Every VPI and every VCI of 16 bits on one, and the first past their ends, as an open
+/// takes them and as every cell of the connection carries them (document 02, L6).
+#[test]
+fn every_vpi_and_every_vci() {
+    let vpis = (0..=256).map(|vpi| Address::new(vpi, 0x1234));
+    let vcis = (0..=65_536).map(|vci| Address::new(0xA5, vci));
+    let mut both = Both::default();
+    let params = library_params(&reference::Params::house(0x7FFF, 0x4000, 0x53E8));
+    for at in vpis.chain(vcis) {
+        let (time, len) = (0, CELL_OCTETS);
+        let opened = agree(&mut both, &Call::Open { at, time, params });
+        let expected = match at {
+            Address { vci: 0..=31, .. } => Err(10),
+            _ if at.fits() => Ok(Answer::Comparisons(1)),
+            _ => Err(7),
+        };
+        assert_eq!(opened, expected, "{at:?}");
+        let outside = agree(&mut both, &Call::OutOfRate { at, time, len });
+        assert_eq!(outside.is_ok(), opened.is_ok(), "{at:?}");
+        let closed = agree(&mut both, &Call::Close { at });
+        assert_eq!(closed.is_ok(), opened.is_ok(), "{at:?}");
+        let rm = abr_rm {
+            vpi: at.vpi,
+            vci: at.vci,
+            ..abr_rm::default()
+        };
+        let written = agree(&mut both, &Call::WriteRm { rm, len });
+        assert_eq!(written.is_ok(), at.fits(), "{at:?}");
+    }
+}
+
+/// Pairs of which a number is out of its range. 256 and 0, and 0 and 65,536, would be 1
+/// and 0 if their numbers were added; each other would be 0 and 32, 1 and 32, or 255 and
+/// 65,535 if its numbers were cut or added.
+const OUT_OF_RANGE: [(u32, u32); 9] = [
+    (256, 0),
+    (256, 32),
+    (257, 32),
+    (0, 65_536),
+    (0, 65_568),
+    (1, 65_568),
+    (254, 131_071),
+    (65_536, 32),
+    (u32::MAX, 65_568),
+];
+
+/// Every call that names a connection, with each of them (document 02, L6).
+#[test]
+fn a_pair_out_of_range_is_never_another_pair() {
+    let mut both = Both::default();
+    let params = library_params(&reference::Params::house(0x7FFF, 0x4000, 0x53E8));
+    let (time, len, cells) = (0, CELL_OCTETS, 1);
+    for (vpi, vci) in [(0, 32), (1, 32), (255, 65_535)] {
+        let at = Address::new(vpi, vci);
+        assert!(agree(&mut both, &Call::Open { at, time, params }).is_ok());
+    }
+    assert!(agree(&mut both, &Call::SetLevel { level: 1 }).is_ok());
+    for (vpi, vci) in OUT_OF_RANGE {
+        let at = Address::new(vpi, vci);
+        let opened = agree(&mut both, &Call::Open { at, time, params });
+        assert_eq!(opened, Err(if vci < 32 { 10 } else { 7 }), "{at:?}");
+        let calls = [
+            Call::Close { at },
+            Call::Offer { at, cells },
+            Call::Make { at, time },
+            Call::OutOfRate { at, time, len },
+            Call::Acr { at },
+        ];
+        for call in calls {
+            assert_eq!(agree(&mut both, &call), Err(11), "{call:?}");
+        }
+        let rm = abr_rm {
+            vpi,
+            vci,
+            ..abr_rm::default()
+        };
+        assert_eq!(agree(&mut both, &Call::WriteRm { rm, len }), Err(7), "{at:?}");
     }
 }

@@ -1,9 +1,9 @@
 //! Up to 1,024 open connections and down again, in several orders of opening and
-//! closing, on VCIs as somebody might choose them who wants the calls to be slow;
+//! closing, on addresses as somebody might choose them who wants the calls to be slow;
 //! both sides compared, with the comparisons (document 02, L4). ABR_SEED gives
 //! other lists.
 
-use abr::{CELL_OCTETS, CONNECTIONS_MAX, MAKE_INTERVAL, VCI_MAX, VCI_MIN};
+use abr::{CELL_OCTETS, CONNECTIONS_MAX, MAKE_INTERVAL, VCI_MAX, VCI_MIN, VPI_MAX};
 use differential::call::Call;
 use differential::coverage::{Coverage, Event};
 use differential::generate::Generator;
@@ -13,9 +13,10 @@ use differential::octets::{put_header, Header, Octets};
 use differential::parallel;
 use differential::profile::{Profile, PROFILES};
 use differential::rng::Rng;
+use reference::Address;
 
-/// The number of VCIs of a list, more than can be open.
-const VCIS: u32 = 1_040;
+/// The number of addresses of a list, more than can be open.
+const ADDRESSES: u32 = 1_040;
 
 /// After so many opens or closes all allowed rates are compared.
 const ALL_RATES: usize = 64;
@@ -23,10 +24,10 @@ const ALL_RATES: usize = 64;
 /// The numbers of open connections that a list passes through, in any order.
 const TARGETS: [usize; 10] = [0, 1, 63, 64, 65, 512, 1_022, 1_023, 1_024, 1_024];
 
-/// The lists of each sort of VCIs that pass through them, and those of each sort
+/// The lists of each sort of addresses that pass through them, and those of each sort
 /// with each order of opening and of closing.
-const ROUNDS: usize = 40;
-const UP_AND_DOWN: usize = 4;
+const ROUNDS: usize = 30;
+const UP_AND_DOWN: usize = 3;
 
 /// Each refusal, kind and number of comparisons must be reached so often.
 const LEAST: u64 = 200;
@@ -38,67 +39,92 @@ const NO_CHANGE: Profile = Profile {
     ..PROFILES[1]
 };
 
-/// The VCIs of a list, rising.
-type Vcis = fn(&mut Rng) -> Vec<u32>;
+/// The addresses of a list, rising.
+type Addresses = fn(&mut Rng) -> Vec<Address>;
 
-/// The sorts of VCIs.
-const SETS: [(&str, Vcis); 3] = [
+/// The sorts of addresses.
+const SETS: [(&str, Addresses); 4] = [
     ("adjacent", adjacent),
+    ("one VCI on every path", across_paths),
     ("far apart", far_apart),
     ("both ends", both_ends),
 ];
 
-/// VCIs one after the other.
-fn adjacent(rng: &mut Rng) -> Vec<u32> {
-    let last = VCI_MAX + 1 - VCIS;
+/// VCIs one after the other on one VPI.
+fn adjacent(rng: &mut Rng) -> Vec<Address> {
+    let last = VCI_MAX + 1 - ADDRESSES;
     let any = rng.within(VCI_MIN, last);
     let first = rng.pick(&[VCI_MIN, any, last]);
-    (first..first + VCIS).collect()
+    let vpi = rng.pick(&[0, 1, VPI_MAX]);
+    (first..first + ADDRESSES)
+        .map(|vci| Address::new(vpi, vci))
+        .collect()
 }
 
-/// VCIs as far from each other as so many can be.
-fn far_apart(rng: &mut Rng) -> Vec<u32> {
-    let step = (VCI_MAX - VCI_MIN) / (VCIS - 1);
-    let first = rng.within(VCI_MIN, VCI_MAX - step * (VCIS - 1));
-    (0..VCIS).map(|k| first + step * k).collect()
+/// A VCI on every VPI, then the next, so that a name without its VPI is that of many.
+fn across_paths(rng: &mut Rng) -> Vec<Address> {
+    let first = rng.within(VCI_MIN, VCI_MAX - ADDRESSES);
+    let mut addresses: Vec<Address> = (0..ADDRESSES)
+        .map(|i| Address::new(i & VPI_MAX, first + i / (VPI_MAX + 1)))
+        .collect();
+    addresses.sort_unstable();
+    addresses
 }
 
-/// The lowest VCIs and the highest.
-fn both_ends(_: &mut Rng) -> Vec<u32> {
-    let half = VCIS / 2;
-    let low = VCI_MIN..VCI_MIN + half;
-    low.chain(VCI_MAX + 1 - half..=VCI_MAX).collect()
+/// Names as far from each other as so many can be, without the VCIs under 32.
+fn far_apart(rng: &mut Rng) -> Vec<Address> {
+    let step = (1 << 24) / ADDRESSES;
+    let first = rng.below(step.into()) as u32;
+    let names = (0..ADDRESSES).map(|k| first + step * k);
+    names
+        .map(|name| Address::new(name >> 16, (name & VCI_MAX).max(VCI_MIN)))
+        .collect()
 }
 
-/// Brings rising VCIs into another order.
-type Order = fn(&mut Rng, Vec<u32>) -> Vec<u32>;
+/// The lowest names and the highest.
+fn both_ends(_: &mut Rng) -> Vec<Address> {
+    let half = ADDRESSES / 2;
+    let low = (VCI_MIN..VCI_MIN + half).map(|vci| Address::new(0, vci));
+    let high = (VCI_MAX + 1 - half..=VCI_MAX).map(|vci| Address::new(VPI_MAX, vci));
+    low.chain(high).collect()
+}
+
+/// Brings rising addresses into another order.
+type Order = fn(&mut Rng, Vec<Address>) -> Vec<Address>;
 
 /// The orders of opening and of closing.
 const ORDERS: [(&str, Order); 4] = [
-    ("rising", |_, vcis| vcis),
-    ("falling", |_, vcis| vcis.into_iter().rev().collect()),
+    ("rising", |_, addresses| addresses),
+    ("falling", |_, addresses| {
+        addresses.into_iter().rev().collect()
+    }),
     ("shuffled", shuffled),
     ("every second", every_second),
 ];
 
-fn shuffled(rng: &mut Rng, mut vcis: Vec<u32>) -> Vec<u32> {
-    rng.shuffle(&mut vcis);
-    vcis
+fn shuffled(rng: &mut Rng, mut addresses: Vec<Address>) -> Vec<Address> {
+    rng.shuffle(&mut addresses);
+    addresses
 }
 
-/// Every second VCI, then those between.
-fn every_second(_: &mut Rng, vcis: Vec<u32>) -> Vec<u32> {
-    let between = vcis.iter().skip(1).step_by(2);
-    vcis.iter().step_by(2).chain(between).copied().collect()
+/// Every second address, then those between.
+fn every_second(_: &mut Rng, addresses: Vec<Address>) -> Vec<Address> {
+    let between = addresses.iter().skip(1).step_by(2);
+    addresses
+        .iter()
+        .step_by(2)
+        .chain(between)
+        .copied()
+        .collect()
 }
 
 /// A data cell.
-fn data_cell(vci: u32) -> Octets {
+fn data_cell(at: Address) -> Octets {
     let mut cell = [0; CELL_OCTETS];
     let header = Header {
         gfc: 0,
-        vpi: 0,
-        vci,
+        vpi: at.vpi,
+        vci: at.vci,
         pt: 0,
         clp: 0,
     };
@@ -106,22 +132,22 @@ fn data_cell(vci: u32) -> Octets {
     Octets::cell(&cell)
 }
 
-/// A list that changes which of its VCIs are open.
+/// A list that changes which of its addresses are open.
 struct Changing {
     list: List,
     generator: Generator,
     rng: Rng,
-    vcis: Vec<u32>,
+    addresses: Vec<Address>,
     coverage: Coverage,
 }
 
 impl Changing {
-    fn new(seed: u64, vcis: Vcis) -> Self {
+    fn new(seed: u64, addresses: Addresses) -> Self {
         let mut rng = Rng::new(!seed);
         Changing {
             list: List::default(),
             generator: Generator::new(seed, NO_CHANGE),
-            vcis: vcis(&mut rng),
+            addresses: addresses(&mut rng),
             rng,
             coverage: Coverage::default(),
         }
@@ -135,16 +161,16 @@ impl Changing {
             .map_err(|difference| format!("{call:x?}: {difference}"))
     }
 
-    /// Compares the allowed rates of all VCIs of the list, open or not.
+    /// Compares the allowed rates of all addresses of the list, open or not.
     fn same_rates(&mut self) -> Result<(), Difference> {
-        let mut vcis = self.vcis.iter();
-        vcis.try_for_each(|vci| self.list.both.same_acr(*vci))
+        let mut addresses = self.addresses.iter();
+        addresses.try_for_each(|at| self.list.both.same_acr(*at))
     }
 
-    fn open(&mut self, vci: u32) -> Result<(), Difference> {
+    fn open(&mut self, at: Address) -> Result<(), Difference> {
         let time = self.list.seen.last;
         let params = self.generator.params();
-        self.step(&Call::Open { vci, time, params })
+        self.step(&Call::Open { at, time, params })
     }
 
     /// A slot so much later than the last call with a time.
@@ -157,25 +183,25 @@ impl Changing {
         self.list.seen.connections.len()
     }
 
-    fn is_open(&self, vci: u32) -> bool {
-        self.list.seen.connections.contains_key(&vci)
+    fn is_open(&self, at: Address) -> bool {
+        self.list.seen.connections.contains_key(&at)
     }
 
     /// Opens or closes in this order until so many are open. Some send in between,
     /// so that the winners change.
-    fn change(&mut self, target: usize, order: Vec<u32>) -> Result<(), Difference> {
+    fn change(&mut self, target: usize, order: Vec<Address>) -> Result<(), Difference> {
         let more = target > self.count();
-        for vci in order {
+        for at in order {
             if self.count() == target {
                 break;
             }
-            match (more, self.is_open(vci)) {
+            match (more, self.is_open(at)) {
                 (true, false) => {
-                    self.open(vci)?;
+                    self.open(at)?;
                     let cells = self.rng.below(3);
-                    self.step(&Call::Offer { vci, cells })?;
+                    self.step(&Call::Offer { at, cells })?;
                 }
-                (false, true) => self.step(&Call::Close { vci })?,
+                (false, true) => self.step(&Call::Close { at })?,
                 _ => continue,
             }
             if self.rng.once_in(8) {
@@ -189,28 +215,28 @@ impl Changing {
         Ok(())
     }
 
-    /// On every VCI a refused open (12, or 13 if the table is full) or close (11),
+    /// On every address a refused open (12, or 13 if the table is full) or close (11),
     /// an offer, a data cell, a making and an out-of-rate cell; then slots for all, a
     /// millisecond apart: longer than any gap of a connection with a minimum.
-    fn every_vci(&mut self) -> Result<(), Difference> {
+    fn every_address(&mut self) -> Result<(), Difference> {
         let full = self.count() == CONNECTIONS_MAX;
         self.step(&Call::SetLevel { level: 1 })?;
         self.slot(MAKE_INTERVAL)?;
-        for vci in shuffled(&mut self.rng, self.vcis.clone()) {
-            let open = self.is_open(vci);
+        for at in shuffled(&mut self.rng, self.addresses.clone()) {
+            let open = self.is_open(at);
             if open || full {
-                self.open(vci)?;
+                self.open(at)?;
             }
             if !open {
-                self.step(&Call::Close { vci })?;
+                self.step(&Call::Close { at })?;
             }
-            self.step(&Call::Offer { vci, cells: 1 })?;
-            let cell = data_cell(vci);
+            self.step(&Call::Offer { at, cells: 1 })?;
+            let cell = data_cell(at);
             self.step(&Call::Receive { cell })?;
             let time = self.list.seen.last;
-            self.step(&Call::Make { vci, time })?;
+            self.step(&Call::Make { at, time })?;
             let len = CELL_OCTETS;
-            self.step(&Call::OutOfRate { vci, time, len })?;
+            self.step(&Call::OutOfRate { at, time, len })?;
         }
         (0..=self.count()).try_for_each(|_| self.slot(1_000_000))
     }
@@ -226,11 +252,11 @@ impl Changing {
 
     /// From none to all and back, in these orders.
     fn up_and_down(&mut self, opening: Order, closing: Order) -> Result<(), Difference> {
-        let order = opening(&mut self.rng, self.vcis.clone());
+        let order = opening(&mut self.rng, self.addresses.clone());
         self.change(CONNECTIONS_MAX, order)?;
-        self.every_vci()?;
+        self.every_address()?;
         self.random_calls(200)?;
-        let order = closing(&mut self.rng, self.vcis.clone());
+        let order = closing(&mut self.rng, self.addresses.clone());
         self.change(0, order)
     }
 
@@ -238,10 +264,10 @@ impl Changing {
     /// free leaves between those in use.
     fn round(&mut self, target: usize) -> Result<(), Difference> {
         for target in [self.count() / 8 * 7, target] {
-            let order = shuffled(&mut self.rng, self.vcis.clone());
+            let order = shuffled(&mut self.rng, self.addresses.clone());
             self.change(target, order)?;
         }
-        self.every_vci()?;
+        self.every_address()?;
         self.random_calls(60)
     }
 
@@ -255,17 +281,17 @@ impl Changing {
     }
 }
 
-/// What a list does beside its VCIs.
+/// What a list does beside its addresses.
 #[derive(Clone, Copy)]
 enum Course {
     UpAndDown { opening: usize, closing: usize },
     Rounds,
 }
 
-/// Runs one list: its seed, the place of its VCIs in [`SETS`], and what it does.
+/// Runs one list: its seed, the place of its addresses in [`SETS`], and what it does.
 fn run((seed, set, course): (u64, usize, Course)) -> Result<Coverage, Difference> {
-    let (name, vcis) = SETS[set];
-    let mut changing = Changing::new(seed, vcis);
+    let (name, addresses) = SETS[set];
+    let mut changing = Changing::new(seed, addresses);
     let (way, ran) = match course {
         Course::UpAndDown { opening, closing } => {
             let ((opened, opening), (closed, closing)) = (ORDERS[opening], ORDERS[closing]);
@@ -279,7 +305,7 @@ fn run((seed, set, course): (u64, usize, Course)) -> Result<Coverage, Difference
     Ok(changing.coverage)
 }
 
-/// Every order of opening with every order of closing on every sort of VCIs, and
+/// Every order of opening with every order of closing on every sort of addresses, and
 /// the lists that pass through the targets.
 fn jobs() -> Vec<(u64, usize, Course)> {
     let mut courses = vec![Course::Rounds; ROUNDS];
@@ -344,5 +370,6 @@ fn up_to_1_024_connections_and_down_again() {
     assert!(counts.all(|count| *count >= LEAST), "{refused:?}");
     assert!(total.reached(Event::Full) >= LEAST);
     assert!(total.reached(Event::ReopenedLoaded) >= LEAST);
+    assert!(total.reached(Event::TiePaths) >= LEAST);
     every_number_of_comparisons(&total);
 }

@@ -1,8 +1,11 @@
 //! The checked values of document 01, through the safe binding, the count of
 //! unanswered cells at the largest CRM, and contracts without a minimum (document
-//! 02, L5).
+//! 02, L5) and full addresses (L6).
 
-use abr::{Kind, Params, Refusal, Rm, Table, CELL_OCTETS, OUT_OF_RATE_INTERVAL, TIME_MAX};
+use abr::{Cell, Kind, Params, Refusal, Rm, Table, CELL_OCTETS, OUT_OF_RATE_INTERVAL, TIME_MAX};
+
+/// The path of the connections.
+const VPI: u32 = 0xA5;
 
 const MS: u64 = 1_000_000;
 /// The code of 1,000 cells per second, and its rate.
@@ -22,6 +25,7 @@ fn kind(table: &mut Table, time: u64) -> Option<Kind> {
 fn backward(table: &mut Table, rm: Rm) {
     let mut cell = [0; CELL_OCTETS];
     let rm = Rm {
+        vpi: VPI,
         vci: 32,
         backward: true,
         ..rm
@@ -33,7 +37,7 @@ fn backward(table: &mut Table, rm: Rm) {
 /// VCI 32, opened at time 0.
 fn opened(params: &Params) -> Table {
     let mut table = Table::new();
-    table.open(32, 0, params).expect("parameters in range");
+    table.open(VPI, 32, 0, params).expect("parameters in range");
     table
 }
 
@@ -63,36 +67,36 @@ fn feedback_values() {
     // ACR 1,000 units, d 4, CI 1, MCR 512: 937.
     let thousand_units = abr::code(1_000).unwrap();
     let mut table = opened(&Params::house(0x7FFF, 0x4000, thousand_units));
-    assert_eq!(table.acr(32), Ok(1_000));
+    assert_eq!(table.acr(VPI, 32), Ok(1_000));
     let ci = Rm {
         ci: true,
         er: 0x7FFF,
         ..Rm::default()
     };
     backward(&mut table, ci);
-    assert_eq!(table.acr(32), Ok(937));
+    assert_eq!(table.acr(VPI, 32), Ok(937));
     // PCR 512,000, r 4, ACR 500,000, no marks: 512,000.
     let below = abr::code(500_000).unwrap();
     let mut table = opened(&Params::house(THOUSAND, 0x4000, below));
-    assert_eq!(table.acr(32), Ok(499_712)); // the code rate below 500,000
+    assert_eq!(table.acr(VPI, 32), Ok(499_712)); // the code rate below 500,000
     let free = Rm {
         er: 0x7FFF,
         ..Rm::default()
     };
     backward(&mut table, free);
-    assert_eq!(table.acr(32), Ok(RATE));
+    assert_eq!(table.acr(VPI, 32), Ok(RATE));
     // ACR 512,000, d 4, CI 1, ER 204,800, MCR 512: 204,800.
     let mut table = opened(&Params::house(THOUSAND, 0x4000, THOUSAND));
     let er = abr::code(204_800).unwrap();
     backward(&mut table, Rm { er, ..ci });
-    assert_eq!(table.acr(32), Ok(204_800));
+    assert_eq!(table.acr(VPI, 32), Ok(204_800));
 }
 
 #[test]
 fn the_gap_to_the_nanosecond() {
     for (code, gap) in [(THOUSAND, MS), (abr::code(1_536).unwrap(), 333_333_334)] {
         let mut table = opened(&Params::house(code, 0x4000, code));
-        table.offer(32, 2).unwrap();
+        table.offer(VPI, 32, 2).unwrap();
         assert_eq!(kind(&mut table, 0), Some(Kind::Forward));
         assert_eq!(kind(&mut table, gap - 1), None);
         assert_eq!(kind(&mut table, gap), Some(Kind::Data));
@@ -104,7 +108,7 @@ fn nrm_32_within_trm() {
     // A million cells per second: 32 cells are well within Trm.
     let fast = abr::code(512_000_000).unwrap();
     let mut table = opened(&Params::house(fast, 0x4000, fast));
-    table.offer(32, 100).unwrap();
+    table.offer(VPI, 32, 100).unwrap();
     let kinds: Vec<_> = (0..33).map(|i| kind(&mut table, i * 10_000)).collect();
     assert_eq!(kinds[0], Some(Kind::Forward));
     assert!(kinds[1..32].iter().all(|kind| *kind == Some(Kind::Data)));
@@ -116,7 +120,7 @@ fn trm_to_the_nanosecond() {
     let fast = abr::code(512_000_000).unwrap();
     for (time, expected) in [(100 * MS - 1, Kind::Data), (100 * MS, Kind::Forward)] {
         let mut table = opened(&Params::house(fast, 0x4000, fast));
-        table.offer(32, 100).unwrap();
+        table.offer(VPI, 32, 100).unwrap();
         assert_eq!(kind(&mut table, 0), Some(Kind::Forward));
         assert_eq!(kind(&mut table, 10_000), Some(Kind::Data));
         assert_eq!(kind(&mut table, 20_000), Some(Kind::Data));
@@ -130,14 +134,14 @@ fn adtf_to_the_nanosecond() {
     let raised = RATE + abr::rate(fast).unwrap() / 16;
     for (late, expected) in [(0, raised), (1, RATE)] {
         let mut table = opened(&Params::house(fast, 0x4000, slow));
-        table.offer(32, 3).unwrap();
+        table.offer(VPI, 32, 3).unwrap();
         assert_eq!(slot(&mut table, 0), Some((Kind::Forward, RATE)));
         let free = Rm {
             er: 0x7FFF,
             ..Rm::default()
         };
         backward(&mut table, free);
-        assert_eq!(table.acr(32), Ok(raised));
+        assert_eq!(table.acr(VPI, 32), Ok(raised));
         assert_eq!(kind(&mut table, MS), Some(Kind::Data));
         assert_eq!(kind(&mut table, 2 * MS), Some(Kind::Data));
         let adtf = 500 * MS;
@@ -149,15 +153,21 @@ fn adtf_to_the_nanosecond() {
 }
 
 #[test]
-fn ends_of_time_and_of_the_vcis() {
+fn ends_of_time_and_of_the_addresses() {
     let params = Params::house(THOUSAND, 0x4000, THOUSAND);
     let mut table = Table::new();
     let mut cell = [0; CELL_OCTETS];
     assert_eq!(table.slot(TIME_MAX + 1, &mut cell), Err(Refusal::Time));
-    assert_eq!(table.open(31, 0, &params), Err(Refusal::LowVci));
-    assert_eq!(table.open(32, TIME_MAX, &params), Ok(1));
-    assert_eq!(table.open(65_535, TIME_MAX, &params), Ok(1));
-    assert_eq!(table.open(65_536, TIME_MAX, &params), Err(Refusal::Range));
+    assert_eq!(table.open(VPI, 31, 0, &params), Err(Refusal::LowVci));
+    assert_eq!(table.open(VPI, 32, TIME_MAX, &params), Ok(1));
+    assert_eq!(table.open(VPI, 65_535, TIME_MAX, &params), Ok(1));
+    assert_eq!(
+        table.open(VPI, 65_536, TIME_MAX, &params),
+        Err(Refusal::Range)
+    );
+    assert_eq!(table.open(255, 32, TIME_MAX, &params), Ok(1));
+    assert_eq!(table.open(256, 32, TIME_MAX, &params), Err(Refusal::Range));
+    assert_eq!(table.open(256, 31, TIME_MAX, &params), Err(Refusal::LowVci));
     assert_eq!(table.slot(TIME_MAX, &mut cell), Ok(None));
     assert_eq!(
         table.slot(TIME_MAX - 1, &mut cell),
@@ -171,15 +181,15 @@ fn a_thousand_and_24_open_and_no_more_in_any_order() {
     let mut table = Table::new();
     for i in 0..1_024 {
         let vci = 32 + (i * 37) % 1_024;
-        assert_eq!(table.open(vci, 0, &params), Ok(1), "{vci}");
+        assert_eq!(table.open(VPI, vci, 0, &params), Ok(1), "{vci}");
     }
-    assert_eq!(table.open(1_056, 0, &params), Err(Refusal::Full));
-    assert_eq!(table.close(50), Ok(1));
-    assert_eq!(table.open(1_056, 0, &params), Ok(1));
-    assert_eq!(table.open(50, 0, &params), Err(Refusal::Full));
+    assert_eq!(table.open(VPI, 1_056, 0, &params), Err(Refusal::Full));
+    assert_eq!(table.close(VPI, 50), Ok(1));
+    assert_eq!(table.open(VPI, 1_056, 0, &params), Ok(1));
+    assert_eq!(table.open(VPI, 50, 0, &params), Err(Refusal::Full));
     let open = || (32..=1_056).filter(|vci| *vci != 50);
     for vci in open() {
-        table.offer(vci, 1).unwrap();
+        table.offer(VPI, vci, 1).unwrap();
     }
     let mut cell = [0; CELL_OCTETS];
     for vci in open() {
@@ -187,17 +197,45 @@ fn a_thousand_and_24_open_and_no_more_in_any_order() {
         assert_eq!(
             (sent.vci, sent.comparisons),
             (vci, 10),
-            "ties go to the lower VCI"
+            "ties go to the lower name"
         );
     }
 }
 
-/// An out-of-rate cell of VCI 32 at rate 0, PCR being 1,000 cells per second and MCR
+/// Equal VCIs on different VPIs, and a higher VCI on a lower VPI: ties go to the lower
+/// name, VPI x 65,536 + VCI (document 02, L6).
+#[test]
+fn ties_go_to_the_lower_name() {
+    let params = Params::house(THOUSAND, 0x4000, THOUSAND);
+    let rising = [(0, 40), (0, 65_535), (1, 32), (1, 40), (2, 32), (255, 32)];
+    let mut table = Table::new();
+    for (vpi, vci) in rising.into_iter().rev() {
+        table.open(vpi, vci, 0, &params).unwrap();
+        table.offer(vpi, vci, 1).unwrap();
+    }
+    let mut cell = [0; CELL_OCTETS];
+    for (vpi, vci) in rising {
+        let sent = table.slot(0, &mut cell).unwrap().unwrap();
+        assert_eq!((sent.vpi, sent.vci), (vpi, vci));
+        let forward = Rm {
+            vpi,
+            vci,
+            er: THOUSAND,
+            ccr: THOUSAND,
+            mcr: 0x4000,
+            ..Rm::default()
+        };
+        assert_eq!(abr::read(&cell), Ok(Cell::Rm(forward)));
+    }
+    assert_eq!(slot(&mut table, 0), None);
+}
+
+/// An out-of-rate cell of VCI 32 on VPI 0xA5 at rate 0, PCR being 1,000 cells per second and MCR
 /// 0: header with payload type 6 and CLP 1, its check, protocol, five bits, ER, CCR and
 /// MCR; QL and SN are 0, the reserved octets 0x6A, and the CRC-10 is 0x260.
 #[test]
 fn the_octets_of_an_out_of_rate_cell() {
-    let start = [0, 0, 2, 0x0D, 0x5C, 1, 0, 0x53, 0xE8, 0, 0, 0, 0];
+    let start = [0x0A, 0x50, 2, 0x0D, 0xE4, 1, 0, 0x53, 0xE8, 0, 0, 0, 0];
     let mut expected = [0; CELL_OCTETS];
     expected[..13].copy_from_slice(&start);
     expected[21..51].fill(0x6A);
@@ -205,7 +243,7 @@ fn the_octets_of_an_out_of_rate_cell() {
     for mcr in [0, 1, 0x01FF, 0x3FFF, 0x8000, 0xBFFF] {
         let mut table = opened(&Params::house(THOUSAND, mcr, 0));
         let mut cell = [0xA5; CELL_OCTETS];
-        assert_eq!(table.out_of_rate(32, 0, &mut cell), Ok(()));
+        assert_eq!(table.out_of_rate(VPI, 32, 0, &mut cell), Ok(()));
         assert_eq!(cell, expected, "{mcr:x}");
     }
 }
@@ -214,7 +252,7 @@ fn the_octets_of_an_out_of_rate_cell() {
 fn one_out_of_rate_cell_in_100_ms() {
     let mut table = opened(&Params::house(THOUSAND, 0, 0));
     let mut cell = [0; CELL_OCTETS];
-    let mut at = |time| table.out_of_rate(32, time, &mut cell);
+    let mut at = |time| table.out_of_rate(VPI, 32, time, &mut cell);
     assert_eq!(at(5), Ok(()));
     assert_eq!(at(5), Err(Refusal::TooOften));
     assert_eq!(at(OUT_OF_RATE_INTERVAL + 4), Err(Refusal::TooOften));
@@ -230,7 +268,7 @@ fn the_least_rate_above_0() {
     let mut params = Params::house(0x4000, 0, 0x4000);
     (params.r, params.d) = (9, 1);
     let mut table = opened(&params);
-    table.offer(32, 9).unwrap();
+    table.offer(VPI, 32, 9).unwrap();
     assert_eq!(slot(&mut table, 0), Some((Kind::Forward, 512)));
     let er = |er| Rm {
         er,
@@ -238,18 +276,21 @@ fn the_least_rate_above_0() {
     };
     backward(&mut table, er(0));
     assert_eq!(
-        (table.acr(32), slot(&mut table, 900_000 * MS)),
+        (table.acr(VPI, 32), slot(&mut table, 900_000 * MS)),
         (Ok(0), None)
     );
     backward(&mut table, er(0x4000)); // 512 / 2^9
-    assert_eq!(table.acr(32), Ok(1));
+    assert_eq!(table.acr(VPI, 32), Ok(1));
     assert_eq!(slot(&mut table, 900_000 * MS), Some((Kind::Data, 1)));
     let due = 900_000 * MS + 512_000 * MS;
     assert_eq!(slot(&mut table, due - 1), None);
     assert_eq!(slot(&mut table, due), Some((Kind::Data, 1)));
     let ci = true;
     backward(&mut table, Rm { ci, ..er(0x7FFF) }); // half of one unit
-    assert_eq!((table.acr(32), slot(&mut table, TIME_MAX)), (Ok(0), None));
+    assert_eq!(
+        (table.acr(VPI, 32), slot(&mut table, TIME_MAX)),
+        (Ok(0), None)
+    );
 }
 
 /// Y counts up to the largest CRM. That it stops there cannot be observed: Y is
@@ -263,7 +304,7 @@ fn the_unanswered_count_reaches_the_largest_crm() {
     (params.n, params.c, params.crm) = (1, 1, CRM as u32);
     let mut table = opened(&params);
     let full = abr::rate(fast).unwrap();
-    table.offer(32, 1).unwrap();
+    table.offer(VPI, 32, 1).unwrap();
     let (mut time, mut forward) = (0, 0);
     let mut next_forward = |table: &mut Table| loop {
         time += 1_000_000_000;
@@ -271,10 +312,10 @@ fn the_unanswered_count_reaches_the_largest_crm() {
             forward += 1;
             return (forward, acr);
         }
-        table.offer(32, 1).unwrap();
+        table.offer(VPI, 32, 1).unwrap();
     };
     while next_forward(&mut table) != (CRM, full) {
-        assert_eq!(table.acr(32), Ok(full));
+        assert_eq!(table.acr(VPI, 32), Ok(full));
     }
     assert_eq!(next_forward(&mut table), (CRM + 1, full / 2));
     assert_eq!(next_forward(&mut table), (CRM + 2, full / 4));

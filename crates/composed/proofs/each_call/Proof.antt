@@ -26,7 +26,7 @@ returns c =
         table = u .abr-out-of-rate .last .0;
         returned = noCell (u .abr-out-of-rate .result) 0;
         old = s .abr-slot .last .1 .1 .0;
-        new = u .abr-out-of-rate .last .1 .1 .1 .0;
+        new = u .abr-out-of-rate .last .1 .1 .1 .1 .0;
       };
       made = noSlot (m .abr-make .last .0) (m .abr-make .result);
       closed = noSlot (c .abr-close .last .0) (c .abr-close .result);

@@ -1,7 +1,8 @@
 //! RM cells to write, and cells to receive or read, some of them damaged.
 
 use abr::ffi::abr_rm;
-use abr::CELL_OCTETS;
+use abr::{CELL_OCTETS, VCI_MAX, VPI_MAX};
+use reference::Address;
 
 use super::Generator;
 use crate::call::Call;
@@ -16,15 +17,16 @@ impl Generator {
             let any = self.rng.next() as u32;
             let bit = self.rng.pick(&[2, 3, 256, 1 << 31, any | 2]);
             let code = self.rng.pick(&[0x8000, 0xFFFF, 0x1_0000, any | 0x8000]);
-            match self.rng.below(9) {
+            match self.rng.below(10) {
                 0 => rm.vci = self.rng.pick(&[65_536, u32::MAX, any | 1 << 16]),
-                1 => rm.dir = bit,
-                2 => rm.bn = bit,
-                3 => rm.ci = bit,
-                4 => rm.ni = bit,
-                5 => rm.ra = bit,
-                6 => rm.er = code,
-                7 => rm.ccr = code,
+                1 => rm.vpi = self.rng.pick(&[256, 65_536, u32::MAX, any | 1 << 8]),
+                2 => rm.dir = bit,
+                3 => rm.bn = bit,
+                4 => rm.ci = bit,
+                5 => rm.ni = bit,
+                6 => rm.ra = bit,
+                7 => rm.er = code,
+                8 => rm.ccr = code,
                 _ => rm.mcr = code,
             }
         }
@@ -37,16 +39,18 @@ impl Generator {
     /// Fields of an RM cell, all in range.
     fn rm(&mut self, seen: &Observation) -> abr_rm {
         let bits = self.rng.next() as u32;
-        let vci = self.vci(seen) & 0xFFFF;
+        let at = self.address(seen);
+        let at = Address::new(at.vpi & VPI_MAX, at.vci & VCI_MAX);
         let code = |rng: &mut Rng| rng.next() as u32 & 0x7FFF;
         abr_rm {
-            vci,
+            vpi: at.vpi,
+            vci: at.vci,
             dir: bits & 1,
             bn: u32::from(self.rng.once_in(3)),
             ci: bits >> 1 & bits >> 2 & 1,
             ni: bits >> 3 & bits >> 4 & 1,
             ra: bits >> 5 & 1,
-            er: self.explicit(seen, vci),
+            er: self.explicit(seen, at),
             ccr: code(&mut self.rng),
             mcr: code(&mut self.rng),
             ql: self.rng.next() as u32,
@@ -55,9 +59,9 @@ impl Generator {
     }
 
     /// The code of an explicit rate, often one that limits the allowed rate.
-    fn explicit(&mut self, seen: &Observation, vci: u32) -> u32 {
+    fn explicit(&mut self, seen: &Observation, at: Address) -> u32 {
         let any = self.rng.next() as u32 & 0x7FFF;
-        let Some(connection) = seen.connections.get(&vci) else {
+        let Some(connection) = seen.connections.get(&at) else {
             return any;
         };
         let acr = reference::code_of(connection.acr).unwrap_or(any);
@@ -78,7 +82,7 @@ impl Generator {
     pub(super) fn cell(&mut self, seen: &Observation) -> Octets {
         let rm = self.rm(seen);
         let mut cell = [0; CELL_OCTETS];
-        let mut header = self.header(rm.vci);
+        let mut header = self.header(&rm);
         if header.pt == 6 {
             self.payload(&mut cell, &rm);
         } else {
@@ -90,7 +94,7 @@ impl Generator {
             0
         };
         match fault {
-            1 => header.vpi = self.rng.within(1, 255),
+            1 => header.vpi ^= 1 << self.rng.below(8),
             2 => header.pt = self.rng.pick(&[4, 5, 7]),
             3 => cell[5] = self.rng.pick(&[0, 2, 3, 129, 255]),
             _ => {}
@@ -105,12 +109,12 @@ impl Generator {
         Octets::cell(&cell).of_length(self.length())
     }
 
-    fn header(&mut self, vci: u32) -> Header {
+    fn header(&mut self, rm: &abr_rm) -> Header {
         let random = self.rng.next() as u32;
         Header {
             gfc: if random & 3 == 0 { random >> 8 & 15 } else { 0 },
-            vpi: 0,
-            vci,
+            vpi: rm.vpi,
+            vci: rm.vci,
             pt: self.rng.pick(&[6, 6, 6, 6, 6, 6, 0, 1, 2, 3]),
             clp: random >> 4 & 1,
         }

@@ -1,6 +1,7 @@
 //! Made cells (document 02, L1): what is known of them, and their edges.
 
 use abr::MAKE_INTERVAL;
+use reference::Address;
 
 use super::{Connection, Observation};
 use crate::call::Call;
@@ -8,11 +9,11 @@ use crate::coverage::{Coverage, Event};
 
 impl Observation {
     /// A cell was made.
-    pub(super) fn made(&mut self, vci: u32, time: u64, coverage: &mut Coverage) {
+    pub(super) fn made(&mut self, at: Address, time: u64, coverage: &mut Coverage) {
         let level = self.level;
         (self.last, self.last_making) = (time, time);
-        let before = self.makings.insert(vci, time);
-        let Some(connection) = self.connections.get_mut(&vci) else {
+        let before = self.makings.insert(at, time);
+        let Some(connection) = self.connections.get_mut(&at) else {
             return;
         };
         let soon = before.is_some_and(|before| time - before < MAKE_INTERVAL);
@@ -34,13 +35,13 @@ impl Observation {
     /// A call was refused: it may be at an edge of a made cell.
     pub(super) fn refused(&self, call: &Call, number: u32, coverage: &mut Coverage) {
         match (*call, number) {
-            (Call::Make { vci, time }, 17) => {
-                let last = self.connections.get(&vci).and_then(|c| c.last_made);
+            (Call::Make { at, time }, 17) => {
+                let last = self.connections.get(&at).and_then(|c| c.last_made);
                 let end = last.map(|last| last + MAKE_INTERVAL);
                 coverage.reach(Event::MadeLessOne, end == Some(time + 1));
             }
-            (Call::Make { vci, .. }, 11) => {
-                coverage.reach(Event::MadeClosed, self.closed.contains(&vci));
+            (Call::Make { at, .. }, 11) => {
+                coverage.reach(Event::MadeClosed, self.closed.contains(&at));
             }
             (Call::Open { time, .. } | Call::Slot { time, .. }, 14) => {
                 let others = self.last_sent.max(self.last_outside);

@@ -1,6 +1,7 @@
 //! Out-of-rate cells (document 02, L5): what is known of them, and their edges.
 
 use abr::{OUT_OF_RATE_INTERVAL, RATE_ONE};
+use reference::Address;
 
 use super::Observation;
 use crate::call::Call;
@@ -8,10 +9,10 @@ use crate::coverage::{Coverage, Event};
 
 impl Observation {
     /// An out-of-rate cell was written.
-    pub(super) fn outside(&mut self, vci: u32, time: u64, coverage: &mut Coverage) {
+    pub(super) fn outside(&mut self, at: Address, time: u64, coverage: &mut Coverage) {
         (self.last, self.last_outside) = (time, time);
-        let before = self.outside.insert(vci, time);
-        let Some(connection) = self.connections.get_mut(&vci) else {
+        let before = self.outside.insert(at, time);
+        let Some(connection) = self.connections.get_mut(&at) else {
             return;
         };
         let last = connection.last_outside.replace(time);
@@ -34,13 +35,13 @@ impl Observation {
     /// A call was refused: it may be at an edge of an out-of-rate cell.
     pub(super) fn refused_outside(&self, call: &Call, number: u32, coverage: &mut Coverage) {
         match (*call, number) {
-            (Call::OutOfRate { vci, time, .. }, 18) => {
-                let last = self.connections.get(&vci).and_then(|c| c.last_outside);
+            (Call::OutOfRate { at, time, .. }, 18) => {
+                let last = self.connections.get(&at).and_then(|c| c.last_outside);
                 let end = last.map(|last| last + OUT_OF_RATE_INTERVAL);
                 coverage.reach(Event::OutsideLessOne, end == Some(time + 1));
             }
-            (Call::OutOfRate { vci, .. }, 11) => {
-                coverage.reach(Event::OutsideClosed, self.closed.contains(&vci));
+            (Call::OutOfRate { at, .. }, 11) => {
+                coverage.reach(Event::OutsideClosed, self.closed.contains(&at));
             }
             (Call::Open { time, .. } | Call::Slot { time, .. } | Call::Make { time, .. }, 14) => {
                 let others = self.last_sent.max(self.last_making);

@@ -1,6 +1,8 @@
 //! Turned cells: their marks, and those of a replaced one (document 01, "Turning
 //! cells round"; document 02, L2).
 
+use reference::Address;
+
 use super::{Connection, Observation};
 use crate::coverage::{Coverage, Event};
 
@@ -18,12 +20,12 @@ pub struct Turned {
 
 impl Observation {
     /// A forward cell came in on a connection, with these bits in octet 7.
-    pub(super) fn forward_received(&mut self, vci: u32, bits: u8, coverage: &mut Coverage) {
+    pub(super) fn forward_received(&mut self, at: Address, bits: u8, coverage: &mut Coverage) {
         let marked = |connection: &Connection| connection.turned.is_some_and(|cell| cell.ci);
-        let mut others = self.connections.iter().filter(|(other, _)| **other != vci);
+        let mut others = self.connections.iter().filter(|(other, _)| **other != at);
         let elsewhere = others.any(|(_, connection)| marked(connection));
         let level = self.level;
-        let Some(connection) = self.connections.get_mut(&vci) else {
+        let Some(connection) = self.connections.get_mut(&at) else {
             return;
         };
         marks(connection, bits, level, coverage);

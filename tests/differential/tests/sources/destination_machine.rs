@@ -5,12 +5,13 @@ use abr::{Kind, Rm};
 
 use crate::station::{
     paper, read, written, Station, BELOW_INITIAL_CODE, INITIAL_CODE, MS, PEAK_CODE,
-    THREE_HUNDRED_CODE, VCI,
+    THREE_HUNDRED_CODE, VCI, VPI,
 };
 
 /// A forward cell with these two marks, other fields set too.
 fn marked(ci: bool, ni: bool) -> Rm {
     Rm {
+        vpi: VPI,
         vci: VCI,
         ci,
         ni,
@@ -147,6 +148,7 @@ fn t9_and_t10_congestion_alone_makes_no_cell() {
 /// The cell that a station makes with these marks: ER is PCR, CCR and MCR are 0.
 fn made(ci: bool, ni: bool) -> Rm {
     Rm {
+        vpi: VPI,
         vci: VCI,
         backward: true,
         bn: true,

@@ -4,7 +4,7 @@
 use abr::{Cell, Kind, Params, Rm, Table, CELL_OCTETS};
 use convert::{library_sent, reference_params, reference_rm};
 use differential::octets::{put_header, Header};
-use reference::Engine;
+use reference::{Address, Engine};
 
 /// A cell's octets.
 pub type Octets = [u8; CELL_OCTETS];
@@ -12,8 +12,10 @@ pub type Octets = [u8; CELL_OCTETS];
 /// A millisecond.
 pub const MS: u64 = 1_000_000;
 
-/// The connection of every station.
+/// The connection of every station, and its address.
+pub const VPI: u32 = 1;
 pub const VCI: u32 = 32;
+const AT: Address = Address::new(VPI, VCI);
 
 /// Rates in units of 1/512 cell per second: the papers' peak, minimum and
 /// initial rates of 1,000, 100 and 200 cells per second, and 300.
@@ -71,7 +73,7 @@ pub struct Sent {
     pub cell: Octets,
 }
 
-/// An end system with VCI 32 open since time 0.
+/// An end system with that connection open since time 0.
 #[derive(Clone)]
 pub struct Station {
     library: Table,
@@ -81,15 +83,15 @@ pub struct Station {
 impl Station {
     pub fn open(params: &Params) -> Self {
         let (mut library, mut reference) = (Table::new(), Engine::new());
-        library.open(VCI, 0, params).expect("library");
+        library.open(VPI, VCI, 0, params).expect("library");
         let same = reference_params(params);
-        reference.open(VCI, 0, &same).expect("reference");
+        reference.open(AT, 0, &same).expect("reference");
         Station { library, reference }
     }
 
     pub fn offer(&mut self, cells: u64) {
-        let ours = self.library.offer(VCI, cells).expect("library");
-        let theirs = self.reference.offer(VCI, cells).expect("reference");
+        let ours = self.library.offer(VPI, VCI, cells).expect("library");
+        let theirs = self.reference.offer(AT, cells).expect("reference");
         assert_eq!(ours, theirs, "comparisons of an offer");
     }
 
@@ -100,16 +102,16 @@ impl Station {
 
     /// Makes a backward cell.
     pub fn make(&mut self, time: u64) {
-        let ours = self.library.make(VCI, time).expect("library");
-        let theirs = self.reference.make(VCI, time).expect("reference");
+        let ours = self.library.make(VPI, VCI, time).expect("library");
+        let theirs = self.reference.make(AT, time).expect("reference");
         assert_eq!(ours, theirs, "comparisons of a made cell");
     }
 
     /// The octets of an out-of-rate cell.
     pub fn out_of_rate(&mut self, time: u64) -> Octets {
         let (mut cell, mut other) = ([0; CELL_OCTETS], [0; CELL_OCTETS]);
-        let ours = self.library.out_of_rate(VCI, time, &mut cell);
-        let theirs = self.reference.out_of_rate(VCI, time, &mut other);
+        let ours = self.library.out_of_rate(VPI, VCI, time, &mut cell);
+        let theirs = self.reference.out_of_rate(AT, time, &mut other);
         assert_eq!((ours, theirs), (Ok(()), Ok(())), "at {time}");
         assert_eq!(cell, other, "library and reference at {time}");
         cell
@@ -139,7 +141,7 @@ impl Station {
         let mut cell = [0; CELL_OCTETS];
         let header = Header {
             gfc: 0,
-            vpi: 0,
+            vpi: VPI,
             vci: VCI,
             pt: u32::from(efci) << 1,
             clp: 0,
@@ -196,8 +198,8 @@ impl Station {
 
     /// The allowed rate.
     pub fn acr(&self) -> u64 {
-        let acr = self.library.acr(VCI).expect("library");
-        assert_eq!(self.reference.acr(VCI), Ok(acr), "library and reference");
+        let acr = self.library.acr(VPI, VCI).expect("library");
+        assert_eq!(self.reference.acr(AT), Ok(acr), "library and reference");
         acr
     }
 }
@@ -212,9 +214,13 @@ pub fn read(cell: &Octets) -> Rm {
     rm
 }
 
-/// An RM cell of VCI 32, written by both.
+/// An RM cell of that connection, written by both.
 pub fn written(rm: &Rm) -> Octets {
-    let rm = Rm { vci: VCI, ..*rm };
+    let rm = Rm {
+        vpi: VPI,
+        vci: VCI,
+        ..*rm
+    };
     let (mut cell, mut other) = ([0; CELL_OCTETS], [0; CELL_OCTETS]);
     abr::write_rm(&rm, &mut cell).expect("library");
     reference::write_rm(&reference_rm(&rm.into()), &mut other).expect("reference");

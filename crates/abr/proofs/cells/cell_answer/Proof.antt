@@ -5,10 +5,10 @@ use Rattle.abr.proofs.cells.cell_answer.Statement.{statement}
 use Rattle.abr.proofs.cells.cell_answer.Tie as tie
 
 returns : tie.Need-returns
-returns c = rw (c .vci-alone .ensures) (ap cellAnswer (sym (c .before .before .a .given .1)))
+returns c = rw (c .pair-alone .ensures) (ap cellAnswer (sym (c .before .before .a .given .1)))
 
 returns-2 : tie.Need-returns-2
-returns-2 c = rw (c .before .bit .ensures, c .vci-alone2 .ensures) (ap cellAnswer (sym (c .before .before .before .a2 .given .1)))
+returns-2 c = rw (c .before .bit .ensures, c .pair-alone2 .ensures) (ap cellAnswer (sym (c .before .before .before .a2 .given .1)))
 
 returns-3 : tie.Need-returns-3
 returns-3 c = ap cellAnswer (sym (c .before .a3 .given .1))

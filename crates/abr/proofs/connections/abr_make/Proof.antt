@@ -1,10 +1,14 @@
 use borrow.Author.Needs.{needs}
-use Rattle.abr.proofs.Answered.{answers}
+use Rattle.model.specs.Step.{makeStep}
+use Rattle.abr.proofs.Answered.{named, answers}
 use Rattle.abr.proofs.connections.abr_make.Statement.{statement}
 use Rattle.abr.proofs.connections.abr_make.Tie as tie
 
 returns : tie.Need-returns
-returns c = answers (c .call-answer .ensures) (c .before .make .ensures)
+returns c =
+    let k = c .before .before .before in
+    let a = k .before .args in
+    answers (c .call-answer .ensures) (named (λ v s. makeStep s v (a .time)) (k .pair-name .ensures) (c .before .make .ensures))
 
 pub abr-make-spec : {M : Type 1} → statement M
-abr-make-spec = tie.close (tie.spec (λ c κs. search needs) (λ c κs. search needs) returns)
+abr-make-spec = tie.close (tie.spec (λ c κs. search needs) (λ c κs. search needs) (λ c κs. search needs) returns)

@@ -4,6 +4,7 @@ use native.Mathlib.Omega.{arith}
 use borrow.Author.Needs.{needs}
 use borrow.Author.Tests.{not-true, not-false}
 use lib.ListN.{length}
+use Rattle.cell.specs.Name.{noName}
 use Rattle.connection.specs.declared.parts.Connection.{Connection}
 use Rattle.connection.specs.Interval.{rested}
 use Rattle.connection.specs.OutOfRate.{afterOutOfRate}
@@ -105,7 +106,7 @@ put-forward-requires c κs =
     let i = ld .before .before .before .before .before in
     let a = i .before .before .before .before .before .before .before .args in (
       search needs,
-      (omega arith, subst (λ (x : Connection). x .name ≤ 65535) (sym (ld .load .ensures)) (load-named (a .t .now) (i .i .given .0 .0))),
+      (omega arith, subst (λ (x : Connection). x .name < noName) (sym (ld .load .ensures)) (load-named (a .t .now) (i .i .given .0 .0))),
     )
 
 update-outside-requires : tie.Need-update-outside-requires

@@ -1,12 +1,12 @@
 use Rattle.cell.proofs.Admits.{received-checked}
 use Rattle.cell.specs.Reading.{reading}
-use Rattle.cell.proofs.Readings.{rest, HeaderMeets, header-meets, rest-meets}
-use Rattle.cell.specs.declared.read.Reading.the-variants.{User, Resource}
+use Rattle.cell.proofs.Readings.{user-same, rest, HeaderMeets, header-meets, rest-meets}
+use Rattle.cell.specs.declared.read.Reading.the-variants.{Resource}
 use Rattle.engine.proofs.Outcomes.{refused-out}
 use Rattle.engine.proofs.ReceiveCases.{unread, user-read, resource-read, same-meets}
 use borrow.Author.Needs.{needs}
 use lib.ListN.{length}
-use mathlib.Core.Path.{_≡_, refl, sym, ap, ap₂, _∙_}
+use mathlib.Core.Path.{_≡_, refl, sym, ap, _∙_}
 use Rattle.engine.proofs.receive.receive.Statement.{statement}
 use Rattle.engine.proofs.receive.receive.Tie as tie
 
@@ -39,23 +39,27 @@ returns c =
 is-data-requires : tie.Need-is-data-requires
 is-data-requires c κs = of-53 c
 
+vpi-of-requires : tie.Need-vpi-of-requires
+vpi-of-requires c κs = of-53 (c .before .before .before)
+
 vci-of-requires : tie.Need-vci-of-requires
-vci-of-requires c κs = of-53 (c .before .before .before)
+vci-of-requires c κs = of-53 (c .before .before .before .before)
 
 efci-of-requires : tie.Need-efci-of-requires
-efci-of-requires c κs = of-53 (c .before .before .before .before)
+efci-of-requires c κs = of-53 (c .before .before .before .before .before)
 
 returns-2 : tie.Need-returns-2
 returns-2 c =
     let v = c .before .before in
-    let t = v .before .before in
+    let a = v .before in
+    let t = a .before .before in
     let d = t .before in
     let h = d .before .before in
     let o = h .before .before .args .cell .now in
     same-meets
-    (user-read o (v .vci-of .result) (c .before .efci-of .result)
+    (user-read o (a .vpi-of .result) (v .vci-of .result) (c .before .efci-of .result)
     (meets h .user (d .before .if1 .left) (sym (d .is-data .ensures) ∙ t .if2 .taken)
-    ∙ sym (ap₂ User (v .vci-of .ensures) (c .before .efci-of .ensures))))
+    ∙ sym (user-same (a .vpi-of .ensures) (v .vci-of .ensures) (c .before .efci-of .ensures))))
     (c .receive-data .ensures)
 
 resource-refusal-requires : tie.Need-resource-refusal-requires
@@ -86,4 +90,4 @@ returns-4 c =
     same-meets (resource-read o (f .fields-of .result) (fields f)) (c .receive-resource .ensures)
 
 pub receive-spec : {M : Type 1} → statement M
-receive-spec = tie.close (tie.spec (λ c κs. search needs) returns is-data-requires vci-of-requires efci-of-requires (λ c κs. search needs) returns-2 resource-refusal-requires returns-3 fields-of-requires receive-resource-requires returns-4)
+receive-spec = tie.close (tie.spec (λ c κs. search needs) returns is-data-requires vpi-of-requires vci-of-requires efci-of-requires (λ c κs. search needs) returns-2 resource-refusal-requires returns-3 fields-of-requires receive-resource-requires returns-4)

@@ -1,4 +1,7 @@
-use Prim.Native.Nat.{_<_}
+use Prim.Native.Nat.{ℕ, _<_}
+use mathlib.Core.Path.{subst}
+use Rattle.cell.specs.Name.{pairName}
+use Rattle.names.specs.Finding.{Finds}
 use Rattle.engine.proofs.Outcomes.{refused-out, below, missing, standing}
 use Rattle.engine.proofs.ReceiveCases.{data-missing, data-done}
 use borrow.Author.Needs.{needs}
@@ -6,15 +9,19 @@ use Rattle.engine.proofs.receive.receive_data.Statement.{statement}
 use Rattle.engine.proofs.receive.receive_data.Tie as tie
 use Rattle.model.specs.State.{capacity}
 
+-- the name that was looked for is the pair's
+finds : (c : tie.After-find) → let a = c .before .before .before .args in Finds (a .t .now) (pairName (a .vpi) (a .vci)) (c .find .result)
+finds c = subst (λ (n : ℕ). Finds (c .before .before .before .args .t .now) n (c .find .result)) (c .before .before .pair-name .ensures) (c .find .ensures)
+
 -- the entry that was found is one
 entry : (c : tie.After-i) → c .i .given .0 .0 < capacity
-entry c = let f = c .before .before in below (f .before .before .args .t .now) (f .before .before .args .vci) (f .find .ensures) (c .i .given .1)
+entry c = below _ _ (finds (c .before .before)) (c .i .given .1)
 
 returns : tie.Need-returns
 returns c =
     let f = c .before .before in
-    let a = f .before .before .args in
-    record { meets = λ s w e. refused-out s 11 e (data-missing s (a .vci) (a .efci) (missing s w e (a .vci) (f .find .ensures) (c .enum-told .given .1))) }
+    let a = f .before .before .before .args in
+    record { meets = λ s w e. refused-out s 11 e (data-missing s (a .vpi) (a .vci) (a .efci) (missing s w e _ (finds f) (c .enum-told .given .1))) }
 
 load-requires : tie.Need-load-requires
 load-requires c κs = entry (c .before .before)
@@ -32,12 +39,12 @@ returns-2 c =
     let ld = o .before in
     let i = ld .before .before .before in
     let f = i .before .before in
-    let a = f .before .before .args in
+    let a = f .before .before .before .args in
     record {
       meets = λ s w e.
-          data-done s w e (i .i .given .0 .0) (entry i) (standing s w e (a .vci) (f .find .ensures) (i .i .given .1)) (ld .load .result) (ld .load .ensures)
+          data-done s w e (a .vpi) (a .vci) (i .i .given .0 .0) (entry i) (standing s w e _ (finds f) (i .i .given .1)) (ld .load .result) (ld .load .ensures)
           (o .after-data-cell .result) (c .update-efci .ensures) (led .levels-led .ensures) (a .efci) (o .after-data-cell .ensures);
     }
 
 pub receive-data-spec : {M : Type 1} → statement M
-receive-data-spec = tie.close (tie.spec (λ c κs. search needs) (λ c. search needs) (λ c. search needs) returns load-requires (λ c κs. search needs) levels-led-requires update-efci-requires returns-2)
+receive-data-spec = tie.close (tie.spec (λ c κs. search needs) (λ c κs. search needs) (λ c. search needs) (λ c. search needs) returns load-requires (λ c κs. search needs) levels-led-requires update-efci-requires returns-2)

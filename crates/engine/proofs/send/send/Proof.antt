@@ -1,7 +1,8 @@
-use Prim.Native.Nat.{_≤_}
+use Prim.Native.Nat.{_<_}
 use mathlib.Core.Path.{sym, ap, subst, _∙_}
 use native.Mathlib.Omega.{arith}
 use borrow.Author.Needs.{needs}
+use Rattle.cell.specs.Name.{noName}
 use Rattle.connection.specs.declared.parts.Connection.{Connection}
 use Rattle.connection.specs.Range.{InRange}
 use Rattle.connection.proofs.Keeps.{after-same}
@@ -23,13 +24,13 @@ after-requires : tie.Need-after-requires
 after-requires c κs = in-range (c .before)
 
 -- its name is one
-loaded-name : (c : tie.After-load) → c .load .result .name ≤ 65535
+loaded-name : (c : tie.After-load) → c .load .result .name < noName
 loaded-name c =
     let start = c .before .before .before in
-    subst (λ (x : Connection). x .name ≤ 65535) (sym (c .load .ensures)) (load-named (start .args .t .now) (start .args .i))
+    subst (λ (x : Connection). x .name < noName) (sym (c .load .ensures)) (load-named (start .args .t .now) (start .args .i))
 
 -- the name stays
-named : (c : tie.After-after) → c .after .result .name ≤ 65535
+named : (c : tie.After-after) → c .after .result .name < noName
 named c =
     let l = c .before .before in
     let start = l .before .before .before in

@@ -11,6 +11,9 @@ shared-slice-read-marks c = search needs
 cast-marks : tie.Need-cast-marks
 cast-marks c = omega (arith, c .shared-slice-known2 .given 6)
 
+vpi-of-requires : tie.Need-vpi-of-requires
+vpi-of-requires c κs = search needs
+
 vci-of-requires : tie.Need-vci-of-requires
 vci-of-requires c κs = search needs
 
@@ -78,8 +81,8 @@ returns c =
     let n = m .before .before .before in
     let e = n .before .before .before in
     let v = e .before .before .before in
-    let s = v .before .before .before in
-    fields-are (s .args .cell .now) (v .vci-of .ensures) (e .pair .ensures) (n .pair2 .ensures) (m .pair3 .ensures) (l .long .ensures) (c .long2 .ensures)
+    let s = v .before .before .before .before in
+    fields-are (s .args .cell .now) (v .before .vpi-of .ensures) (v .vci-of .ensures) (e .pair .ensures) (n .pair2 .ensures) (m .pair3 .ensures) (l .long .ensures) (c .long2 .ensures)
 
 pub fields-of-spec : {M : Type 1} → statement M
 fields-of-spec =
@@ -87,6 +90,7 @@ fields-of-spec =
     (tie.spec
     shared-slice-read-marks
     cast-marks
+    vpi-of-requires
     vci-of-requires
     shared-slice-read-pair
     shared-slice-read-pair-2

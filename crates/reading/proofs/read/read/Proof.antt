@@ -1,10 +1,10 @@
 -- The tests that led to each return say which case of the definition holds.
-use mathlib.Core.Path.{_≡_, sym, ap, ap₂, _∙_}
+use mathlib.Core.Path.{_≡_, sym, ap, _∙_}
 use lib.ListN.{length}
 use borrow.Author.Needs.{needs}
 use Rattle.cell.specs.Reading.{reading}
 use Rattle.cell.specs.declared.read.Reading.the-variants.{User, Resource}
-use Rattle.cell.proofs.Readings.{rest, HeaderMeets, header-meets, rest-meets}
+use Rattle.cell.proofs.Readings.{user-same, rest, HeaderMeets, header-meets, rest-meets}
 use Rattle.reading.proofs.read.read.Statement.{statement}
 use Rattle.reading.proofs.read.read.Tie as tie
 
@@ -28,18 +28,21 @@ returns c = sym (meets (c .before) .refused (c .if1 .taken))
 is-data-requires : tie.Need-is-data-requires
 is-data-requires c κs = of-53 c
 
+vpi-of-requires : tie.Need-vpi-of-requires
+vpi-of-requires c κs = of-53 (c .before .before)
+
 vci-of-requires : tie.Need-vci-of-requires
-vci-of-requires c κs = of-53 (c .before .before)
+vci-of-requires c κs = of-53 (c .before .before .before)
 
 efci-of-requires : tie.Need-efci-of-requires
-efci-of-requires c κs = of-53 (c .before .before .before)
+efci-of-requires c κs = of-53 (c .before .before .before .before)
 
 returns-2 : tie.Need-returns-2
 returns-2 c =
-    let t = c .before .before in
+    let t = c .before .before .before in
     let d = t .before in
     let h = meets (d .before .before) in
-    ap₂ User (c .before .vci-of .ensures) (c .efci-of .ensures) ∙ sym (h .user (d .before .if1 .left) (sym (d .is-data .ensures) ∙ t .if2 .taken))
+    user-same (c .before .before .vpi-of .ensures) (c .before .vci-of .ensures) (c .efci-of .ensures) ∙ sym (h .user (d .before .if1 .left) (sym (d .is-data .ensures) ∙ t .if2 .taken))
 
 resource-refusal-requires : tie.Need-resource-refusal-requires
 resource-refusal-requires c κs = of-53 (c .before .before)
@@ -56,4 +59,4 @@ returns-4 c =
     ap Resource (c .fields-of .ensures) ∙ sym (remains (e .before .before) ∙ rest-meets _ _ (e .before .resource-refusal .ensures) .taken (e .if3 .left))
 
 pub read-spec : {M : Type 1} → statement M
-read-spec = tie.close (tie.spec (λ c κs. search needs) returns is-data-requires vci-of-requires efci-of-requires returns-2 resource-refusal-requires returns-3 fields-of-requires returns-4)
+read-spec = tie.close (tie.spec (λ c κs. search needs) returns is-data-requires vpi-of-requires vci-of-requires efci-of-requires returns-2 resource-refusal-requires returns-3 fields-of-requires returns-4)

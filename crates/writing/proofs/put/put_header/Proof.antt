@@ -6,6 +6,15 @@ use borrow.Author.Needs.{needs}
 use Rattle.writing.proofs.put.put_header.Statement.{statement}
 use Rattle.writing.proofs.put.put_header.Tie as tie
 
+cast-a : tie.Need-cast-a
+cast-a c = search needs
+
+mul-b : tie.Need-mul-b
+mul-b c = search needs
+
+add-b : tie.Need-add-b
+add-b c = search needs
+
 cast-b : tie.Need-cast-b
 cast-b c = search needs
 
@@ -48,12 +57,15 @@ same-length c = search needs
 returns : tie.Need-returns
 returns c =
     let s = c .before .before in
-    header-put (s .args .cell .now) (s .args .clp) (s .args .vci) (c .header-check .result) (s .pre .0) (c .header-check .ensures)
+    header-put (s .args .cell .now) (s .args .clp) (s .args .vpi) (s .args .vci) (c .header-check .result) (s .pre .0) (c .header-check .ensures)
 
 pub put-header-spec : {M : Type 1} → statement M
 put-header-spec =
     tie.close
     (tie.spec
+    cast-a
+    mul-b
+    add-b
     cast-b
     cast-c
     mul-d

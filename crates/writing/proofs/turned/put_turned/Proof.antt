@@ -21,7 +21,7 @@ returns c =
     let p = c .before .before in
     let h = p .before .before .before .before in
     let s = h .before .before .before in
-    cell-put 0 (s .args .vci) (s .args .cell .now) (octetsOf (s .args .p)) (h .put-header .ensures) (p .put-payload .ensures)
+    cell-put 0 (s .args .vpi) (s .args .vci) (s .args .cell .now) (octetsOf (s .args .p)) (h .put-header .ensures) (p .put-payload .ensures)
 
 pub put-turned-spec : {M : Type 1} → statement M
 put-turned-spec = tie.close (tie.spec put-header-requires put-payload-requires same-length returns)

@@ -34,8 +34,8 @@ returns c =
     let h = p .before .before .before .before .before .before in
     let s = h .before .before .before in
     let f = s .args .f in
-    cell-put (s .args .clp) (f .vci) (s .args .cell .now) (octetsOf (p .before .with-crc .result)) (h .put-header .ensures) (p .put-payload .ensures)
-    ∙ ap (λ (l : List ℕ). header (s .args .clp) (f .vci) ++ l)
+    cell-put (s .args .clp) (f .vpi) (f .vci) (s .args .cell .now) (octetsOf (p .before .with-crc .result)) (h .put-header .ensures) (p .put-payload .ensures)
+    ∙ ap (λ (l : List ℕ). header (s .args .clp) (f .vpi) (f .vci) ++ l)
     (withCrc-words f (fit f (s .pre .1 .1)) (p .before .before .without-crc .ensures) (p .before .with-crc .ensures .0))
 
 pub put-resource-spec : {M : Type 1} → statement M

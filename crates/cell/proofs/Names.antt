@@ -1,0 +1,62 @@
+-- A name and its pair: within the ranges each gives the other back, and numbers outside them make no name of another pair.
+use mathlib.Core.Path.{_≡_, refl, sym, _∙_}
+use mathlib.Core.Bool.{Bool, true, false, cond, _&&_}
+use Prim.Native.Nat.{ℕ, _+_, _*_, _/_, _%_, _≤_, _<_}
+use native.Mathlib.Omega.{arith}
+use borrow.Author.Tests.{le-leb, lt-leb, leb-true, leb-false}
+use lib.Dec.{leb}
+use Rattle.cell.specs.Name.{nameOf, vpiIn, vciIn, noName, pairFits, pairName}
+
+module _ (vpi vci : ℕ) where
+  -- within the ranges
+  pub name-in : vpi ≤ 255 → vci ≤ 65535 → nameOf vpi vci ≡ pairName vpi vci
+  unfolding pairName
+  name-in a b = simp (le-leb _ _ a, le-leb _ _ b)
+
+  pub name-lt : vpi ≤ 255 → vci ≤ 65535 → pairName vpi vci < noName
+  name-lt a b = rw (sym (name-in a b)) (omega (arith, a, b))
+
+  -- outside one or the other
+  pub vpi-out : 255 < vpi → noName ≡ pairName vpi vci
+  unfolding pairName
+  vpi-out a = simp (lt-leb _ _ a)
+
+  pub vci-out : vpi ≤ 255 → 65535 < vci → noName ≡ pairName vpi vci
+  unfolding pairName
+  vci-out a b = simp (le-leb _ _ a, lt-leb _ _ b)
+
+  -- a pair that makes a name is within the ranges, and the name gives it back
+  pub record Named (n : ℕ) : Type 0 where
+    pub vpiFits : vpi ≤ 255
+    pub vciFits : vci ≤ 65535
+    pub vpiBack : vpiIn n ≡ vpi
+    pub vciBack : vciIn n ≡ vci
+
+  pub pair-named : pairName vpi vci < noName → Named (pairName vpi vci)
+  unfolding pairName
+  pair-named h = go (leb vpi 255) (leb vci 65535) refl refl h
+    where
+      go : (a b : Bool) → leb vpi 255 ≡ a → leb vci 65535 ≡ b → cond (a && b) (nameOf vpi vci) noName < noName
+          → Named (cond (a && b) (nameOf vpi vci) noName)
+      go true true p q h =
+          let v : vpi ≤ 255 = leb-true _ _ p in
+          let c : vci ≤ 65535 = leb-true _ _ q in
+          record { vpiFits = v; vciFits = c; vpiBack = omega (arith, v, c); vciBack = omega (arith, v, c) }
+      go true false p q h = absurd (omega (arith, h))
+      go false b p q h = absurd (omega (arith, h))
+
+-- out of the ranges a pair makes no name
+pub pair-out : (vpi vci : ℕ) → pairFits vpi vci ≡ false → pairName vpi vci ≡ noName
+unfolding pairName
+pair-out vpi vci e = rw e
+
+-- two pairs of one name are one pair
+pub names-apart : (a b c d : ℕ) → pairName a b < noName → pairName a b ≡ pairName c d → (a ≡ c) × (b ≡ d)
+names-apart a b c d h e =
+    let m : Named a b (pairName a b) = pair-named a b h in
+    let n : Named c d (pairName c d) = pair-named c d (omega (arith, h, e)) in
+    (sym (m .vpiBack) ∙ omega (arith, e) ∙ n .vpiBack, sym (m .vciBack) ∙ omega (arith, e) ∙ n .vciBack)
+
+-- a name of 24 bits is that of its own pair
+pub pair-back : (n : ℕ) → n < noName → pairName (vpiIn n) (vciIn n) ≡ n
+pair-back n h = sym (name-in (vpiIn n) (vciIn n) (omega (arith, h)) (omega arith)) ∙ omega arith

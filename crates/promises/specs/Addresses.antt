@@ -1,0 +1,69 @@
+-- A pair of numbers out of their ranges is unknown, and never another pair; every cell that a call writes carries its connection's VPI and VCI. (Document 02, L6.)
+use Prim.Native.Nat.{ℕ, _≤_}
+use mathlib.Core.Path.{_≡_}
+use mathlib.Core.Bool.{true, false}
+use mathlib.Core.List.{List}
+use Rattle.rate.specs.declared.params.Params.{Params}
+use Rattle.rate.specs.Units.{latestTime}
+use Rattle.cell.specs.Name.{pairFits, pairName}
+use Rattle.cell.specs.Header.{vpiOf, vciOf}
+use Rattle.connection.specs.declared.kind.Kind.{Kind}
+use Rattle.connection.specs.declared.kind.Kind.the-variants.{Forward, Turned, Data}
+use Rattle.connection.specs.Sending.{Buffer, untouched, written}
+use Rattle.model.specs.State.{State, empty}
+use Rattle.model.specs.declared.acr.Acr.the-variants.{NotOpen}
+use Rattle.model.specs.declared.answer.Answer.{Answer}
+use Rattle.model.specs.declared.answer.Answer.the-variants.{Refused, Accepted, Idle, Sent}
+use Rattle.model.specs.Call.{Call, opening, closing, receiving, offering, levelling, slot, making, outOfRate}
+use Rattle.model.specs.Step.{refuse, step}
+use Rattle.model.specs.Queries.{acrOf}
+use Rattle.model.specs.Run.{final}
+
+-- what the calls on a pair do, where no refusal with an earlier place in their order comes first: 10 in an open, 8 in a making, 1 and 8 in a cell outside the rate
+pub record Unknown (s : State) (vpi vci : ℕ) : Type 0 where
+  pub opens : (t : ℕ) (p : Params) → 32 ≤ vci → step s (opening vpi vci t p) ≡ refuse s 7
+  pub closes : step s (closing vpi vci) ≡ refuse s 11
+  pub offers : (n : ℕ) → step s (offering vpi vci n) ≡ refuse s 11
+  pub makes : (t : ℕ) → t ≤ latestTime → step s (making vpi vci t) ≡ refuse s 11
+  pub leaves : (t : ℕ) → t ≤ latestTime → step s (outOfRate vpi vci t 53) ≡ refuse s 11
+  pub reads : acrOf s (pairName vpi vci) ≡ NotOpen
+
+-- after any list of calls from the empty table
+abbrev pub OutOfRangeUnknown : Type 0
+OutOfRangeUnknown = (cs : List Call) (vpi vci : ℕ) → pairFits vpi vci ≡ false → Unknown (final empty cs) vpi vci
+
+-- a pair within the ranges shares its name with no other pair, in its ranges or out of them
+abbrev pub PairsApart : Type 0
+PairsApart = (a b c d : ℕ) → pairFits a b ≡ true → pairName a b ≡ pairName c d → (a ≡ c) × (b ≡ d)
+
+-- a cell is written, and its VPI and VCI make the name
+abbrev pub Carries : ℕ → Buffer → Type 0
+Carries v untouched = ⊥
+Carries v (written o) = pairName (vpiOf o) (vciOf o) ≡ v
+
+-- by the kind of cell that a slot sends: for data nothing is written
+abbrev pub SentCarries : Kind → ℕ → Buffer → Type 0
+SentCarries Forward v b = Carries v b
+SentCarries Turned v b = Carries v b
+SentCarries Data v b = b ≡ untouched
+
+-- by the call and its answer: a slot's answer tells the name, a cell outside the rate is asked for by its pair, and nothing else is written
+abbrev pub CarriesName : Call → Answer → Buffer → Type 0
+CarriesName (opening vpi vci t p) a b = b ≡ untouched
+CarriesName (closing vpi vci) a b = b ≡ untouched
+CarriesName (receiving o) a b = b ≡ untouched
+CarriesName (offering vpi vci n) a b = b ≡ untouched
+CarriesName (levelling l) a b = b ≡ untouched
+CarriesName (slot t room) (Refused n) b = b ≡ untouched
+CarriesName (slot t room) (Accepted n) b = b ≡ untouched
+CarriesName (slot t room) Idle b = b ≡ untouched
+CarriesName (slot t room) (Sent v k acr n) b = SentCarries k v b
+CarriesName (making vpi vci t) a b = b ≡ untouched
+CarriesName (outOfRate vpi vci t room) (Refused n) b = b ≡ untouched
+CarriesName (outOfRate vpi vci t room) (Accepted n) b = Carries (pairName vpi vci) b
+CarriesName (outOfRate vpi vci t room) Idle b = ⊥
+CarriesName (outOfRate vpi vci t room) (Sent v k acr n) b = ⊥
+
+-- forward, turned and made cells of slots, and those outside the rate; after any list of calls from the empty table
+abbrev pub CellsCarryNames : Type 0
+CellsCarryNames = (cs : List Call) (c : Call) → let o = step (final empty cs) c in CarriesName c (o .answer) (o .buffer)

@@ -1,0 +1,45 @@
+//! Addresses (document 02, L6): pairs that are not open, though they are like one
+//! that is.
+
+use abr::ffi::abr_rm;
+use abr::{CELL_OCTETS, VCI_MAX, VPI_MAX};
+use convert::reference_rm;
+use reference::Address;
+
+use super::Observation;
+use crate::call::Call;
+use crate::coverage::{Coverage, Event};
+
+impl Observation {
+    /// Whether the VCI of an address is open on another VPI.
+    pub(super) fn elsewhere(&self, at: Address) -> bool {
+        let mut open = self.connections.keys();
+        open.any(|other| other.vci == at.vci && other.vpi != at.vpi)
+    }
+
+    /// A call was refused: it may have named a pair that is not open, but would be if
+    /// its path were not looked at, or if a number out of its range were cut or added
+    /// to the other.
+    pub(super) fn refused_address(&self, call: &Call, number: u32, coverage: &mut Coverage) {
+        if let (Call::WriteRm { rm, .. }, 7) = (call, number) {
+            let on_path_0 = reference_rm(&abr_rm { vpi: 0, ..*rm });
+            let written = reference::write_rm(&on_path_0, &mut [0; CELL_OCTETS]);
+            coverage.reach(Event::WritePath, written.is_ok());
+        }
+        let (Some(at), 7 | 11) = (call.address(), number) else {
+            return;
+        };
+        if at.fits() {
+            let unknown = number == 11 && self.elsewhere(at);
+            coverage.reach(Event::OtherPath, unknown);
+            let received = matches!(call, Call::Receive { .. });
+            coverage.reach(Event::ReceivedOtherPath, unknown && received);
+            return;
+        }
+        let cut = Address::new(at.vpi & VPI_MAX, at.vci & VCI_MAX);
+        let added = at.vpi.wrapping_mul(65_536).wrapping_add(at.vci);
+        let sum = Address::new(added >> 16, added & VCI_MAX);
+        let like_open = [cut, sum].map(|other| self.connections.contains_key(&other));
+        coverage.count_out_of_range(call, like_open);
+    }
+}
