@@ -1,21 +1,7 @@
 -- The promises on whole lists of calls.
+pub mod All
 pub mod Congestion
 pub mod Demand3
-pub mod Exports
-pub mod Witness
-pub mod Unstarred
-pub mod Makings
-pub mod OutOfRateCalls
 pub mod Refusals
 pub mod Interference
 pub mod Moves
-pub mod Marks
-pub mod Spacing
-pub mod SentWaited
-pub mod Liveness
-pub mod Comparisons
-pub mod Restart
-pub mod OutOfRate
-pub mod Counts
-pub mod Addresses
-pub mod AddressCalls

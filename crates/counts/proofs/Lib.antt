@@ -1,0 +1,2 @@
+-- Each computed.
+pub mod Counts

@@ -1,0 +1,2 @@
+-- The comparisons that some calls make.
+pub mod Counts

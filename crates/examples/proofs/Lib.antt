@@ -1,0 +1,6 @@
+-- Each computed.
+pub mod Witness
+pub mod Unstarred
+pub mod Makings
+pub mod OutOfRateCalls
+pub mod AddressCalls

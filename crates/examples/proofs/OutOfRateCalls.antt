@@ -1,0 +1,35 @@
+-- Sending outside the rate, computed.
+use mathlib.Core.Path.{refl}
+use Rattle.connection.specs.Interval.{rested}
+use Rattle.connection.specs.OutOfRate.{afterOutOfRate, outOfRateCell}
+use Rattle.connection.specs.Sending.{forwardFields, bufferAfter}
+use Rattle.model.specs.Step.{refuse, closeStep, idleStep, sendOutside, outOfRateStep}
+use Rattle.examples.specs.OutOfRateCalls.{OutOfRateCalls}
+use Rattle.examples.proofs.Witness.{computing}
+
+pub out-of-rate-calls : OutOfRateCalls
+unfolding computing rested afterOutOfRate outOfRateCell forwardFields bufferAfter refuse closeStep idleStep sendOutside outOfRateStep
+out-of-rate-calls = record {
+  atZero = (refl, refl);
+  atRate = (refl, refl);
+  short = refl;
+  late = refl;
+  notOpen = refl;
+  soon = refl;
+  rested = refl;
+  reopened = refl;
+  earlier = refl;
+  shortLate = refl;
+  shortNotOpen = refl;
+  shortEarlier = refl;
+  shortSoon = refl;
+  lateNotOpen = refl;
+  lateSoon = refl;
+  notOpenEarlier = refl;
+  earlierSoon = refl;
+  slotEarlier = refl;
+  passedOver = refl;
+  firstCell = refl;
+  firstWritten = refl;
+  goesOn = refl;
+}

@@ -1,0 +1,6 @@
+-- Lists of calls and what comes out of them.
+pub mod Witness
+pub mod Unstarred
+pub mod Makings
+pub mod OutOfRateCalls
+pub mod AddressCalls

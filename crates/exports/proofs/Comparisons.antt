@@ -1,0 +1,182 @@
+-- The comparisons of every call are bounded, and the winner is that of the scan.
+use Prim.Native.Nat.{ℕ, _+_, _<_}
+use mathlib.Core.Path.{_≡_, refl, sym, ap, subst, _∙_}
+use mathlib.Core.Bool.{Bool, true, false, cond, not}
+use mathlib.Core.List.{List, [], _∷_}
+use native.Mathlib.Omega.{arith}
+use lib.Dec.{leb, eqb}
+use lib.ListN.{length}
+use borrow.Author.Tests.{ltb-true}
+use Rattle.rate.specs.declared.params.Params.{Params}
+use Rattle.cell.specs.Name.{pairName}
+use Rattle.connection.specs.declared.parts.Connection.{Connection}
+use Rattle.connection.specs.declared.kind.Kind.the-variants.{Forward, Turned, Data}
+use Rattle.connection.specs.Parts.{fresh}
+use Rattle.connection.specs.declared.ready.Instant.the-variants.{Never}
+use Rattle.connection.specs.Ready.{waits, backwardWaits, anyWaits, readyFrom, readyInstant}
+use Rattle.model.specs.State.{State, Entry, taken, empty, position, isFree, holds, find, inserted, roomLeft, withTime}
+use Rattle.model.specs.Invariant.{WellFormed, NamesUnique}
+use Rattle.model.specs.Choice.{Winner, noneReady, wins, candidateFrom, winner, Ahead, Chosen, Best}
+use Rattle.model.specs.Tournament.{levels, Lead, noLead, leads, instantLead, leafLead, winnerAt, inTime, leadWord, replayed}
+use Rattle.model.specs.declared.answer.Answer.{Answer}
+use Rattle.model.specs.declared.answer.Answer.the-variants.{Refused, Accepted, Idle, Sent}
+use Rattle.model.specs.Call.{Call, opening, closing, receiving, offering, levelling, slot, making, outOfRate, Outcome, comparisons}
+use Rattle.model.specs.Step.{refuse, accept, replay, sendStep, idleStep, sendOutside, step}
+use Rattle.model.specs.Run.{run, final, isAccepted}
+use Rattle.model.proofs.Entries.{each-at, taken-in, lowest-free, entry-place}
+use Rattle.model.proofs.Frames.{name-of}
+use Rattle.model.proofs.Winners.{ahead-anti, ahead-instant, winner-best}
+use Rattle.model.proofs.Places.{OnLead, Comes, root-stands, lead-entry}
+use Rattle.model.proofs.Scanned.{root-winner}
+use Rattle.model.proofs.Replays.{replayed-most, replayed-least, replayed-one, replayed-all}
+use Rattle.model.proofs.Preserved.{empty-well-formed}
+use Rattle.model.proofs.Effects.{Effect, refuses, begins, ends, offers, marks, works, levels as levelsTo, idles, sends, makes, leaves, effect}
+use Rattle.model.proofs.Reached.{step-well-formed, reached-well-formed}
+use Rattle.abr.specs.Answers.{slotAnswer}
+use Rattle.abr.specs.Exports.{Observation, Matches, AllMatch, neither, both}
+use Rattle.abr.proofs.Exports.{exports-are-run}
+use Rattle.exports.specs.Comparisons.{replays, opensOne, Counted, isSent, CountedAnswer, Comparisons, CountedObserved, ExportsComparisons, ScanPicksWinner}
+use Rattle.promises.specs.Demand3.{InPlace}
+use Rattle.exports.proofs.Exports.{effect-accepted}
+
+false≢true : _≡_ {A = Bool} false true → ⊥
+false≢true e = let z : _≡_ {A = ℕ} 0 1 = cc in omega arith
+
+-- The connection that a slot goes to leads the root of the tournament.
+winner-same : {t i u : ℕ} (s : State) → Chosen t i u (s .entries) → (w : Winner) → Best t (s .entries) w → w ≡ wins i u
+winner-same {t} {i} {u} s b noneReady h = absurd (omega (arith, b .due, each-at _ u (s .entries) (b .holder) (b .found) h i (b .readyAt)))
+winner-same {t} {i} {u} s b (wins j w) h =
+    let there = subst (Ahead i u j) (name-of w s (h .holder) (h .found)) (each-at _ w (s .entries) (h .holder) (h .found) (b .first) j (h .readyAt) (h .due)) in
+    let back = subst (Ahead j w i) (name-of u s (b .holder) (b .found)) (each-at _ u (s .entries) (b .holder) (b .found) (h .first) i (b .readyAt) (b .due)) in
+    let p : j ≡ i = omega (arith, ahead-instant there, ahead-instant back) in
+    let q : w ≡ u = ahead-anti back there in
+    rw (p, q)
+
+lead-leaf :
+    (t i u : ℕ) (ss : List Entry) → NamesUnique ss → (a : Lead) → OnLead (Comes ss levels 1) a → inTime t a ≡ wins i u → leadWord a ≡ position (holds u) ss + 1
+unfolding inTime candidateFrom leadWord
+lead-leaf t i u ss n noLead c e = let z : _≡_ {A = ℕ} 0 1 = cc in absurd (omega arith)
+lead-leaf t i u ss n (leads j v x) c e = go (leb j t) e
+  where
+    go : (b : Bool) → cond b (wins j v) noneReady ≡ wins i u → x + 1 ≡ position (holds u) ss + 1
+    go true e =
+        let q : v ≡ u = cc in
+        ap (λ (y : ℕ). y + 1) (sym (entry-place ss n x (c .holder) (c .here)) ∙ ap (λ (w : ℕ). position (holds w) ss) (c .named ∙ q))
+    go false e = let z : _≡_ {A = ℕ} 0 1 = cc in absurd (omega arith)
+
+root-leaf : {t i u : ℕ} {s : State} → WellFormed s → Chosen t i u (s .entries) → leadWord (winnerAt (s .entries) levels 1) ≡ position (holds u) (s .entries) + 1
+root-leaf {t} {i} {u} {s} w b =
+    lead-leaf t i u (s .entries) (w .unique) (winnerAt (s .entries) levels 1)
+    (lead-entry (s .entries) levels 1 root-stands)
+    (sym (root-winner t (s .entries) (w .size)) ∙ winner-same s b (winner t (s .entries)) (winner-best t (s .entries) (w .unique)))
+
+found-in : (u : ℕ) (ss : List Entry) (c : Connection) → find u ss ≡ taken c → position (holds u) ss < length ss
+unfolding find
+found-in u ss c e = taken-in ss (position (holds u) ss) c e
+
+-- Each call.
+opened-replays : (c : Call) (sent : Bool) → opensOne c ≡ true → replays c sent ≡ true
+opened-replays (opening vpi vci t p) sent e = refl
+opened-replays (closing vpi vci) sent e = refl
+opened-replays (receiving o) sent e = refl
+opened-replays (offering vpi vci n) sent e = refl
+opened-replays (levelling l) sent e = absurd (false≢true e)
+opened-replays (slot t room) sent e = absurd (false≢true e)
+opened-replays (making vpi vci t) sent e = refl
+opened-replays (outOfRate vpi vci t room) sent e = absurd (false≢true e)
+
+none-counted : (c : Call) (accepted : Bool) → (accepted ≡ true → replays c false ≡ true → ⊥) → Counted c accepted false 0
+none-counted c accepted h = record {
+  most = omega arith;
+  cell = λ e. absurd (false≢true e);
+  least = λ a r. absurd (h a r);
+  begins = λ a r. absurd (h a (opened-replays c false r));
+  noReplay = λ _. refl;
+  refused = λ _. refl;
+}
+
+leaf-counted : (c : Call) → replays c false ≡ true → (x : ℕ) (ss rs : List Entry) → (opensOne c ≡ true → replayed x ss rs ≡ 1) → Counted c true false (replayed x ss rs)
+leaf-counted c h x ss rs b = record {
+  most = replayed-most x ss rs;
+  cell = λ e. absurd (false≢true e);
+  least = λ _ _. replayed-least x ss rs;
+  begins = λ _. b;
+  noReplay = λ e. absurd (false≢true (sym e ∙ h));
+  refused = λ e. absurd (false≢true (sym e));
+}
+
+cell-counted : (c : Call) → replays c true ≡ true → opensOne c ≡ false → (n : ℕ) → n ≡ 10 → Counted c true true n
+cell-counted c h k n e = record {
+  most = omega arith;
+  cell = λ _. e;
+  least = λ _ _. omega arith;
+  begins = λ _ z. absurd (false≢true (sym k ∙ z));
+  noReplay = λ z. absurd (false≢true (sym z ∙ h));
+  refused = λ z. absurd (false≢true (sym z));
+}
+
+-- a fresh connection enters a free entry, and is never ready
+fresh-never : (u t : ℕ) (p : Params) → readyInstant (fresh u t p) ≡ Never
+unfolding fresh readyInstant readyFrom anyWaits backwardWaits waits
+fresh-never u t p = go (eqb (fresh u t p .rate .acr) 0)
+  where
+    go : (b : Bool) → cond b Never Never ≡ Never
+    go true = refl
+    go false = refl
+
+opened-counted : {s : State} → WellFormed s → (u t : ℕ) (p : Params) → roomLeft s ≡ true
+    → replayed (position isFree (s .entries)) (s .entries) (withTime t (inserted (fresh u t p) s) .entries) ≡ 1
+unfolding inserted withTime roomLeft leafLead instantLead
+opened-counted {s} w u t p r =
+    replayed-one (position isFree (s .entries)) (s .entries) (taken (fresh u t p)) (w .size) (ltb-true _ _ r)
+    (ap (leafLead (position isFree (s .entries))) (lowest-free (s .entries))) (ap (instantLead (fresh u t p .name) (position isFree (s .entries))) (fresh-never u t p))
+
+effect-counted : {s : State} → WellFormed s → {c : Call} {o : Outcome} → Effect s c o → CountedAnswer c (o .answer)
+unfolding refuse accept replay sendStep idleStep sendOutside withTime isAccepted comparisons
+effect-counted w (refuses c n h) = none-counted c false (λ e _. false≢true e)
+effect-counted w (begins vpi vci t p g) = leaf-counted _ refl _ _ _ (λ _. opened-counted w (pairName vpi vci) t p (g .room))
+effect-counted w (ends vpi vci d f) = leaf-counted _ refl _ _ _ (λ e. absurd (false≢true e))
+effect-counted w (offers vpi vci n d f h) = leaf-counted _ refl _ _ _ (λ e. absurd (false≢true e))
+effect-counted w (marks o vpi vci e d r f) = leaf-counted _ refl _ _ _ (λ e. absurd (false≢true e))
+effect-counted w (works o q d r f) = leaf-counted _ refl _ _ _ (λ e. absurd (false≢true e))
+effect-counted w (levelsTo l h) = none-counted _ true (λ _ e. false≢true e)
+effect-counted w (idles t room g b) = none-counted _ true (λ _ e. false≢true e)
+effect-counted {s} w (sends t room i u g b) =
+    cell-counted _ refl refl _
+    (replayed-all (position (holds u) (s .entries)) (omega (arith, found-in u (s .entries) (b .holder) (b .found), w .size)) (s .entries) (w .unique) _ (root-leaf w b))
+effect-counted w (makes vpi vci t d f g b m) = leaf-counted _ refl _ _ _ (λ e. absurd (false≢true e))
+effect-counted w (leaves vpi vci t room d f g b) = none-counted _ true (λ _ e. false≢true e)
+
+pub comparisons-counted : Comparisons
+comparisons-counted cs c = let w = reached-well-formed cs in effect-counted w (effect (final empty cs) (w .unique) c)
+
+pub scan-picks-winner : ScanPicksWinner
+scan-picks-winner cs t = root-winner t (final empty cs .entries) (reached-well-formed cs .size)
+
+-- Exported calls.
+sent-number : (a : Answer) → not (eqb (slotAnswer a .kind) 0) ≡ isSent a
+sent-number (Refused n) = refl
+sent-number (Accepted n) = refl
+sent-number Idle = refl
+sent-number (Sent v Forward a n) = refl
+sent-number (Sent v Turned a n) = refl
+sent-number (Sent v Data a n) = refl
+
+comparisons-number : (a : Answer) → slotAnswer a .comparisons ≡ comparisons a
+unfolding comparisons
+comparisons-number (Refused n) = refl
+comparisons-number (Accepted n) = refl
+comparisons-number Idle = refl
+comparisons-number (Sent v k a n) = refl
+
+observed-counted : {s : State} → WellFormed s → (c : Call) (o : Observation) → Matches (step s c) o → CountedObserved c o
+observed-counted {s} w c o g =
+    let e = effect s (w .unique) c in
+    rw (g .returned, effect-accepted e, sent-number (step s c .answer), comparisons-number (step s c .answer)) (effect-counted w e)
+
+all-counted : {s : State} → WellFormed s → (cs : List Call) (os : List Observation) → AllMatch (run s cs) os → InPlace CountedObserved cs os
+all-counted w [] [] neither = tt
+all-counted w (c ∷ cs) (o ∷ os) (both g gs) = (observed-counted w c o g, all-counted (step-well-formed w c) cs os gs)
+
+pub exports-comparisons : ExportsComparisons
+exports-comparisons cs os t = all-counted empty-well-formed cs os (exports-are-run .each cs os t)

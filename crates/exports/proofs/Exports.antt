@@ -1,0 +1,188 @@
+-- Demand 3 holds of exported calls.
+use Prim.Native.Nat.{ℕ}
+use mathlib.Core.Path.{_≡_, refl, sym, ap, _∙_}
+use mathlib.Core.Bool.{Bool}
+use mathlib.Core.List.{List, [], _∷_}
+use mathlib.Core.Option.{Option, none, some}
+use native.Mathlib.Nat.{le-refl}
+use native.Mathlib.Omega.{arith}
+use lib.Dec.{eqb}
+use borrow.Author.Tests.{ne-eqb}
+use Rattle.rate.specs.declared.params.Params.{Params}
+use Rattle.cell.specs.Name.{nameOf, vpiIn, vciIn}
+use Rattle.connection.specs.declared.kind.Kind.{Kind}
+use Rattle.connection.specs.declared.kind.Kind.the-variants.{Forward, Turned, Data}
+use Rattle.model.specs.State.{State, Entry, free, taken, empty, find}
+use Rattle.model.specs.Invariant.{WellFormed}
+use Rattle.model.specs.declared.answer.Answer.{Answer}
+use Rattle.model.specs.declared.answer.Answer.the-variants.{Refused, Accepted, Idle, Sent}
+use Rattle.model.specs.Call.{Call, Outcome, refusal, goesTo, kindSent}
+use Rattle.model.specs.Step.{refuse, accept, replay, idleStep, sendStep, sendOutside, step}
+use Rattle.model.specs.Queries.{entryAcr, acrOf}
+use Rattle.model.specs.Run.{run, final, isAccepted, given, givenFrom, entryRate, allowed}
+use Rattle.model.proofs.Preserved.{empty-well-formed}
+use Rattle.model.proofs.Effects.{Effect, refuses, begins, ends, offers, marks, works, levels, idles, sends, makes, leaves, effect}
+use Rattle.model.proofs.Reached.{step-well-formed}
+use Rattle.abr.specs.declared.connections.AcrAnswer.{AcrAnswer}
+use Rattle.abr.specs.Answers.{slotAnswer, acrAnswer}
+use Rattle.abr.specs.Contract.{AnswersAcr}
+use Rattle.abr.specs.Exports.{Observation, Trace, finalWords, zeros, Matches, AllMatch, neither, both}
+use Rattle.connection.specs.Sending.{Buffer, untouched}
+use Rattle.table.specs.Layout.{words}
+use Rattle.engine.specs.Contract.{bufferContent}
+use Rattle.abr.proofs.Exports.{zeros-words, exports-are-run}
+use Rattle.promises.specs.Demand3.{Bounded, InPlace, SamePlace, NotAbove, neither as noneOpen, both as bothOpen, Agree}
+use Rattle.exports.specs.Exports.{paramsObserved, rateReturned, wentTo, ObservedSamePlace, RateNotAbove, ObservedAgree, RefusedLeave, ExportsDemand1, ExportsDemand3}
+use Rattle.promises.proofs.Demand3.{demand3}
+
+-- What the numbers say of the answers: 0 of an accepted call alone.
+pub effect-accepted : {s : State} {c : Call} {o : Outcome} → Effect s c o → eqb (slotAnswer (o .answer) .refusal) 0 ≡ isAccepted (o .answer)
+unfolding refuse accept replay idleStep sendStep sendOutside isAccepted
+effect-accepted (refuses c n h) = ne-eqb n 0 (λ e. omega (arith, h, e))
+effect-accepted (begins vpi vci t p g) = refl
+effect-accepted (ends vpi vci d f) = refl
+effect-accepted (offers vpi vci n d f h) = refl
+effect-accepted (marks o vpi vci e d r f) = refl
+effect-accepted (works o q d r f) = refl
+effect-accepted (levels l h) = refl
+effect-accepted (idles t room g b) = refl
+effect-accepted (sends t room i u g b) = refl
+effect-accepted (makes vpi vci t d f g b m) = refl
+effect-accepted (leaves vpi vci t room d f g b) = refl
+
+-- the kind and the connection of a slot, and a refusal's number
+orZero : Option ℕ → ℕ
+orZero none = 0
+orZero (some n) = n
+
+refusal-number : (a : Answer) → slotAnswer a .refusal ≡ orZero (refusal a)
+unfolding refusal orZero
+refusal-number (Refused n) = refl
+refusal-number (Accepted n) = refl
+refusal-number Idle = refl
+refusal-number (Sent v k a n) = refl
+
+kindOrZero : Option Kind → ℕ
+kindOrZero none = 0
+kindOrZero (some Forward) = 1
+kindOrZero (some Turned) = 2
+kindOrZero (some Data) = 3
+
+kind-number : (a : Answer) → slotAnswer a .kind ≡ kindOrZero (kindSent a)
+unfolding kindSent kindOrZero
+kind-number (Refused n) = refl
+kind-number (Accepted n) = refl
+kind-number Idle = refl
+kind-number (Sent v Forward a n) = refl
+kind-number (Sent v Turned a n) = refl
+kind-number (Sent v Data a n) = refl
+
+-- the pair that a slot returned makes the name again
+back : (v : ℕ) → nameOf (vpiIn v) (vciIn v) ≡ v
+back v = omega arith
+
+went-to : (a : Answer) → wentTo (slotAnswer a) ≡ goesTo a
+unfolding goesTo
+went-to (Refused n) = refl
+went-to (Accepted n) = refl
+went-to Idle = refl
+went-to (Sent v Forward a n) = ap some (back v)
+went-to (Sent v Turned a n) = ap some (back v)
+went-to (Sent v Data a n) = ap some (back v)
+
+-- Refusals.
+effect-leaves : {s : State} {c : Call} {o : Outcome} → Effect s c o → (slotAnswer (o .answer) .refusal ≡ 0 → ⊥) → (o .state ≡ s) × (o .buffer ≡ untouched)
+unfolding refuse accept replay idleStep sendStep sendOutside
+effect-leaves (refuses c n h) z = (refl, refl)
+effect-leaves (begins vpi vci t p g) z = absurd (z refl)
+effect-leaves (ends vpi vci d f) z = absurd (z refl)
+effect-leaves (offers vpi vci n d f h) z = absurd (z refl)
+effect-leaves (marks o vpi vci e d r f) z = absurd (z refl)
+effect-leaves (works o q d r f) z = absurd (z refl)
+effect-leaves (levels l h) z = absurd (z refl)
+effect-leaves (idles t room g b) z = absurd (z refl)
+effect-leaves (sends t room i u g b) z = absurd (z refl)
+effect-leaves (makes vpi vci t d f g b m) z = absurd (z refl)
+effect-leaves (leaves vpi vci t room d f g b) z = absurd (z refl)
+
+leave-from : (s : State) → WellFormed s → (cs : List Call) (l : List ℕ) (os : List Observation) → AllMatch (run s cs) os → l ≡ words s → RefusedLeave l os
+leave-from s w [] l [] neither e = tt
+leave-from s w (c ∷ cs) l (o ∷ os) (both g gs) e = (
+  λ z.
+      let k = effect-leaves (effect s (w .unique) c) (λ q. z (ap (λ r. r .refusal) (g .returned) ∙ q)) in
+      (g .table ∙ ap words (k .0) ∙ sym e, g .buffer ∙ ap (λ (b : Buffer). bufferContent b (o .old)) (k .1)),
+  leave-from (step s c .state) (step-well-formed w c) cs (o .table) os gs (g .table),
+)
+
+pub exports-demand1 : ExportsDemand1
+exports-demand1 cs os t = leave-from empty empty-well-formed cs zeros os (exports-are-run .each cs os t) zeros-words
+
+-- Bounds.
+params-observed :
+    (v : ℕ) (s : State) → WellFormed s → (before : Option Params) (cs : List Call) (os : List Observation) → AllMatch (run s cs) os
+    → paramsObserved v before cs os ≡ givenFrom v s before cs
+params-observed v s w b [] [] neither = refl
+params-observed v s w b (c ∷ cs) (o ∷ os) (both g gs) =
+    ap (λ (a : Bool). paramsObserved v (given v c a b) cs os) (ap (λ r. eqb (r .refusal) 0) (g .returned) ∙ effect-accepted (effect s (w .unique) c))
+    ∙ params-observed v (step s c .state) (step-well-formed w c) (given v c (isAccepted (step s c .answer)) b) cs os gs
+
+entry-rate : (x : Entry) → rateReturned (acrAnswer (entryAcr x)) ≡ entryRate x
+unfolding entryAcr entryRate
+entry-rate free = refl
+entry-rate (taken c) = refl
+
+acr-rate : (s : State) (v : ℕ) → rateReturned (acrAnswer (acrOf s v)) ≡ allowed v s
+unfolding acrOf
+acr-rate s v = entry-rate (find v (s .entries))
+
+bounds :
+    (cs : List Call) (os : List Observation) → Trace cs zeros os → (v : ℕ) (a : AcrAnswer) → AnswersAcr v (finalWords zeros os) a
+    → Bounded (paramsObserved v none cs os) (rateReturned a)
+bounds cs os t v a h =
+    rw (params-observed v empty empty-well-formed none cs os (exports-are-run .each cs os t), exports-are-run .acr cs os t v a h, acr-rate (final empty cs) v) (demand3 .bounds cs v)
+
+-- Pairs.
+observed-place : {x y : Outcome} {o p : Observation} → Matches x o → Matches y p → ObservedSamePlace o p → SamePlace x y
+observed-place {x} {y} g h e = sym (went-to (x .answer)) ∙ ap wentTo (sym (g .returned)) ∙ e ∙ ap wentTo (h .returned) ∙ went-to (y .answer)
+
+place-from :
+    {xs ys : List Outcome} {os ps : List Observation} → AllMatch xs os → AllMatch ys ps → InPlace ObservedSamePlace os ps → InPlace SamePlace xs ys
+place-from neither neither e = tt
+place-from neither (both h hs) e = absurd e
+place-from (both g gs) neither e = absurd e
+place-from (both g gs) (both h hs) e = (observed-place g h (e .0), place-from gs hs (e .1))
+
+rate-not-above : (x y : Entry) → NotAbove (entryRate x) (entryRate y) → RateNotAbove (acrAnswer (entryAcr x)) (acrAnswer (entryAcr y))
+unfolding entryAcr entryRate
+rate-not-above free free noneOpen = record { refusals = refl; rates = le-refl 0 }
+rate-not-above (taken c) (taken d) (bothOpen l) = record { refusals = refl; rates = l }
+
+acr-not-above : (s₁ s₂ : State) (v : ℕ) → NotAbove (allowed v s₁) (allowed v s₂) → RateNotAbove (acrAnswer (acrOf s₁ v)) (acrAnswer (acrOf s₂ v))
+unfolding acrOf
+acr-not-above s₁ s₂ v h = rate-not-above (find v (s₁ .entries)) (find v (s₂ .entries)) h
+
+observed-agree :
+    {x y : Outcome} {o p : Observation} → WellFormed (x .state) → WellFormed (y .state) → Matches x o → Matches y p → Agree x y → ObservedAgree o p
+observed-agree {x} {y} {o} {p} w z g h a = record {
+  refusals = ap (λ r. r .refusal) (g .returned) ∙ refusal-number (x .answer) ∙ ap orZero (a .refusals) ∙ sym (refusal-number (y .answer)) ∙ ap (λ r. r .refusal) (sym (h .returned));
+  kinds = ap (λ r. r .kind) (g .returned) ∙ kind-number (x .answer) ∙ ap kindOrZero (a .kinds) ∙ sym (kind-number (y .answer)) ∙ ap (λ r. r .kind) (sym (h .returned));
+  rates = λ v q r m n. rw (m .meets (x .state) w (g .table), n .meets (y .state) z (h .table)) (acr-not-above (x .state) (y .state) v (a .rates v));
+}
+
+agree-from :
+    {s₁ s₂ : State} → WellFormed s₁ → WellFormed s₂ → (xs ys : List Call) {os ps : List Observation} → AllMatch (run s₁ xs) os → AllMatch (run s₂ ys) ps
+    → InPlace Agree (run s₁ xs) (run s₂ ys) → InPlace ObservedAgree os ps
+agree-from w z [] [] neither neither a = tt
+agree-from w z [] (y ∷ ys) g h a = absurd a
+agree-from w z (x ∷ xs) [] g h a = absurd a
+agree-from w z (x ∷ xs) (y ∷ ys) (both g gs) (both h hs) a =
+    (observed-agree (step-well-formed w x) (step-well-formed z y) g h (a .0), agree-from (step-well-formed w x) (step-well-formed z y) xs ys gs hs (a .1))
+
+pub exports-demand3 : ExportsDemand3
+exports-demand3 = record {
+  bounds = bounds;
+  pairs = λ xs ys os ps t u c e.
+      let g = exports-are-run .each xs os t in
+      let h = exports-are-run .each ys ps u in
+      agree-from empty-well-formed empty-well-formed xs ys g h (demand3 .pairs xs ys c (place-from g h e));
+}

@@ -1,0 +1,3 @@
+-- They hold.
+pub mod Exports
+pub mod Comparisons

@@ -1,0 +1,63 @@
+-- Demands 1 and 3 of exported calls, as C sees them: said of the numbers and structs that calls from the zero table return, and of the rates that abr_acr returns.
+-- (Document 01, "The lists of demand 3" and "What the library commits to", 1.)
+use Prim.Native.Nat.{ℕ, _≤_}
+use mathlib.Core.Path.{_≡_}
+use mathlib.Core.Bool.{cond}
+use mathlib.Core.List.{List, [], _∷_}
+use mathlib.Core.Option.{Option, none, some}
+use lib.Dec.{eqb}
+use Rattle.rate.specs.declared.params.Params.{Params}
+use Rattle.cell.specs.Name.{nameOf}
+use Rattle.model.specs.Call.{Call}
+use Rattle.model.specs.Run.{given}
+use Rattle.abr.specs.declared.link.SlotAnswer.{SlotAnswer}
+use Rattle.abr.specs.declared.connections.AcrAnswer.{AcrAnswer}
+use Rattle.abr.specs.Contract.{AnswersAcr}
+use Rattle.abr.specs.Exports.{Observation, Trace, finalWords, zeros}
+use Rattle.promises.specs.Demand3.{Bounded, InPlace, Comparable}
+
+-- the parameters under which a name is open, from the calls and the numbers that they returned: 0 is no refusal
+abbrev pub paramsObserved : ℕ → Option Params → List Call → List Observation → Option Params
+paramsObserved v before [] os = before
+paramsObserved v before (c ∷ cs) [] = before
+paramsObserved v before (c ∷ cs) (o ∷ os) = paramsObserved v (given v c (eqb (o .returned .refusal) 0) before) cs os
+
+-- the rate that abr_acr returned, if it did not refuse
+abbrev pub rateReturned : AcrAnswer → Option ℕ
+rateReturned a = cond (eqb (a .refusal) 0) (some (a .acr)) none
+
+-- the name of the connection that a slot went to, of the VPI and VCI that it returned: none of an idle or refused slot, and of a call that is no slot
+abbrev pub wentTo : SlotAnswer → Option ℕ
+wentTo r = cond (eqb (r .kind) 0) none (some (nameOf (r .vpi) (r .vci)))
+
+-- slots go to the same connection in both, or to none in both
+abbrev pub ObservedSamePlace : Observation → Observation → Type 0
+ObservedSamePlace o p = wentTo (o .returned) ≡ wentTo (p .returned)
+
+-- abr_acr answers alike, with a rate in the second at most that in the first
+pub record RateNotAbove (a b : AcrAnswer) : Type 0 where
+  pub refusals : a .refusal ≡ b .refusal
+  pub rates : b .acr ≤ a .acr
+
+-- the same refusal or none, the same kind of cell or none, and no rate that abr_acr returns after the second call above that after the first
+pub record ObservedAgree (o p : Observation) : Type 0 where
+  pub refusals : o .returned .refusal ≡ p .returned .refusal
+  pub kinds : o .returned .kind ≡ p .returned .kind
+  pub rates : (v : ℕ) (a b : AcrAnswer) → AnswersAcr v (o .table) a → AnswersAcr v (p .table) b → RateNotAbove a b
+
+-- a call that returned a refusal left the table, which stood at these words, and the lent buffer
+abbrev pub RefusedLeave : (before : List ℕ) → List Observation → Type 0
+RefusedLeave l [] = Unit
+RefusedLeave l (o ∷ os) = ((o .returned .refusal ≡ 0 → ⊥) → (o .table ≡ l) × (o .new ≡ o .old)) × RefusedLeave (o .table) os
+
+-- Demand 1 of exported calls: every refused one leaves what it was lent.
+abbrev pub ExportsDemand1 : Type 0
+ExportsDemand1 = (cs : List Call) (os : List Observation) → Trace cs zeros os → RefusedLeave zeros os
+
+pub record ExportsDemand3 : Type 0 where
+  pub bounds :
+      (cs : List Call) (os : List Observation) → Trace cs zeros os → (v : ℕ) (a : AcrAnswer) → AnswersAcr v (finalWords zeros os) a
+      → Bounded (paramsObserved v none cs os) (rateReturned a)
+  pub pairs :
+      (xs ys : List Call) (os ps : List Observation) → Trace xs zeros os → Trace ys zeros ps → InPlace Comparable xs ys → InPlace ObservedSamePlace os ps
+      → InPlace ObservedAgree os ps

@@ -1,0 +1,3 @@
+-- The promises on whole lists of exported calls.
+pub mod Exports
+pub mod Comparisons

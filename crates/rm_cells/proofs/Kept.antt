@@ -1,0 +1,83 @@
+-- What holds of the connection of a name, and is kept by what each call makes of a connection, holds as long as the connection is open.
+use Prim.Native.Nat.{ℕ, _≤_}
+use mathlib.Core.Path.{_≡_, refl, sym, ap, subst, _∙_}
+use mathlib.Core.Logic.{_≢_}
+use mathlib.Core.Bool.{Bool, cond}
+use lib.Dec.{eqb}
+use borrow.Author.Tests.{eq-eqb, ne-eqb}
+use Rattle.cell.specs.Name.{pairName}
+use Rattle.cell.specs.Fields.{cellName}
+use Rattle.cell.specs.Reading.{reading}
+use Rattle.cell.specs.declared.fields.Fields.{Fields}
+use Rattle.cell.specs.declared.read.Reading.the-variants.{Resource}
+use Rattle.connection.specs.declared.parts.Connection.{Connection}
+use Rattle.connection.specs.Parts.{fresh}
+use Rattle.connection.specs.Making.{withMade}
+use Rattle.connection.specs.Receiving.{offered, afterDataCell, afterResourceCell}
+use Rattle.connection.specs.Kind.{kindAt}
+use Rattle.connection.specs.Sending.{after}
+use Rattle.connection.specs.OutOfRate.{afterOutOfRate}
+use Rattle.connection.proofs.Keeps.{work-same, after-same}
+use Rattle.model.specs.State.{State, Entry, free, taken, find, put, withTime, withLevel}
+use Rattle.model.specs.Invariant.{NamesUnique}
+use Rattle.model.specs.declared.answer.Answer.{Answer}
+use Rattle.model.specs.declared.answer.Answer.the-variants.{Sent}
+use Rattle.model.specs.Call.{Call, opening, closing, receiving, offering, levelling, slot, making, outOfRate, Outcome}
+use Rattle.model.specs.Step.{refuse, accept, replay, idleStep, sendStep, sendOutside}
+use Rattle.model.proofs.Entries.{Case, same, other, case}
+use Rattle.model.proofs.Frames.{put-read, inserted-read, freed-read}
+use Rattle.model.proofs.Effects.{Effect, refuses, begins, ends, offers, marks, works, levels, idles, sends, makes, leaves}
+use Rattle.promises.proofs.Pairs.{sent-same}
+
+abbrev pub Has : (Connection → Type 0) → Entry → Type 0
+Has P free = ⊥
+Has P (taken c) = P c
+
+-- what a call with this answer makes of the connection of v, if it is about it, keeps P; and it does not close it
+abbrev pub KeptBy : (Connection → Type 0) → ℕ → State → Call → Answer → Type 0
+KeptBy P v s (opening vpi vci t p) a = Unit
+KeptBy P v s (closing vpi vci) a = pairName vpi vci ≢ v
+KeptBy P v s (receiving o) a =
+    ((e : Bool) (d : Connection) → P d → P (afterDataCell e d))
+    × ((f : Fields) (d : Connection) → reading o ≡ Resource f → find v (s .entries) ≡ taken d → P d → P (afterResourceCell (s .level) o f d))
+KeptBy P v s (offering vpi vci n) a = (d : Connection) → P d → P (offered n d)
+KeptBy P v s (levelling l) a = Unit
+KeptBy P v s (slot t room) a = (d : Connection) (acr n : ℕ) → a ≡ Sent v (kindAt t d) acr n → P d → P (after (kindAt t d) t d)
+KeptBy P v s (making vpi vci t) a = (d : Connection) → P d → P (withMade t (s .level) d)
+KeptBy P v s (outOfRate vpi vci t room) a = (d : Connection) → s .last ≤ t → find v (s .entries) ≡ taken d → P d → P (afterOutOfRate t d)
+
+module _ (P : Connection → Type 0) (v : ℕ) where
+  changed-kept :
+      (u : ℕ) (s : State) → NamesUnique (s .entries) → (d e : Connection) → find u (s .entries) ≡ taken d → e .name ≡ d .name
+      → (u ≡ v → find v (s .entries) ≡ taken d → P d → P e) → Has P (find v (s .entries)) → Has P (find v (put u (taken e) s .entries))
+  changed-kept u s a d e f n m h = rw (put-read (λ (x : Entry). x) v u s a d e f n) (go (case u v))
+    where
+      go : Case u v → Has P (cond (eqb u v) (taken e) (find v (s .entries)))
+      go (same q) =
+          let g : find v (s .entries) ≡ taken d = ap (λ (w : ℕ). find w (s .entries)) (sym q) ∙ f in
+          rw (eq-eqb u v q) (m q g (subst (Has P) g h))
+      go (other q) = rw (ne-eqb u v q) h
+
+  pub effect-kept :
+      {s : State} → NamesUnique (s .entries) → {c : Call} {o : Outcome} → Effect s c o → KeptBy P v s c (o .answer) → Has P (find v (s .entries))
+      → Has P (find v (o .state .entries))
+  unfolding refuse accept replay sendStep idleStep sendOutside withTime withLevel fresh offered afterDataCell withMade afterOutOfRate
+  effect-kept a (refuses c n h) q m = m
+  effect-kept {s} a (begins vpi vci t p g) q m = rw (inserted-read (λ (x : Entry). x) v s (fresh (pairName vpi vci) t p) (g .new) (g .room)) (go (case (pairName vpi vci) v))
+    where
+      go : Case (pairName vpi vci) v → Has P (cond (eqb (pairName vpi vci) v) (taken (fresh (pairName vpi vci) t p)) (find v (s .entries)))
+      go (same z) = absurd (subst (Has P) (ap (λ (x : ℕ). find x (s .entries)) (sym z) ∙ g .new) m)
+      go (other z) = rw (ne-eqb (pairName vpi vci) v z) m
+  effect-kept {s} a (ends vpi vci d f) q m = rw (freed-read (λ (x : Entry). x) v (pairName vpi vci) s a, ne-eqb (pairName vpi vci) v q) m
+  effect-kept {s} a (offers vpi vci n d f b) q m = changed-kept (pairName vpi vci) s a d (offered n d) f refl (λ _ _. q d) m
+  effect-kept {s} a (marks o vpi vci e d r f) q m = changed-kept (pairName vpi vci) s a d (afterDataCell e d) f refl (λ _ _. q .0 e d) m
+  effect-kept {s} a (works o g d r f) q m =
+      changed-kept (cellName g) s a d (afterResourceCell (s .level) o g d) f (work-same (s .level) o g d .name) (λ _ h. q .1 g d r h) m
+  effect-kept a (levels l b) q m = m
+  effect-kept a (idles t room g b) q m = m
+  effect-kept {s} a (sends t room i u g b) q m =
+      let k = kindAt t (b .holder) in
+      changed-kept u (withTime t s) a (b .holder) (after k t (b .holder)) (b .found) (after-same k t (b .holder) .name)
+      (λ z _. q (b .holder) _ _ (sent-same z refl)) m
+  effect-kept {s} a (makes vpi vci t d f g b z) q m = changed-kept (pairName vpi vci) (withTime t s) a d (withMade t (s .level) d) f refl (λ _ _. q d) m
+  effect-kept {s} a (leaves vpi vci t room d f g b) q m = changed-kept (pairName vpi vci) (withTime t s) a d (afterOutOfRate t d) f refl (λ _ h. q d (g .since) h) m

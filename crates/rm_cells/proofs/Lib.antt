@@ -1,0 +1,5 @@
+-- They carry it.
+pub mod Kept
+pub mod Marks
+pub mod OutOfRate
+pub mod Addresses

@@ -1,0 +1,4 @@
+-- What the RM cells carry that a connection receives and sends.
+pub mod Marks
+pub mod OutOfRate
+pub mod Addresses

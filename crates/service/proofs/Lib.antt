@@ -1,0 +1,4 @@
+-- Connections are served so.
+pub mod SentWaited
+pub mod Liveness
+pub mod Restart

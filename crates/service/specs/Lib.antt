@@ -1,0 +1,5 @@
+-- What a connection is served.
+pub mod Spacing
+pub mod SentWaited
+pub mod Liveness
+pub mod Restart
