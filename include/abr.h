@@ -6,7 +6,8 @@
  * sections named below are those of document 01, "The ABR end-system rate
  * engine", which says what every call does, with requests L1 (abr_make), L2
  * (marks of a replaced cell), L4 (1,024 connections, comparisons), L5 (no minimum
- * rate, abr_out_of_rate) and L6 (full addresses) of document 02.
+ * rate, abr_out_of_rate), L6 (full addresses) and L7 (the reserved bit of a rate
+ * code) of document 02.
  *
  * Addresses. A connection is named by its VPI and its VCI together, as VPI * 65,536
  * + VCI (document 02, L6): the same VCI on another VPI is another connection. Every
@@ -45,6 +46,10 @@
  *
  * Rates are whole numbers of 1/512 cell per second, times are nanoseconds
  * (section "Units and the 16-bit rate code").
+ *
+ * Rate codes. Bit 15 of a code is reserved. A call that reads a code with that bit
+ * set is refused with 19: abr_open, abr_receive, abr_read, abr_rate (document 02,
+ * L7). No code that abr_code gives and no cell that the library writes has it.
  */
 #ifndef ABR_H
 #define ABR_H
@@ -75,8 +80,8 @@ extern "C" {
 
 /* ---- Version ------------------------------------------------------------ */
 
-/* 0.7.0: major, minor and patch number, eight bits each. */
-#define ABR_VERSION 0x000700u
+/* 0.8.0: major, minor and patch number, eight bits each. */
+#define ABR_VERSION 0x000800u
 
 /* The words of a table, which has 270,488 octets. */
 #define ABR_TABLE_WORDS 33811u
@@ -120,7 +125,7 @@ extern "C" {
 /* The largest rate that has a code. */
 #define ABR_RATE_MAX UINT64_C(2196875771904)
 
-/* The largest rate code with bit 15 clear; its rate is ABR_RATE_MAX. */
+/* The largest rate code; its rate is ABR_RATE_MAX. */
 #define ABR_CODE_MAX 0x7FFFu
 
 /* ---- Parameters of an open (section "Opening") -------------------------- */
@@ -181,6 +186,9 @@ extern "C" {
 #define ABR_REFUSED_TOO_SOON 17u      /* less than 100 ms since the last cell made on this connection */
 #define ABR_REFUSED_TOO_OFTEN 18u     /* less than 100 ms since the last out-of-rate cell on this connection */
 
+/* Because of the input, added by document 02. */
+#define ABR_REFUSED_RESERVED_BIT 19u /* reserved bit of a rate code is set */
+
 /* ---- Types -------------------------------------------------------------- */
 
 /* The state of an engine. Its words have no meaning outside the library. */
@@ -188,8 +196,8 @@ typedef struct {
     uint64_t words[ABR_TABLE_WORDS];
 } abr_table;
 
-/* The parameters of an open. pcr, mcr and icr are rate codes of at most 16
- * bits, bit 15 ignored. */
+/* The parameters of an open. pcr, mcr and icr are rate codes of at most 15
+ * bits. */
 typedef struct {
     uint32_t pcr;  /* peak rate, at least one cell per second */
     uint32_t mcr;  /* minimum rate, 0 for none */
@@ -203,7 +211,7 @@ typedef struct {
     uint32_t trm;  /* Trm number, 0 to 7: 100/2^(7-trm) ms */
 } abr_params;
 
-/* The fields of an RM cell. A cell that is read has rate codes without bit 15. */
+/* The fields of an RM cell. */
 typedef struct {
     uint32_t vpi; /* at most 8 bits */
     uint32_t vci; /* at most 16 bits */
@@ -283,6 +291,7 @@ static inline int abr_matches(void)
  * winners stay and 1 comparison is made.
  * Refusals in order:
  *   10  vci under 32, whatever vpi is
+ *   19  bit 15 set in pcr, mcr or icr, if that code has no bit above it
  *    7  vpi over 255, vci over 65,535, or a parameter out of its range: a rate code
  *       over 16 bits, MCR <= ICR <= PCR broken, PCR under 512, or any other of abr_params;
  *       MCR may be 0, and with it ICR (document 02, L5)
@@ -332,6 +341,7 @@ ABR_MUST_USE abr_allowed abr_acr(const abr_table *table, uint32_t vpi, uint32_t 
  *    4  payload type 4, 5 or 7
  *    5  an RM cell with a wrong CRC-10
  *    6  an RM cell with a protocol other than 1
+ *   19  an RM cell with bit 15 set in ER, CCR or MCR
  *   11  no connection with its VPI and VCI is open
  */
 ABR_MUST_USE abr_answer abr_receive(abr_table *table, const uint8_t *cell, size_t len);
@@ -413,13 +423,13 @@ ABR_MUST_USE uint32_t abr_out_of_rate(abr_table *table, uint32_t vpi, uint32_t v
  * and octets as the section gives them, both checks made.
  * Refusals in order:
  *    1  len is not 53
- *    7  a field out of its range (see abr_rm)
+ *    7  a field out of its range (see abr_rm), a rate code over 15 bits too
  */
 ABR_MUST_USE uint32_t abr_write_rm(abr_rm rm, uint8_t *cell, size_t len);
 
 /*
  * Reads a cell (section "The cell, 53 octets").
- * Refusals in order: 1, 2, 4, 5, 6, as for abr_receive.
+ * Refusals in order: 1, 2, 4, 5, 6, 19, as for abr_receive.
  */
 ABR_MUST_USE abr_cell abr_read(const uint8_t *cell, size_t len);
 
@@ -431,8 +441,8 @@ ABR_MUST_USE abr_cell abr_read(const uint8_t *cell, size_t len);
 ABR_MUST_USE abr_coded abr_code(uint64_t rate);
 
 /*
- * The rate of a code; bit 15 is ignored (same section).
- * Refusal: 7 code over 16 bits.
+ * The rate of a code (same section).
+ * Refusals: 7 code over 16 bits; 19 code within 16 bits with bit 15 set.
  */
 ABR_MUST_USE abr_rated abr_rate(uint32_t code);
 
@@ -466,6 +476,7 @@ static inline const char *abr_refusal_text(uint32_t refusal)
     case ABR_REFUSED_NOT_CONGESTED: return "congestion level is 0";
     case ABR_REFUSED_TOO_SOON: return "less than 100 ms since the last cell made on this connection";
     case ABR_REFUSED_TOO_OFTEN: return "less than 100 ms since the last out-of-rate cell on this connection";
+    case ABR_REFUSED_RESERVED_BIT: return "reserved bit of a rate code is set";
     default: return "not an answer of this library";
     }
 }

@@ -1,10 +1,10 @@
 //! The cell of 53 octets (document 01, "The cell, 53 octets", and "Turning
-//! cells round").
+//! cells round"; the reserved bit of its rate codes, document 02, L7).
 //!
 //! Octets are counted from 1 in the document and from 0 here.
 
 use crate::address::{Address, VCI_MAX, VPI_MAX};
-use crate::rate::MAX_CLEAR_CODE;
+use crate::rate::{is_reserved, MAX_CODE};
 use crate::refusal::{self, Refusal};
 
 /// The octets of a cell.
@@ -200,7 +200,7 @@ pub fn write_rm(rm: &Rm, buffer: &mut [u8]) -> Result<(), Refusal> {
     let codes = [rm.er, rm.ccr, rm.mcr];
     let fits = rm.address().fits()
         && bits.iter().all(|bit| *bit <= 1)
-        && codes.iter().all(|code| *code <= MAX_CLEAR_CODE);
+        && codes.iter().all(|code| *code <= MAX_CODE);
     if !fits {
         return Err(refusal::RANGE);
     }
@@ -224,7 +224,7 @@ pub(crate) fn rm_octets(rm: &Rm) -> Octets {
     cell
 }
 
-/// Reads a cell. Refusals: 1, 2, 4, and for RM cells 5, 6.
+/// Reads a cell. Refusals: 1, 2, 4, and for RM cells 5, 6, 19.
 pub fn read(cell: &[u8]) -> Result<Cell, Refusal> {
     let cell: &Octets = cell.try_into().map_err(|_| refusal::LENGTH)?;
     if cell[HEADER_CHECK] != header_check(&cell[..HEADER_CHECK]) {
@@ -245,13 +245,17 @@ pub fn read(cell: &[u8]) -> Result<Cell, Refusal> {
     }
 }
 
-/// Reads the payload of an RM cell. Bit 15 of the rate codes is dropped.
+/// Reads the payload of an RM cell. Refusals: 5, 6, 19.
 fn read_rm(cell: &Octets, at: Address) -> Result<Rm, Refusal> {
     if carried_crc(cell) != payload_crc(cell) {
         return Err(refusal::CRC);
     }
     if cell[PROTOCOL] != PROTOCOL_ABR {
         return Err(refusal::PROTOCOL);
+    }
+    let codes @ [er, ccr, mcr] = [ER, CCR, MCR].map(|at| word(cell, at));
+    if codes.into_iter().any(is_reserved) {
+        return Err(refusal::RESERVED_BIT);
     }
     let bit = |mask: u8| u32::from(cell[BITS] & mask != 0);
     Ok(Rm {
@@ -262,9 +266,9 @@ fn read_rm(cell: &Octets, at: Address) -> Result<Rm, Refusal> {
         ci: bit(CI_BIT),
         ni: bit(NI_BIT),
         ra: bit(RA_BIT),
-        er: word(cell, ER) & MAX_CLEAR_CODE,
-        ccr: word(cell, CCR) & MAX_CLEAR_CODE,
-        mcr: word(cell, MCR) & MAX_CLEAR_CODE,
+        er,
+        ccr,
+        mcr,
         ql: double_word(cell, QL),
         sn: double_word(cell, SN),
     })

@@ -273,16 +273,6 @@ fn gfc_clp_and_reserved_bits_are_ignored() {
 }
 
 #[test]
-fn bit_15_is_dropped_when_read() {
-    let cell = changed(|cell| {
-        cell[7] |= 0x80;
-        cell[9] |= 0x80;
-        cell[11] |= 0x80;
-    });
-    assert_eq!(read(&cell), Ok(Cell::Rm(sample())));
-}
-
-#[test]
 fn the_order_of_refusals_when_reading() {
     let mut cell = rm_octets(&sample());
     cell[5] = 2; // 6, and 5 as the CRC is unchanged
@@ -320,9 +310,6 @@ fn turning_keeps_marks_and_every_other_bit() {
         cell[0] |= 0xF0;
         cell[3] |= 1;
         cell[6] = 0b0111_1101;
-        cell[7] |= 0x80;
-        cell[9] |= 0x80;
-        cell[11] |= 0x80;
         cell[21..51].fill(0x99);
         cell[51] |= 0xFC;
     });

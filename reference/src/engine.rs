@@ -1,8 +1,8 @@
 //! The table of connections and the calls on it (document 01, from "Opening"
 //! to "Slots"; the orders of refusals are in "Refused because of the state", those
-//! of a made cell and an out-of-rate cell in document 02's L1 and L5). Calls
-//! that replay matches answer the comparisons (document 02, L4). A connection is
-//! named by its VPI and VCI together (document 02, L6).
+//! of a made cell and an out-of-rate cell in document 02's L1 and L5, and where 19
+//! comes in L7). Calls that replay matches answer the comparisons (document 02, L4). A
+//! connection is named by its VPI and VCI together (document 02, L6).
 
 use std::collections::BTreeMap;
 
@@ -65,13 +65,13 @@ impl Engine {
     }
 
     /// Opens a connection on the lowest free leaf and answers the comparisons.
-    /// Refusals: 10, 7, 8, 12, 13, 14.
+    /// Refusals: 10, 19, 7, 8, 12, 13, 14.
     pub fn open(&mut self, at: Address, time: u64, params: &Params) -> Result<u32, Refusal> {
         if at.vci < VCI_MIN {
             return Err(refusal::LOW_VCI);
         }
+        let contract = params.contract()?; // 19 before 7, which the name has too
         let name = at.name().ok_or(refusal::RANGE)?;
-        let contract = params.contract()?;
         check_range(time)?;
         if self.table.contains_key(&at) {
             return Err(refusal::ALREADY_OPEN);
@@ -99,7 +99,7 @@ impl Engine {
     }
 
     /// Receives a cell and answers the comparisons. Refusals: 1, 2, 4, for RM
-    /// cells 5 and 6, then 11.
+    /// cells 5, 6 and 19, then 11.
     pub fn receive(&mut self, cell: &[u8]) -> Result<u32, Refusal> {
         let content = cell::read(cell)?;
         let octets: &Octets = cell.try_into().map_err(|_| refusal::LENGTH)?;

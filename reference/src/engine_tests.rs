@@ -71,7 +71,7 @@ pub(crate) fn data(vci: u32, efci: bool) -> [u8; LENGTH] {
 }
 
 /// The cell with a right CRC-10, the six reserved bits being 0.
-fn with_crc(mut cell: [u8; LENGTH]) -> [u8; LENGTH] {
+pub(crate) fn with_crc(mut cell: [u8; LENGTH]) -> [u8; LENGTH] {
     let crc = (0..6).fold(crc10(&cell[5..51]), |crc, _| {
         let next = crc << 1;
         if next & 0x400 == 0 {
@@ -138,15 +138,6 @@ fn the_first_cell_is_forward() {
     assert_eq!(kind(&mut engine, 5 + MS - 1), None);
     assert_eq!(kind(&mut engine, 5 + MS), Some(Kind::Data));
     assert_eq!(kind(&mut engine, 5 + 2 * MS), None);
-}
-
-#[test]
-fn forward_cells_have_no_bit_15() {
-    let mut engine = engine_with(&Params::house(0xFFFF, 0xC000, 0x8000 | THOUSAND));
-    engine.offer(at(32), 1).unwrap();
-    let mut buffer = [0; LENGTH];
-    engine.slot(0, &mut buffer).unwrap();
-    assert_eq!(buffer[7..13], [0x7F, 0xFF, 0x53, 0xE8, 0x40, 0x00]);
 }
 
 #[test]
@@ -377,18 +368,6 @@ fn feedback_moves_its_own_connection_only() {
     engine.receive(&octets(&cut)).unwrap();
     assert_eq!(engine.acr(at(32)), Ok(512_000));
     assert_eq!(engine.acr(at(33)), Ok(450_000));
-}
-
-#[test]
-fn bit_15_of_er_is_ignored() {
-    let mut engine = engine_with(&params());
-    let mut cell = octets(&Rm {
-        er: 0x4200,
-        ..backward(32)
-    });
-    cell[7] |= 0x80;
-    engine.receive(&with_crc(cell)).unwrap();
-    assert_eq!(engine.acr(at(32)), Ok(1_024));
 }
 
 #[test]

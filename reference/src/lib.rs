@@ -41,6 +41,8 @@ mod make_tests;
 mod no_minimum_tests;
 #[cfg(test)]
 mod out_of_rate_tests;
+#[cfg(test)]
+mod reserved_bit_tests;
 
 pub use address::Address;
 pub use cell::{read, write_rm, Cell, Rm};

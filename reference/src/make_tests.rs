@@ -104,8 +104,8 @@ fn its_marks_are_those_of_the_level_at_its_making() {
 }
 
 #[test]
-fn its_er_is_the_code_of_pcr_without_bit_15() {
-    let mut engine = engine_at(1, &Params::house(0x8000 | THOUSAND, 0x4000, 0x4000));
+fn its_er_is_the_code_of_pcr() {
+    let mut engine = engine_at(1, &Params::house(THOUSAND, 0x4000, 0x4000));
     engine.make(at(32), 0).unwrap();
     assert_eq!(kind(&mut engine, 0), Some(Kind::Forward));
     let (_, rm) = slot_rm(&mut engine, 1_000 * MS);

@@ -30,7 +30,7 @@ fn refuses(engine: &Engine, number: u32, vci: u32, time: u64, length: usize) {
 
 #[test]
 fn the_cell_is_a_forward_one_with_clp_1() {
-    let mut engine = engine_with(&Params::house(0x8000 | 0x5A00, 0xC000, THOUSAND));
+    let mut engine = engine_with(&Params::house(0x5A00, 0x4000, THOUSAND));
     let written = cell(&mut engine, 32, 0);
     assert_eq!(written[..4], [0x00, 0x00, 0x02, 0x0D]); // payload type 6, CLP 1
     assert_eq!(written[4], header_check(&[0x00, 0x00, 0x02, 0x0D]));
@@ -103,7 +103,7 @@ fn ccr_below_one_cell_per_second_is_0x0000() {
 
 #[test]
 fn a_minimum_of_0_is_carried_as_0x0000() {
-    for mcr in [0x0000, 0x0001, 0x01FF, 0x3FFF, 0x8000, 0xBFFF] {
+    for mcr in [0x0000, 0x0001, 0x01FF, 0x3FFF] {
         let mut engine = engine_with(&Params::house(THOUSAND, mcr, 0));
         assert_eq!(cell(&mut engine, 32, 0)[7..13], [0x53, 0xE8, 0, 0, 0, 0]);
     }

@@ -1,5 +1,5 @@
 //! The parameters of an open (document 01, "Opening"; with document 02's L5 the
-//! least minimum is 0).
+//! least minimum is 0, with L7 a rate code with the reserved bit is refused).
 
 use std::ops::RangeInclusive;
 
@@ -88,9 +88,15 @@ impl Params {
         }
     }
 
-    /// Checks every range and gives the set as rates, times and counts. Refusal:
-    /// 7.
+    /// Checks every range and gives the set as rates, times and counts. Refusals:
+    /// 19 whatever else is wrong, 7.
     pub fn contract(&self) -> Result<Contract, Refusal> {
+        if [self.pcr, self.mcr, self.icr]
+            .into_iter()
+            .any(rate::is_reserved)
+        {
+            return Err(refusal::RESERVED_BIT);
+        }
         let (pcr, mcr, icr) = self.rates()?;
         within(self.n, 1..=8)?;
         within(self.r, 0..=15)?;
@@ -252,7 +258,7 @@ mod tests {
             let contract = Params::house(pcr, mcr, icr).contract();
             contract.map(|contract| (contract.pcr, contract.mcr, contract.icr))
         };
-        for zero in [0x0000, 0x0001, 0x01FF, 0x3FFF, 0x8000, 0xBFFF] {
+        for zero in [0x0000, 0x0001, 0x01FF, 0x3FFF] {
             assert_eq!(answer(0x4000, zero, 0x4000), Ok((512, 0, 512)));
             assert_eq!(answer(0x4000, zero, zero), Ok((512, 0, 0)));
             assert_eq!(answer(0x4000, zero, 0x0000), Ok((512, 0, 0)));
@@ -267,12 +273,41 @@ mod tests {
     }
 
     #[test]
-    fn bit_15_is_ignored_and_wider_codes_are_not() {
-        let clear = Params::house(0x53E8, 0x4000, 0x4200).contract();
-        assert_eq!(Params::house(0xD3E8, 0xC000, 0xC200).contract(), clear);
+    fn the_reserved_bit_is_refused_with_19_and_wider_codes_with_7() {
         let answer = |pcr, mcr, icr| Params::house(pcr, mcr, icr).contract().map(|_| ());
-        assert_eq!(answer(0x1_53E8, 0x4000, 0x4200), Err(7));
-        assert_eq!(answer(0x53E8, 0x1_4000, 0x4200), Err(7));
-        assert_eq!(answer(0x53E8, 0x4000, 0x1_4200), Err(7));
+        let good = [0x53E8, 0x4000, 0x4200];
+        for place in 0..3 {
+            let with = |bits: u32| {
+                let mut codes = good;
+                codes[place] |= bits;
+                codes
+            };
+            let [pcr, mcr, icr] = with(0x8000);
+            assert_eq!(answer(pcr, mcr, icr), Err(19));
+            for bits in [0x1_0000, 0x1_8000, 0xFFFF_8000] {
+                let [pcr, mcr, icr] = with(bits);
+                assert_eq!(answer(pcr, mcr, icr), Err(7));
+            }
+        }
+        assert_eq!(answer(0x8000, 0x8000, 0x8000), Err(19));
+    }
+
+    #[test]
+    fn the_reserved_bit_is_looked_at_before_every_range() {
+        let wide = 0x1_8000;
+        for (pcr, mcr, icr) in [
+            (0xD3E8, wide, wide),
+            (wide, 0x8000, 0),
+            (wide, wide, 0xC000),
+        ] {
+            assert_eq!(Params::house(pcr, mcr, icr).contract(), Err(19));
+        }
+        let peak = Params::house(0xC000, 0x4001, 0x4001); // also below the minimum
+        assert_eq!(peak.contract(), Err(19));
+        let bad = Params {
+            n: 0,
+            ..Params::house(0x53E8, 0xC000, 0x53E8)
+        };
+        assert_eq!(bad.contract(), Err(19));
     }
 }

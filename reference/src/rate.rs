@@ -1,5 +1,6 @@
 //! Rates, their 16-bit codes and the gap between cells (document 01, "Units
-//! and the 16-bit rate code" and "Slots").
+//! and the 16-bit rate code" and "Slots"; with document 02's L7 the reserved bit of a
+//! code isn't ignored).
 
 use crate::refusal::{self, Refusal};
 
@@ -9,11 +10,14 @@ pub const LARGEST: u64 = 1023 << 31;
 /// The smallest rate above 0 that has a code, one cell per second.
 pub const SMALLEST: u64 = 512;
 
-/// The largest code, bit 15 included.
-pub const MAX_CODE: u32 = 0xFFFF;
+/// The largest number of 16 bits.
+const MAX_16_BITS: u32 = 0xFFFF;
 
-/// The largest code with bit 15 clear.
-pub const MAX_CLEAR_CODE: u32 = 0x7FFF;
+/// The largest code.
+pub const MAX_CODE: u32 = 0x7FFF;
+
+/// Bit 15, which is reserved: 0 in every code.
+const RESERVED: u32 = 1 << 15;
 
 /// The bit that says "not zero".
 const NZ: u32 = 1 << 14;
@@ -21,7 +25,14 @@ const NZ: u32 = 1 << 14;
 /// A second, in nanoseconds times the 512 units of one cell per second.
 const UNITS_BY_NANOSECONDS: u64 = 512_000_000_000;
 
-/// The rate of a code. Bit 15 and those above it are ignored.
+/// Whether a number is of 16 bits and has the reserved bit set, so that whoever reads
+/// it as a rate code refuses it with 19.
+pub fn is_reserved(code: u32) -> bool {
+    code <= MAX_16_BITS && code & RESERVED != 0
+}
+
+/// The rate of a code. Bits above the 15 of a code aren't looked at: who reads one
+/// refuses them before.
 pub fn rate_of(code: u32) -> u64 {
     if code & NZ == 0 {
         return 0;
@@ -31,10 +42,13 @@ pub fn rate_of(code: u32) -> u64 {
     (512 + mantissa) << exponent
 }
 
-/// The rate of a caller's code. Refusal: 7 over 16 bits.
+/// The rate of a caller's code. Refusals: 7 over 16 bits, 19 with the reserved bit.
 pub fn rate(code: u32) -> Result<u64, Refusal> {
-    if code > MAX_CODE {
+    if code > MAX_16_BITS {
         return Err(refusal::RANGE);
+    }
+    if is_reserved(code) {
+        return Err(refusal::RESERVED_BIT);
     }
     Ok(rate_of(code))
 }
@@ -102,16 +116,15 @@ mod tests {
     #[test]
     fn every_code_codes_its_rate() {
         for code in 0..=MAX_CODE {
-            let clear = code & MAX_CLEAR_CODE;
-            let expected = if clear & NZ == 0 { 0 } else { clear };
+            let expected = if code & NZ == 0 { 0 } else { code };
             assert_eq!(code_of(rate_of(code)), Ok(expected));
-            assert_eq!(rate_of(code), rate_of(clear));
+            assert_eq!(rate(code), Ok(rate_of(code)));
         }
     }
 
     #[test]
     fn coding_gives_the_greatest_rate_not_above() {
-        for code in NZ..MAX_CLEAR_CODE {
+        for code in NZ..MAX_CODE {
             let (here, next) = (rate_of(code), rate_of(code + 1));
             assert!(here < next);
             assert_eq!(code_of(next - 1), Ok(code));
@@ -130,11 +143,14 @@ mod tests {
     }
 
     #[test]
-    fn codes_over_16_bits_are_refused_with_7() {
-        assert_eq!(rate(0xFFFF), Ok(LARGEST));
-        assert_eq!(rate(0xBFFF), Ok(0));
-        assert_eq!(rate(0x1_0000), Err(7));
-        assert_eq!(rate(0x1_4000), Err(7));
-        assert_eq!(rate(u32::MAX), Err(7));
+    fn codes_with_the_reserved_bit_are_refused_with_19_and_wider_ones_with_7() {
+        assert_eq!(rate(0x7FFF), Ok(LARGEST));
+        assert_eq!(rate(0x4000), Ok(512)); // bit 14 alone is no refusal
+        for code in [0x8000, 0x8001, 0xBFFF, 0xC000, 0xFFFF] {
+            assert_eq!(rate(code), Err(19));
+        }
+        for code in [0x1_0000, 0x1_4000, 0x1_8000, 0x1_C000, 0x1_FFFF, u32::MAX] {
+            assert_eq!(rate(code), Err(7));
+        }
     }
 }

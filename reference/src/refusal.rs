@@ -39,3 +39,5 @@ pub const NOT_CONGESTED: Refusal = 16;
 pub const TOO_SOON: Refusal = 17;
 /// Less than 100 ms have passed since the connection's last out-of-rate cell.
 pub const TOO_OFTEN: Refusal = 18;
+/// A rate code that was read has the reserved bit set.
+pub const RESERVED_BIT: Refusal = 19;

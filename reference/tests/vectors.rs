@@ -47,8 +47,8 @@ fn coded() -> Lines {
     let rows = [
         (0x4000, 512_000, 512_000),
         (0x7FFF, 1536, 1023),
-        (0xFFFF, 512, 1025),
-        (0xBFFF, largest, 511),
+        (0x5FFF, 512, 1025),
+        (0x3FFF, largest, 511),
         (0x0000, 512, 0),
         (0x53E8, 512, 512),
         (0x41FF, 512, largest),
@@ -280,9 +280,11 @@ fn changes() -> Lines {
         (0x1234, 0x4C, 5, 0x02),
         (0x1234, 0x4C, 29, 0x6B),
         (0x1234, 0x4C, 52, 0x00),
+        (0x1234, 0x4C, 7, 0xFF),
+        (0x1234, 0x4C, 9, 0xD3),
+        (0x1234, 0x4C, 11, 0xC0),
         (0x1234, 0x4C, 0, 0xF0),
         (0x1234, 0x4D, 0, 0x00),
-        (0x1234, 0x4C, 9, 0xD3),
         (0x1234, 0x4C, 6, 0x0F),
         (0x1234, 0x4C, 21, 0x00),
         (0x1234, 0x4C, 51, 0xFC),
@@ -308,12 +310,12 @@ fn changes() -> Lines {
 }
 
 /// A forward cell as received, with these bits in octet 7 and others that are
-/// to stay: bit 15 of the rates, a reserved octet, the six reserved bits.
+/// to stay: the three rates, a reserved octet, the six reserved bits.
 fn received(marks: u8) -> Octets {
     let mut cell = [0x6A; 53];
     cell[..4].copy_from_slice(&[0x0A, 0x51, 0x23, 0x4C]);
     cell[4] = cell::header_check(&cell[..4]);
-    cell[5..13].copy_from_slice(&[0x01, marks, 0xFF, 0xFF, 0xD3, 0xE8, 0xC0, 0x00]);
+    cell[5..13].copy_from_slice(&[0x01, marks, 0x7F, 0xFF, 0x53, 0xE8, 0x40, 0x00]);
     cell[13..21].copy_from_slice(&[0x01, 0x23, 0x45, 0x67, 0x89, 0xAB, 0xCD, 0xEF]);
     cell[33] = 0x00;
     cell[51] = 0xFC;

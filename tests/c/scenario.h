@@ -169,9 +169,61 @@ static void codes(void)
     CHECK(coded.refusal == ABR_OK && coded.code == thousand);
     CHECK(rated.refusal == ABR_OK && rated.rate == 512000);
     coded = abr_code(ABR_RATE_MAX + 1);
-    rated = abr_rate(0x10000);
+    rated = abr_rate(0x10000 | thousand);
     CHECK(coded.refusal == ABR_REFUSED_TOO_LARGE && coded.code == 0);
     CHECK(rated.refusal == ABR_REFUSED_RANGE && rated.rate == 0);
+    rated = abr_rate(0x8000 | thousand);
+    CHECK(rated.refusal == ABR_REFUSED_RESERVED_BIT && rated.rate == 0);
+    CHECK(abr_rate(0x18000).refusal == ABR_REFUSED_RANGE && abr_rate(0x4000).rate == 512);
+}
+
+/* Gives octets the CRC-10 that belongs in them, found by trying all; their refusal then. */
+static uint32_t read_with_crc(uint8_t *octets)
+{
+    uint32_t crc = 0, refusal;
+    do {
+        octets[51] = (uint8_t)(crc >> 8);
+        octets[52] = (uint8_t)crc;
+        refusal = abr_read(octets, ABR_CELL_OCTETS).refusal;
+    } while (refusal == ABR_REFUSED_CRC && ++crc < 1024);
+    return refusal;
+}
+
+/* Bit 15 in each rate code of a cell alone, of a connection that is open or not (document 02, L7). */
+static void reserved_bit_in_a_cell(uint32_t vpi, uint32_t vci)
+{
+    abr_rm rm = {0, 0, 1, 0, 0, 0, 0, 0x4000, 0x4000, 0x4000, 0, 0};
+    uint8_t octets[ABR_CELL_OCTETS];
+    rm.vpi = vpi;
+    rm.vci = vci;
+    for (int code = 7; code <= 11; code += 2) {
+        CHECK(abr_write_rm(rm, octets, sizeof octets) == ABR_OK);
+        octets[code] |= 0x80;
+        CHECK(is(abr_receive(&table, octets, sizeof octets), ABR_REFUSED_CRC, 0));
+        CHECK(read_with_crc(octets) == ABR_REFUSED_RESERVED_BIT);
+        CHECK(is(abr_receive(&table, octets, sizeof octets), ABR_REFUSED_RESERVED_BIT, 0));
+        octets[5] = 2;
+        CHECK(read_with_crc(octets) == ABR_REFUSED_PROTOCOL);
+    }
+}
+
+/* The same in each rate code of an open, of an address that is out of range too. */
+static void reserved_bit_in_an_open(void)
+{
+    uint32_t codes[3];
+    for (int place = 0; place < 3; place++) {
+        abr_params params;
+        codes[0] = codes[2] = thousand;
+        codes[1] = slowest;
+        codes[place] |= 0x8000;
+        params = abr_house(codes[0], codes[1], codes[2]);
+        CHECK(is(abr_open(&table, NOT_OPEN, 0, params), ABR_REFUSED_RESERVED_BIT, 0));
+        CHECK(is(abr_open(&table, 256, 32, 0, params), ABR_REFUSED_RESERVED_BIT, 0));
+        CHECK(is(abr_open(&table, 256, 31, 0, params), ABR_REFUSED_LOW_VCI, 0));
+        codes[place] |= 0x10000;
+        params = abr_house(codes[0], codes[1], codes[2]);
+        CHECK(is(abr_open(&table, NOT_OPEN, 0, params), ABR_REFUSED_RANGE, 0));
+    }
 }
 
 static void closes(void)
@@ -225,8 +277,8 @@ static void nothing_is_left(void)
 {
     CHECK(slot_is(ABR_TIME_MAX, NOBODY, ABR_SENT_IDLE, 0));
     CHECK(strcmp(abr_refusal_text(ABR_OK), "accepted") == 0);
-    CHECK(strcmp(abr_refusal_text(18), abr_refusal_text(19)) != 0);
-    CHECK(strcmp(abr_refusal_text(3), abr_refusal_text(19)) == 0); /* withdrawn (document 02, L6) */
+    CHECK(strcmp(abr_refusal_text(19), abr_refusal_text(20)) != 0);
+    CHECK(strcmp(abr_refusal_text(3), abr_refusal_text(20)) == 0); /* withdrawn (document 02, L6) */
 }
 
 static int scenario(const char *name)
@@ -241,6 +293,9 @@ static int scenario(const char *name)
     a_cell_is_turned();
     cells_are_made();
     codes();
+    reserved_bit_in_a_cell(FIRST);
+    reserved_bit_in_a_cell(NOT_OPEN);
+    reserved_bit_in_an_open();
     closes();
     without_a_minimum();
     nothing_is_left();

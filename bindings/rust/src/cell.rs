@@ -82,7 +82,7 @@ pub fn write_rm(rm: &Rm, cell: &mut [u8]) -> Result<(), Refusal> {
 /// # Errors
 /// In this order: [`Refusal::Length`], [`Refusal::HeaderCheck`],
 /// [`Refusal::PayloadType`], and for RM cells [`Refusal::Crc`],
-/// [`Refusal::Protocol`].
+/// [`Refusal::Protocol`], [`Refusal::ReservedBit`] in one of its three rate codes.
 ///
 /// ```
 /// use abr::{Cell, CELL_OCTETS};

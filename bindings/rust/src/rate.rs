@@ -28,15 +28,18 @@ pub fn code(rate: u64) -> Result<u32, Refusal> {
     Ok(coded.code)
 }
 
-/// The rate of a code. Bit 15 is ignored.
+/// The rate of a code.
 ///
 /// # Errors
-/// [`Refusal::Range`] if the code has more than 16 bits.
+/// [`Refusal::Range`] if the code has more than 16 bits, [`Refusal::ReservedBit`] if it
+/// has 16 and so bit 15, which is reserved.
 ///
 /// ```
+/// use abr::Refusal;
 /// assert_eq!(abr::rate(0x4000), Ok(512));
-/// assert_eq!(abr::rate(0xC000), Ok(512));
 /// assert_eq!(abr::rate(0x3FFF), Ok(0));
+/// assert_eq!(abr::rate(0xC000), Err(Refusal::ReservedBit));
+/// assert_eq!(abr::rate(0x1_C000), Err(Refusal::Range));
 /// ```
 pub fn rate(code: u32) -> Result<u64, Refusal> {
     // SAFETY: the call has no pointer.

@@ -4,8 +4,8 @@ use std::error::Error;
 use std::fmt;
 
 /// A refused call changes nothing and says why (document 01, "Refused because
-/// of the input" and "Refused because of the state"; document 02, L1 and
-/// L5). L6 withdrew refusal 3.
+/// of the input" and "Refused because of the state"; document 02, L1, L5 and
+/// L7). L6 withdrew refusal 3.
 ///
 /// ```
 /// use abr::Refusal;
@@ -13,7 +13,7 @@ use std::fmt;
 /// assert_eq!(Refusal::Range.number(), 7);
 /// assert_eq!(Refusal::try_from(7), Ok(Refusal::Range));
 /// assert_eq!(Refusal::try_from(3), Err(3));
-/// assert_eq!(Refusal::try_from(19), Err(19));
+/// assert_eq!(Refusal::try_from(20), Err(20));
 /// assert_eq!(Refusal::Full.to_string(), "1,024 connections are open");
 /// ```
 #[derive(Debug, Clone, Copy, PartialEq, Eq, Hash)]
@@ -55,11 +55,13 @@ pub enum Refusal {
     TooSoon = 17,
     /// Less than 100 ms have passed since the connection's last out-of-rate cell.
     TooOften = 18,
+    /// A rate code that was read has the reserved bit set.
+    ReservedBit = 19,
 }
 
 impl Refusal {
     /// All refusals in the order of their numbers.
-    pub const ALL: [Refusal; 17] = [
+    pub const ALL: [Refusal; 18] = [
         Refusal::Length,
         Refusal::HeaderCheck,
         Refusal::PayloadType,
@@ -77,6 +79,7 @@ impl Refusal {
         Refusal::NotCongested,
         Refusal::TooSoon,
         Refusal::TooOften,
+        Refusal::ReservedBit,
     ];
 
     /// Its number in the documents.
@@ -108,6 +111,7 @@ impl Refusal {
             Refusal::TooOften => {
                 "less than 100 ms since the last out-of-rate cell on this connection"
             }
+            Refusal::ReservedBit => "reserved bit of a rate code is set",
         }
     }
 

@@ -82,9 +82,9 @@ impl Table {
     /// Opens a connection and answers the comparisons.
     ///
     /// # Errors
-    /// In this order: [`Refusal::LowVci`], [`Refusal::Range`],
-    /// [`Refusal::Time`], [`Refusal::AlreadyOpen`], [`Refusal::Full`],
-    /// [`Refusal::TimeBackward`].
+    /// In this order: [`Refusal::LowVci`], [`Refusal::ReservedBit`] in one of the
+    /// three rate codes, [`Refusal::Range`], [`Refusal::Time`],
+    /// [`Refusal::AlreadyOpen`], [`Refusal::Full`], [`Refusal::TimeBackward`].
     ///
     /// ```
     /// use abr::{Params, Refusal, Table};
@@ -97,6 +97,8 @@ impl Table {
     /// assert_eq!(table.acr(1, 32), Ok(512_000));
     /// assert_eq!(table.acr(0, 65_568), Err(Refusal::NotOpen)); // not 1 and 32
     /// assert_eq!(table.open(2, 32, 0, &params), Ok(1)); // another connection
+    /// let flagged = Params { pcr: 0xD3E8, ..params };
+    /// assert_eq!(table.open(3, 32, 0, &flagged), Err(Refusal::ReservedBit));
     /// ```
     pub fn open(&mut self, vpi: u32, vci: u32, time: u64, params: &Params) -> Result<u32, Refusal> {
         // SAFETY: the pointer is live for the call.
@@ -127,8 +129,8 @@ impl Table {
     ///
     /// # Errors
     /// In this order: [`Refusal::Length`], [`Refusal::HeaderCheck`],
-    /// [`Refusal::PayloadType`], for RM cells [`Refusal::Crc`] and
-    /// [`Refusal::Protocol`], [`Refusal::NotOpen`].
+    /// [`Refusal::PayloadType`], for RM cells [`Refusal::Crc`],
+    /// [`Refusal::Protocol`] and [`Refusal::ReservedBit`], [`Refusal::NotOpen`].
     ///
     /// ```
     /// use abr::{Params, Rm, Table, CELL_OCTETS};

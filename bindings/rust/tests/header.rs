@@ -110,7 +110,7 @@ fn the_refusals_are_those_of_the_header() {
     assert_eq!(defined("ABR_OK"), (0, "accepted"));
     assert_eq!(Refusal::try_from(0), Err(0));
     assert_eq!(Refusal::try_from(3), Err(3)); // withdrawn by document 02's L6
-    assert_eq!(Refusal::try_from(19), Err(19));
+    assert_eq!(Refusal::try_from(20), Err(20));
 }
 
 #[test]

@@ -86,7 +86,7 @@ fn cell_answer(a: Reading) -> CellAnswer
     }
 }
 
-// Refusals 1, 2, 4, then 5 and 6 for RM cells.
+// Refusals 1, 2, 4, then 5, 6 and 19 for RM cells.
 #[no_mangle]
 pub extern "C" fn abr_read(cell: &[u8]) -> CellAnswer
     ensures { λ r. ⌜ r ≡ cellAnswer (reading (now (cell .entry))) ⌝ }

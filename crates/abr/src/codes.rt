@@ -1,4 +1,4 @@
-// Rate codes and the house set, without a table (document 01, "Units and the 16-bit rate code" and "Opening").
+// Rate codes and the house set, without a table (document 01, "Units and the 16-bit rate code" and "Opening"; document 02, L7).
 ghost use mathlib.Core.Path.{_≡_};
 ghost use Rattle.rate.specs.Code.{coded};
 ghost use Rattle.rate.specs.Params.{houseSet};
@@ -6,6 +6,7 @@ ghost use Rattle.abr.specs.Codes.{codeAnswer, rateAnswer};
 use rate::code::Coded;
 use rate::code::code_of;
 use rate::code::rate_of;
+use rate::code::reserved_clear;
 use rate::params::Params;
 
 #[repr(C)]
@@ -40,7 +41,7 @@ pub extern "C" fn abr_code(rate: u64) -> CodeAnswer
     code_answer(code_of(rate))
 }
 
-// Refusal 7 over 16 bits; bit 15 is ignored.
+// Refusal 7 over 16 bits, then 19 where bit 15 is set.
 #[no_mangle]
 pub extern "C" fn abr_rate(code: u32) -> RateAnswer
     ensures { λ r. ⌜ r ≡ rateAnswer code ⌝ }
@@ -48,6 +49,12 @@ pub extern "C" fn abr_rate(code: u32) -> RateAnswer
     if 65535 < code {
         return RateAnswer {
             refusal: 7,
+            rate: 0,
+        };
+    }
+    if !reserved_clear(code) {
+        return RateAnswer {
+            refusal: 19,
             rate: 0,
         };
     }

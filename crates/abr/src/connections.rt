@@ -52,7 +52,7 @@ pub fn call_answer(a: Answer) -> CallAnswer
     }
 }
 
-// Refusals 10, 7, 8, 12, 13, 14.
+// Refusals 10, 19, 7, 8, 12, 13, 14.
 #[no_mangle]
 pub extern "C" fn abr_open(
     table: &mut [u64; WORDS],

@@ -13,7 +13,7 @@ use engine::slot::slot;
 use model::answer::Answer;
 use table::layout::WORDS;
 
-// Refusals 1, 2, 4, then 5 and 6 for RM cells, 11.
+// Refusals 1, 2, 4, then 5, 6 and 19 for RM cells, 11.
 #[no_mangle]
 pub extern "C" fn abr_receive(table: &mut [u64; WORDS], cell: &[u8]) -> CallAnswer
     ensures { λ r. ⌜ Answers (λ s. receiveStep s (now (cell .entry))) (now (table .entry)) (now (table .exit)) r ⌝ }

@@ -13,7 +13,7 @@ use Rattle.crc.specs.Payload.{payloadOf}
 use Rattle.crc.specs.declared.payload.Payload.{Payload}
 use Rattle.cell.specs.Octets.{octet, pair, payload, AreOctets}
 use Rattle.cell.specs.Header.{vpiOf, vciOf, typeOf, headerRight}
-use Rattle.cell.specs.Fields.{Fields, fieldsOf, crcRight, Checked}
+use Rattle.cell.specs.Fields.{Fields, fieldsOf, ratesClear, crcRight, Checked}
 use Rattle.cell.specs.Reading.{Reading, User, Resource, reading, Refused}
 use Rattle.cell.specs.Admitted.{Admissible, userCell, rmCell, Admitted, Taken}
 use Rattle.cell.proofs.OctetLists.{octets-drop}
@@ -39,8 +39,10 @@ module _ (o : List ℕ) where
   admissible true e h = userCell (leb-true _ _ e)
   admissible false e h =
       let h5 : Taken (rest o) = require-rest 4 (eqb (typeOf o) 6) _ h in
+      let h6 : Taken _ = require-rest 5 (crcRight o) _ h5 in
       rmCell (eqb-true _ _ (require-test 4 (eqb (typeOf o) 6) _ h)) (eqb-true _ _ (require-test 5 (crcRight o) _ h5))
-      (eqb-true _ _ (require-test 6 (eqb (octet 6 o) 1) (Resource (fieldsOf o)) (require-rest 5 (crcRight o) _ h5)))
+      (eqb-true _ _ (require-test 6 (eqb (octet 6 o) 1) _ h6))
+      (require-test 19 (ratesClear o) (Resource (fieldsOf o)) (require-rest 6 (eqb (octet 6 o) 1) _ h6))
 
   pub taken-admitted : Taken (reading o) → Admitted o
   unfolding reading headerRight resourceRest
@@ -56,7 +58,7 @@ module _ (o : List ℕ) where
   -- what an admitted cell is read as
   data Outcome : Type 0 where
     userRead : User (vpiOf o) (vciOf o) (eqb (typeOf o / 2 % 2) 1) ≡ reading o → Outcome
-    resourceRead : pair 52 o % 1024 ≡ payloadCheck (payload o) → octet 6 o ≡ 1 → Resource (fieldsOf o) ≡ reading o → Outcome
+    resourceRead : pair 52 o % 1024 ≡ payloadCheck (payload o) → octet 6 o ≡ 1 → ratesClear o ≡ true → Resource (fieldsOf o) ≡ reading o → Outcome
 
   outcome : Admitted o → Outcome
   unfolding headerRight crcRight
@@ -67,20 +69,21 @@ module _ (o : List ℕ) where
 
       of : Admissible o → Outcome
       of (userCell t) = userRead (takes-user o (h .size) check t)
-      of (rmCell t w p) = resourceRead w p (takes-fields o (eq-eqb _ _ w) p ∙ takes-rest o (h .size) check t)
+      of (rmCell t w p r) = resourceRead w p r (takes-fields o (eq-eqb _ _ w) p r ∙ takes-rest o (h .size) check t)
 
   pub admitted-taken : Admitted o → Taken (reading o)
   admitted-taken h n e = refuted (outcome h)
     where
       refuted : Outcome → ⊥
       refuted (userRead u) = let z : _≡_ {A = ℕ} 0 1 = cc in omega arith
-      refuted (resourceRead w p u) = let z : _≡_ {A = ℕ} 0 1 = cc in omega arith
+      refuted (resourceRead w p r u) = let z : _≡_ {A = ℕ} 0 1 = cc in omega arith
 
-  -- a cell read as an RM cell is whole, has the right CRC-10 and is of protocol 1, and the fields are its own
+  -- a cell read as an RM cell is whole, has the right CRC-10, is of protocol 1 and has bit 15 clear in its rate codes, and the fields are its own
   pub record Received (f : Fields) : Type 0 where
     pub size : length o ≡ 53
     pub check : pair 52 o % 1024 ≡ payloadCheck (payload o)
     pub protocol : octet 6 o ≡ 1
+    pub clear : ratesClear o ≡ true
     pub fields : f ≡ fieldsOf o
 
   pub resource-received : (f : Fields) → reading o ≡ Resource f → Received f
@@ -91,7 +94,7 @@ module _ (o : List ℕ) where
 
       received : Outcome → Received f
       received (userRead u) = let z : _≡_ {A = ℕ} 0 1 = cc in absurd (omega arith)
-      received (resourceRead w p u) = record { size = admitted .size; check = w; protocol = p; fields = cc }
+      received (resourceRead w p r u) = record { size = admitted .size; check = w; protocol = p; clear = r; fields = cc }
 
   -- so the words of its payload have the right CRC-10, as turning them asks
   pub received-checked : (f : Fields) {p : Payload} → reading o ≡ Resource f → AreOctets o → p ≡ payloadOf (payload o) → Checked p

@@ -8,6 +8,7 @@ use borrow.Author.Tests.{eq-eqb, ne-eqb, eqb-true, eqb-false, le-leb, lt-leb, le
 use lib.Dec.{leb, eqb, lit<}
 use lib.ListN.{length, getD, take, length-drop}
 use lib.Seq.{getD-drop}
+use Rattle.rate.specs.Code.{codesClear}
 use Rattle.crc.specs.Checks.{headerCheck, payloadCheck}
 use Rattle.crc.specs.Payload.{octetsOf, payloadOf}
 use Rattle.crc.specs.declared.payload.Payload.{Payload}
@@ -15,7 +16,7 @@ use Rattle.crc.proofs.Words.{octets-of-payload}
 use Rattle.cell.specs.Octets.{octet, pair, payload, AreOctets}
 use Rattle.cell.proofs.OctetLists.{octets-drop}
 use Rattle.cell.specs.Header.{vpiOf, vciOf, typeOf, headerRight}
-use Rattle.cell.specs.Fields.{Fields, fieldsOf, crcRight, Checked}
+use Rattle.cell.specs.Fields.{Fields, fieldsOf, ratesClear, crcRight, Checked}
 use Rattle.cell.specs.Reading.{Reading, reading, Refused, User, Resource}
 use Rattle.cell.specs.Refusals.{headerRefusal, restRefusal}
 use Rattle.laws.specs.Require.{require}
@@ -32,15 +33,20 @@ pub fields-are : (o : List ℕ) {vpi vci er ccr mcr ql sn : ℕ} → vpi ≡ vpi
       ci = octet 7 o / 32 % 2;
       ni = octet 7 o / 16 % 2;
       ra = octet 7 o / 8 % 2;
-      er = er % 32768;
-      ccr = ccr % 32768;
-      mcr = mcr % 32768;
+      er = er;
+      ccr = ccr;
+      mcr = mcr;
       ql = ql;
       sn = sn;
     })
     (fieldsOf o)
 unfolding fieldsOf
 fields-are o hp hv he hc hm hq hs = rw (hp, hv, he, hc, hm, hq, hs)
+
+-- the reserved bits of its rate codes, likewise
+pub codes-are : (o : List ℕ) {er ccr mcr : ℕ} → er ≡ pair 8 o → ccr ≡ pair 10 o → mcr ≡ pair 12 o → codesClear er ccr mcr ≡ ratesClear o
+unfolding ratesClear
+codes-are o he hc hm = rw (he, hc, hm)
 
 -- a data cell's reading, from its parts
 pub user-same : {p p' v v' : ℕ} {e e' : Bool} → p ≡ p' → v ≡ v' → e ≡ e' → User p v e ≡ User p' v' e'
@@ -81,7 +87,7 @@ crc-test o p r n a e k =
 
 -- what is left to test of an RM cell
 abbrev pub rest : List ℕ → Reading
-rest o = require (Refused 5) (crcRight o) (require (Refused 6) (eqb (octet 6 o) 1) (Resource (fieldsOf o)))
+rest o = require (Refused 5) (crcRight o) (require (Refused 6) (eqb (octet 6 o) 1) (require (Refused 19) (ratesClear o) (Resource (fieldsOf o))))
 
 module _ (o : List ℕ) where
   refused-5 : crcRight o ≡ false → Refused 5 ≡ rest o
@@ -93,9 +99,14 @@ module _ (o : List ℕ) where
     unfolding require
     refused-6 p = simp (w, ne-eqb _ _ p)
 
-    pub takes-fields : octet 6 o ≡ 1 → Resource (fieldsOf o) ≡ rest o
-    unfolding require
-    takes-fields p = simp (w, eq-eqb _ _ p)
+    module _ (p : octet 6 o ≡ 1) where
+      refused-19 : ratesClear o ≡ false → Refused 19 ≡ rest o
+      unfolding require
+      refused-19 r = simp (w, eq-eqb _ _ p, r)
+
+      pub takes-fields : ratesClear o ≡ true → Resource (fieldsOf o) ≡ rest o
+      unfolding require
+      takes-fields r = simp (w, eq-eqb _ _ p, r)
 
   refused-1 : (length o ≡ 53 → ⊥) → Refused 1 ≡ reading o
   unfolding reading require
@@ -172,12 +183,13 @@ rest-refused o k e q = record { refused = λ _. sym (ap Refused e ∙ q); taken 
 
 pub rest-meets : (o : List ℕ) (n : ℕ) → n ≡ restRefusal o → RestMeets o n
 unfolding restRefusal
-rest-meets o n e = go (crcRight o) (eqb (octet 6 o) 1) refl refl e
+rest-meets o n e = go (crcRight o) (eqb (octet 6 o) 1) (ratesClear o) refl refl refl e
   where
-    go : (a b : Bool) → crcRight o ≡ a → eqb (octet 6 o) 1 ≡ b → n ≡ cond a (cond b 0 6) 5 → RestMeets o n
-    go false b p q e = rest-refused o 4 e (refused-5 o p)
-    go true false p q e = rest-refused o 5 e (refused-6 o p (eqb-false _ _ q))
-    go true true p q e = record { refused = λ z. absurd (z e); taken = λ _. sym (takes-fields o p (eqb-true _ _ q)) }
+    go : (a b d : Bool) → crcRight o ≡ a → eqb (octet 6 o) 1 ≡ b → ratesClear o ≡ d → n ≡ cond a (cond b (cond d 0 19) 6) 5 → RestMeets o n
+    go false b d p q s e = rest-refused o 4 e (refused-5 o p)
+    go true false d p q s e = rest-refused o 5 e (refused-6 o p (eqb-false _ _ q))
+    go true true false p q s e = rest-refused o 18 e (refused-19 o p (eqb-true _ _ q) s)
+    go true true true p q s e = record { refused = λ z. absurd (z e); taken = λ _. sym (takes-fields o p (eqb-true _ _ q) s) }
 
 -- the number of a refusal is never 0
 require-number :
@@ -195,7 +207,8 @@ unfolding reading
 refusal-number o =
     require-number 1 (lit< tt) (eqb (length o) 53) _ (require-number 2 (lit< tt) (headerRight o) _
     (user-number (leb (typeOf o) 3) (vpiOf o) (vciOf o) (eqb (typeOf o / 2 % 2) 1) _ (require-number 4 (lit< tt) (eqb (typeOf o) 6) _
-    (require-number 5 (lit< tt) (crcRight o) _ (require-number 6 (lit< tt) (eqb (octet 6 o) 1) _ taken)))))
+    (require-number 5 (lit< tt) (crcRight o) _ (require-number 6 (lit< tt) (eqb (octet 6 o) 1) _
+    (require-number 19 (lit< tt) (ratesClear o) _ taken))))))
   where
     taken : (m : ℕ) → Resource (fieldsOf o) ≡ Refused m → 0 < m
     taken m q = let z : _≡_ {A = ℕ} 0 1 = cc in absurd (omega arith)

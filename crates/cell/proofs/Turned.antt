@@ -11,7 +11,7 @@ use Rattle.crc.specs.Payload.{payloadOf}
 use Rattle.crc.proofs.Words.{octets-of-payload}
 use Rattle.cell.specs.Octets.{octet, pair, payload, AreOctets}
 use Rattle.cell.specs.Header.{vpiOf, vciOf, header}
-use Rattle.cell.specs.Fields.{Fields, fieldsOf, withCrc}
+use Rattle.cell.specs.Fields.{Fields, fieldsOf, ratesClear, withCrc}
 use Rattle.cell.specs.Reading.{reading, Resource}
 use Rattle.cell.specs.Turning.{turnedMarks, turnedPayload, turnedCell}
 use Rattle.cell.specs.Returned.{returned, Kept}
@@ -103,6 +103,11 @@ module _ (level : ℕ) (mark : Bool) (vpi vci : ℕ) (o : List ℕ) (n : length 
       let b : octet (i + 1) turned ≡ octet (i + 1) o = middle (i + 1) (omega arith) (omega arith) in
       cc
 
+  -- the rate codes are those received
+  pub turned-clear : ratesClear turned ≡ ratesClear o
+  unfolding ratesClear
+  turned-clear = rw (pairs 8 (lit≤ tt) (lit≤ tt), pairs 10 (lit≤ tt) (lit≤ tt), pairs 12 (lit≤ tt) (lit≤ tt))
+
   turned-fields : vpi ≤ 255 → vci ≤ 65535 → fieldsOf turned ≡ returned level mark vpi vci (fieldsOf o)
   unfolding fieldsOf returned turnedPayload
   turned-fields g l = λ i. record {
@@ -113,9 +118,9 @@ module _ (level : ℕ) (mark : Bool) (vpi vci : ℕ) (o : List ℕ) (n : length 
     ci = p-ci i;
     ni = p-ni i;
     ra = p-ra i;
-    er = p-rate 8 (lit≤ tt) (lit≤ tt) i;
-    ccr = p-rate 10 (lit≤ tt) (lit≤ tt) i;
-    mcr = p-rate 12 (lit≤ tt) (lit≤ tt) i;
+    er = pairs 8 (lit≤ tt) (lit≤ tt) i;
+    ccr = pairs 10 (lit≤ tt) (lit≤ tt) i;
+    mcr = pairs 12 (lit≤ tt) (lit≤ tt) i;
     ql = p-long 14 (lit≤ tt) (lit≤ tt) i;
     sn = p-long 18 (lit≤ tt) (lit≤ tt) i;
   }
@@ -141,9 +146,6 @@ module _ (level : ℕ) (mark : Bool) (vpi vci : ℕ) (o : List ℕ) (n : length 
       p-ra : octet 7 turned / 8 % 2 ≡ octet 7 o / 8 % 2
       p-ra = omega (arith, turned-kept .low)
 
-      p-rate : (i : ℕ) → 8 ≤ i → i ≤ 50 → pair i turned % 32768 ≡ pair i o % 32768
-      p-rate i l h = ap (λ (x : ℕ). x % 32768) (pairs i l h)
-
       p-long : (i : ℕ) → 8 ≤ i → i ≤ 48 → pair i turned * 65536 + pair (i + 2) turned ≡ pair i o * 65536 + pair (i + 2) o
       p-long i l h =
           let a : pair i turned ≡ pair i o = pairs i l (omega arith) in
@@ -154,7 +156,7 @@ module _ (level : ℕ) (mark : Bool) (vpi vci : ℕ) (o : List ℕ) (n : length 
   pub turned-read : (f : Fields) → reading o ≡ Resource f → vpi ≤ 255 → vci ≤ 65535 → reading turned ≡ Resource (returned level mark vpi vci f)
   unfolding turnedPayload
   turned-read f e g l =
-      carried-read marked marked-size 0 vpi vci (lit≤ tt) (getD-drop 5 o 0 0 ∙ resource-received o f e .protocol)
+      carried-read marked marked-size 0 vpi vci (lit≤ tt) (getD-drop 5 o 0 0 ∙ resource-received o f e .protocol) (turned-clear ∙ resource-received o f e .clear)
       ∙ ap Resource (turned-fields g l ∙ ap (returned level mark vpi vci) (sym (resource-received o f e .fields)))
 
   -- the same cell, from the words of its payload

@@ -1,5 +1,6 @@
 -- A payload with its CRC-10 written new, and the cell that carries it.
 use mathlib.Core.Path.{_≡_, refl, sym, ap, _∙_}
+use mathlib.Core.Bool.{true}
 use mathlib.Core.List.{List, [], _∷_, _++_}
 use Prim.Native.Nat.{ℕ, _+_, _*_, _/_, _%_, _≤_, _<_}
 use native.Mathlib.Omega.{arith}
@@ -13,7 +14,7 @@ use Rattle.crc.proofs.Octets.{header-lt}
 use Rattle.crc.proofs.Check.{payload-lt, payload-own}
 use Rattle.cell.specs.Octets.{octet, AreOctets}
 use Rattle.cell.specs.Header.{header, firstFour, vpiOf, vciOf, headerRight}
-use Rattle.cell.specs.Fields.{fieldsOf, withCrc, crcRight, Checked}
+use Rattle.cell.specs.Fields.{fieldsOf, ratesClear, withCrc, crcRight, Checked}
 use Rattle.cell.specs.Reading.{reading, Resource}
 use Rattle.cell.proofs.OctetLists.{octets-nil, octets-cons, octets-append, octets-take}
 use Rattle.cell.proofs.Readings.{words-checked, takes-rest, takes-fields}
@@ -88,9 +89,9 @@ module _ (p : List ℕ) (n : length p ≡ 48) where
     unfolding header
     carried-vci h l = omega arith
 
-    -- an RM cell of protocol 1 is read as one
-    pub carried-read : clp ≤ 1 → getD p 0 0 ≡ 1 → reading carried ≡ Resource (fieldsOf carried)
+    -- an RM cell of protocol 1 whose rate codes have bit 15 clear is read as one
+    pub carried-read : clp ≤ 1 → getD p 0 0 ≡ 1 → ratesClear carried ≡ true → reading carried ≡ Resource (fieldsOf carried)
     unfolding header headerRight crcRight
-    carried-read h one =
-        sym (takes-fields carried (eq-eqb _ _ withCrc-right) (withCrc-at 0 (omega arith) ∙ one)
+    carried-read h one clear =
+        sym (takes-fields carried (eq-eqb _ _ withCrc-right) (withCrc-at 0 (omega arith) ∙ one) clear
         ∙ takes-rest carried carried-size (eq-eqb (octet 5 carried) (headerCheck (firstFour clp vpi vci)) refl) (omega arith))

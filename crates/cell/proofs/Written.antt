@@ -6,9 +6,10 @@ use Prim.Native.Nat.{ℕ, _+_, _*_, _/_, _%_, _≤_, _<_}
 use native.Mathlib.Omega.{arith}
 use lib.Dec.{lit<}
 use lib.ListN.{length, replicate}
+use Rattle.rate.proofs.Codes.{codes-clear}
 use Rattle.cell.specs.Octets.{octet, pair, AreOctets}
 use Rattle.cell.specs.Header.{vpiOf, vciOf, header}
-use Rattle.cell.specs.Fields.{Fields, fieldsFit, fieldsOf, body, withCrc, resourceCell}
+use Rattle.cell.specs.Fields.{Fields, fieldsFit, fieldsOf, ratesClear, body, withCrc, resourceCell}
 use Rattle.cell.specs.Reading.{reading, Resource}
 use Rattle.cell.proofs.OctetLists.{octets-nil, octets-cons, octets-append, octets-replicate}
 use Rattle.cell.proofs.WithCrc.{carried-size, carried-octets, carried-vpi, carried-vci, carried-read}
@@ -80,13 +81,13 @@ module _ (clp : ℕ) (f : Fields) where
       p-ra : octet 7 (resourceCell clp f) / 8 % 2 ≡ f .ra
       p-ra = omega arith
 
-      p-er : pair 8 (resourceCell clp f) % 32768 ≡ f .er
+      p-er : pair 8 (resourceCell clp f) ≡ f .er
       p-er = omega arith
 
-      p-ccr : pair 10 (resourceCell clp f) % 32768 ≡ f .ccr
+      p-ccr : pair 10 (resourceCell clp f) ≡ f .ccr
       p-ccr = omega arith
 
-      p-mcr : pair 12 (resourceCell clp f) % 32768 ≡ f .mcr
+      p-mcr : pair 12 (resourceCell clp f) ≡ f .mcr
       p-mcr = omega arith
 
       p-ql : pair 14 (resourceCell clp f) * 65536 + pair 16 (resourceCell clp f) ≡ f .ql
@@ -95,7 +96,16 @@ module _ (clp : ℕ) (f : Fields) where
       p-sn : pair 18 (resourceCell clp f) * 65536 + pair 20 (resourceCell clp f) ≡ f .sn
       p-sn = omega arith
 
+  -- fields that fit have bit 15 clear in their rate codes
+  pub written-clear : clp ≤ 1 → fieldsFit f ≡ true → ratesClear (resourceCell clp f) ≡ true
+  unfolding ratesClear fieldsOf
+  written-clear h e =
+      let b : Fit f = fit f e in
+      let s : fieldsOf (resourceCell clp f) ≡ f = fields-back h b in
+      rw (ap (λ (g : Fields). g .er) s, ap (λ (g : Fields). g .ccr) s, ap (λ (g : Fields). g .mcr) s)
+      (codes-clear (f .er) (f .ccr) (f .mcr) (b .er) (b .ccr) (b .mcr))
+
   pub read-written : clp ≤ 1 → fieldsFit f ≡ true → reading (resourceCell clp f) ≡ Resource f
   unfolding resourceCell
   read-written h e =
-      carried-read (unchecked f) refl clp (f .vpi) (f .vci) h refl ∙ ap Resource (fields-back h (fit f e))
+      carried-read (unchecked f) refl clp (f .vpi) (f .vci) h refl (written-clear h e) ∙ ap Resource (fields-back h (fit f e))

@@ -1,10 +1,11 @@
--- The fields of an RM cell, in its octets and out of them. (Document 01, "The cell, 53 octets"; document 02, L6; the ranges are those of refusal 7.)
+-- The fields of an RM cell, in its octets and out of them. (Document 01, "The cell, 53 octets"; document 02, L6 and L7; the ranges are those of refusal 7.)
 use Prim.Native.Nat.{ℕ, _+_, _*_, _/_, _%_}
 use mathlib.Core.Path.{_≡_}
 use mathlib.Core.Bool.{Bool, _&&_}
 use mathlib.Core.List.{List, [], _∷_, _++_}
 use lib.Dec.{leb, eqb}
 use lib.ListN.{getD, take, replicate}
+use Rattle.rate.specs.Code.{codesClear}
 use Rattle.crc.specs.Checks.{payloadCheck}
 use Rattle.crc.specs.Payload.{octetsOf}
 use Rattle.crc.specs.declared.payload.Payload.{Payload}
@@ -13,7 +14,7 @@ use Rattle.cell.specs.Header.{vpiOf, vciOf, header}
 use Rattle.cell.specs.Name.{pairName}
 pub use Rattle.cell.specs.declared.fields.Fields.{Fields}
 
--- octet 7 from the top: DIR, BN, CI, NI, RA; ER, CCR and MCR without bit 15; QL; SN
+-- octet 7 from the top: DIR, BN, CI, NI, RA; ER, CCR and MCR; QL; SN
 unfoldable pub fieldsOf : List ℕ → Fields
 fieldsOf o = record {
   vpi = vpiOf o;
@@ -23,18 +24,22 @@ fieldsOf o = record {
   ci = octet 7 o / 32 % 2;
   ni = octet 7 o / 16 % 2;
   ra = octet 7 o / 8 % 2;
-  er = pair 8 o % 32768;
-  ccr = pair 10 o % 32768;
-  mcr = pair 12 o % 32768;
+  er = pair 8 o;
+  ccr = pair 10 o;
+  mcr = pair 12 o;
   ql = pair 14 o * 65536 + pair 16 o;
   sn = pair 18 o * 65536 + pair 20 o;
 }
+
+-- whether bit 15 is 0 in ER, CCR and MCR
+unfoldable pub ratesClear : List ℕ → Bool
+ratesClear o = codesClear (pair 8 o) (pair 10 o) (pair 12 o)
 
 -- the name of the connection whose cell it is
 abbrev pub cellName : Fields → ℕ
 cellName f = pairName (f .vpi) (f .vci)
 
--- each field fits the bits that a cell has for it; a rate code has 15, since bit 15 stays 0
+-- each field fits the bits that a cell has for it; a rate code has 15, since bit 15 is reserved
 unfoldable pub fieldsFit : Fields → Bool
 fieldsFit f =
     leb (f .vpi) 255 && (leb (f .vci) 65535

@@ -1,5 +1,5 @@
 -- What sending makes of a connection, put together from its steps; and the fields of a forward cell.
-use mathlib.Core.Path.{_≡_, refl, sym, _∙_}
+use mathlib.Core.Path.{_≡_, refl, sym, subst, _∙_}
 use mathlib.Core.Bool.{Bool, true, false, cond, _||_}
 use Prim.Native.Nat.{ℕ, _+_, _-_, _/_, _%_, _≤_, _<_, min}
 use native.Mathlib.Omega.{arith}
@@ -119,3 +119,16 @@ pub made-carried :
 unfolding madeFields fieldsFit
 made-carried v p level {ci} {ni} {e} c n er =
     (rw (c .0, n .0, er), λ h. rw (vpi-fits v h, vci-fits v, le-leb ci 1 (c .1), le-leb ni 1 (n .1), le-leb e 32767 (own-fits (p .pcr) er)))
+
+-- so the fields of a forward cell fit, and those of a made one
+pub forward-fits : (v : ℕ) (q : Rate) → v < noName → q .acr ≤ largestRate → fieldsFit (forwardFields v q) ≡ true
+forward-fits v q l h = let k = carried v q refl refl refl in subst (λ (f : Fields). fieldsFit f ≡ true) (k .meant h) (k .fits l)
+
+pub made-fits : (v : ℕ) (p : Params) (level : ℕ) → v < noName → fieldsFit (madeFields v p level) ≡ true
+made-fits v p level l =
+    let k = made-carried v p level (refl, mark-le (eqb level 2)) (refl, mark-le (eqb level 1)) refl in
+    subst (λ (f : Fields). fieldsFit f ≡ true) (k .0) (k .1 l)
+  where
+    mark-le : (b : Bool) → cond b 1 0 ≤ 1
+    mark-le true = omega arith
+    mark-le false = omega arith

@@ -8,6 +8,7 @@ use lib.ListN.{getD, set}
 use borrow.Author.Tests.{le-leb, lt-leb}
 use Rattle.rate.specs.declared.params.Params.{Params}
 use Rattle.rate.specs.Units.{latestTime}
+use Rattle.rate.specs.Code.{codesClear}
 use Rattle.rate.specs.Params.{paramsFit}
 use Rattle.cell.specs.Name.{pairName}
 use Rattle.connection.specs.declared.parts.Connection.{Connection}
@@ -33,25 +34,31 @@ module _ (s : State) (a b t : ℕ) (p : Params) where
   unfolding openStep require
   open-low h = rw (lt-leb 32 b h)
 
-  pub open-far : 32 ≤ b → 255 < a → openStep s a b t p ≡ refuse s 7
+  pub open-reserved : 32 ≤ b → codesClear (p .pcr) (p .mcr) (p .icr) ≡ false → openStep s a b t p ≡ refuse s 19
   unfolding openStep require
-  open-far l h = rw (le-leb 32 b l, lt-leb a 255 h)
+  open-reserved l k = rw (le-leb 32 b l, k)
 
-  pub open-wide : 32 ≤ b → a ≤ 255 → 65535 < b → openStep s a b t p ≡ refuse s 7
-  unfolding openStep require
-  open-wide l g h = rw (le-leb 32 b l, le-leb a 255 g, lt-leb b 65535 h)
+  module _ (l : 32 ≤ b) (k : codesClear (p .pcr) (p .mcr) (p .icr) ≡ true) where
+    pub open-far : 255 < a → openStep s a b t p ≡ refuse s 7
+    unfolding openStep require
+    open-far h = rw (le-leb 32 b l, k, lt-leb a 255 h)
 
-  pub open-unfit : 32 ≤ b → a ≤ 255 → b ≤ 65535 → paramsFit p ≡ false → openStep s a b t p ≡ refuse s 7
-  unfolding openStep require
-  open-unfit l g h f = rw (le-leb 32 b l, le-leb a 255 g, le-leb b 65535 h, f)
+    pub open-wide : a ≤ 255 → 65535 < b → openStep s a b t p ≡ refuse s 7
+    unfolding openStep require
+    open-wide g h = rw (le-leb 32 b l, k, le-leb a 255 g, lt-leb b 65535 h)
 
-  pub open-late : 32 ≤ b → a ≤ 255 → b ≤ 65535 → paramsFit p ≡ true → latestTime < t → openStep s a b t p ≡ refuse s 8
-  unfolding openStep require
-  open-late l g h f y = rw (le-leb 32 b l, le-leb a 255 g, le-leb b 65535 h, f, lt-leb t latestTime y)
+    pub open-unfit : a ≤ 255 → b ≤ 65535 → paramsFit p ≡ false → openStep s a b t p ≡ refuse s 7
+    unfolding openStep require
+    open-unfit g h f = rw (le-leb 32 b l, k, le-leb a 255 g, le-leb b 65535 h, f)
+
+    pub open-late : a ≤ 255 → b ≤ 65535 → paramsFit p ≡ true → latestTime < t → openStep s a b t p ≡ refuse s 8
+    unfolding openStep require
+    open-late g h f y = rw (le-leb 32 b l, k, le-leb a 255 g, le-leb b 65535 h, f, lt-leb t latestTime y)
 
 -- the tests of the input that an open has passed
 pub record Passed (a b t : ℕ) (p : Params) : Type 0 where
   pub low : 32 ≤ b
+  pub clear : codesClear (p .pcr) (p .mcr) (p .icr) ≡ true
   pub near : a ≤ 255
   pub high : b ≤ 65535
   pub fits : paramsFit p ≡ true
@@ -63,7 +70,7 @@ module _ (s : State) {a b t : ℕ} {p : Params} (i : Passed a b t p) where
       ≡ require (refuse s 12) (isFree (find (pairName a b) (s .entries)))
       (require (refuse s 13) (roomLeft s) (require (refuse s 14) (leb (s .last) t) (replay (position isFree (s .entries)) s (withTime t (inserted (fresh (pairName a b) t p) s)))))
   unfolding openStep require
-  rest = rw (le-leb 32 b (i .low), le-leb a 255 (i .near), le-leb b 65535 (i .high), i .fits, le-leb t latestTime (i .timely))
+  rest = rw (le-leb 32 b (i .low), i .clear, le-leb a 255 (i .near), le-leb b 65535 (i .high), i .fits, le-leb t latestTime (i .timely))
 
   pub open-taken : (c : Connection) → find (pairName a b) (s .entries) ≡ taken c → openStep s a b t p ≡ refuse s 12
   unfolding require isFree

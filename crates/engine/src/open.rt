@@ -1,4 +1,4 @@
-// Opening a connection (document 01, "Opening"; document 02, L6).
+// Opening a connection (document 01, "Opening"; document 02, L6 and L7).
 ghost use Rattle.model.specs.Step.{openStep};
 ghost use Rattle.engine.specs.Contract.{Meets};
 use cell::name::pair_name;
@@ -7,18 +7,22 @@ use model::answer::Answer;
 use names::find::Found;
 use names::find::find;
 use names::used::find_free;
+use rate::code::codes_clear;
 use rate::params::Params;
 use rate::units::LATEST_TIME;
 use storing::store::store;
 use table::layout::LAST;
 use table::layout::WORDS;
 
-// Refusals 10, which looks at the VCI alone, 7, 8, 12, 13, 14.
+// Refusals 10, which looks at the VCI alone, 19, 7, 8, 12, 13, 14.
 pub fn open(t: &mut [u64; WORDS], vpi: u32, vci: u32, time: u64, params: Params) -> Answer
     ensures { λ r. ⌜ Meets (λ s. openStep s vpi vci time params) (now (t .entry)) (now (t .exit)) r ⌝ }
 {
     if vci < 32 {
         return Answer::Refused(10);
+    }
+    if !codes_clear(params.pcr, params.mcr, params.icr) {
+        return Answer::Refused(19);
     }
     if 255 < vpi {
         return Answer::Refused(7);

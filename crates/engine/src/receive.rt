@@ -69,7 +69,7 @@ fn receive_resource(t: &mut [u64; WORDS], cell: &[u8], f: Fields) -> Answer
     Answer::Accepted { comparisons }
 }
 
-// Refusals 1, 2, 4, then 5 and 6 for RM cells, 11. The steps are those of `read`, taken one by one so that a data cell makes no fields.
+// Refusals 1, 2, 4, then 5, 6 and 19 for RM cells, 11. The steps are those of `read`, taken one by one so that a data cell makes no fields.
 pub fn receive(t: &mut [u64; WORDS], cell: &[u8]) -> Answer
     ensures { λ r. ⌜ Meets (λ s. receiveStep s (now (cell .entry))) (now (t .entry)) (now (t .exit)) r ⌝ }
 {

@@ -1,7 +1,7 @@
 -- The two lists of the witness, computed.
 use mathlib.Core.Path.{refl}
 use lib.Dec.{lit≤}
-use Rattle.rate.specs.Code.{rateOf, codeBelow, codeOf}
+use Rattle.rate.specs.Code.{reservedClear, codesClear, rateOf, codeBelow, codeOf}
 use Rattle.rate.specs.Params.{within, ratesFit, codesFit, numbersFit, paramsFit, trmTimes, trmTime}
 use Rattle.rate.specs.Gap.{gap}
 use Rattle.rate.specs.Moves.{firstCell, idle, cut, unanswered, rateByMarks, feedback, markLevel}
@@ -9,7 +9,7 @@ use Rattle.crc.specs.Remainder.{bring, divide, remainder, bits, octetBits}
 use Rattle.crc.specs.Checks.{headerCheck, payloadCheck}
 use Rattle.cell.specs.Name.{pairName}
 use Rattle.cell.specs.Header.{headerRight, header}
-use Rattle.cell.specs.Fields.{fieldsOf, withCrc, resourceCell, crcRight}
+use Rattle.cell.specs.Fields.{fieldsOf, ratesClear, withCrc, resourceCell, crcRight}
 use Rattle.cell.specs.Reading.{reading}
 use Rattle.connection.specs.Parts.{fresh}
 use Rattle.connection.specs.Receiving.{offered, afterBackwardCell, afterResourceCell}
@@ -28,7 +28,7 @@ use Rattle.laws.specs.Require.{require}
 
 -- its unfolding line opens all that these calls compute with, wherever it is itself unfolded
 unfoldable pub computing : Unit {0}
-unfolding rateOf codeBelow codeOf within ratesFit codesFit numbersFit paramsFit trmTimes trmTime gap firstCell idle cut unanswered rateByMarks feedback markLevel bring divide remainder bits octetBits headerCheck payloadCheck pairName headerRight header fieldsOf withCrc resourceCell crcRight reading fresh offered afterBackwardCell afterResourceCell waits backwardWaits anyWaits lastBefore readyFrom readyInstant isForward isTurned kindAt movedBy paced sentForward sentData after empty position isFree holds find put inserted roomLeft withTime candidateFrom candidate better winner goesTo accept replay require ofOpen openStep offerStep readStep receiveStep sendStep serveEntry serve slotStep step entryRate
+unfolding reservedClear codesClear rateOf codeBelow codeOf within ratesFit codesFit numbersFit paramsFit trmTimes trmTime gap firstCell idle cut unanswered rateByMarks feedback markLevel bring divide remainder bits octetBits headerCheck payloadCheck pairName headerRight header fieldsOf ratesClear withCrc resourceCell crcRight reading fresh offered afterBackwardCell afterResourceCell waits backwardWaits anyWaits lastBefore readyFrom readyInstant isForward isTurned kindAt movedBy paced sentForward sentData after empty position isFree holds find put inserted roomLeft withTime candidateFrom candidate better winner goesTo accept replay require ofOpen openStep offerStep readStep receiveStep sendStep serveEntry serve slotStep step entryRate
 computing = tt
 
 backward : Backward congestedCell
@@ -40,6 +40,8 @@ unfolding computing
 moreCongested = record {
   rightFirst = record { size = refl; header = refl; crc = refl };
   rightSecond = record { size = refl; header = refl; crc = refl };
+  clearFirst = refl;
+  clearSecond = refl;
   rest = record { start = refl; dirBn = refl; raReserved = refl; middle = refl; reserved = refl };
   rate = lit≤ tt;
   level = lit≤ tt;

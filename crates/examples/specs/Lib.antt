@@ -4,3 +4,4 @@ pub mod Unstarred
 pub mod Makings
 pub mod OutOfRateCalls
 pub mod AddressCalls
+pub mod ReservedCalls

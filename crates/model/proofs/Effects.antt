@@ -102,6 +102,7 @@ open-effect : (s : State) (a b t : ℕ) (p : Params) → Effect s (opening a b t
 unfolding openStep
 open-effect s a b t p =
     require-effect (opening a b t p) 10 tt _ _ λ low.
+    require-effect (opening a b t p) 19 tt _ _ λ clear.
     require-effect (opening a b t p) 7 tt _ _ λ fit.
     require-effect (opening a b t p) 8 tt _ _ λ until.
     require-effect (opening a b t p) 12 tt _ _ λ new.

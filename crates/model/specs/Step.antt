@@ -5,6 +5,7 @@ use mathlib.Core.List.{List}
 use lib.Dec.{leb, ltb, eqb}
 use Rattle.rate.specs.declared.params.Params.{Params}
 use Rattle.rate.specs.Units.{latestTime}
+use Rattle.rate.specs.Code.{codesClear}
 use Rattle.rate.specs.Params.{paramsFit}
 use Rattle.cell.specs.declared.read.Reading.{Reading}
 use Rattle.cell.specs.declared.read.Reading.the-variants.{Refused as Unread, User, Resource}
@@ -42,16 +43,17 @@ unfoldable pub ofOpen : State → Entry → (Connection → Outcome) → Outcome
 ofOpen s free f = refuse s 11
 ofOpen s (taken c) f = f c
 
--- Open: 10, which looks at the VCI alone, 7, 8, 12, 13, 14.
+-- Open: 10, which looks at the VCI alone, 19, 7, 8, 12, 13, 14.
 unfoldable pub openStep : State → (vpi vci time : ℕ) → Params → Outcome
 openStep s vpi vci t p =
     require (refuse s 10) (leb 32 vci)
+    (require (refuse s 19) (codesClear (p .pcr) (p .mcr) (p .icr))
     (require (refuse s 7) (pairFits vpi vci && paramsFit p)
     (require (refuse s 8) (leb t latestTime)
     (require (refuse s 12) (isFree (find (pairName vpi vci) (s .entries)))
     (require (refuse s 13) (roomLeft s)
     (require (refuse s 14) (leb (s .last) t)
-    (replay (position isFree (s .entries)) s (withTime t (inserted (fresh (pairName vpi vci) t p) s))))))))
+    (replay (position isFree (s .entries)) s (withTime t (inserted (fresh (pairName vpi vci) t p) s)))))))))
 
 -- Close: 11. All that waits on the connection goes with it.
 unfoldable pub closeStep : State → (name : ℕ) → Outcome

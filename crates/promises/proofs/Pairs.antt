@@ -91,12 +91,13 @@ open-meets : {s₁ s₂ : State} → Tables s₁ s₂ → (vpi vci t : ℕ) (p :
 unfolding openStep replay
 open-meets r vpi vci t p =
     require-meets r 10 _ _ refl
+    (require-meets r 19 _ _ refl
     (require-meets r 7 _ _ refl
     (require-meets r 8 _ _ refl
     (require-meets r 12 _ _ (isFree-same _ _ (find-lower (pairName vpi vci) r))
     (require-meets r 13 _ _ (roomLeft-same r)
     (require-meets r 14 _ _ (ap (λ l. leb l t) (last-same r)) λ _.
-    accept-both _ _ (withTime-tables t (inserted-tables (fresh (pairName vpi vci) t p) r)))))))
+    accept-both _ _ (withTime-tables t (inserted-tables (fresh (pairName vpi vci) t p) r))))))))
 
 close-meets : {s₁ s₂ : State} → Tables s₁ s₂ → (v : ℕ) → Meets (closeStep s₁ v) (closeStep s₂ v)
 unfolding closeStep replay

@@ -14,7 +14,7 @@ use Rattle.cell.specs.declared.read.Reading.the-variants.{Refused, Resource}
 use Rattle.cell.specs.Octets.{octet}
 use Rattle.cell.specs.Header.{vpiOf, vciOf, typeOf}
 use Rattle.cell.specs.Name.{pairName}
-use Rattle.cell.specs.Fields.{fieldsOf, cellName}
+use Rattle.cell.specs.Fields.{fieldsOf, ratesClear, cellName}
 use Rattle.cell.specs.Reading.{reading}
 use Rattle.promises.specs.Congestion.{levelOf, RightChecks, Backward, AtLeastAsCongested}
 use Rattle.laws.specs.Require.{require}
@@ -37,15 +37,15 @@ unfolding require
 require-congested n true h = h
 require-congested n false h = alike n
 
--- what is left to test of an RM cell whose checks are right
-reading-right : (o : List ℕ) → RightChecks o → typeOf o ≡ 6 → reading o ≡ require (Refused 6) (eqb (octet 6 o) 1) (Resource (fieldsOf o))
+-- what is left to test of an RM cell whose checks are right and whose rate codes have bit 15 clear
+reading-right : (o : List ℕ) → RightChecks o → ratesClear o ≡ true → typeOf o ≡ 6 → reading o ≡ require (Refused 6) (eqb (octet 6 o) 1) (Resource (fieldsOf o))
 unfolding reading require
-reading-right o h p = rw (h .size, h .header, p, h .crc)
+reading-right o h r p = rw (h .size, h .header, p, h .crc, r)
 
 pub reading-congested : (a b : List ℕ) → Backward b → AtLeastAsCongested b a → NotLessCongested (reading a) (reading b)
 unfolding fieldsOf
 reading-congested a b k h =
-    rw (reading-right a (h .rightFirst) (type ∙ k .isResource), reading-right b (h .rightSecond) (k .isResource), ← kept 5 (omega arith))
+    rw (reading-right a (h .rightFirst) (h .clearFirst) (type ∙ k .isResource), reading-right b (h .rightSecond) (h .clearSecond) (k .isResource), ← kept 5 (omega arith))
     (require-congested 6 (eqb (octet 6 a) 1)
     (moreCongested (fieldsOf a) (fieldsOf b) (record { name = name; first = dir ∙ k .isBackward; second = k .isBackward; bn = bn; rate = h .rate; level = h .level })))
   where

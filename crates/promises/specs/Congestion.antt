@@ -1,4 +1,4 @@
--- When one backward cell is at least as congested as another, on octets. (Document 01, "Four moves of the allowed rate".)
+-- When one backward cell is at least as congested as another, on octets. (Document 01, "Four moves of the allowed rate"; document 02, L7.)
 use Prim.Native.Nat.{ℕ, _/_, _%_, _≤_}
 use mathlib.Core.Path.{_≡_}
 use mathlib.Core.Bool.{true}
@@ -10,7 +10,7 @@ use Rattle.rate.specs.Moves.{markLevel}
 use Rattle.cell.specs.declared.fields.Fields.{Fields}
 use Rattle.cell.specs.Octets.{octet}
 use Rattle.cell.specs.Header.{typeOf, headerRight}
-use Rattle.cell.specs.Fields.{fieldsOf, crcRight}
+use Rattle.cell.specs.Fields.{fieldsOf, ratesClear, crcRight}
 
 -- the level of the marks that the fields carry
 abbrev pub levelOf : Fields → ℕ
@@ -34,10 +34,12 @@ pub record SameButFeedback (a b : List ℕ) : Type 0 where
   pub middle : take 42 (drop 9 a) ≡ take 42 (drop 9 b)
   pub reserved : octet 52 a / 4 ≡ octet 52 b / 4
 
--- b is at least as congested as a: in the order in which it is said
+-- b is at least as congested as a, in the order in which it is said; only cells whose rate codes have bit 15 clear are compared
 pub record AtLeastAsCongested (b a : List ℕ) : Type 0 where
   pub rightFirst : RightChecks a
   pub rightSecond : RightChecks b
+  pub clearFirst : ratesClear a ≡ true
+  pub clearSecond : ratesClear b ≡ true
   pub rest : SameButFeedback a b
   pub rate : rateOf (fieldsOf b .er) ≤ rateOf (fieldsOf a .er)
   pub level : levelOf (fieldsOf a) ≤ levelOf (fieldsOf b)

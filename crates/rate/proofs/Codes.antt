@@ -8,8 +8,8 @@ use native.Mathlib.Omega.{arith}
 use native.Mathlib.Decide.{decLt}
 use lib.Dec.{leb, eqb}
 use lib.Pow.{pow-pos, pow-mono, shr-mono}
-use borrow.Author.Tests.{leb-true, leb-false, eqb-true, eq-eqb}
-use Rattle.rate.specs.Code.{rateOf, codeBelow, codeOf, Greatest}
+use borrow.Author.Tests.{leb-true, leb-false, eqb-true, eq-eqb, lt-ltb}
+use Rattle.rate.specs.Code.{reservedClear, codesClear, rateOf, codeBelow, codeOf, Greatest}
 use Rattle.rate.specs.Units.{largestRate}
 use Rattle.rate.proofs.Octaves.{Octave, octave, codeIn, code-octave, code-none}
 
@@ -97,7 +97,7 @@ pub code-greatest : (x : ℕ) → x ≤ largestRate → Greatest x (codeOf x)
 unfolding codeOf
 code-greatest x h = greatest-below 32 x (le-refl 32) (omega arith)
 
--- a code comes back from its own rate, without bit 15, and as 0 where nz is 0
+-- a code comes back from its own rate: its low 15 bits, and 0 where nz is 0
 pub code-of-rate : (k : ℕ) → codeOf (rateOf k) ≡ cond (eqb (k / 16384 % 2) 1) (k % 32768) 0
 unfolding rateOf
 code-of-rate k = go (eqb (k / 16384 % 2) 1) refl
@@ -146,3 +146,8 @@ below-mono (suc e) {x} {y} h = go (below-mono e h) (leb (512 * 2 ^ e) x) (leb (5
 pub code-mono : {x y : ℕ} → x ≤ y → codeOf x ≤ codeOf y
 unfolding codeOf
 code-mono h = below-mono 32 h
+
+-- codes of 15 bits have bit 15 clear
+pub codes-clear : (a b c : ℕ) → a ≤ 32767 → b ≤ 32767 → c ≤ 32767 → codesClear a b c ≡ true
+unfolding codesClear reservedClear
+codes-clear a b c h i j = rw (lt-ltb a 32768 (omega (arith, h)), lt-ltb b 32768 (omega (arith, i)), lt-ltb c 32768 (omega (arith, j)))

@@ -1,12 +1,20 @@
--- The 16-bit rate code. (Document 01, "Units and the 16-bit rate code".)
+-- The 16-bit rate code. (Document 01, "Units and the 16-bit rate code"; document 02, L7.)
 use Prim.Native.Nat.{ℕ, zero, suc, _+_, _-_, _*_, _/_, _%_, _^_, _≤_, _<_}
-use mathlib.Core.Bool.{cond}
-use lib.Dec.{leb, eqb}
+use mathlib.Core.Bool.{Bool, cond, _&&_, _||_}
+use lib.Dec.{leb, ltb, eqb}
 use Rattle.rate.specs.Units.{largestRate}
 use Rattle.rate.specs.declared.code.Coded.{Coded}
 use Rattle.rate.specs.declared.code.Coded.the-variants.{Code, Refused}
 
--- bit 14 is nz, bits 13 to 9 the exponent e, bits 8 to 0 the mantissa m: 2^e × (512 + m) with nz, else 0; bit 15 does not count
+-- whether bit 15, which is reserved, is 0; true also of a number over 16 bits, which is no code and meets 7 where one is given
+unfoldable pub reservedClear : ℕ → Bool
+reservedClear code = ltb code 32768 || ltb 65535 code
+
+-- the same of three codes: those of an open, or those in a cell
+unfoldable pub codesClear : ℕ → ℕ → ℕ → Bool
+codesClear a b c = reservedClear a && (reservedClear b && reservedClear c)
+
+-- bit 14 is nz, bits 13 to 9 the exponent e, bits 8 to 0 the mantissa m: 2^e × (512 + m) with nz, else 0; higher bits are not looked at, since whoever reads a code tests them first
 unfoldable pub rateOf : ℕ → ℕ
 rateOf code = cond (eqb (code / 16384 % 2) 1) (2 ^ (code / 512 % 32) * (512 + code % 512)) 0
 

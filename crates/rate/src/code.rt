@@ -1,6 +1,6 @@
-// The 16-bit rate code (document 01, "Units and the 16-bit rate code").
+// The 16-bit rate code (document 01, "Units and the 16-bit rate code"; document 02, L7).
 ghost use mathlib.Core.Path.{_≡_};
-ghost use Rattle.rate.specs.Code.{rateOf, codeOrZero, coded};
+ghost use Rattle.rate.specs.Code.{reservedClear, codesClear, rateOf, codeOrZero, coded};
 use crate::units::LARGEST_RATE;
 
 // A rate's code, or the number of the refusal.
@@ -9,7 +9,21 @@ pub enum Coded {
     Refused(u32),
 }
 
-// The rate that a code stands for; bit 15, and whatever lies above it, does not count.
+// Whether bit 15 of a code is 0; a number over 16 bits is no code.
+pub fn reserved_clear(code: u32) -> bool
+    ensures { λ b. ⌜ b ≡ reservedClear code ⌝ }
+{
+    (code < 32768) | (65535 < code)
+}
+
+// The same of three codes.
+pub fn codes_clear(a: u32, b: u32, c: u32) -> bool
+    ensures { λ r. ⌜ r ≡ codesClear a b c ⌝ }
+{
+    reserved_clear(a) & (reserved_clear(b) & reserved_clear(c))
+}
+
+// The rate that a code stands for, by its low 15 bits.
 pub fn rate_of(code: u32) -> u64
     ensures { λ r. ⌜ r ≡ rateOf code ⌝ }
 {

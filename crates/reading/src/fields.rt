@@ -1,10 +1,11 @@
-// The fields of an RM cell out of its octets (document 01, "The cell, 53 octets"; document 02, L6).
+// The fields of an RM cell out of its octets (document 01, "The cell, 53 octets"; document 02, L6 and L7).
 ghost use mathlib.Core.Path.{_≡_};
 ghost use Prim.Native.Nat.{_+_, _*_, _/_, _%_};
 ghost use lib.ListN.{length};
 ghost use Rattle.cell.specs.Header.{vpiOf, vciOf};
-ghost use Rattle.cell.specs.Fields.{fieldsOf};
+ghost use Rattle.cell.specs.Fields.{fieldsOf, ratesClear};
 use cell::fields::Fields;
+use rate::code::codes_clear;
 
 // Two octets as one number, high octet first.
 fn pair(high: u8, low: u8) -> u32
@@ -50,7 +51,18 @@ pub fn vci_of(cell: &[u8]) -> u32
     vci(cell[1], cell[2], cell[3])
 }
 
-// What an RM cell carries: of each rate code the 15 low bits.
+// Whether bit 15 is 0 in ER, CCR and MCR.
+pub fn rates_clear(cell: &[u8]) -> bool
+    requires { ⌜ length (now cell) ≡ 53 ⌝ }
+    ensures { λ r. ⌜ r ≡ ratesClear (now (cell .entry)) ⌝ }
+{
+    let er = pair(cell[7], cell[8]);
+    let ccr = pair(cell[9], cell[10]);
+    let mcr = pair(cell[11], cell[12]);
+    codes_clear(er, ccr, mcr)
+}
+
+// What an RM cell carries.
 pub fn fields_of(cell: &[u8]) -> Fields
     requires { ⌜ length (now cell) ≡ 53 ⌝ }
     ensures { λ r. ⌜ r ≡ fieldsOf (now (cell .entry)) ⌝ }
@@ -64,9 +76,9 @@ pub fn fields_of(cell: &[u8]) -> Fields
         ci: marks / 32 % 2,
         ni: marks / 16 % 2,
         ra: marks / 8 % 2,
-        er: pair(cell[7], cell[8]) % 32768,
-        ccr: pair(cell[9], cell[10]) % 32768,
-        mcr: pair(cell[11], cell[12]) % 32768,
+        er: pair(cell[7], cell[8]),
+        ccr: pair(cell[9], cell[10]),
+        mcr: pair(cell[11], cell[12]),
         ql: long(cell[13], cell[14], cell[15], cell[16]),
         sn: long(cell[17], cell[18], cell[19], cell[20]),
     }

@@ -1,4 +1,4 @@
-// Reading a cell (document 01, "The cell, 53 octets" and "Refused because of the input"; document 02, L6).
+// Reading a cell (document 01, "The cell, 53 octets" and "Refused because of the input"; document 02, L6 and L7).
 ghost use mathlib.Core.Path.{_≡_};
 ghost use Prim.Native.Nat.{_/_, _%_};
 ghost use lib.Dec.{leb, eqb};
@@ -8,6 +8,7 @@ ghost use Rattle.cell.specs.Fields.{crcRight};
 ghost use Rattle.cell.specs.Reading.{reading};
 ghost use Rattle.cell.specs.Refusals.{headerRefusal, restRefusal};
 use crate::fields::fields_of;
+use crate::fields::rates_clear;
 use crate::fields::vci_of;
 use crate::fields::vpi_of;
 use cell::read::Reading;
@@ -78,6 +79,9 @@ pub fn resource_refusal(cell: &[u8]) -> u32
     }
     if cell[5] != 1 {
         return 6;
+    }
+    if !rates_clear(cell) {
+        return 19;
     }
     0
 }

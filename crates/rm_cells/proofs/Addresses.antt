@@ -8,6 +8,7 @@ use lib.Dec.{leb, lit≤}
 use borrow.Author.Tests.{le-leb, leb-true}
 use Rattle.rate.specs.declared.params.Params.{Params}
 use Rattle.rate.specs.Units.{latestTime}
+use Rattle.rate.specs.Code.{codesClear}
 use Rattle.cell.specs.Name.{vpiIn, vciIn, noName, pairFits, pairName}
 use Rattle.cell.specs.Header.{vpiOf, vciOf, header}
 use Rattle.cell.specs.Fields.{resourceCell}
@@ -39,9 +40,9 @@ use Rattle.laws.specs.Require.{require}
 
 -- Out of the ranges.
 module _ (s : State) (vpi vci : ℕ) where
-  open-out : (t : ℕ) (p : Params) → pairFits vpi vci ≡ false → 32 ≤ vci → openStep s vpi vci t p ≡ refuse s 7
+  open-out : (t : ℕ) (p : Params) → pairFits vpi vci ≡ false → 32 ≤ vci → codesClear (p .pcr) (p .mcr) (p .icr) ≡ true → openStep s vpi vci t p ≡ refuse s 7
   unfolding openStep require
-  open-out t p e l = rw (le-leb 32 vci l, e)
+  open-out t p e l k = rw (le-leb 32 vci l, k, e)
 
   module _ (f : find (pairName vpi vci) (s .entries) ≡ free) where
     close-out : closeStep s (pairName vpi vci) ≡ refuse s 11
@@ -66,7 +67,7 @@ out-of-range-unknown cs vpi vci e =
     let s : State = final empty cs in
     let f : find (pairName vpi vci) (s .entries) ≡ free = reached-unknown cs vpi vci e in
     record {
-      opens = λ t p l. open-out s vpi vci t p e l;
+      opens = λ t p l k. open-out s vpi vci t p e l k;
       closes = close-out s vpi vci f;
       offers = offer-out s vpi vci f;
       makes = make-out s vpi vci f;

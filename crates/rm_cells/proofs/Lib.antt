@@ -3,3 +3,4 @@ pub mod Kept
 pub mod Marks
 pub mod OutOfRate
 pub mod Addresses
+pub mod ReservedBit

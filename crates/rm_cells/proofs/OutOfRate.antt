@@ -13,9 +13,8 @@ use Rattle.rate.specs.declared.moves.Rate.{Rate}
 use Rattle.rate.specs.Units.{largestRate}
 use Rattle.rate.specs.Code.{codeBelow, codeOf}
 use Rattle.rate.proofs.Codes.{rate-le}
-use Rattle.cell.specs.declared.fields.Fields.{Fields}
 use Rattle.cell.specs.Name.{noName, pairName}
-use Rattle.cell.specs.Fields.{fieldsFit, resourceCell}
+use Rattle.cell.specs.Fields.{resourceCell}
 use Rattle.cell.proofs.Names.{names-apart}
 use Rattle.cell.proofs.Written.{read-written}
 use Rattle.connection.specs.declared.parts.Connection.{Connection}
@@ -30,7 +29,7 @@ use Rattle.connection.specs.Kind.{kindAt}
 use Rattle.connection.specs.Sending.{after, forwardFields, written}
 use Rattle.connection.specs.OutOfRate.{afterOutOfRate, outOfRateCell}
 use Rattle.connection.proofs.Keeps.{work-out-of-rate, after-out-of-rate}
-use Rattle.connection.proofs.SendCases.{carried}
+use Rattle.connection.proofs.SendCases.{forward-fits}
 use Rattle.connection.proofs.Readiness.{ready-outside}
 use Rattle.model.specs.State.{State, Entry, free, taken, empty, position, holds, find, put, withTime}
 use Rattle.model.specs.Invariant.{WellFormed}
@@ -49,9 +48,6 @@ use Rattle.promises.proofs.Interference.{put-other}
 use Rattle.rm_cells.proofs.Kept.{Has, KeptBy, effect-kept}
 
 -- The cell.
-forward-fits : (v : ℕ) (q : Rate) → v < noName → q .acr ≤ largestRate → fieldsFit (forwardFields v q) ≡ true
-forward-fits v q l h = let k = carried v q refl refl refl in subst (λ (f : Fields). fieldsFit f ≡ true) (k .meant h) (k .fits l)
-
 zero-code : codeOf 0 ≡ 0
 unfolding codeOf codeBelow
 zero-code = refl

@@ -5,6 +5,7 @@ use mathlib.Core.Bool.{true, false}
 use mathlib.Core.List.{List}
 use Rattle.rate.specs.declared.params.Params.{Params}
 use Rattle.rate.specs.Units.{latestTime}
+use Rattle.rate.specs.Code.{codesClear}
 use Rattle.cell.specs.Name.{pairFits, pairName}
 use Rattle.cell.specs.Header.{vpiOf, vciOf}
 use Rattle.connection.specs.declared.kind.Kind.{Kind}
@@ -19,9 +20,9 @@ use Rattle.model.specs.Step.{refuse, step}
 use Rattle.model.specs.Queries.{acrOf}
 use Rattle.model.specs.Run.{final}
 
--- what the calls on a pair do, where no refusal with an earlier place in their order comes first: 10 in an open, 8 in a making, 1 and 8 in a cell outside the rate
+-- what the calls on a pair do, where no refusal with an earlier place in their order comes first: 10 and 19 in an open, 8 in a making, 1 and 8 in a cell outside the rate
 pub record Unknown (s : State) (vpi vci : ℕ) : Type 0 where
-  pub opens : (t : ℕ) (p : Params) → 32 ≤ vci → step s (opening vpi vci t p) ≡ refuse s 7
+  pub opens : (t : ℕ) (p : Params) → 32 ≤ vci → codesClear (p .pcr) (p .mcr) (p .icr) ≡ true → step s (opening vpi vci t p) ≡ refuse s 7
   pub closes : step s (closing vpi vci) ≡ refuse s 11
   pub offers : (n : ℕ) → step s (offering vpi vci n) ≡ refuse s 11
   pub makes : (t : ℕ) → t ≤ latestTime → step s (making vpi vci t) ≡ refuse s 11

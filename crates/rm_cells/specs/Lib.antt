@@ -2,3 +2,4 @@
 pub mod Marks
 pub mod OutOfRate
 pub mod Addresses
+pub mod ReservedBit

@@ -139,7 +139,7 @@ pub fn after(kind: Kind, t: u64, c: Connection) -> Connection
     }
 }
 
-// The code of a code's own rate: the code without bit 15, and 0 without nz.
+// The code of a code's own rate: its low 15 bits, and 0 without nz, whatever number stands where a code should.
 pub fn canonical(code: u32) -> u32
     ensures { λ r. ⌜ r ≡ codeOf (rateOf code) ⌝ }
 {

@@ -1,4 +1,4 @@
-// Cells with octets changed (document 01, "The cell, 53 octets" and "Refused because of the input"; document 02, L6).
+// Cells with octets changed (document 01, "The cell, 53 octets" and "Refused because of the input"; document 02, L6 and L7).
 ghost use mathlib.Core.Path.{_≡_};
 ghost use lib.ListN.{length};
 use crate::cells::reading;
@@ -38,8 +38,8 @@ fn row(vci: u32, d: u8, index: usize, x: u8) {
 }
 
 // Octet 5, and an octet that it covers; VPI 1 and 128, which are read; payload types 4, 5 and 7; the first octet that the CRC-10 covers, which is the protocol, a middle one
-// and the last; what is ignored when read: GFC, CLP, bit 15 of CCR, reserved bits of octet 7, octet 22, six bits of octet 52; data cells of payload types 0 to
-// 3, whatever octet 6 is.
+// and the last; bit 15 of ER, CCR and MCR; what is ignored when read: GFC, CLP, reserved bits of octet 7, octet 22, six bits of octet 52; data cells of payload
+// types 0 to 3, whatever octet 6 is.
 pub fn show() {
     row(0x1234, 0x4c, 4, 0x00);
     row(0x1234, 0x4c, 0, 0x10);
@@ -51,9 +51,11 @@ pub fn show() {
     row(0x1234, 0x4c, 5, 0x02);
     row(0x1234, 0x4c, 29, 0x6b);
     row(0x1234, 0x4c, 52, 0x00);
+    row(0x1234, 0x4c, 7, 0xff);
+    row(0x1234, 0x4c, 9, 0xd3);
+    row(0x1234, 0x4c, 11, 0xc0);
     row(0x1234, 0x4c, 0, 0xf0);
     row(0x1234, 0x4d, 0, 0x00);
-    row(0x1234, 0x4c, 9, 0xd3);
     row(0x1234, 0x4c, 6, 0x0f);
     row(0x1234, 0x4c, 21, 0x00);
     row(0x1234, 0x4c, 51, 0xfc);

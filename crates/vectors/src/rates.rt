@@ -39,15 +39,15 @@ fn moved(acr: u64, passed: u64, c: u32, y: u32, pcr: u32, ci: bool, ni: bool, er
     );
 }
 
-// Codes: the checked values, bit 15 ignored, nz 0 under every other bit. Gaps: the checked values, the slowest and the fastest rate. Rates: the checked values,
-// both ends of the range and what lies above it.
+// Codes: the checked values, the highest mantissa of a lower exponent, nz 0 under every other bit. Gaps: the checked values, the slowest and the fastest
+// rate. Rates: the checked values, both ends of the range and what lies above it.
 // Moves: the three checked values of feedback, the third at ADTF and one below CRM; past ADTF and at CRM, with CDF zero, and below ICR; where both cuts would
 // pass MCR; no mark, NI, NI with a lower ER, an ER below MCR, CI with NI.
 pub fn show() {
     coded(0x4000, 512000, 512000);
     coded(0x7fff, 1536, 1023);
-    coded(0xffff, 512, 1025);
-    coded(0xbfff, 2196875771904, 511);
+    coded(0x5fff, 512, 1025);
+    coded(0x3fff, 2196875771904, 511);
     coded(0x0000, 512, 0);
     coded(0x53e8, 512, 512);
     coded(0x41ff, 512, 2196875771904);

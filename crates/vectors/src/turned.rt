@@ -5,11 +5,11 @@ use turning::turn::turn;
 use writing::turned::put_turned;
 use writing::with_crc::with_crc;
 
-// A forward cell with this octet 7, and ones wherever a bit is to stay: bit 15 of the rates, an odd reserved octet, the six reserved bits. It is turned at
-// this level, with this saved EFCI.
+// A forward cell with this octet 7, and ones wherever a bit is to stay: an odd reserved octet, the six reserved bits. It is turned at this level, with
+// this saved EFCI.
 fn row(octet: u8, level: u32, efci: bool) {
     let p = Payload {
-        a: 0x0100ffffd3e8c000 + octet as u64 * 0x1000000000000,
+        a: 0x01007fff53e84000 + octet as u64 * 0x1000000000000,
         b: 0x0123456789abcdef,
         c: 0x6a6a6a6a6a6a6a6a,
         d: 0x6a6a6a6a006a6a6a,

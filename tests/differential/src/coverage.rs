@@ -228,6 +228,28 @@ events! {
     WritePath,
     /// A cell with a GFC other than 0 was accepted.
     GfcIgnored,
+    /// A received cell with the reserved bit in a rate code was refused for it although
+    /// its connection is not open.
+    ReservedUnknown,
+    /// One was refused for its CRC-10, which is looked at before.
+    ReservedCrc,
+    /// One was refused for its protocol, which is looked at before.
+    ReservedProtocol,
+    /// A data cell was accepted whose octets 8, 10 or 12 begin with that bit.
+    ReservedData,
+    /// An open with the reserved bit was refused for its VCI under 32.
+    ReservedLowVci,
+    /// One was refused for the bit although a parameter or its address is out of range.
+    ReservedBesideRange,
+    /// One was refused for the bit although another code has more than 16 bits.
+    ReservedBesideWide,
+    /// An open was refused for a code of more than 16 bits that has bit 15 set, the others
+    /// having it clear.
+    WideReserved,
+    /// A code of bit 14 alone was accepted in an open.
+    NzOpened,
+    /// The same in a received RM cell.
+    NzReceived,
     /// Exactly 65,535 cells wait after an offer.
     OfferFills,
     /// An offer of nothing to a full connection.
@@ -235,7 +257,7 @@ events! {
 }
 
 /// The greatest number of a refusal.
-const REFUSAL_MAX: usize = 18;
+const REFUSAL_MAX: usize = 19;
 
 /// Counts of all that was reached.
 #[derive(Debug, Clone)]
@@ -253,6 +275,9 @@ pub struct Coverage {
     /// By sort of call, of those refused for a pair out of range that would be an open
     /// one if its numbers were cut, and if they were added.
     pub out_of_range: [[u64; 2]; SORTS.len()],
+    /// By sort of call and place of the code, of those refused for the reserved bit that
+    /// one of three rate codes alone has.
+    pub reserved: [[u64; 3]; SORTS.len()],
     /// By damaged octet of a refused cell.
     pub damaged: [u64; 53],
     events: [u64; EVENTS.len()],
@@ -267,6 +292,7 @@ impl Default for Coverage {
             kinds: [0; 4],
             comparisons: [[0; COMPARISONS_MAX as usize + 1]; SORTS.len()],
             out_of_range: [[0; 2]; SORTS.len()],
+            reserved: [[0; 3]; SORTS.len()],
             damaged: [0; 53],
             events: [0; EVENTS.len()],
         }
@@ -275,9 +301,9 @@ impl Default for Coverage {
 
 /// The refusals that each sort of call has, in the order of [`SORTS`].
 const REFUSALS: [&[usize]; SORTS.len()] = [
-    &[7, 8, 10, 12, 13, 14],
+    &[7, 8, 10, 12, 13, 14, 19],
     &[11],
-    &[1, 2, 4, 5, 6, 11],
+    &[1, 2, 4, 5, 6, 11, 19],
     &[11, 15],
     &[9],
     &[1, 8, 14],
@@ -285,15 +311,18 @@ const REFUSALS: [&[usize]; SORTS.len()] = [
     &[1, 8, 11, 14, 18],
     &[11],
     &[1, 7],
-    &[1, 2, 4, 5, 6],
+    &[1, 2, 4, 5, 6, 19],
     &[9],
-    &[7],
+    &[7, 19],
     &[],
 ];
 
 /// The sorts of call that name a connection by its two numbers, by their places in
 /// [`SORTS`].
 const NAMING: [usize; 6] = [0, 1, 3, 6, 7, 8];
+
+/// Those that read three rate codes: open, receive and read.
+const READING: [usize; 3] = [0, 2, 10];
 
 impl Coverage {
     /// Counts a call and its outcome.
@@ -312,6 +341,18 @@ impl Coverage {
         let counts = &mut self.out_of_range[call.sort()];
         for (count, like) in counts.iter_mut().zip(like_open) {
             *count += u64::from(like);
+        }
+    }
+
+    /// Counts a call that was refused for the reserved bit, if one of its three rate codes
+    /// alone has it.
+    pub fn count_reserved(&mut self, call: &Call, codes: [bool; 3]) {
+        if codes.into_iter().filter(|has| *has).count() != 1 {
+            return;
+        }
+        let counts = &mut self.reserved[call.sort()];
+        for (count, has) in counts.iter_mut().zip(codes) {
+            *count += u64::from(has);
         }
     }
 
@@ -341,6 +382,9 @@ impl Coverage {
         for (to, from) in self.out_of_range.iter_mut().zip(&other.out_of_range) {
             add(to, from);
         }
+        for (to, from) in self.reserved.iter_mut().zip(&other.reserved) {
+            add(to, from);
+        }
         add(&mut self.kinds, &other.kinds);
         add(&mut self.damaged, &other.damaged);
         add(&mut self.events, &other.events);
@@ -368,6 +412,12 @@ impl Coverage {
                 added,
                 format!("{} of a pair that is one if added", SORTS[sort]),
             );
+        }
+        for sort in READING {
+            for (place, count) in self.reserved[sort].iter().enumerate() {
+                let name = format!("{} with the bit in code {place} alone", SORTS[sort]);
+                require(*count, name);
+            }
         }
         for (kind, count) in self.kinds.iter().enumerate() {
             require(*count, format!("slot of kind {kind}"));

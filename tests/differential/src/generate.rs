@@ -81,9 +81,7 @@ impl Generator {
                 cell: self.cell(seen),
             },
             11 => Call::Code { rate: self.rate() },
-            12 => Call::Rate {
-                code: self.code_16(),
-            },
+            12 => Call::Rate { code: self.code() },
             _ => self.house(),
         }
     }
@@ -106,6 +104,9 @@ impl Generator {
         let mut params = self.params();
         if self.fault() {
             self.put_out_of_range(&mut params);
+        }
+        if self.fault() {
+            self.reserve(&mut params);
         }
         Call::Open { at, time, params }
     }
@@ -130,12 +131,11 @@ impl Generator {
         if self.profile.no_minimum > 0 && self.rng.once_in(self.profile.no_minimum) {
             self.remove_minimum(&mut codes);
         }
-        let bit_15 = self.rng.pick(&[0, 0, 0x8000]);
         let any = [8, 15, 15, 7, 8_388_608, 1_023, 7].map(|top| self.rng.within(1, top));
         abr_params {
-            mcr: codes[0] | bit_15,
+            mcr: codes[0],
             icr: codes[1],
-            pcr: codes[2] | bit_15,
+            pcr: codes[2],
             n: self.rng.pick(&[1, 2, 2, 3, 3, 4, 5, any[0]]),
             r: self.rng.pick(&[0, 2, 4, any[1]]),
             d: self.rng.pick(&[0, 1, 3, 4, any[2]]),
@@ -147,7 +147,8 @@ impl Generator {
     }
 
     /// Gives minimum, initial and peak rate a minimum of 0, in any of its codes;
-    /// sometimes an initial rate of 0, and sometimes a peak of a few cells per second.
+    /// sometimes an initial rate of 0 or of the code of bit 14 alone, and sometimes a peak
+    /// of a few cells per second.
     fn remove_minimum(&mut self, codes: &mut [u32; 3]) {
         let any = self.rng.next() as u32 & 0x3FFF;
         codes[0] = self.rng.pick(&[0, 0, 1, 0x1FF, 0x3FFF, any]);
@@ -156,7 +157,7 @@ impl Generator {
             codes[1] = codes[1].min(codes[2]);
         }
         if self.rng.once_in(4) {
-            codes[1] = self.rng.pick(&[0, 0x1FF, any]);
+            codes[1] = self.rng.pick(&[0, 0x1FF, any, 0x4000]);
         }
     }
 
@@ -178,6 +179,22 @@ impl Generator {
             10 => params.adtf = self.rng.pick(&[0, 1_024, u32::MAX, any | 1 << 10]),
             _ => params.trm = self.rng.pick(&[8, 32, 64, u32::MAX, any | 8]),
         }
+    }
+
+    /// Sets the reserved bit in one of the three codes, sometimes in all.
+    fn reserve(&mut self, params: &mut abr_params) {
+        let codes = [&mut params.pcr, &mut params.mcr, &mut params.icr];
+        let which = self.reserved_codes();
+        for (code, bit) in codes.into_iter().zip(which) {
+            *code |= bit;
+        }
+    }
+
+    /// The reserved bit for one of three codes, sometimes for all of them.
+    fn reserved_codes(&mut self) -> [u32; 3] {
+        const BIT: u32 = 0x8000;
+        self.rng
+            .pick(&[[BIT, 0, 0], [0, BIT, 0], [0, 0, BIT], [BIT, BIT, BIT]])
     }
 
     fn offer(&mut self, seen: &Observation) -> Call {
@@ -263,15 +280,18 @@ impl Generator {
         ])
     }
 
-    /// A rate code, mostly of 16 bits.
-    fn code_16(&mut self) -> u32 {
+    /// A rate code, mostly of 15 bits.
+    fn code(&mut self) -> u32 {
         let any = self.rng.next() as u32;
         if self.fault() {
             return self
                 .rng
-                .pick(&[0x1_0000, 0x1_4000, u32::MAX, any | 0x1_0000]);
+                .pick(&[0x1_0000, 0x1_4000, 0x1_8000, u32::MAX, any | 0x1_0000]);
         }
-        any & 0xFFFF
+        if self.fault() {
+            return self.rng.pick(&[0x8000, 0xC000, any & 0xFFFF | 0x8000]);
+        }
+        any & 0x7FFF
     }
 }
 

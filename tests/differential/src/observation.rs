@@ -5,6 +5,7 @@
 mod address;
 mod made;
 mod outside;
+mod reserved;
 mod turned;
 mod zero;
 
@@ -142,10 +143,12 @@ impl Observation {
             Ok(answer) => answer,
             Err(number) => {
                 self.refused_address(call, *number, coverage);
+                self.refused_reserved(call, *number, coverage);
                 self.refused(call, *number, coverage);
                 return self.refused_outside(call, *number, coverage);
             }
         };
+        reserved::accepted(call, coverage);
         match (*call, *answer) {
             (Call::Open { at, time, params }, _) => {
                 self.opened(at, time, params, acr, coverage);

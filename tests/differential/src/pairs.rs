@@ -1,7 +1,8 @@
 //! Two lists that differ in received backward cells only, those of the second at
 //! least as congested (document 01, "Four moves of the allowed rate" and "The
 //! lists of demand 3"; document 02, L1 and L5: made and out-of-rate cells too are at
-//! the same places in both): as long as the slots go to the same connections, no
+//! the same places in both; L7: cells with the reserved bit in a rate code are refused
+//! and the same in both): as long as the slots go to the same connections, no
 //! allowed rate of the second is above that of the first, and every allowed rate is
 //! between its minimum, which may be 0, and its peak. Refusals and kinds are the same;
 //! comparisons may differ, since ready instants follow the rates. Two out-of-rate
@@ -232,10 +233,10 @@ fn raise_level(bits: &mut u8, rng: &mut Rng) {
     };
 }
 
-/// Gives a cell an explicit rate that is not higher, with any bit 15.
+/// Gives a cell an explicit rate that is not higher.
 fn lower_er(octets: &mut [u8; CELL_OCTETS], code: u32, rng: &mut Rng) {
     let less = rng.below(u64::from(code) + 1) as u32;
     let near = code.saturating_sub(rng.within(0, 300));
-    let lower = rng.pick(&[less, near, near]) | rng.pick(&[0, 0x8000]);
+    let lower = rng.pick(&[less, near, near]);
     octets[7..9].copy_from_slice(&(lower as u16).to_be_bytes());
 }

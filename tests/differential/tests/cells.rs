@@ -117,6 +117,9 @@ fn both_sides_read_random_octets_the_same() {
         };
         put_header(&mut octets, &header);
         octets[5] = rng.pick(&[1, 1, 0, 255]);
+        for place in CODES {
+            octets[place] &= rng.pick(&[0x7F, 0x7F, 0x7F, 0xFF]);
+        }
         if !rng.once_in(4) {
             put_crc(&mut octets);
         }
@@ -125,6 +128,9 @@ fn both_sides_read_random_octets_the_same() {
         let _ = agree(&mut both, &Call::Receive { cell });
     }
 }
+
+/// The octets that the three rate codes of a cell begin with.
+const CODES: [usize; 3] = [7, 9, 11];
 
 /// A good RM cell of the open connection.
 fn good(dir: u8) -> [u8; CELL_OCTETS] {
@@ -208,12 +214,21 @@ fn every_length_but_53_is_refused() {
     }
 }
 
+/// Why a rate code is refused, if it is (document 02, L7).
+fn refused_code(code: u32) -> Option<u32> {
+    match code {
+        0..=0x7FFF => None,
+        0x8000..=0xFFFF => Some(19),
+        _ => Some(7),
+    }
+}
+
 #[test]
 fn every_rate_code_and_the_rates_beside_it() {
     let mut both = Both::default();
     for code in 0..=0x1_FFFF {
         let outcome = agree(&mut both, &Call::Rate { code });
-        assert_eq!(outcome.is_err(), code > 0xFFFF);
+        assert_eq!(outcome.err(), refused_code(code));
         let Ok(Answer::Number(rate)) = outcome else {
             continue;
         };
@@ -231,29 +246,98 @@ fn every_rate_code_and_the_rates_beside_it() {
 }
 
 /// Opens a connection with these codes of peak, minimum and initial rate, has an
-/// out-of-rate cell, which carries all three, and closes it; whether it opened.
-fn opens(both: &mut Both, pcr: u32, mcr: u32, icr: u32) -> bool {
+/// out-of-rate cell, which carries all three, and closes it.
+fn opens(both: &mut Both, pcr: u32, mcr: u32, icr: u32) -> Result<(), u32> {
     let (at, time, len) = (AT, 0, CELL_OCTETS);
     let params = library_params(&reference::Params::house(pcr, mcr, icr));
-    if agree(both, &Call::Open { at, time, params }).is_err() {
-        return false;
-    }
+    agree(both, &Call::Open { at, time, params })?;
     let cell = agree(both, &Call::OutOfRate { at, time, len });
     assert_eq!(cell, Ok(Answer::Done));
-    agree(both, &Call::Close { at }).is_ok()
+    agree(both, &Call::Close { at }).map(|_| ())
 }
 
-/// Every code as minimum, as initial rate and as peak (document 02, L5).
+/// Every code as minimum, as initial rate and as peak (document 02, L5 and L7).
 #[test]
 fn every_code_of_the_three_rates() {
     let mut both = Both::default();
     for code in 0..=0x1_FFFF {
         for (pcr, mcr, icr) in [(0x5000, code, 0x5000), (0x5000, 0, code), (code, 0, 0)] {
-            let rates = [pcr, mcr, icr].map(reference::rate);
-            let fits = matches!(rates, [Ok(pcr), Ok(mcr), Ok(icr)]
-                if mcr <= icr && icr <= pcr && pcr >= 512);
+            let [peak, minimum, initial] = [pcr, mcr, icr].map(reference::rate_of);
+            let in_order = minimum <= initial && initial <= peak && peak >= 512;
+            let expected = match refused_code(code) {
+                Some(number) => Err(number),
+                None => in_order.then_some(()).ok_or(7),
+            };
             let opened = opens(&mut both, pcr, mcr, icr);
-            assert_eq!(opened, fits, "{pcr:x} {mcr:x} {icr:x}");
+            assert_eq!(opened, expected, "{pcr:x} {mcr:x} {icr:x}");
+        }
+    }
+}
+
+/// Every number of 16 bits as each of the three codes of a cell, forward and backward,
+/// read and received (document 02, L7).
+#[test]
+fn every_code_in_a_cell() {
+    let mut both = with_connection();
+    for code in 0..=0xFFFF_u16 {
+        for (place, dir) in CODES.into_iter().flat_map(|place| [(place, 0), (place, 1)]) {
+            let mut octets = good(dir);
+            octets[place..place + 2].copy_from_slice(&code.to_be_bytes());
+            put_crc(&mut octets);
+            let cell = Octets::cell(&octets);
+            let expected = refused_code(code.into());
+            for call in [Call::Read { cell }, Call::Receive { cell }] {
+                assert_eq!(agree(&mut both, &call).err(), expected, "{call:x?}");
+            }
+        }
+    }
+}
+
+/// The reserved bit in any of the three codes, of a connection that is open or not, with
+/// checks and protocol that are right or not, and in a data cell, which has no codes.
+#[test]
+fn where_19_comes_in_the_order_of_refusals() {
+    let mut both = with_connection();
+    let mut answers = |octets: &[u8; CELL_OCTETS]| {
+        let cell = Octets::cell(octets);
+        let read = agree(&mut both, &Call::Read { cell }).err();
+        (read, agree(&mut both, &Call::Receive { cell }).err())
+    };
+    for bits in 1..8 {
+        for vci in [AT.vci, AT.vci + 1] {
+            let (vpi, gfc, clp) = (AT.vpi, 0, 0);
+            let mut octets = good(1);
+            for (place, octet) in CODES.into_iter().enumerate() {
+                octets[octet] |= (bits >> place & 1) << 7;
+            }
+            put_header(
+                &mut octets,
+                &Header {
+                    gfc,
+                    vpi,
+                    vci,
+                    pt: 6,
+                    clp,
+                },
+            );
+            assert_eq!(answers(&octets), (Some(5), Some(5)));
+            put_crc(&mut octets);
+            assert_eq!(answers(&octets), (Some(19), Some(19))); // before 11
+            octets[5] = 0;
+            put_crc(&mut octets);
+            assert_eq!(answers(&octets), (Some(6), Some(6)));
+            put_header(
+                &mut octets,
+                &Header {
+                    gfc,
+                    vpi,
+                    vci,
+                    pt: 2,
+                    clp,
+                },
+            );
+            let unknown = (vci != AT.vci).then_some(11);
+            assert_eq!(answers(&octets), (None, unknown));
         }
     }
 }

@@ -42,6 +42,7 @@ impl Generator {
         let at = self.address(seen);
         let at = Address::new(at.vpi & VPI_MAX, at.vci & VCI_MAX);
         let code = |rng: &mut Rng| rng.next() as u32 & 0x7FFF;
+        let ccr = code(&mut self.rng);
         abr_rm {
             vpi: at.vpi,
             vci: at.vci,
@@ -51,7 +52,7 @@ impl Generator {
             ni: bits >> 3 & bits >> 4 & 1,
             ra: bits >> 5 & 1,
             er: self.explicit(seen, at),
-            ccr: code(&mut self.rng),
+            ccr: self.rng.pick(&[ccr, ccr, ccr, 0x4000]),
             mcr: code(&mut self.rng),
             ql: self.rng.next() as u32,
             sn: self.rng.next() as u32,
@@ -72,7 +73,7 @@ impl Generator {
             0x7FFF,
             acr,
             below,
-            connection.params.mcr & 0x7FFF,
+            connection.params.mcr,
             0,
             any,
         ])
@@ -87,6 +88,9 @@ impl Generator {
             self.payload(&mut cell, &rm);
         } else {
             self.rng.fill(&mut cell[5..]);
+        }
+        if header.pt == 6 && self.fault() {
+            self.reserve_in(&mut cell);
         }
         let fault = if self.fault() {
             1 + self.rng.below(6)
@@ -120,8 +124,15 @@ impl Generator {
         }
     }
 
-    /// The payload of an RM cell; the reserved octets and bits and bit 15 of
-    /// the codes are often not those that a write gives.
+    /// Sets the reserved bit in one of a cell's three codes, sometimes in all.
+    fn reserve_in(&mut self, cell: &mut [u8; CELL_OCTETS]) {
+        for (place, bit) in self.reserved_codes().into_iter().enumerate() {
+            cell[7 + 2 * place] |= (bit >> 8) as u8;
+        }
+    }
+
+    /// The payload of an RM cell; the reserved octets and bits beside the codes are
+    /// often not those that a write gives.
     fn payload(&mut self, cell: &mut [u8; CELL_OCTETS], rm: &abr_rm) {
         let other = self.rng.once_in(2);
         cell[21..51].fill(0x6A);
@@ -134,7 +145,6 @@ impl Generator {
         cell[6] = (bits | random & 7) as u8;
         let codes = [rm.er, rm.ccr, rm.mcr];
         for (place, code) in codes.into_iter().enumerate() {
-            let code = code | random << (12 - place) & 0x8000;
             cell[7 + 2 * place..9 + 2 * place].copy_from_slice(&(code as u16).to_be_bytes());
         }
         cell[13..17].copy_from_slice(&rm.ql.to_be_bytes());

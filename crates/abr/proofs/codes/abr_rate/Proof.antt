@@ -1,13 +1,26 @@
-use borrow.Author.Tests.{le-leb, lt-leb}
+use mathlib.Core.Path.{sym, _∙_}
+use borrow.Author.Tests.{not-true, not-false, le-leb, lt-leb}
 use borrow.Author.Needs.{needs}
+use Rattle.laws.specs.Require.{require}
 use Rattle.abr.proofs.codes.abr_rate.Statement.{statement}
 use Rattle.abr.proofs.codes.abr_rate.Tie as tie
 
 returns : tie.Need-returns
+unfolding require
 returns c = rw (lt-leb (c .before .args .code) 65535 (search needs))
 
 returns-2 : tie.Need-returns-2
-returns-2 c = rw (c .rate-of .ensures, le-leb (c .before .before .args .code) 65535 (search needs))
+unfolding require
+returns-2 c =
+    let e = c .before .before in
+    rw (le-leb (e .before .args .code) 65535 (e .if1 .left), sym (c .before .reserved-clear .ensures) ∙ not-true _ (c .if2 .taken))
+
+returns-3 : tie.Need-returns-3
+unfolding require
+returns-3 c =
+    let d = c .before in
+    let e = d .before .before in
+    rw (c .rate-of .ensures, le-leb (e .before .args .code) 65535 (e .if1 .left), sym (d .before .reserved-clear .ensures) ∙ not-false _ (d .if2 .left))
 
 pub abr-rate-spec : {M : Type 1} → statement M
-abr-rate-spec = tie.close (tie.spec returns (λ c κs. search needs) returns-2)
+abr-rate-spec = tie.close (tie.spec returns (λ c κs. search needs) returns-2 (λ c κs. search needs) returns-3)

@@ -22,7 +22,15 @@ returns-2 c = simp (right (c .before .before), ne-eqb _ _ (c .if2 .taken))
 
 returns-3 : tie.Need-returns-3
 unfolding restRefusal
-returns-3 c = simp (right (c .before .before), eq-eqb _ _ (c .if2 .left))
+returns-3 c =
+    let e = c .before .before in
+    simp (right (e .before .before), eq-eqb _ _ (e .if2 .left), sym (c .before .rates-clear .ensures) ∙ not-true _ (c .if3 .taken))
+
+returns-4 : tie.Need-returns-4
+unfolding restRefusal
+returns-4 c =
+    let e = c .before .before in
+    simp (right (e .before .before), eq-eqb _ _ (e .if2 .left), sym (c .before .rates-clear .ensures) ∙ not-false _ (c .if3 .left))
 
 pub resource-refusal-spec : {M : Type 1} → statement M
-resource-refusal-spec = tie.close (tie.spec (λ c κs. search needs) returns (λ c. search needs) returns-2 returns-3)
+resource-refusal-spec = tie.close (tie.spec (λ c κs. search needs) returns (λ c. search needs) returns-2 (λ c κs. search needs) returns-3 returns-4)
