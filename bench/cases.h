@@ -50,6 +50,8 @@ static abr_cell content;
 static abr_allowed allowed;
 static abr_coded coded;
 static abr_rated rated;
+static abr_contract contract;
+static abr_imported imported;
 
 static void call_slot(void) { sent = abr_slot(&table, 3 * SECOND, cell, sizeof cell); }
 static void call_idle(void) { sent = abr_slot(&table, SECOND, cell, sizeof cell); }
@@ -64,10 +66,12 @@ static void call_out_of_rate(void)
     refusal = abr_out_of_rate(&table, at.vpi, at.vci, 3 * SECOND, cell, sizeof cell);
 }
 static void call_acr(void) { allowed = abr_acr(&table, at.vpi, at.vci); }
+static void call_export(void) { contract = abr_export(&table, at.vpi, at.vci, &refusal); }
 static void call_write_rm(void) { refusal = abr_write_rm(rm, cell, sizeof cell); }
 static void call_read(void) { content = abr_read(cell, sizeof cell); }
 static void call_code(void) { coded = abr_code(ABR_RATE_MAX); }
 static void call_rate(void) { rated = abr_rate(ABR_CODE_MAX); }
+static void call_import(void) { imported = abr_import(1000.7); }
 static void call_house(void) { params = abr_house(ABR_CODE_MAX, 0x4000, 0x53E8); }
 
 static const abr_case cases[] = {
@@ -86,11 +90,13 @@ static const abr_case cases[] = {
     {"make", MADE_WAITS, LOWEST, call_make, 0},
     {"out-of-rate cell", OUTSIDE, LOWEST, call_out_of_rate, 0},
     {"acr", NOTHING, LOWEST, call_acr, 0},
+    {"export", NOTHING, LOWEST, call_export, 0},
     {"write", NOTHING, LOWEST, call_write_rm, 0},
     {"read, RM cell", FORWARD_CELL, LOWEST, call_read, ABR_CELL_RM},
     {"read, data", DATA_CELL, LOWEST, call_read, ABR_CELL_DATA},
     {"code", NOTHING, LOWEST, call_code, 0},
     {"rate", NOTHING, LOWEST, call_rate, 0},
+    {"import", NOTHING, LOWEST, call_import, 0},
     {"house", NOTHING, LOWEST, call_house, 0},
 };
 
@@ -189,7 +195,11 @@ static int accepted(const abr_case *which)
     if (which->call == call_read) {
         return content.refusal == ABR_OK && content.kind == which->kind;
     }
-    return (refusal | answer.refusal | sent.refusal | allowed.refusal | coded.refusal | rated.refusal) == ABR_OK;
+    if (which->call == call_export) {
+        return refusal == ABR_OK && contract.pcr > 0;
+    }
+    return (refusal | answer.refusal | sent.refusal | allowed.refusal | coded.refusal | rated.refusal |
+            imported.refusal) == ABR_OK;
 }
 
 #endif

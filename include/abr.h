@@ -6,8 +6,8 @@
  * sections named below are those of document 01, "The ABR end-system rate
  * engine", which says what every call does, with requests L1 (abr_make), L2
  * (marks of a replaced cell), L4 (1,024 connections, comparisons), L5 (no minimum
- * rate, abr_out_of_rate), L6 (full addresses) and L7 (the reserved bit of a rate
- * code) of document 02.
+ * rate, abr_out_of_rate), L6 (full addresses), L7 (the reserved bit of a rate code)
+ * and L8 (abr_export, abr_import) of document 02.
  *
  * Addresses. A connection is named by its VPI and its VCI together, as VPI * 65,536
  * + VCI (document 02, L6): the same VCI on another VPI is another connection. Every
@@ -26,16 +26,18 @@
  * other. A table may be moved or copied as a whole, octet by octet, between
  * calls.
  *
- * Pointers. The only ones are to tables and to octets. None may be null. The
- * length given with a pointer to octets is that of the memory there. The
- * memory of two pointers of one call must not overlap. Octets need no
- * alignment; a table is aligned as C aligns uint64_t.
+ * Pointers. The only ones are to tables and to octets, and in abr_export to the
+ * number that takes the refusal. None may be null. The length given with a pointer
+ * to octets is that of the memory there. The memory of two pointers of one call
+ * must not overlap. Octets need no alignment; a table is aligned as C aligns
+ * uint64_t.
  *
  * Answers. Parameters and fields are passed by value, and so is every answer: a
- * number, or a struct whose first field is the refusal. The refusal is ABR_OK
- * (0) or the first one that applies in the order given at the call. A refused
- * call has written nothing, and every other field of its answer is 0. An answer
- * with a refusal must not be ignored; compilers that can warn of it do.
+ * number, or a struct whose first field is the refusal. Only the answer of abr_export
+ * is three doubles, beside which it writes the refusal. The refusal is ABR_OK (0) or
+ * the first one that applies in the order given at the call. A refused call has
+ * written nothing else, and every other field of its answer is 0. An answer with a
+ * refusal must not be ignored; compilers that can warn of it do.
  *
  * Comparisons. The ready instants of the connections play a tournament of ten
  * levels, neighbours paired at each (document 02, L4). An accepted open, close,
@@ -80,8 +82,8 @@ extern "C" {
 
 /* ---- Version ------------------------------------------------------------ */
 
-/* 0.8.0: major, minor and patch number, eight bits each. */
-#define ABR_VERSION 0x000800u
+/* 0.9.0: major, minor and patch number, eight bits each. */
+#define ABR_VERSION 0x000900u
 
 /* The words of a table, which has 270,488 octets. */
 #define ABR_TABLE_WORDS 33811u
@@ -188,6 +190,7 @@ extern "C" {
 
 /* Because of the input, added by document 02. */
 #define ABR_REFUSED_RESERVED_BIT 19u /* reserved bit of a rate code is set */
+#define ABR_REFUSED_DOUBLE 20u       /* not a rate: not a number, infinite, below 0, between 0 and 1, or 2^32 and more */
 
 /* ---- Types -------------------------------------------------------------- */
 
@@ -269,6 +272,20 @@ typedef struct {
     uint64_t rate;
 } abr_rated;
 
+/* The answer of abr_export: rates in cells per second. Three zeros if it is refused. */
+typedef struct {
+    double pcr; /* peak rate */
+    double mcr; /* minimum rate */
+    double icr; /* initial rate */
+} abr_contract;
+
+/* The answer of abr_import. */
+typedef struct {
+    uint32_t refusal;
+    uint32_t code;    /* of the greatest code rate not above the double */
+    double remainder; /* what the double has more than that rate, in cells per second; 0.0 if nothing */
+} abr_imported;
+
 /* ---- Header and archive ------------------------------------------------- */
 
 /* ABR_VERSION and ABR_TABLE_WORDS of the header that the archive was made with. */
@@ -325,6 +342,15 @@ ABR_MUST_USE abr_answer abr_offer(abr_table *table, uint32_t vpi, uint32_t vci, 
  * Refusal: 11 the connection is not open, vpi over 255 or vci over 65,535.
  */
 ABR_MUST_USE abr_allowed abr_acr(const abr_table *table, uint32_t vpi, uint32_t vci);
+
+/*
+ * The peak, minimum and initial rate of a connection as doubles in cells per second,
+ * for a planning tool (document 02, L8): the rates of the codes that its open gave,
+ * each over 512 and exact. The allowed rate does not matter. The refusal is written in
+ * every case.
+ * Refusal: 11 the connection is not open, vpi over 255 or vci over 65,535.
+ */
+ABR_MUST_USE abr_contract abr_export(const abr_table *table, uint32_t vpi, uint32_t vci, uint32_t *refusal);
 
 /* ---- The receive path --------------------------------------------------- */
 
@@ -447,6 +473,17 @@ ABR_MUST_USE abr_coded abr_code(uint64_t rate);
 ABR_MUST_USE abr_rated abr_rate(uint32_t code);
 
 /*
+ * The rate code of a double in cells per second (document 02, L8). If the double is
+ * the rate of a code exactly, that code and a remainder of 0.0; else the code below and
+ * the remainder: rate of the code over 512 plus remainder is the double, with no
+ * rounding. Both zeros have the code 0x0000. Above the largest code rate and below
+ * 2^32 the code is ABR_CODE_MAX. What abr_export gives is imported as the code of that
+ * rate, 0x0000 if it is 0.
+ * Refusal: 20 not a number, infinite, below 0, between 0 and 1, or 2^32 and more.
+ */
+ABR_MUST_USE abr_imported abr_import(double cells_per_second);
+
+/*
  * The house set with three rate codes (section "Opening"). Nothing is refused
  * here: an open checks the result.
  */
@@ -477,6 +514,7 @@ static inline const char *abr_refusal_text(uint32_t refusal)
     case ABR_REFUSED_TOO_SOON: return "less than 100 ms since the last cell made on this connection";
     case ABR_REFUSED_TOO_OFTEN: return "less than 100 ms since the last out-of-rate cell on this connection";
     case ABR_REFUSED_RESERVED_BIT: return "reserved bit of a rate code is set";
+    case ABR_REFUSED_DOUBLE: return "not a rate: not a number, infinite, below 0, between 0 and 1, or 2^32 and more";
     default: return "not an answer of this library";
     }
 }
@@ -514,6 +552,11 @@ ABR_LAYOUT(coded_size, sizeof(abr_coded) == 8);
 ABR_LAYOUT(coded_code, offsetof(abr_coded, code) == 4);
 ABR_LAYOUT(rated_size, sizeof(abr_rated) == 16);
 ABR_LAYOUT(rated_rate, offsetof(abr_rated, rate) == 8);
+ABR_LAYOUT(contract_size, sizeof(abr_contract) == 24);
+ABR_LAYOUT(contract_icr, offsetof(abr_contract, icr) == 16);
+ABR_LAYOUT(imported_size, sizeof(abr_imported) == 16);
+ABR_LAYOUT(imported_code, offsetof(abr_imported, code) == 4);
+ABR_LAYOUT(imported_remainder, offsetof(abr_imported, remainder) == 8);
 
 #undef ABR_LAYOUT
 

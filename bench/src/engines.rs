@@ -30,11 +30,13 @@ pub trait Engine {
     fn make(&mut self, at: Address, time: u64);
     fn out_of_rate(&mut self, at: Address, time: u64, buffer: &mut Octets);
     fn acr(&self, at: Address);
+    fn export(&self, at: Address);
 
     fn write_rm(rm: &Self::Rm, buffer: &mut Octets);
     fn read(cell: &Octets);
     fn code(rate: u64);
     fn rate(code: u32);
+    fn import(cells_per_second: f64);
     /// The house set with one code for the three rates.
     fn house(code: u32);
 }
@@ -103,6 +105,12 @@ impl Engine for Library {
         black_box(&unsafe { ffi::abr_acr(&*self.table, at.vpi, at.vci) });
     }
 
+    fn export(&self, at: Address) {
+        let mut refusal = 0;
+        black_box(&unsafe { ffi::abr_export(&*self.table, at.vpi, at.vci, &mut refusal) });
+        black_box(refusal);
+    }
+
     fn write_rm(rm: &ffi::abr_rm, buffer: &mut Octets) {
         black_box(unsafe { ffi::abr_write_rm(*rm, buffer.as_mut_ptr(), buffer.len()) });
     }
@@ -117,6 +125,10 @@ impl Engine for Library {
 
     fn rate(code: u32) {
         black_box(&unsafe { ffi::abr_rate(code) });
+    }
+
+    fn import(cells_per_second: f64) {
+        black_box(&unsafe { ffi::abr_import(cells_per_second) });
     }
 
     fn house(code: u32) {
@@ -194,6 +206,11 @@ impl Engine for Reference {
     }
 
     #[inline(never)]
+    fn export(&self, at: Address) {
+        black_box(&self.engine.export(at));
+    }
+
+    #[inline(never)]
     fn write_rm(rm: &Rm, buffer: &mut Octets) {
         black_box(&reference::write_rm(rm, buffer));
     }
@@ -211,6 +228,11 @@ impl Engine for Reference {
     #[inline(never)]
     fn rate(code: u32) {
         black_box(&reference::rate(code));
+    }
+
+    #[inline(never)]
+    fn import(cells_per_second: f64) {
+        black_box(&reference::import(cells_per_second));
     }
 
     #[inline(never)]

@@ -135,9 +135,14 @@ impl<E: Engine> Fixture<E> {
                 self.engine.out_of_rate(at, self.time, &mut buffer);
             }),
             Workload::Acr => repeat(times, |_| self.engine.acr(black_box(self.last))),
+            Workload::Export => repeat(times, |_| self.engine.export(black_box(self.last))),
             Workload::Level => repeat(times, |_| self.engine.set_level(black_box(1))),
             Workload::Code => repeat(times, |_| E::code(black_box(512_000))),
             Workload::Rate => repeat(times, |_| E::rate(black_box(CODE))),
+            Workload::Import { exact } => {
+                let cells = if exact { 1_000.0 } else { 1_000.7 };
+                repeat(times, |_| E::import(black_box(cells)));
+            }
             Workload::House => repeat(times, |_| E::house(black_box(CODE))),
         }
         black_box(buffer);

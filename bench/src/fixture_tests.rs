@@ -149,6 +149,18 @@ fn out_of_rate_cells_are_accepted() {
     }
 }
 
+/// The measured exports are accepted, and the two imports are one with and one without a
+/// remainder.
+#[test]
+fn doubles_are_accepted() {
+    let fixture = Fixture::<Reference>::new(64, Workload::Export);
+    let exported = fixture.engine.engine.export(fixture.last).unwrap();
+    assert_eq!(reference::import(exported.pcr).unwrap().code, CODE);
+    let remainder = |cells| reference::import(cells).unwrap().remainder;
+    assert_eq!(remainder(1_000.0), 0.0);
+    assert!(remainder(1_000.7) > 0.0);
+}
+
 /// The measured opens and closes are accepted.
 #[test]
 fn opens_are_accepted() {

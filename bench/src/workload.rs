@@ -46,12 +46,16 @@ pub enum Workload {
     OutOfRate,
     /// The rate of the last connection.
     Acr,
+    /// The contract of the last connection as doubles.
+    Export,
     /// The congestion level set.
     Level,
     /// The code of a rate.
     Code,
     /// The rate of a code.
     Rate,
+    /// The code of a double, which is the rate of that code or between two.
+    Import { exact: bool },
     /// The house set of parameters.
     House,
 }
@@ -93,7 +97,7 @@ const fn row(name: &'static str, text: &'static str, connections: u32, workload:
 }
 
 /// All rows.
-pub static ROWS: [Row; 48] = [
+pub static ROWS: [Row; 53] = [
     row(
         "slot-1",
         "slot, 1 busy connection",
@@ -313,8 +317,38 @@ pub static ROWS: [Row; 48] = [
         1_024,
         Workload::Acr,
     ),
+    row(
+        "export-1",
+        "export a contract as doubles, 1 open",
+        1,
+        Workload::Export,
+    ),
+    row(
+        "export-64",
+        "export a contract as doubles, last of 64",
+        64,
+        Workload::Export,
+    ),
+    row(
+        "export-1024",
+        "export a contract as doubles, last of 1,024",
+        1_024,
+        Workload::Export,
+    ),
     row("level", "set the congestion level", 64, Workload::Level),
     row("code", "code of a rate", 0, Workload::Code),
     row("rate", "rate of a code", 0, Workload::Rate),
+    row(
+        "import",
+        "import a double that is a code rate",
+        0,
+        Workload::Import { exact: true },
+    ),
+    row(
+        "import-rest",
+        "import a double with a remainder",
+        0,
+        Workload::Import { exact: false },
+    ),
     row("house", "house set of parameters", 0, Workload::House),
 ];

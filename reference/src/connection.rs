@@ -7,6 +7,7 @@
 use crate::address::Address;
 use crate::cell::{self, Octets, Rm};
 use crate::destination::Destination;
+use crate::double::{self, Exported};
 use crate::params::{Contract, CDF_ZERO, CRM_MAX, MRM};
 use crate::rate::{code_within, gap, rate_of};
 use crate::refusal::{self, Refusal};
@@ -145,6 +146,16 @@ impl Connection {
     /// The allowed rate.
     pub fn acr(&self) -> u64 {
         self.rate.acr
+    }
+
+    /// The three rates that its open gave, as doubles (document 02, L8).
+    pub fn export(&self) -> Exported {
+        let Contract { pcr, mcr, icr, .. } = self.rate.contract;
+        Exported {
+            pcr: double::export(pcr),
+            mcr: double::export(mcr),
+            icr: double::export(icr),
+        }
     }
 
     /// Adds waiting data. Refusal: 15.

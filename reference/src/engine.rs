@@ -9,6 +9,7 @@ use std::collections::BTreeMap;
 use crate::address::Address;
 use crate::cell::{self, Cell, Octets};
 use crate::connection::{Connection, Kind};
+use crate::double::Exported;
 use crate::params::Params;
 use crate::refusal::{self, Refusal};
 use crate::tournament::{Tournament, LEAVES};
@@ -186,14 +187,24 @@ impl Engine {
 
     /// The allowed rate of a connection. Refusal: 11.
     pub fn acr(&self, at: Address) -> Result<u64, Refusal> {
-        let entry = self.table.get(&at).ok_or(refusal::NOT_OPEN)?;
-        Ok(entry.connection.acr())
+        Ok(self.entry(at)?.connection.acr())
+    }
+
+    /// The peak, minimum and initial rate of a connection as doubles in cells per
+    /// second. Refusal: 11.
+    pub fn export(&self, at: Address) -> Result<Exported, Refusal> {
+        Ok(self.entry(at)?.connection.export())
     }
 
     /// Who wins the tournament, whatever the time: ready instant and name.
     #[cfg(test)]
     pub(crate) fn top(&self) -> Option<(u64, u32)> {
         self.tournament.top()
+    }
+
+    /// The entry with this address. Refusal: 11.
+    fn entry(&self, at: Address) -> Result<&Entry, Refusal> {
+        self.table.get(&at).ok_or(refusal::NOT_OPEN)
     }
 
     /// The connection with this address. Refusal: 11.
@@ -205,7 +216,7 @@ impl Engine {
     /// Replays the matches of a connection, whose ready instant may have changed,
     /// and gives the comparisons. Refusal: 11.
     fn replay(&mut self, at: Address) -> Result<u32, Refusal> {
-        let entry = self.table.get(&at).ok_or(refusal::NOT_OPEN)?;
+        let entry = self.entry(at)?;
         let entrant = entry.connection.ready().map(|ready| (ready, entry.name));
         Ok(self.tournament.replay(entry.leaf, entrant))
     }

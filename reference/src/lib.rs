@@ -6,6 +6,7 @@
 //! document 02 only counts comparisons.
 //!
 //! * [`rate`]: rate codes and the gap between cells;
+//! * [`double`]: rates as doubles, exported and imported;
 //! * [`address`]: VPI and VCI, and the name that they make;
 //! * [`params`]: the parameters of an open, their ranges, the house set;
 //! * [`cell`]: header check, CRC-10, writing, reading and turning cells;
@@ -22,6 +23,7 @@ pub mod address;
 pub mod cell;
 pub mod connection;
 pub mod destination;
+pub mod double;
 pub mod engine;
 pub mod params;
 pub mod rate;
@@ -36,6 +38,8 @@ mod comparison_tests;
 #[cfg(test)]
 mod engine_tests;
 #[cfg(test)]
+mod export_tests;
+#[cfg(test)]
 mod make_tests;
 #[cfg(test)]
 mod no_minimum_tests;
@@ -47,6 +51,7 @@ mod reserved_bit_tests;
 pub use address::Address;
 pub use cell::{read, write_rm, Cell, Rm};
 pub use connection::Kind;
+pub use double::{import, Exported, Imported};
 pub use engine::{Engine, Sent};
 pub use params::Params;
 pub use rate::{code_of, gap, rate, rate_of};

@@ -41,3 +41,6 @@ pub const TOO_SOON: Refusal = 17;
 pub const TOO_OFTEN: Refusal = 18;
 /// A rate code that was read has the reserved bit set.
 pub const RESERVED_BIT: Refusal = 19;
+/// A double that is no rate: not a number, infinite, below 0, between 0 and 1, or 2^32
+/// and more.
+pub const DOUBLE: Refusal = 20;

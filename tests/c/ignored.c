@@ -1,14 +1,15 @@
 /* Every answer with a refusal, ignored: a compiler must warn of each of these lines. */
 #include "abr.h"
 
-void ignored(abr_table *table, uint8_t *cell, abr_params params, abr_rm rm);
+void ignored(abr_table *table, uint8_t *cell, abr_params params, abr_rm rm, uint32_t *refusal);
 
-void ignored(abr_table *table, uint8_t *cell, abr_params params, abr_rm rm)
+void ignored(abr_table *table, uint8_t *cell, abr_params params, abr_rm rm, uint32_t *refusal)
 {
     abr_open(table, 1, 32, 0, params);
     abr_close(table, 1, 32);
     abr_offer(table, 1, 32, 1);
     abr_acr(table, 1, 32);
+    abr_export(table, 1, 32, refusal);
     abr_receive(table, cell, ABR_CELL_OCTETS);
     abr_set_level(table, 1);
     abr_make(table, 1, 32, 0);
@@ -18,4 +19,5 @@ void ignored(abr_table *table, uint8_t *cell, abr_params params, abr_rm rm)
     abr_read(cell, ABR_CELL_OCTETS);
     abr_code(512);
     abr_rate(0x4000);
+    abr_import(1.0);
 }

@@ -65,6 +65,12 @@ static void offsets_of_answers(void)
     AT(abr_coded, code, 4, 4);
     AT(abr_rated, refusal, 0, 4);
     AT(abr_rated, rate, 8, 8);
+    AT(abr_contract, pcr, 0, 8);
+    AT(abr_contract, mcr, 8, 8);
+    AT(abr_contract, icr, 16, 8);
+    AT(abr_imported, refusal, 0, 4);
+    AT(abr_imported, code, 4, 4);
+    AT(abr_imported, remainder, 8, 8);
 }
 
 /* Each field of an RM cell is written from and read to its own place. */
@@ -111,6 +117,19 @@ static void every_house_field(void)
                                        ABR_HOUSE_CRM, ABR_HOUSE_ADTF, ABR_HOUSE_TRM};
     abr_params params = abr_house(1, 2, 3);
     CHECK(memcmp(&params, words, sizeof params) == 0);
+}
+
+/* A contract has each rate in its own place; the refusal is written whatever was there. */
+static void every_contract_field(void)
+{
+    static abr_table table;
+    uint32_t refusal = 99;
+    abr_contract contract = abr_export(&table, 1, 32, &refusal);
+    CHECK(refusal == ABR_REFUSED_NOT_OPEN && contract.pcr == 0 && contract.mcr == 0 && contract.icr == 0);
+    CHECK(abr_open(&table, 1, 32, 0, abr_house(0x4401, 0x4001, 0x4201)).refusal == ABR_OK);
+    contract = abr_export(&table, 1, 32, &refusal);
+    CHECK(refusal == ABR_OK);
+    CHECK(contract.pcr == 4 + 4 / 512.0 && contract.mcr == 1 + 1 / 512.0 && contract.icr == 2 + 2 / 512.0);
 }
 
 /* The connection with a place in the order of names: four VCIs on each of the 256 VPIs, the first and the last. */
@@ -230,6 +249,7 @@ int main(void)
     every_rm_field();
     every_parameter();
     every_house_field();
+    every_contract_field();
     any_alignment();
     a_copy_answers_the_same();
     the_whole_table();

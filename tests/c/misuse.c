@@ -12,15 +12,18 @@
 #include "abr.h"
 #include "arbitrary.h"
 
-enum { TABLE, CELL, OBJECTS };
-enum { OPEN, CLOSE, RECEIVE, OFFER, SET_LEVEL, MAKE, SLOT, OUT_OF_RATE, ACR, WRITE_RM, READ, CODE, RATE, HOUSE, CALLS };
+enum { TABLE, CELL, REFUSAL, OBJECTS };
+enum {
+    OPEN, CLOSE, RECEIVE, OFFER, SET_LEVEL, MAKE, SLOT, OUT_OF_RATE, ACR, EXPORT,
+    WRITE_RM, READ, CODE, RATE, IMPORT, HOUSE, CALLS
+};
 
 typedef struct {
     uint8_t *block, *copy;
     size_t size;
 } object;
 
-static const size_t sizes[OBJECTS] = {sizeof(abr_table), ABR_CELL_OCTETS};
+static const size_t sizes[OBJECTS] = {sizeof(abr_table), ABR_CELL_OCTETS, sizeof(uint32_t)};
 static object objects[OBJECTS];
 static size_t guard;
 
@@ -104,6 +107,25 @@ static void any_cell(void)
     }
 }
 
+/* A double from 1 up to 2^32, or one with any bits. */
+static double any_double(void)
+{
+    const uint64_t one = UINT64_C(1023) << 52;
+    uint64_t bits = next() % 2 ? one + next() % (UINT64_C(32) << 52) : edge_word();
+    double number;
+    memcpy(&number, &bits, sizeof number);
+    return number;
+}
+
+/* The refusal of an export, which is written in every case; ~0 if it is not, or has rates beside it. */
+static uint32_t export_call(address to)
+{
+    uint32_t *refusal = at(REFUSAL);
+    *refusal = ~0u;
+    abr_contract contract = abr_export(at(TABLE), to.vpi, to.vci, refusal);
+    return *refusal && (contract.pcr != 0 || contract.mcr != 0 || contract.icr != 0) ? ~0u : *refusal;
+}
+
 /* The refusal of a call without a table, all of whose other fields must then be 0; ~0 if one is not. */
 static uint32_t without_table(int call)
 {
@@ -111,6 +133,7 @@ static uint32_t without_table(int call)
     abr_cell read;
     abr_coded coded;
     abr_rated rated;
+    abr_imported imported;
     switch (call) {
     case WRITE_RM: return abr_write_rm(any_rm(), at(CELL), any_length());
     case READ:
@@ -122,6 +145,9 @@ static uint32_t without_table(int call)
     case RATE:
         rated = abr_rate((uint32_t)edge_word());
         return rated.refusal && rated.rate ? ~0u : rated.refusal;
+    case IMPORT:
+        imported = abr_import(any_double());
+        return imported.refusal && (imported.code || imported.remainder != 0) ? ~0u : imported.refusal;
     default: return abr_house((uint32_t)next(), 1, 2).n == ABR_HOUSE_N ? ABR_OK : ~0u;
     }
 }
@@ -140,6 +166,7 @@ static uint32_t one_call(int call)
     case SLOT: return abr_slot(at(TABLE), any_time(), at(CELL), any_length()).refusal;
     case OUT_OF_RATE: return abr_out_of_rate(at(TABLE), to.vpi, to.vci, any_time(), at(CELL), any_length());
     case ACR: return abr_acr(at(TABLE), to.vpi, to.vci).refusal;
+    case EXPORT: return export_call(to);
     default: return without_table(call);
     }
 }
@@ -152,7 +179,10 @@ static uint32_t one_call(int call)
 static int may_write(int which, int call, uint32_t refusal)
 {
     if (which == TABLE) {
-        return call != ACR;
+        return call != ACR && call != EXPORT;
+    }
+    if (which == REFUSAL) {
+        return call == EXPORT;
     }
     return call == SLOT || ((call == WRITE_RM || call == OUT_OF_RATE) && refusal == ABR_OK);
 }

@@ -76,6 +76,7 @@ static void opens(void)
 /* A VPI over 255 or a VCI over 65,535 is never cut or added to make a connection that is open (document 02, L6). */
 static void out_of_range(uint32_t vpi, uint32_t vci)
 {
+    uint32_t refusal = ABR_OK;
     abr_rm rm = {0, 0, 1, 0, 0, 0, 0, 0, 0, 0, 0, 0};
     rm.vpi = vpi;
     rm.vci = vci;
@@ -85,6 +86,7 @@ static void out_of_range(uint32_t vpi, uint32_t vci)
     CHECK(is(abr_make(&table, vpi, vci, 0), ABR_REFUSED_NOT_OPEN, 0));
     CHECK(abr_out_of_rate(&table, vpi, vci, 0, cell, sizeof cell) == ABR_REFUSED_NOT_OPEN);
     CHECK(abr_acr(&table, vpi, vci).refusal == ABR_REFUSED_NOT_OPEN);
+    CHECK(abr_export(&table, vpi, vci, &refusal).pcr == 0 && refusal == ABR_REFUSED_NOT_OPEN);
     CHECK(abr_write_rm(rm, cell, sizeof cell) == ABR_REFUSED_RANGE);
 }
 
@@ -175,6 +177,42 @@ static void codes(void)
     rated = abr_rate(0x8000 | thousand);
     CHECK(rated.refusal == ABR_REFUSED_RESERVED_BIT && rated.rate == 0);
     CHECK(abr_rate(0x18000).refusal == ABR_REFUSED_RANGE && abr_rate(0x4000).rate == 512);
+}
+
+/* An import has this code and remainder. */
+static int import_is(double cells, uint32_t code, double remainder)
+{
+    abr_imported imported = abr_import(cells);
+    return imported.refusal == ABR_OK && imported.code == code && imported.remainder == remainder;
+}
+
+static int import_refused(double cells)
+{
+    abr_imported imported = abr_import(cells);
+    return imported.refusal == ABR_REFUSED_DOUBLE && imported.code == 0 && imported.remainder == 0;
+}
+
+/* Doubles (document 02, L8). At 1,000 cells per second code rates are 1 apart; the largest is 2^32 - 2^22. */
+static void doubles(void)
+{
+    const double two_to_32 = 4294967296.0, infinite = 1e300 * 1e300;
+    CHECK(import_is(0.0, 0, 0) && import_is(-0.0, 0, 0));
+    CHECK(import_is(1.0, 0x4000, 0) && import_is(1000, thousand, 0));
+    CHECK(import_is(1000.25, thousand, 0.25) && import_is(1000.75, thousand, 0.75));
+    CHECK(import_is(two_to_32 - 4194304, ABR_CODE_MAX, 0));
+    CHECK(import_is(two_to_32 - 1, ABR_CODE_MAX, 4194303));
+    CHECK(import_refused(two_to_32) && import_refused(0.9999999) && import_refused(1e-310));
+    CHECK(import_refused(-1.0) && import_refused(-1e-310));
+    CHECK(import_refused(infinite) && import_refused(-infinite) && import_refused(infinite - infinite));
+}
+
+/* A connection has the contract of both, or is refused. */
+static void exports(uint32_t vpi, uint32_t vci, uint32_t expected)
+{
+    uint32_t refusal = 99;
+    abr_contract contract = abr_export(&table, vpi, vci, &refusal);
+    double cells = expected == ABR_OK ? 1000 : 0, least = expected == ABR_OK ? 1 : 0;
+    CHECK(refusal == expected && contract.pcr == cells && contract.mcr == least && contract.icr == cells);
 }
 
 /* Gives octets the CRC-10 that belongs in them, found by trying all; their refusal then. */
@@ -277,8 +315,8 @@ static void nothing_is_left(void)
 {
     CHECK(slot_is(ABR_TIME_MAX, NOBODY, ABR_SENT_IDLE, 0));
     CHECK(strcmp(abr_refusal_text(ABR_OK), "accepted") == 0);
-    CHECK(strcmp(abr_refusal_text(19), abr_refusal_text(20)) != 0);
-    CHECK(strcmp(abr_refusal_text(3), abr_refusal_text(20)) == 0); /* withdrawn (document 02, L6) */
+    CHECK(strcmp(abr_refusal_text(20), abr_refusal_text(21)) != 0);
+    CHECK(strcmp(abr_refusal_text(3), abr_refusal_text(21)) == 0); /* withdrawn (document 02, L6) */
 }
 
 static int scenario(const char *name)
@@ -293,6 +331,10 @@ static int scenario(const char *name)
     a_cell_is_turned();
     cells_are_made();
     codes();
+    doubles();
+    exports(FIRST, ABR_OK);
+    exports(SECOND, ABR_OK);
+    exports(NOT_OPEN, ABR_REFUSED_NOT_OPEN);
     reserved_bit_in_a_cell(FIRST);
     reserved_bit_in_a_cell(NOT_OPEN);
     reserved_bit_in_an_open();

@@ -4,7 +4,7 @@
 #![allow(non_camel_case_types, missing_docs)]
 
 /// The version of the header: major, minor and patch number, eight bits each.
-pub const ABR_VERSION: u32 = 0x00_08_00;
+pub const ABR_VERSION: u32 = 0x00_09_00;
 
 /// The words of a table.
 pub const ABR_TABLE_WORDS: usize = 33_811;
@@ -91,6 +91,18 @@ pub struct abr_rated {
     pub rate: u64,
 }
 
+/// The answer of `abr_export`.
+pub use crate::Contract as abr_contract;
+
+/// The answer of `abr_import`.
+#[repr(C)]
+#[derive(Debug, Clone, Copy, PartialEq, Default)]
+pub struct abr_imported {
+    pub refusal: u32,
+    pub code: u32,
+    pub remainder: f64,
+}
+
 extern "C" {
     pub fn abr_version() -> u32;
     pub fn abr_table_words() -> u32;
@@ -116,10 +128,17 @@ extern "C" {
         len: usize,
     ) -> u32;
     pub fn abr_acr(table: *const abr_table, vpi: u32, vci: u32) -> abr_allowed;
+    pub fn abr_export(
+        table: *const abr_table,
+        vpi: u32,
+        vci: u32,
+        refusal: *mut u32,
+    ) -> abr_contract;
     pub fn abr_write_rm(rm: abr_rm, cell: *mut u8, len: usize) -> u32;
     pub fn abr_read(cell: *const u8, len: usize) -> abr_cell;
     pub fn abr_code(rate: u64) -> abr_coded;
     pub fn abr_rate(code: u32) -> abr_rated;
+    pub fn abr_import(cells_per_second: f64) -> abr_imported;
     pub fn abr_house(pcr: u32, mcr: u32, icr: u32) -> abr_params;
 }
 

@@ -31,6 +31,7 @@
 #![warn(missing_docs)]
 
 mod cell;
+mod double;
 pub mod ffi;
 mod params;
 mod rate;
@@ -38,6 +39,7 @@ mod refusal;
 mod table;
 
 pub use cell::{read, write_rm, Cell, Rm, CELL_OCTETS};
+pub use double::{import, Contract, Imported};
 pub use params::Params;
 pub use rate::{code, rate, RATE_MAX, RATE_ONE};
 pub use refusal::Refusal;

@@ -4,8 +4,8 @@ use std::error::Error;
 use std::fmt;
 
 /// A refused call changes nothing and says why (document 01, "Refused because
-/// of the input" and "Refused because of the state"; document 02, L1, L5 and
-/// L7). L6 withdrew refusal 3.
+/// of the input" and "Refused because of the state"; document 02, L1, L5, L7
+/// and L8). L6 withdrew refusal 3.
 ///
 /// ```
 /// use abr::Refusal;
@@ -13,7 +13,7 @@ use std::fmt;
 /// assert_eq!(Refusal::Range.number(), 7);
 /// assert_eq!(Refusal::try_from(7), Ok(Refusal::Range));
 /// assert_eq!(Refusal::try_from(3), Err(3));
-/// assert_eq!(Refusal::try_from(20), Err(20));
+/// assert_eq!(Refusal::try_from(21), Err(21));
 /// assert_eq!(Refusal::Full.to_string(), "1,024 connections are open");
 /// ```
 #[derive(Debug, Clone, Copy, PartialEq, Eq, Hash)]
@@ -57,11 +57,14 @@ pub enum Refusal {
     TooOften = 18,
     /// A rate code that was read has the reserved bit set.
     ReservedBit = 19,
+    /// A double is not a rate: not a number, infinite, below 0, between 0 and 1, or 2^32
+    /// and more.
+    Double = 20,
 }
 
 impl Refusal {
     /// All refusals in the order of their numbers.
-    pub const ALL: [Refusal; 18] = [
+    pub const ALL: [Refusal; 19] = [
         Refusal::Length,
         Refusal::HeaderCheck,
         Refusal::PayloadType,
@@ -80,6 +83,7 @@ impl Refusal {
         Refusal::TooSoon,
         Refusal::TooOften,
         Refusal::ReservedBit,
+        Refusal::Double,
     ];
 
     /// Its number in the documents.
@@ -112,6 +116,9 @@ impl Refusal {
                 "less than 100 ms since the last out-of-rate cell on this connection"
             }
             Refusal::ReservedBit => "reserved bit of a rate code is set",
+            Refusal::Double => {
+                "not a rate: not a number, infinite, below 0, between 0 and 1, or 2^32 and more"
+            }
         }
     }
 

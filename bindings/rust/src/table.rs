@@ -3,7 +3,7 @@
 use std::fmt;
 
 use crate::ffi;
-use crate::{Params, Refusal};
+use crate::{Contract, Params, Refusal};
 
 /// The connections that may be open at once.
 pub const CONNECTIONS_MAX: usize = 1_024;
@@ -299,6 +299,30 @@ impl Table {
         let allowed = unsafe { ffi::abr_acr(self.words.as_ptr().cast(), vpi, vci) };
         Refusal::outcome(allowed.refusal)?;
         Ok(allowed.acr)
+    }
+
+    /// The peak, minimum and initial rate of a connection as doubles in cells per
+    /// second, exactly the rates of the codes that its open gave.
+    ///
+    /// # Errors
+    /// [`Refusal::NotOpen`].
+    ///
+    /// ```
+    /// use abr::{Contract, Imported, Params, Table};
+    /// let mut table = Table::new();
+    /// table.open(1, 32, 0, &Params::house(0x53E8, 0, 0x4001))?;
+    /// let contract = table.export(1, 32)?;
+    /// assert_eq!(contract, Contract { pcr: 1_000.0, mcr: 0.0, icr: 1.001953125 });
+    /// assert_eq!(abr::import(contract.icr)?, Imported::Exact(0x4001));
+    /// # Ok::<(), abr::Refusal>(())
+    /// ```
+    pub fn export(&self, vpi: u32, vci: u32) -> Result<Contract, Refusal> {
+        let mut refusal = 0;
+        let table = self.words.as_ptr().cast();
+        // SAFETY: both pointers are live for the call.
+        let contract = unsafe { ffi::abr_export(table, vpi, vci, &mut refusal) };
+        Refusal::outcome(refusal)?;
+        Ok(contract)
     }
 }
 

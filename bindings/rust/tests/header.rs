@@ -110,7 +110,7 @@ fn the_refusals_are_those_of_the_header() {
     assert_eq!(defined("ABR_OK"), (0, "accepted"));
     assert_eq!(Refusal::try_from(0), Err(0));
     assert_eq!(Refusal::try_from(3), Err(3)); // withdrawn by document 02's L6
-    assert_eq!(Refusal::try_from(20), Err(20));
+    assert_eq!(Refusal::try_from(21), Err(21));
 }
 
 #[test]
@@ -137,6 +137,11 @@ fn the_layouts_are_those_of_the_header() {
     assert_eq!(offset_of!(ffi::abr_coded, code), 4);
     assert_eq!(size_of::<ffi::abr_rated>(), 16);
     assert_eq!(offset_of!(ffi::abr_rated, rate), 8);
+    assert_eq!(size_of::<ffi::abr_contract>(), 24);
+    assert_eq!(offset_of!(ffi::abr_contract, icr), 16);
+    assert_eq!(size_of::<ffi::abr_imported>(), 16);
+    assert_eq!(offset_of!(ffi::abr_imported, code), 4);
+    assert_eq!(offset_of!(ffi::abr_imported, remainder), 8);
 }
 
 /// Header and INTEGRATION.md say how many octets a table has.
@@ -168,5 +173,5 @@ fn every_prototype_of_the_header_is_declared_and_no_other() {
     let ffi = include_str!("../src/ffi.rs");
     let foreign = |line: &&str| line.starts_with("    pub fn ");
     assert_eq!(header, names(ffi.lines().filter(foreign)));
-    assert_eq!(header.len(), 16);
+    assert_eq!(header.len(), 18);
 }

@@ -105,4 +105,5 @@ exports-are-run = record {
   each = λ cs os t. onward empty empty-well-formed cs zeros os t zeros-words .0;
   last = last;
   acr = λ cs os t v r h. h .meets (final empty cs) (reached-well-formed cs) (last cs os t);
+  contract = λ cs os t v n r h. h .meets (final empty cs) (reached-well-formed cs) (last cs os t);
 }

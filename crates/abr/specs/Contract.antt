@@ -5,10 +5,12 @@ use mathlib.Core.List.{List}
 use Rattle.model.specs.State.{State}
 use Rattle.model.specs.Invariant.{WellFormed}
 use Rattle.model.specs.Call.{Outcome}
-use Rattle.model.specs.Queries.{acrOf}
+use Rattle.model.specs.Queries.{acrOf, contractOf}
 use Rattle.table.specs.Layout.{words}
 use Rattle.engine.specs.Contract.{bufferContent}
 use Rattle.abr.specs.Answers.{SlotAnswer, AcrAnswer, CallAnswer, refusalAlone, callAnswer, slotAnswer, acrAnswer}
+use Rattle.doubles.specs.declared.export.Exported.{Exported}
+use Rattle.abr.specs.Planning.{ExportedAs}
 
 -- a call that returns its refusal and the comparisons it made
 pub record Answers (f : State → Outcome) (before after : List ℕ) (r : CallAnswer) : Type 0 where
@@ -33,3 +35,7 @@ pub record AnswersSlot (f : State → Outcome) (before after : List ℕ) (r : Sl
 -- reading an ACR, which leaves the table
 pub record AnswersAcr (v : ℕ) (l : List ℕ) (r : AcrAnswer) : Type 0 where
   pub meets : (s : State) → WellFormed s → l ≡ words s → r ≡ acrAnswer (acrOf s v)
+
+-- exporting a contract, which leaves the table and writes its refusal (document 02, L8)
+pub record AnswersExport (v : ℕ) (l : List ℕ) (refusal : ℕ) (r : Exported) : Type 0 where
+  pub meets : (s : State) → WellFormed s → l ≡ words s → ExportedAs (contractOf s v) refusal r

@@ -10,12 +10,14 @@ use Rattle.model.specs.State.{State, empty}
 use Rattle.model.specs.Invariant.{WellFormed}
 use Rattle.model.specs.Call.{Call, opening, closing, receiving, offering, levelling, slot, making, outOfRate, Outcome}
 use Rattle.model.specs.Step.{openStep, closeStep, receiveStep, offerStep, levelStep, slotStep, makeStep, outOfRateStep}
-use Rattle.model.specs.Queries.{acrOf}
+use Rattle.model.specs.Queries.{acrOf, contractOf}
 use Rattle.model.specs.Run.{run, final}
 use Rattle.table.specs.Layout.{words, size}
 use Rattle.engine.specs.Contract.{bufferContent}
 use Rattle.abr.specs.Answers.{SlotAnswer, AcrAnswer, CallAnswer, refusalAlone, noCell, slotAnswer, acrAnswer}
-use Rattle.abr.specs.Contract.{Answers, Numbered, NumberedWriting, AnswersSlot, AnswersAcr}
+use Rattle.doubles.specs.declared.export.Exported.{Exported}
+use Rattle.abr.specs.Planning.{ExportedAs}
+use Rattle.abr.specs.Contract.{Answers, Numbered, NumberedWriting, AnswersSlot, AnswersAcr, AnswersExport}
 
 -- what a caller sees of one call: the words of the table after it, what it returned, and the lent buffer before and after it
 pub record Observation : Type 0 where
@@ -82,3 +84,7 @@ pub record ExportsAreRun : Type 0 where
   pub acr :
       (cs : List Call) (os : List Observation) → Trace cs zeros os → (v : ℕ) (r : AcrAnswer) → AnswersAcr v (finalWords zeros os) r
       → r ≡ acrAnswer (acrOf (final empty cs) v)
+  -- or exporting a contract
+  pub contract :
+      (cs : List Call) (os : List Observation) → Trace cs zeros os → (v n : ℕ) (r : Exported) → AnswersExport v (finalWords zeros os) n r
+      → ExportedAs (contractOf (final empty cs) v) n r

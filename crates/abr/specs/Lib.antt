@@ -2,5 +2,6 @@
 pub mod Answers
 pub mod Cells
 pub mod Codes
+pub mod Planning
 pub mod Contract
 pub mod Exports

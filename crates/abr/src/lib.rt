@@ -4,4 +4,5 @@ pub mod cells;
 pub mod codes;
 pub mod connections;
 pub mod link;
+pub mod planning;
 pub mod version;

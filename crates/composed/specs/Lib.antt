@@ -1,1 +1,2 @@
 pub mod EachCall
+pub mod Planning

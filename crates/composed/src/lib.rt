@@ -14,6 +14,8 @@ use abr::link::abr_slot;
 use rate::params::Params;
 use table::layout::WORDS;
 
+pub mod planning;
+
 pub struct Arguments {
     pub vpi: u32,
     pub vci: u32,

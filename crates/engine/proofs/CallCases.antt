@@ -8,20 +8,21 @@ use Rattle.connection.specs.declared.parts.Connection.{Connection}
 use Rattle.connection.specs.Parts.{waiting}
 use Rattle.connection.specs.Receiving.{offered}
 use Rattle.connection.proofs.Keeps.{Same}
-use Rattle.model.specs.State.{State, free, taken, find, leafOf, put, withLevel, capacity}
+use Rattle.model.specs.State.{State, Entry, free, taken, find, leafOf, put, withLevel, capacity}
 use Rattle.model.specs.Invariant.{WellFormed}
 use Rattle.table.specs.Layout.{words}
 use Rattle.table.specs.Loading.{connectionAt}
-use Rattle.names.specs.Finding.{Located}
+use Rattle.names.specs.declared.find.Found.{Found}
+use Rattle.names.specs.declared.find.Found.the-variants.{At, Nothing}
+use Rattle.names.specs.Finding.{Located, Finds}
 use Rattle.names.proofs.Found.{found-at}
 use Rattle.model.specs.declared.answer.Answer.the-variants.{Refused, Accepted}
 use Rattle.model.specs.Call.{closing, offering}
 use Rattle.model.specs.Step.{refuse, accept, replay, ofOpen, closeStep, offerStep, levelStep, step}
 use Rattle.storing.specs.Updates.{Updates, SourceMoved, Leaves}
 use Rattle.tournament.specs.Replaying.{Ordered}
-use Rattle.model.specs.declared.acr.Acr.the-variants.{NotOpen, Rate}
-use Rattle.model.specs.Queries.{acrOf, entryAcr}
-use Rattle.engine.proofs.Outcomes.{refused-out, replayed-out, replay-well-formed, ordered, pair-of, loaded-is, put-at, put-becomes, updated-is}
+use Rattle.engine.specs.Contract.{MeetsReading}
+use Rattle.engine.proofs.Outcomes.{refused-out, replayed-out, replay-well-formed, ordered, below, missing, standing, pair-of, loaded-is, put-at, put-becomes, updated-is}
 use Rattle.laws.specs.Require.{require}
 
 -- Set level.
@@ -53,14 +54,19 @@ close-out s w e {v} {i} p u =
     (put-becomes s v (p .place) free
     (u .is s w e (p .holder) (p .here) (p .named) (subst (λ (r : State). Ordered (r .entries)) (put-at s v (p .place) free) (ordered z)))) done
 
--- Reading an ACR.
-pub acr-missing : (s : State) (v : ℕ) → find v (s .entries) ≡ free → NotOpen ≡ acrOf s v
-unfolding acrOf entryAcr
-acr-missing s v e = rw e
+-- Reading what f takes out of the entry of a name: an ACR, or a contract's codes.
+pub reads-missing :
+    {A : Type 0} (f : Entry → A) (l : List ℕ) (v : ℕ) {r : Found} → Finds l v r → r ≡ Nothing → MeetsReading (λ s. f (find v (s .entries))) l (f free)
+reads-missing f l v h q = record { answers = λ s w e. ap f (sym (missing s w e v h q)) }
 
-pub acr-answered : (s : State) (v : ℕ) (c : Connection) → find v (s .entries) ≡ taken c → (d : Connection) → d ≡ c → Rate (d .rate .acr) ≡ acrOf s v
-unfolding acrOf entryAcr
-acr-answered s v c e d q = rw e (ap (λ (x : Connection). Rate (x .rate .acr)) q)
+pub reads-found :
+    {A : Type 0} (f : Entry → A) (l : List ℕ) (v : ℕ) {r : Found} {i : ℕ} → Finds l v r → r ≡ At i → {d : Connection} → d ≡ connectionAt l i
+    → MeetsReading (λ s. f (find v (s .entries))) l (f (taken d))
+reads-found f l v h q k = record {
+  answers = λ s w e.
+      let p = standing s w e v h q in
+      ap (λ (x : Connection). f (taken x)) (loaded-is s w p e (below l v h q) k) ∙ ap f (sym (found-at p));
+}
 
 -- Offer.
 pub offer-missing : (s : State) (v n : ℕ) → find v (s .entries) ≡ free → offerStep s v n ≡ refuse s 11

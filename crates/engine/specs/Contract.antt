@@ -8,8 +8,9 @@ use Rattle.model.specs.Invariant.{WellFormed}
 use Rattle.table.specs.Layout.{words}
 use Rattle.model.specs.declared.answer.Answer.{Answer}
 use Rattle.model.specs.Call.{Outcome}
-use Rattle.model.specs.Queries.{acrOf}
+use Rattle.model.specs.Queries.{acrOf, contractOf}
 use Rattle.model.specs.declared.acr.Acr.{Acr}
+use Rattle.model.specs.declared.contract.Contract.{Contract}
 
 -- Of the words of a well-formed state, as every state that calls reach is, the call makes the words of the state that f gives, and answers as f says. It has no requires:
 -- of any other words it is known that the call ends and stays within its bounds.
@@ -25,6 +26,14 @@ bufferContent (written o) old = o
 pub record MeetsWriting (f : State → Outcome) (before after : List ℕ) (r : Answer) (old new : List ℕ) : Type 0 where
   pub meets : (s : State) → WellFormed s → before ≡ words s → (after ≡ words (f s .state)) × (r ≡ f s .answer) × (new ≡ bufferContent (f s .buffer) old)
 
--- the same of reading an ACR, which leaves the table
-pub record MeetsAcr (v : ℕ) (l : List ℕ) (r : Acr) : Type 0 where
-  pub answers : (s : State) → WellFormed s → l ≡ words s → r ≡ acrOf s v
+-- the same of a call that leaves the table and answers what f reads in it
+pub record MeetsReading {A : Type 0} (f : State → A) (l : List ℕ) (r : A) : Type 0 where
+  pub answers : (s : State) → WellFormed s → l ≡ words s → r ≡ f s
+
+-- reading an ACR
+abbrev pub MeetsAcr : ℕ → List ℕ → Acr → Type 0
+MeetsAcr v = MeetsReading (λ s. acrOf s v)
+
+-- reading a contract's codes (document 02, L8)
+abbrev pub MeetsContract : ℕ → List ℕ → Contract → Type 0
+MeetsContract v = MeetsReading (λ s. contractOf s v)

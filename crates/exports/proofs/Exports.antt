@@ -118,7 +118,7 @@ pub exports-demand1 : ExportsDemand1
 exports-demand1 cs os t = leave-from empty empty-well-formed cs zeros os (exports-are-run .each cs os t) zeros-words
 
 -- Bounds.
-params-observed :
+pub params-observed :
     (v : ℕ) (s : State) → WellFormed s → (before : Option Params) (cs : List Call) (os : List Observation) → AllMatch (run s cs) os
     → paramsObserved v before cs os ≡ givenFrom v s before cs
 params-observed v s w b [] [] neither = refl

@@ -1,3 +1,4 @@
 -- They hold.
 pub mod Exports
 pub mod Comparisons
+pub mod Planning

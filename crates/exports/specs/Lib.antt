@@ -1,3 +1,4 @@
 -- The promises on whole lists of exported calls.
 pub mod Exports
 pub mod Comparisons
+pub mod Planning

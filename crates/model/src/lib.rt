@@ -2,3 +2,4 @@
 // answers alone.
 pub mod acr;
 pub mod answer;
+pub mod contract;

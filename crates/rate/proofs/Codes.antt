@@ -14,7 +14,7 @@ use Rattle.rate.specs.Units.{largestRate}
 use Rattle.rate.proofs.Octaves.{Octave, octave, codeIn, code-octave, code-none}
 
 -- a code's rate, by its parts
-rate-parts : (e m : ℕ) → e < 32 → m < 512 → rateOf (16384 + e * 512 + m) ≡ 2 ^ e * (512 + m)
+pub rate-parts : (e m : ℕ) → e < 32 → m < 512 → rateOf (16384 + e * 512 + m) ≡ 2 ^ e * (512 + m)
 unfolding rateOf
 rate-parts e m h k =
     rw (eq-eqb ((16384 + e * 512 + m) / 16384 % 2) 1 (omega arith), exponent, mantissa)
@@ -71,7 +71,7 @@ greatest-none x u = record {
   fifteen = omega arith;
 }
 
-greatest-in : (x e : ℕ) → e < 32 → Octave e x → Greatest x (codeIn e x)
+pub greatest-in : (x e : ℕ) → e < 32 → Octave e x → Greatest x (codeIn e x)
 greatest-in x e h o = record {
   notAbove = rw rate (mul-div-le x (2 ^ e));
   greatest = λ k g. rw rate (under x e o (rateOf k) (rate-has k) g);

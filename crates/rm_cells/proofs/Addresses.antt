@@ -29,7 +29,7 @@ use Rattle.model.specs.Invariant.{WellFormed}
 use Rattle.model.specs.declared.answer.Answer.the-variants.{Refused}
 use Rattle.model.specs.Call.{Call, opening, closing, receiving, offering, levelling, slot, making, outOfRate, Outcome}
 use Rattle.model.specs.Step.{refuse, accept, replay, ofOpen, openStep, closeStep, offerStep, makeStep, outOfRateStep, sendStep, idleStep, sendOutside, step}
-use Rattle.model.specs.Queries.{entryAcr, acrOf}
+use Rattle.model.specs.Queries.{entryAcr, acrOf, entryContract, contractOf}
 use Rattle.model.specs.Run.{final}
 use Rattle.model.proofs.Frames.{name-of}
 use Rattle.model.proofs.Preserved.{valid-at}
@@ -62,7 +62,7 @@ module _ (s : State) (vpi vci : ℕ) where
     leave-out t l = rw (le-leb t latestTime l, f)
 
 pub out-of-range-unknown : OutOfRangeUnknown
-unfolding step acrOf entryAcr
+unfolding step acrOf entryAcr contractOf entryContract
 out-of-range-unknown cs vpi vci e =
     let s : State = final empty cs in
     let f : find (pairName vpi vci) (s .entries) ≡ free = reached-unknown cs vpi vci e in
@@ -73,6 +73,7 @@ out-of-range-unknown cs vpi vci e =
       makes = make-out s vpi vci f;
       leaves = leave-out s vpi vci f;
       reads = ap entryAcr f;
+      exports = ap entryContract f;
     }
 
 -- Within them.

@@ -13,11 +13,12 @@ use Rattle.connection.specs.declared.kind.Kind.the-variants.{Forward, Turned, D
 use Rattle.connection.specs.Sending.{Buffer, untouched, written}
 use Rattle.model.specs.State.{State, empty}
 use Rattle.model.specs.declared.acr.Acr.the-variants.{NotOpen}
+use Rattle.model.specs.declared.contract.Contract.the-variants.{NotOpen as NoContract}
 use Rattle.model.specs.declared.answer.Answer.{Answer}
 use Rattle.model.specs.declared.answer.Answer.the-variants.{Refused, Accepted, Idle, Sent}
 use Rattle.model.specs.Call.{Call, opening, closing, receiving, offering, levelling, slot, making, outOfRate}
 use Rattle.model.specs.Step.{refuse, step}
-use Rattle.model.specs.Queries.{acrOf}
+use Rattle.model.specs.Queries.{acrOf, contractOf}
 use Rattle.model.specs.Run.{final}
 
 -- what the calls on a pair do, where no refusal with an earlier place in their order comes first: 10 and 19 in an open, 8 in a making, 1 and 8 in a cell outside the rate
@@ -28,6 +29,7 @@ pub record Unknown (s : State) (vpi vci : ℕ) : Type 0 where
   pub makes : (t : ℕ) → t ≤ latestTime → step s (making vpi vci t) ≡ refuse s 11
   pub leaves : (t : ℕ) → t ≤ latestTime → step s (outOfRate vpi vci t 53) ≡ refuse s 11
   pub reads : acrOf s (pairName vpi vci) ≡ NotOpen
+  pub exports : contractOf s (pairName vpi vci) ≡ NoContract
 
 -- after any list of calls from the empty table
 abbrev pub OutOfRangeUnknown : Type 0

@@ -43,6 +43,9 @@ pub enum Call {
     Acr {
         at: Address,
     },
+    Export {
+        at: Address,
+    },
     WriteRm {
         rm: abr_rm,
         len: usize,
@@ -56,6 +59,10 @@ pub enum Call {
     Rate {
         code: u32,
     },
+    /// A double, given by its bits.
+    Import {
+        bits: u64,
+    },
     House {
         pcr: u32,
         mcr: u32,
@@ -64,7 +71,7 @@ pub enum Call {
 }
 
 /// The sorts of call, in the order of [`Call::sort`].
-pub const SORTS: [&str; 14] = [
+pub const SORTS: [&str; 16] = [
     "open",
     "close",
     "receive",
@@ -74,10 +81,12 @@ pub const SORTS: [&str; 14] = [
     "make",
     "out_of_rate",
     "acr",
+    "export",
     "write_rm",
     "read",
     "code",
     "rate",
+    "import",
     "house",
 ];
 
@@ -94,17 +103,19 @@ impl Call {
             Call::Make { .. } => 6,
             Call::OutOfRate { .. } => 7,
             Call::Acr { .. } => 8,
-            Call::WriteRm { .. } => 9,
-            Call::Read { .. } => 10,
-            Call::Code { .. } => 11,
-            Call::Rate { .. } => 12,
-            Call::House { .. } => 13,
+            Call::Export { .. } => 9,
+            Call::WriteRm { .. } => 10,
+            Call::Read { .. } => 11,
+            Call::Code { .. } => 12,
+            Call::Rate { .. } => 13,
+            Call::Import { .. } => 14,
+            Call::House { .. } => 15,
         }
     }
 
     /// Whether it is given a table.
     pub fn has_table(&self) -> bool {
-        self.sort() < 9
+        self.sort() < 10
     }
 
     /// Whether it writes the table when it is accepted.
@@ -120,7 +131,8 @@ impl Call {
             | Call::Offer { at, .. }
             | Call::Make { at, .. }
             | Call::OutOfRate { at, .. }
-            | Call::Acr { at } => Some(at),
+            | Call::Acr { at }
+            | Call::Export { at } => Some(at),
             Call::Receive { cell } => address_of(cell.as_slice()),
             _ => None,
         }
@@ -146,6 +158,10 @@ pub enum Answer {
     Number(u64),
     /// A cell that was read.
     Cell(abr::ffi::abr_cell),
+    /// Peak, minimum and initial rate of a contract, by the bits of their doubles.
+    Exported([u64; 3]),
+    /// A double as a rate code, and the remainder by its bits.
+    Imported { code: u32, remainder: u64 },
     /// The house set.
     Params(abr_params),
 }

@@ -250,6 +250,48 @@ events! {
     NzOpened,
     /// The same in a received RM cell.
     NzReceived,
+    /// A contract was exported whose allowed rate is not its initial rate.
+    ExportedMoved,
+    /// One without a minimum.
+    ExportedNoMinimum,
+    /// One on an address that was closed before.
+    ExportedReopened,
+    /// 0 was imported.
+    ImportZero,
+    /// Minus 0 was imported.
+    ImportMinusZero,
+    /// 1 was imported.
+    ImportOne,
+    /// A code rate was imported.
+    ImportExact,
+    /// The next double above a code rate.
+    ImportAbove,
+    /// The next double below one.
+    ImportBelow,
+    /// A double above the largest code rate.
+    ImportPastLargest,
+    /// The last double below 2^32.
+    ImportLast,
+    /// What is not a number was refused.
+    ImportNotANumber,
+    /// The same with its sign set.
+    ImportMinusNotANumber,
+    /// Infinity was refused.
+    ImportInfinite,
+    /// Minus infinity was refused.
+    ImportMinusInfinite,
+    /// A double was refused that would be imported without its sign.
+    ImportNegative,
+    /// A subnormal double was refused.
+    ImportSubnormal,
+    /// The least double above 0 was refused.
+    ImportLeast,
+    /// The last double below 1 was refused.
+    ImportBelowOne,
+    /// 2^32 was refused.
+    ImportTwoTo32,
+    /// A double above it was refused.
+    ImportLarge,
     /// Exactly 65,535 cells wait after an offer.
     OfferFills,
     /// An offer of nothing to a full connection.
@@ -257,7 +299,7 @@ events! {
 }
 
 /// The greatest number of a refusal.
-const REFUSAL_MAX: usize = 19;
+const REFUSAL_MAX: usize = 20;
 
 /// Counts of all that was reached.
 #[derive(Debug, Clone)]
@@ -310,19 +352,21 @@ const REFUSALS: [&[usize]; SORTS.len()] = [
     &[8, 11, 14, 16, 17],
     &[1, 8, 11, 14, 18],
     &[11],
+    &[11],
     &[1, 7],
     &[1, 2, 4, 5, 6, 19],
     &[9],
     &[7, 19],
+    &[20],
     &[],
 ];
 
 /// The sorts of call that name a connection by its two numbers, by their places in
 /// [`SORTS`].
-const NAMING: [usize; 6] = [0, 1, 3, 6, 7, 8];
+const NAMING: [usize; 7] = [0, 1, 3, 6, 7, 8, 9];
 
 /// Those that read three rate codes: open, receive and read.
-const READING: [usize; 3] = [0, 2, 10];
+const READING: [usize; 3] = [0, 2, 11];
 
 impl Coverage {
     /// Counts a call and its outcome.

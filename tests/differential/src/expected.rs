@@ -1,7 +1,7 @@
 //! The expected outcome of a call: the reference's.
 
 use convert::{library_cell, library_params, library_sent, reference_params, reference_rm};
-use reference::{Engine, Params};
+use reference::{Engine, Exported, Imported, Params};
 
 use crate::call::{Answer, Call, Outcome};
 use crate::octets::Buffer;
@@ -22,6 +22,7 @@ pub fn call(engine: &mut Engine, call: &Call, buffer: &mut Buffer) -> Outcome {
             .map(|sent| Answer::Sent(library_sent(sent))),
         Call::OutOfRate { at, time, len } => done(engine.out_of_rate(at, time, buffer.octets(len))),
         Call::Acr { at } => engine.acr(at).map(Answer::Number),
+        Call::Export { at } => engine.export(at).map(exported),
         Call::WriteRm { rm, len } => {
             done(reference::write_rm(&reference_rm(&rm), buffer.octets(len)))
         }
@@ -30,10 +31,21 @@ pub fn call(engine: &mut Engine, call: &Call, buffer: &mut Buffer) -> Outcome {
         }
         Call::Code { rate } => reference::code_of(rate).map(|code| Answer::Number(code.into())),
         Call::Rate { code } => reference::rate(code).map(Answer::Number),
+        Call::Import { bits } => reference::import(f64::from_bits(bits)).map(imported),
         Call::House { pcr, mcr, icr } => Ok(Answer::Params(library_params(&Params::house(
             pcr, mcr, icr,
         )))),
     }
+}
+
+fn exported(contract: Exported) -> Answer {
+    let Exported { pcr, mcr, icr } = contract;
+    Answer::Exported([pcr, mcr, icr].map(f64::to_bits))
+}
+
+fn imported(imported: Imported) -> Answer {
+    let (code, remainder) = (imported.code, imported.remainder.to_bits());
+    Answer::Imported { code, remainder }
 }
 
 fn done(outcome: Result<(), u32>) -> Outcome {

@@ -3,6 +3,7 @@
 
 mod addresses;
 mod cells;
+mod doubles;
 mod times;
 
 use abr::ffi::abr_params;
@@ -76,12 +77,18 @@ impl Generator {
             8 => Call::Acr {
                 at: self.address(seen),
             },
-            9 => self.write_rm(seen),
-            10 => Call::Read {
+            9 => Call::Export {
+                at: self.address(seen),
+            },
+            10 => self.write_rm(seen),
+            11 => Call::Read {
                 cell: self.cell(seen),
             },
-            11 => Call::Code { rate: self.rate() },
-            12 => Call::Rate { code: self.code() },
+            12 => Call::Code { rate: self.rate() },
+            13 => Call::Rate { code: self.code() },
+            14 => Call::Import {
+                bits: self.double(),
+            },
             _ => self.house(),
         }
     }

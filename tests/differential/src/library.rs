@@ -3,7 +3,8 @@
 use std::fmt::Debug;
 
 use abr::ffi::{
-    self, abr_allowed, abr_answer, abr_cell, abr_coded, abr_rated, abr_sent, abr_table,
+    self, abr_allowed, abr_answer, abr_cell, abr_coded, abr_imported, abr_rated, abr_sent,
+    abr_table,
 };
 use reference::Address;
 
@@ -64,6 +65,7 @@ impl Library {
                 done(unsafe { ffi::abr_out_of_rate(table, vpi, vci, time, octets, len) })
             }
             Call::Acr { at } => self.acr(at)?,
+            Call::Export { at } => self.export(at)?,
             _ => without_table(call, buffer)?,
         })
     }
@@ -72,6 +74,19 @@ impl Library {
     pub fn acr(&self, at: Address) -> Result<Outcome, Difference> {
         // SAFETY: the pointer is live.
         answered(unsafe { ffi::abr_acr(&*self.table, at.vpi, at.vci) })
+    }
+
+    /// The contract of an address, open or not. The refusal is written in every case.
+    fn export(&self, at: Address) -> Result<Outcome, Difference> {
+        let mut refusal = u32::MAX;
+        // SAFETY: both pointers are live.
+        let contract = unsafe { ffi::abr_export(&*self.table, at.vpi, at.vci, &mut refusal) };
+        let bits = [contract.pcr, contract.mcr, contract.icr].map(f64::to_bits);
+        match refusal {
+            0 => Ok(Ok(Answer::Exported(bits))),
+            number if bits == [0; 3] => Ok(Err(number)),
+            number => Err(format!("refused {number}, with {bits:x?} beside it")),
+        }
     }
 }
 
@@ -89,6 +104,7 @@ fn without_table(call: &Call, buffer: &mut Buffer) -> Result<Outcome, Difference
         }
         Call::Code { rate } => answered(unsafe { ffi::abr_code(rate) })?,
         Call::Rate { code } => answered(unsafe { ffi::abr_rate(code) })?,
+        Call::Import { bits } => answered(unsafe { ffi::abr_import(f64::from_bits(bits)) })?,
         Call::House { pcr, mcr, icr } => {
             Ok(Answer::Params(unsafe { ffi::abr_house(pcr, mcr, icr) }))
         }
@@ -105,7 +121,7 @@ fn done(refusal: u32) -> Outcome {
 }
 
 /// An answer with other fields beside the refusal.
-trait Answered: Copy + Default + PartialEq + Debug {
+trait Answered: Copy + Default + Debug {
     fn refusal(&mut self) -> &mut u32;
     fn answer(self) -> Answer;
 }
@@ -114,7 +130,7 @@ trait Answered: Copy + Default + PartialEq + Debug {
 fn answered<T: Answered>(mut answer: T) -> Result<Outcome, Difference> {
     match std::mem::take(answer.refusal()) {
         0 => Ok(Ok(answer.answer())),
-        number if answer == T::default() => Ok(Err(number)),
+        number if answer.answer() == T::default().answer() => Ok(Err(number)),
         number => Err(format!("refused {number}, with {answer:x?} beside it")),
     }
 }
@@ -140,4 +156,8 @@ answers! {
     abr_allowed: |allowed: abr_allowed| Answer::Number(allowed.acr);
     abr_coded: |coded: abr_coded| Answer::Number(coded.code.into());
     abr_rated: |rated: abr_rated| Answer::Number(rated.rate);
+    abr_imported: |imported: abr_imported| Answer::Imported {
+        code: imported.code,
+        remainder: imported.remainder.to_bits(),
+    };
 }

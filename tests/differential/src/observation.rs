@@ -3,6 +3,7 @@
 //! counts come from it; no comparison of the two sides depends on it.
 
 mod address;
+mod doubles;
 mod made;
 mod outside;
 mod reserved;
@@ -144,6 +145,7 @@ impl Observation {
             Err(number) => {
                 self.refused_address(call, *number, coverage);
                 self.refused_reserved(call, *number, coverage);
+                doubles::refused(call, coverage);
                 self.refused(call, *number, coverage);
                 return self.refused_outside(call, *number, coverage);
             }
@@ -160,6 +162,10 @@ impl Observation {
             (Call::OutOfRate { at, time, .. }, _) => self.outside(at, time, coverage),
             (Call::Receive { cell }, _) => self.received(cell.as_slice(), acr, coverage),
             (Call::Slot { time, .. }, Answer::Sent(sent)) => self.slot(time, &sent, coverage),
+            (Call::Export { at }, _) => self.exported(at, coverage),
+            (Call::Import { bits }, Answer::Imported { code, .. }) => {
+                doubles::imported(bits, code, coverage);
+            }
             _ => {}
         }
     }

@@ -438,6 +438,7 @@ fn a_pair_out_of_range_is_never_another_pair() {
             Call::Make { at, time },
             Call::OutOfRate { at, time, len },
             Call::Acr { at },
+            Call::Export { at },
         ];
         for call in calls {
             assert_eq!(agree(&mut both, &call), Err(11), "{call:?}");

@@ -1,0 +1,10 @@
+use borrow.Author.Needs.{needs}
+use Rattle.abr.proofs.Planned.{exports}
+use Rattle.abr.proofs.planning.abr_export.Statement.{statement}
+use Rattle.abr.proofs.planning.abr_export.Tie as tie
+
+returns : tie.Need-returns
+returns c = exports (c .before .before .before .pair-name .ensures) (c .before .export-answer .ensures) (c .before .before .read-contract .ensures)
+
+pub abr-export-spec : {M : Type 1} → statement M
+abr-export-spec = tie.close (tie.spec (λ c κs. search needs) (λ c κs. search needs) (λ c κs. search needs) returns)

@@ -1,0 +1,22 @@
+// Reading the rate codes of one connection's contract (document 02, L8).
+ghost use Rattle.engine.specs.Contract.{MeetsContract};
+use loading::load::load;
+use model::contract::Contract;
+use names::find::Found;
+use names::find::find;
+use table::layout::WORDS;
+
+// 11 is the only refusal.
+pub fn read_contract(t: &[u64; WORDS], name: u32) -> Contract
+    ensures { λ r. ⌜ MeetsContract name (now (t .entry)) r ⌝ }
+{
+    let Found::At(i) = find(t, name) else {
+        return Contract::NotOpen;
+    };
+    let c = load(t, i);
+    Contract::Codes {
+        pcr: c.rate.params.pcr,
+        mcr: c.rate.params.mcr,
+        icr: c.rate.params.icr,
+    }
+}
