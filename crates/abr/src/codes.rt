@@ -1,13 +1,13 @@
 // Rate codes and the house set, without a table (document 01, "Units and the 16-bit rate code" and "Opening"; document 02, L7).
 ghost use mathlib.Core.Path.{_≡_};
 ghost use Rattle.rate.specs.Code.{coded};
-ghost use Rattle.rate.specs.Params.{houseSet};
+ghost use Rattle.params.specs.Params.{houseSet};
 ghost use Rattle.abr.specs.Codes.{codeAnswer, rateAnswer};
+use params::params::Params;
 use rate::code::Coded;
 use rate::code::code_of;
 use rate::code::rate_of;
 use rate::code::reserved_clear;
-use rate::params::Params;
 
 #[repr(C)]
 pub struct CodeAnswer {

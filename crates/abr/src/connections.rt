@@ -14,7 +14,7 @@ use engine::open::open;
 use engine::out_of_rate::out_of_rate;
 use model::acr::Acr;
 use model::answer::Answer;
-use rate::params::Params;
+use params::params::Params;
 use table::layout::WORDS;
 
 // The documents' number for an answer, 0 if it is no refusal, and the comparisons that the call made (document 02, L4).

@@ -11,7 +11,7 @@ use abr::connections::abr_out_of_rate;
 use abr::link::abr_receive;
 use abr::link::abr_set_level;
 use abr::link::abr_slot;
-use rate::params::Params;
+use params::params::Params;
 use table::layout::WORDS;
 
 pub mod planning;

@@ -9,13 +9,13 @@ use native.Mathlib.Omega.{arith}
 use lib.Dec.{eqb}
 use lib.Pow.{pow-pos}
 use borrow.Author.Tests.{eqb-false}
-use Rattle.rate.specs.declared.params.Params.{Params}
-use Rattle.rate.specs.declared.moves.Rate.{Rate}
+use Rattle.params.specs.declared.params.Params.{Params}
+use Rattle.moves.specs.declared.moves.Rate.{Rate}
 use Rattle.rate.specs.Code.{rateOf}
-use Rattle.rate.specs.Params.{nrm, paramsFit}
-use Rattle.rate.specs.Moves.{moved, opened, firstCell, idle, unanswered, feedback}
-use Rattle.rate.specs.Bounds.{RateInBounds}
-use Rattle.rate.proofs.FourMoves.{opened-in-bounds, firstCell-in-bounds, firstCell-mono, idle-in-bounds, idle-mono, unanswered-in-bounds, unanswered-mono, feedback-in-bounds}
+use Rattle.params.specs.Params.{nrm, paramsFit}
+use Rattle.moves.specs.Moves.{moved, opened, firstCell, idle, unanswered, feedback}
+use Rattle.moves.specs.Bounds.{RateInBounds}
+use Rattle.moves.proofs.FourMoves.{opened-in-bounds, firstCell-in-bounds, firstCell-mono, idle-in-bounds, idle-mono, unanswered-in-bounds, unanswered-mono, feedback-in-bounds}
 use Rattle.cell.specs.declared.fields.Fields.{Fields}
 use Rattle.cell.specs.Name.{vciIn, noName}
 use Rattle.connection.specs.Parts.{Connection, Pace, Unsent, Running, waiting, fresh, Instant, Never, At, Waiting, Nothing, Cell, Made}

@@ -2,8 +2,8 @@
 use mathlib.Core.Bool.{Bool}
 use Prim.Native.Nat.{ℕ, _^_, _<_}
 use native.Mathlib.Omega.{arith}
-use Rattle.rate.specs.declared.params.Params.{Params}
-use Rattle.rate.proofs.Ranges.{trm-le}
+use Rattle.params.specs.declared.params.Params.{Params}
+use Rattle.params.proofs.Ranges.{trm-le}
 use Rattle.crc.specs.declared.payload.Payload.{Payload}
 use Rattle.cell.specs.declared.fields.Fields.{Fields}
 use Rattle.connection.specs.Parts.{Connection, Pace, Unsent, Running, fresh, Waiting, Nothing, Cell, Made}

@@ -5,13 +5,13 @@ use native.Mathlib.Nat.{le-trans}
 use native.Mathlib.Omega.{arith}
 use lib.Dec.{leb, eqb}
 use lib.Pow.{pow-mono}
-use Rattle.rate.specs.declared.moves.Rate.{Rate}
+use Rattle.moves.specs.declared.moves.Rate.{Rate}
 use Rattle.rate.specs.Units.{largestRate, latestTime}
-use Rattle.rate.specs.Bounds.{RateInBounds}
+use Rattle.moves.specs.Bounds.{RateInBounds}
 use Rattle.rate.specs.Gap.{gap}
 use Rattle.rate.proofs.Codes.{rate-le}
 use Rattle.rate.proofs.Gaps.{gap-le}
-use Rattle.rate.proofs.Ranges.{fits, trm-le}
+use Rattle.params.proofs.Ranges.{fits, trm-le}
 use Rattle.connection.specs.Parts.{Connection, Pace, Unsent, Running, Instant, Never, At}
 use Rattle.connection.specs.Invariant.{PaceFits, ValidAt, NotAfter}
 use Rattle.connection.specs.Range.{PaceInRange, InRange, InstantInRange, InstantBelow}

@@ -5,9 +5,9 @@ use Prim.Native.Nat.{ℕ, _/_, _%_}
 use native.Mathlib.Omega.{arith}
 use lib.Dec.{eqb}
 use borrow.Author.Tests.{eq-eqb, ne-eqb}
-use Rattle.rate.specs.declared.moves.Rate.{Rate}
+use Rattle.moves.specs.declared.moves.Rate.{Rate}
 use Rattle.rate.specs.Code.{rateOf}
-use Rattle.rate.specs.Moves.{feedback}
+use Rattle.moves.specs.Moves.{feedback}
 use Rattle.crc.specs.declared.payload.Payload.{Payload}
 use Rattle.crc.specs.Payload.{octetsOf, payloadOf}
 use Rattle.cell.specs.declared.fields.Fields.{Fields}

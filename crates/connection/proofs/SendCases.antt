@@ -5,12 +5,12 @@ use Prim.Native.Nat.{ℕ, _+_, _-_, _/_, _%_, _≤_, _<_, min}
 use native.Mathlib.Omega.{arith}
 use lib.Dec.{leb, eqb}
 use borrow.Author.Tests.{leb-true, le-leb, eq-eqb, ne-eqb}
-use Rattle.rate.specs.declared.moves.Rate.{Rate}
-use Rattle.rate.specs.declared.params.Params.{Params}
+use Rattle.moves.specs.declared.moves.Rate.{Rate}
+use Rattle.params.specs.declared.params.Params.{Params}
 use Rattle.cell.specs.declared.fields.Fields.{Fields}
 use Rattle.rate.specs.Units.{largestRate}
 use Rattle.rate.specs.Code.{rateOf, codeOf, codeOrZero}
-use Rattle.rate.specs.Moves.{firstCell, idle, unanswered}
+use Rattle.moves.specs.Moves.{firstCell, idle, unanswered}
 use Rattle.rate.proofs.Codes.{code-of-rate, code-greatest, rate-le}
 use Rattle.cell.specs.Name.{vpiIn, vciIn, noName}
 use Rattle.cell.specs.Fields.{fieldsFit}

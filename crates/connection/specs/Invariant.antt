@@ -3,10 +3,10 @@
 use Prim.Native.Nat.{ℕ, _≤_, _<_}
 use mathlib.Core.Path.{_≡_}
 use mathlib.Core.Bool.{true}
-use Rattle.rate.specs.declared.params.Params.{Params}
-use Rattle.rate.specs.declared.moves.Rate.{Rate}
-use Rattle.rate.specs.Params.{nrm, paramsFit, trmTime}
-use Rattle.rate.specs.Bounds.{RateInBounds}
+use Rattle.params.specs.declared.params.Params.{Params}
+use Rattle.moves.specs.declared.moves.Rate.{Rate}
+use Rattle.params.specs.Params.{nrm, paramsFit, trmTime}
+use Rattle.moves.specs.Bounds.{RateInBounds}
 use Rattle.cell.specs.Name.{vciIn, noName}
 use Rattle.connection.specs.Parts.{Connection, Pace, Unsent, Running, Queue, Made, Instant, Never, At, waiting}
 

@@ -1,10 +1,10 @@
 -- A connection, its parts, and the same connection with one part changed. (Document 01, "Opening".)
 use Prim.Native.Nat.{ℕ, _+_, _-_}
 use mathlib.Core.Bool.{false}
-use Rattle.rate.specs.declared.params.Params.{Params}
-use Rattle.rate.specs.declared.moves.Rate.{Rate}
-use Rattle.rate.specs.Params.{trmTime}
-use Rattle.rate.specs.Moves.{opened}
+use Rattle.params.specs.declared.params.Params.{Params}
+use Rattle.moves.specs.declared.moves.Rate.{Rate}
+use Rattle.params.specs.Params.{trmTime}
+use Rattle.moves.specs.Moves.{opened}
 pub use Rattle.connection.specs.declared.parts.Pace.{Pace}
 pub use Rattle.connection.specs.declared.parts.Pace.the-variants.{Unsent, Running}
 pub use Rattle.connection.specs.declared.parts.Queue.{Queue}

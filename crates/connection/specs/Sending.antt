@@ -2,11 +2,11 @@
 use Prim.Native.Nat.{ℕ, _+_, _-_, min}
 use mathlib.Core.Bool.{Bool, true, false, _||_}
 use mathlib.Core.List.{List}
-use Rattle.rate.specs.declared.moves.Rate.{Rate}
-use Rattle.rate.specs.declared.params.Params.{Params}
+use Rattle.moves.specs.declared.moves.Rate.{Rate}
+use Rattle.params.specs.declared.params.Params.{Params}
 use Rattle.rate.specs.Code.{codeOf}
-use Rattle.rate.specs.Params.{peak, least}
-use Rattle.rate.specs.Moves.{firstCell, idle, unanswered}
+use Rattle.params.specs.Params.{peak, least}
+use Rattle.moves.specs.Moves.{firstCell, idle, unanswered}
 use Rattle.cell.specs.declared.fields.Fields.{Fields}
 use Rattle.cell.specs.Name.{vpiIn, vciIn}
 use Rattle.cell.specs.Fields.{resourceCell}

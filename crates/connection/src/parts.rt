@@ -3,9 +3,9 @@ ghost use mathlib.Core.Path.{_≡_};
 ghost use Rattle.connection.specs.Parts.{fresh, withRate, withPace, withUnacked, withQueue, withDestination, withOutside};
 use crate::ready::Instant;
 use crc::payload::Payload;
-use rate::moves::Rate;
-use rate::params::Params;
-use rate::params::trm_time;
+use moves::moves::Rate;
+use params::params::Params;
+use params::params::trm_time;
 
 // The cells sent: none yet; or the instants of the last cell and of the last forward cell, the cells k since then, and whether a turned
 // or made cell is among them.

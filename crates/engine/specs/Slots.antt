@@ -3,7 +3,7 @@ use Prim.Native.Nat.{ℕ, _≤_}
 use mathlib.Core.Path.{_≡_}
 use mathlib.Core.List.{List}
 use lib.ListN.{getD}
-use Rattle.rate.specs.declared.moves.Rate.{Rate}
+use Rattle.moves.specs.declared.moves.Rate.{Rate}
 use Rattle.rate.specs.Units.{largestRate}
 use Rattle.cell.specs.Fields.{resourceCell}
 use Rattle.connection.specs.declared.parts.Connection.{Connection}

@@ -8,7 +8,7 @@ use names::find::Found;
 use names::find::find;
 use names::used::find_free;
 use rate::code::codes_clear;
-use rate::params::Params;
+use params::params::Params;
 use rate::units::LATEST_TIME;
 use storing::store::store;
 use table::layout::LAST;

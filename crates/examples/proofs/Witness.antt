@@ -2,9 +2,9 @@
 use mathlib.Core.Path.{refl}
 use lib.Dec.{lit≤}
 use Rattle.rate.specs.Code.{reservedClear, codesClear, rateOf, codeBelow, codeOf}
-use Rattle.rate.specs.Params.{within, ratesFit, codesFit, numbersFit, paramsFit, trmTimes, trmTime}
+use Rattle.params.specs.Params.{within, ratesFit, codesFit, numbersFit, paramsFit, trmTimes, trmTime}
 use Rattle.rate.specs.Gap.{gap}
-use Rattle.rate.specs.Moves.{firstCell, idle, cut, unanswered, rateByMarks, feedback, markLevel}
+use Rattle.moves.specs.Moves.{firstCell, idle, cut, unanswered, rateByMarks, feedback, markLevel}
 use Rattle.crc.specs.Remainder.{bring, divide, remainder, bits, octetBits}
 use Rattle.crc.specs.Checks.{headerCheck, payloadCheck}
 use Rattle.cell.specs.Name.{pairName}

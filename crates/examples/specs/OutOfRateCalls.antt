@@ -2,8 +2,8 @@
 use Prim.Native.Nat.{ℕ, _+_}
 use mathlib.Core.Path.{_≡_}
 use mathlib.Core.List.{List, [], _∷_}
-use Rattle.rate.specs.declared.params.Params.{Params}
-use Rattle.rate.specs.Params.{houseSet}
+use Rattle.params.specs.declared.params.Params.{Params}
+use Rattle.params.specs.Params.{houseSet}
 use Rattle.rate.specs.Units.{latestTime}
 use Rattle.cell.specs.Fields.{resourceCell}
 use Rattle.connection.specs.declared.kind.Kind.the-variants.{Forward, Data}

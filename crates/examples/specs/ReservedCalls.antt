@@ -3,7 +3,7 @@ use Prim.Native.Nat.{ℕ}
 use mathlib.Core.Path.{_≡_}
 use mathlib.Core.List.{List, [], _∷_, _++_}
 use lib.ListN.{replicate}
-use Rattle.rate.specs.Params.{houseSet}
+use Rattle.params.specs.Params.{houseSet}
 use Rattle.cell.specs.Header.{header}
 use Rattle.cell.specs.Fields.{withCrc, resourceCell}
 use Rattle.model.specs.Call.{Call, opening, receiving}

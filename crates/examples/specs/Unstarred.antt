@@ -3,8 +3,8 @@ use Prim.Native.Nat.{ℕ, zero, suc, _+_}
 use mathlib.Core.Path.{_≡_}
 use mathlib.Core.List.{List, [], _∷_}
 use mathlib.Core.Option.{Option, none, some}
-use Rattle.rate.specs.declared.params.Params.{Params}
-use Rattle.rate.specs.Params.{houseSet}
+use Rattle.params.specs.declared.params.Params.{Params}
+use Rattle.params.specs.Params.{houseSet}
 use Rattle.rate.specs.Units.{latestTime}
 use Rattle.connection.specs.declared.parts.Pace.{Pace}
 use Rattle.connection.specs.declared.parts.Pace.the-variants.{Unsent, Running}

@@ -3,7 +3,7 @@ use Prim.Native.Nat.{ℕ}
 use mathlib.Core.Path.{_≡_}
 use mathlib.Core.List.{List, [], _∷_}
 use mathlib.Core.Option.{some}
-use Rattle.rate.specs.Params.{houseSet}
+use Rattle.params.specs.Params.{houseSet}
 use Rattle.cell.specs.Fields.{resourceCell}
 use Rattle.model.specs.State.{empty}
 use Rattle.model.specs.Call.{Call, opening, receiving, offering, slot}

@@ -4,7 +4,7 @@ use mathlib.Core.Path.{_≡_, refl, sym, ap, subst, _∙_}
 use mathlib.Core.List.{List}
 use mathlib.Core.Option.{Option, none, some}
 use lib.Ieee.{Float}
-use Rattle.rate.specs.declared.params.Params.{Params}
+use Rattle.params.specs.declared.params.Params.{Params}
 use Rattle.rate.specs.Code.{rateOf}
 use Rattle.doubles.specs.declared.export.Exported.{Exported}
 use Rattle.doubles.specs.Export.{IsRate}

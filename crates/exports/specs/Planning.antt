@@ -3,7 +3,7 @@ use Prim.Native.Nat.{ℕ}
 use mathlib.Core.Path.{_≡_}
 use mathlib.Core.List.{List}
 use mathlib.Core.Option.{Option, none, some}
-use Rattle.rate.specs.declared.params.Params.{Params}
+use Rattle.params.specs.declared.params.Params.{Params}
 use Rattle.doubles.specs.declared.export.Exported.{Exported}
 use Rattle.doubles.specs.RoundTrip.{canonical}
 use Rattle.model.specs.declared.contract.Contract.{Contract}

@@ -4,7 +4,7 @@ use mathlib.Core.Path.{_≡_, refl, _∙_}
 use mathlib.Core.Bool.{false}
 use mathlib.Core.List.{List, [], _∷_}
 use native.Mathlib.Omega.{arith}
-use Rattle.rate.specs.declared.params.Params.{Params}
+use Rattle.params.specs.declared.params.Params.{Params}
 use Rattle.cell.specs.Name.{noName, pairFits, pairName}
 use Rattle.cell.proofs.Names.{pair-out}
 use Rattle.cell.specs.Fields.{cellName}

@@ -2,7 +2,7 @@
 use Prim.Native.Nat.{ℕ}
 use mathlib.Core.List.{List}
 use mathlib.Core.Option.{Option, none, some}
-use Rattle.rate.specs.declared.params.Params.{Params}
+use Rattle.params.specs.declared.params.Params.{Params}
 use Rattle.connection.specs.declared.kind.Kind.{Kind}
 use Rattle.connection.specs.Sending.{Buffer}
 use Rattle.model.specs.State.{State}

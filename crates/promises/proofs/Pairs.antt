@@ -8,11 +8,11 @@ use native.Mathlib.Nat.{le-refl}
 use native.Mathlib.Omega.{arith}
 use lib.Dec.{leb, eqb}
 use borrow.Author.Tests.{eqb-true}
-use Rattle.rate.specs.declared.params.Params.{Params}
+use Rattle.params.specs.declared.params.Params.{Params}
 use Rattle.rate.specs.Code.{rateOf}
-use Rattle.rate.specs.Params.{peak}
-use Rattle.rate.specs.Moves.{moved, feedback}
-use Rattle.rate.proofs.FourMoves.{feedback-mono}
+use Rattle.params.specs.Params.{peak}
+use Rattle.moves.specs.Moves.{moved, feedback}
+use Rattle.moves.proofs.FourMoves.{feedback-mono}
 use Rattle.cell.specs.declared.fields.Fields.{Fields}
 use Rattle.cell.specs.declared.read.Reading.{Reading}
 use Rattle.cell.specs.declared.read.Reading.the-variants.{Refused as Unread, User, Resource}

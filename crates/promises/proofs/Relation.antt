@@ -5,7 +5,7 @@ use mathlib.Core.Bool.{Bool}
 use mathlib.Core.List.{List, [], _∷_}
 use lib.ListN.{length, getD, set, replicate}
 use native.Mathlib.Nat.{le-refl}
-use Rattle.rate.specs.Moves.{moved}
+use Rattle.moves.specs.Moves.{moved}
 use Rattle.connection.specs.declared.parts.Connection.{Connection}
 use Rattle.connection.specs.Parts.{withRate}
 use Rattle.model.specs.State.{State, Entry, free, taken, empty, capacity, position, isFree, holds, find, put, inserted, roomLeft, withTime, withLevel}

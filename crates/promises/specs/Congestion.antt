@@ -6,7 +6,7 @@ use mathlib.Core.List.{List}
 use lib.Dec.{eqb}
 use lib.ListN.{length, take, drop}
 use Rattle.rate.specs.Code.{rateOf}
-use Rattle.rate.specs.Moves.{markLevel}
+use Rattle.moves.specs.Moves.{markLevel}
 use Rattle.cell.specs.declared.fields.Fields.{Fields}
 use Rattle.cell.specs.Octets.{octet}
 use Rattle.cell.specs.Header.{typeOf, headerRight}

@@ -3,8 +3,8 @@ use Prim.Native.Nat.{ℕ, _≤_}
 use mathlib.Core.Path.{_≡_}
 use mathlib.Core.List.{List, [], _∷_}
 use mathlib.Core.Option.{Option, none, some}
-use Rattle.rate.specs.declared.params.Params.{Params}
-use Rattle.rate.specs.Params.{peak, least}
+use Rattle.params.specs.declared.params.Params.{Params}
+use Rattle.params.specs.Params.{peak, least}
 use Rattle.model.specs.State.{empty}
 use Rattle.model.specs.Call.{Call, receiving, Outcome, refusal, goesTo, kindSent}
 use Rattle.model.specs.Run.{run, final, paramsGiven, allowed}

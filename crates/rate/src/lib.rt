@@ -1,6 +1,4 @@
-// Rates: their 16-bit codes, the parameters of an open, the gap between two cells, and the allowed rate with its four moves.
+// Rates: their 16-bit codes, and the gap between two cells.
 pub mod code;
 pub mod gap;
-pub mod moves;
-pub mod params;
 pub mod units;

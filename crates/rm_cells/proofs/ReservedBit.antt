@@ -7,7 +7,7 @@ use native.Mathlib.Omega.{arith}
 use lib.Dec.{eqb, ltb, lit≤}
 use lib.ListN.{set}
 use borrow.Author.Tests.{ltb-true}
-use Rattle.rate.specs.declared.params.Params.{Params}
+use Rattle.params.specs.declared.params.Params.{Params}
 use Rattle.rate.specs.Code.{reservedClear, codesClear}
 use Rattle.crc.specs.Payload.{payloadOf}
 use Rattle.cell.specs.Octets.{octet, pair, payload, AreOctets}

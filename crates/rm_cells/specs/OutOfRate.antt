@@ -4,8 +4,8 @@ use mathlib.Core.Path.{_≡_}
 use mathlib.Core.Logic.{_≢_}
 use mathlib.Core.Bool.{true}
 use mathlib.Core.List.{List}
-use Rattle.rate.specs.declared.moves.Rate.{Rate}
-use Rattle.rate.specs.Params.{least}
+use Rattle.moves.specs.declared.moves.Rate.{Rate}
+use Rattle.params.specs.Params.{least}
 use Rattle.cell.specs.Name.{pairName}
 use Rattle.cell.specs.Fields.{resourceCell}
 use Rattle.cell.specs.Reading.{reading}

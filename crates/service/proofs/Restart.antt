@@ -7,12 +7,12 @@ use native.Mathlib.Nat.{le-refl, div-le-self}
 use native.Mathlib.Omega.{arith}
 use lib.Dec.{leb, ltb, eqb}
 use borrow.Author.Tests.{eq-eqb}
-use Rattle.rate.specs.declared.moves.Rate.{Rate}
+use Rattle.moves.specs.declared.moves.Rate.{Rate}
 use Rattle.rate.specs.Code.{rateOf}
-use Rattle.rate.specs.Params.{peak, least, adtfTime}
+use Rattle.params.specs.Params.{peak, least, adtfTime}
 use Rattle.rate.specs.Gap.{gap}
-use Rattle.rate.specs.Moves.{firstCell, idle, unanswered, rateByMarks, feedback}
-use Rattle.rate.proofs.Cuts.{cut-le}
+use Rattle.moves.specs.Moves.{firstCell, idle, unanswered, rateByMarks, feedback}
+use Rattle.moves.proofs.Cuts.{cut-le}
 use Rattle.cell.specs.declared.fields.Fields.{Fields}
 use Rattle.cell.specs.Fields.{cellName}
 use Rattle.connection.specs.declared.parts.Connection.{Connection}

@@ -4,9 +4,9 @@ use mathlib.Core.Path.{_≡_}
 use mathlib.Core.Bool.{Bool, true, _||_}
 use mathlib.Core.List.{List}
 use lib.Dec.{leb}
-use Rattle.rate.specs.declared.params.Params.{Params}
+use Rattle.params.specs.declared.params.Params.{Params}
 use Rattle.rate.specs.Code.{rateOf}
-use Rattle.rate.specs.Params.{peak, least}
+use Rattle.params.specs.Params.{peak, least}
 use Rattle.cell.specs.declared.fields.Fields.{Fields}
 use Rattle.cell.specs.declared.read.Reading.the-variants.{Resource}
 use Rattle.cell.specs.Fields.{cellName}

@@ -11,9 +11,9 @@ use lib.ListN.{getD, drop}
 use lib.Pow.{pow-mono}
 use lib.Seq.{getD-drop}
 use Rattle.rate.specs.Units.{latestTime}
-use Rattle.rate.specs.Params.{nrm}
-use Rattle.rate.specs.Bounds.{Fits}
-use Rattle.rate.proofs.Ranges.{fits}
+use Rattle.params.specs.Params.{nrm}
+use Rattle.params.specs.Ranges.{Fits}
+use Rattle.params.proofs.Ranges.{fits}
 use Rattle.cell.specs.Name.{noName}
 use Rattle.connection.specs.declared.parts.Pace.{Pace}
 use Rattle.connection.specs.declared.parts.Pace.the-variants.{Unsent, Running}

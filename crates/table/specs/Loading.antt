@@ -5,7 +5,7 @@ use mathlib.Core.Bool.{cond}
 use mathlib.Core.List.{List}
 use lib.Dec.{ltb, eqb}
 use lib.ListN.{getD}
-use Rattle.rate.specs.declared.params.Params.{Params}
+use Rattle.params.specs.declared.params.Params.{Params}
 use Rattle.crc.specs.declared.payload.Payload.{Payload}
 use Rattle.cell.specs.Name.{noName}
 use Rattle.connection.specs.declared.parts.Pace.{Pace}

@@ -1,8 +1,8 @@
 // Feedback on a record that is lent (document 01, "Four moves of the allowed rate" and "The forms we expect"): the one place where a
 // record is lent.
 ghost use mathlib.Core.Path.{_≡_};
-ghost use Rattle.rate.specs.Moves.{feedback};
-use rate::moves::Rate;
+ghost use Rattle.moves.specs.Moves.{feedback};
+use moves::moves::Rate;
 
 // The record is lent, and what its feedback move hands back is stored.
 pub fn apply_feedback(rate: &mut Rate, ci: bool, ni: bool, er: u64)

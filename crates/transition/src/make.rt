@@ -12,7 +12,7 @@ use connection::parts::Connection;
 use connection::parts::Destination;
 use connection::parts::Made;
 use connection::ready::Instant;
-use rate::params::Params;
+use params::params::Params;
 
 // A cell made at t, at this congestion level, waits in the place of an earlier made one.
 pub fn with_made(t: u64, level: u32, c: Connection) -> Connection

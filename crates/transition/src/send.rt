@@ -12,8 +12,8 @@ use connection::parts::Made;
 use connection::parts::Pace;
 use connection::parts::Queue;
 use connection::parts::Waiting;
+use moves::moves::Rate;
 use rate::code::code_or_zero;
-use rate::moves::Rate;
 
 // The time from `then` to t; none if t is earlier, as only a damaged table has it.
 fn since(then: u64, t: u64) -> u64

@@ -2,7 +2,7 @@
 use mathlib.Core.Path.{refl}
 use Rattle.rate.specs.Code.{rateOf, codeBelow, codeOf, coded}
 use Rattle.rate.specs.Gap.{gap}
-use Rattle.rate.specs.Moves.{cut, rateByMarks, feedback}
+use Rattle.moves.specs.Moves.{cut, rateByMarks, feedback}
 use Rattle.crc.specs.Remainder.{bring, divide, remainder, bits, octetBits}
 use Rattle.crc.specs.Checks.{headerCheck}
 use Rattle.values.specs.Checked.{Checked}

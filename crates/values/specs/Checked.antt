@@ -6,10 +6,10 @@ use mathlib.Core.List.{[], _∷_}
 use Rattle.rate.specs.Units.{largestRate}
 use Rattle.rate.specs.Code.{rateOf, coded}
 use Rattle.rate.specs.declared.code.Coded.the-variants.{Code}
-use Rattle.rate.specs.Params.{houseSet}
+use Rattle.params.specs.Params.{houseSet}
 use Rattle.rate.specs.Gap.{gap}
-use Rattle.rate.specs.declared.moves.Rate.{Rate}
-use Rattle.rate.specs.Moves.{feedback}
+use Rattle.moves.specs.declared.moves.Rate.{Rate}
+use Rattle.moves.specs.Moves.{feedback}
 use Rattle.crc.specs.Checks.{headerCheck}
 
 -- A connection at this allowed rate, with this peak, MCR 512, and r and d 4 as in the house set. A line that names no peak has the

@@ -4,14 +4,14 @@
 mod cells;
 mod changes;
 mod checks;
-mod params;
+mod opening;
 mod print;
 mod rates;
 mod turned;
 
 fn main() {
     rates::show();
-    params::show();
+    opening::show();
     checks::show();
     cells::show();
     changes::show();

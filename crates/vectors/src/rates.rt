@@ -1,12 +1,12 @@
 // Rate codes, gaps and the four moves of the allowed rate (document 01, "Units and the 16-bit rate code", "Four moves of the allowed rate", "Slots" and
 // "Checked values").
 use crate::print;
+use moves::moves::Rate;
+use params::params::Params;
 use rate::code::Coded;
 use rate::code::code_of;
 use rate::code::rate_of;
 use rate::gap::gap;
-use rate::moves::Rate;
-use rate::params::Params;
 
 // The rate of a code and the gap at an allowed rate; then the code of a rate and 0, or 0 and its refusal.
 fn coded(code: u32, acr: u64, rate: u64) {

@@ -39,14 +39,14 @@ use denote.Triple.Clauses.{ensured, lasts}
 use denote.Triple.Table.{entered, cited}
 use denote.Triple.Walked.{says, Stays, stay-ref, stay-none, walkOf, AllGo, goes-none, goes-ref, Walks, ends-at, walked, walk-meets}
 use denote.Exit.{yes}
-use Rattle.rate.specs.Moves.{feedback}
-use Rattle.rate.specs.declared.moves.Rate.{Rate}
-use Rattle.rate.proofs.moves.Rate as T
-use Rattle.rate.proofs.moves.Rate.Laws as T′
-use Rattle.rate.proofs.moves.Rate.feedback as fb
-use Rattle.rate.proofs.moves.Rate.feedback.Symbol as fb-def
-use Rattle.rate.proofs.moves.Rate.feedback.Symbol.{name as #rate·feedback}
-use Rattle.rate.proofs.moves.Rate.feedback.Met as fb-thm
+use Rattle.moves.specs.Moves.{feedback}
+use Rattle.moves.specs.declared.moves.Rate.{Rate}
+use Rattle.moves.proofs.moves.Rate as T
+use Rattle.moves.proofs.moves.Rate.Laws as T′
+use Rattle.moves.proofs.moves.Rate.feedback as fb
+use Rattle.moves.proofs.moves.Rate.feedback.Symbol as fb-def
+use Rattle.moves.proofs.moves.Rate.feedback.Symbol.{name as #rate·feedback}
+use Rattle.moves.proofs.moves.Rate.feedback.Met as fb-thm
 use Rattle.transition.proofs.feedback.apply_feedback.Key.{name as #transition·apply}
 use Rattle.transition.proofs.feedback.apply_feedback as applied
 use Rattle.transition.proofs.feedback.apply_feedback.Statement as stated
@@ -144,4 +144,4 @@ apply-feedback-spec 𝓤 H 𝓜 𝓖 𝓡 =
     entered 𝓤 H (tripleOf 𝓤 H (𝓖 .A) applied.signature (applied.spec 𝓤 H (𝓖 .A) (𝓜 .mem) (𝓡 .run)))
     (tables 𝓤 H 𝓜 𝓡 code.env .C) (tables 𝓤 H 𝓜 𝓡 code.env .Λ) #transition·apply code.function (code.unfolded 𝓤 H 𝓜 𝓡)
     (apply-feedback-meets 𝓤 H (𝓖 .A) (givenOf 𝓤 H 𝓜 𝓖) (𝓜 .mem) (𝓡 .run) (tablesOf 𝓤 H 𝓜 (tables 𝓤 H 𝓜 𝓡 code.env))
-    (cited 𝓤 H (Fb 𝓤 H (𝓖 .A) (𝓜 .mem) (𝓡 .run)) 𝓜 𝓡 code.env #rate·feedback fb-def.routine code.calls-rate·moves·Rate·feedback (fb-thm.met 𝓤 H 𝓜 𝓖 𝓡)))
+    (cited 𝓤 H (Fb 𝓤 H (𝓖 .A) (𝓜 .mem) (𝓡 .run)) 𝓜 𝓡 code.env #rate·feedback fb-def.routine code.calls-moves·moves·Rate·feedback (fb-thm.met 𝓤 H 𝓜 𝓖 𝓡)))

@@ -39,10 +39,10 @@ use denote.Triple.Clauses.{ensured, lasts}
 use denote.Triple.Table.{entered, cited}
 use denote.Triple.Walked.{says, Stays, stay-none, walkOf, AllGo, goes-none, Walks, ends-at, walked, walk-meets}
 use denote.Exit.{yes}
-use Rattle.rate.specs.Moves.{feedback}
-use Rattle.rate.specs.declared.moves.Rate.{Rate}
-use Rattle.rate.proofs.moves.Rate as T
-use Rattle.rate.proofs.moves.Rate.Laws as T′
+use Rattle.moves.specs.Moves.{feedback}
+use Rattle.moves.specs.declared.moves.Rate.{Rate}
+use Rattle.moves.proofs.moves.Rate as T
+use Rattle.moves.proofs.moves.Rate.Laws as T′
 use Rattle.transition.proofs.feedback.apply_feedback as mv
 use Rattle.transition.proofs.feedback.apply_feedback.Symbol as mv-def
 use Rattle.transition.proofs.feedback.apply_feedback.Symbol.{name as #transition·apply}

@@ -1,0 +1,2 @@
+// The rate record and the four moves of its allowed rate.
+pub mod moves;

@@ -1,0 +1,2 @@
+-- The laws of the parameters, for the crates above.
+pub mod Ranges

@@ -1,0 +1,79 @@
+-- Parameters that fit, as plain inequalities.
+use mathlib.Core.Path.{_≡_, refl, sym}
+use mathlib.Core.Bool.{Bool, true, false, _&&_}
+use mathlib.Core.List.{List, [], _∷_}
+use Prim.Native.Nat.{ℕ, zero, suc, _≤_, _<_, zero-le}
+use native.Mathlib.Omega.{arith}
+use lib.Dec.{leb}
+use lib.ListN.{getD, List·getD-eq-default}
+use borrow.Author.Tests.{leb-true}
+use Rattle.params.specs.Params.{Params, peak, least, initial, within, codesFit, ratesFit, numbersFit, paramsFit, trmTimes, trmTime}
+use Rattle.params.specs.Ranges.{Fits}
+
+-- both sides of a test
+both : (a b : Bool) → (a && b) ≡ true → (a ≡ true) × (b ≡ true)
+both true b e = (refl, e)
+both false b e = let z : _≡_ {A = ℕ} 0 1 = cc in absurd (omega arith)
+
+in-range : (low high x : ℕ) → within low high x ≡ true → (low ≤ x) × (x ≤ high)
+unfolding within
+in-range low high x e =
+    let h = both (leb low x) (leb x high) e in (leb-true low x (h .0), leb-true x high (h .1))
+
+pub fits : (p : Params) → paramsFit p ≡ true → Fits p
+unfolding paramsFit codesFit ratesFit numbersFit
+fits p e =
+    let f = both (codesFit p) (ratesFit p && numbersFit p) e in
+    let g = both (ratesFit p) (numbersFit p) (f .1) in
+    let code = both (leb (p .pcr) 65535) (leb (p .mcr) 65535 && leb (p .icr) 65535) (f .0) in
+    let code₂ = both (leb (p .mcr) 65535) (leb (p .icr) 65535) (code .1) in
+    let rate = both (leb 512 (peak p)) (leb (least p) (initial p) && leb (initial p) (peak p)) (g .0) in
+    let rate₂ = both (leb (least p) (initial p)) (leb (initial p) (peak p)) (rate .1) in
+    let trm = leb (p .trm) 7 in
+    let adtf = within 1 1023 (p .adtf) && trm in
+    let crm = within 1 8_388_608 (p .crm) && adtf in
+    let cdf = leb (p .c) 7 && crm in
+    let rdf = leb (p .d) 15 && cdf in
+    let n = both (within 1 8 (p .n)) (leb (p .r) 15 && rdf) (g .1) in
+    let r = both (leb (p .r) 15) rdf (n .1) in
+    let d = both (leb (p .d) 15) cdf (r .1) in
+    let c = both (leb (p .c) 7) crm (d .1) in
+    let m = both (within 1 8_388_608 (p .crm)) adtf (c .1) in
+    let a = both (within 1 1023 (p .adtf)) trm (m .1) in
+    record {
+      pcrCode = leb-true _ _ (code .0);
+      mcrCode = leb-true _ _ (code₂ .0);
+      icrCode = leb-true _ _ (code₂ .1);
+      peakLeast = leb-true _ _ (rate .0);
+      low = leb-true _ _ (rate₂ .0);
+      high = leb-true _ _ (rate₂ .1);
+      nLeast = in-range 1 8 (p .n) (n .0) .0;
+      nMost = in-range 1 8 (p .n) (n .0) .1;
+      rMost = leb-true _ _ (r .0);
+      dMost = leb-true _ _ (d .0);
+      cMost = leb-true _ _ (c .0);
+      crmLeast = in-range 1 8_388_608 (p .crm) (m .0) .0;
+      crmMost = in-range 1 8_388_608 (p .crm) (m .0) .1;
+      adtfLeast = in-range 1 1023 (p .adtf) (a .0) .0;
+      adtfMost = in-range 1 1023 (p .adtf) (a .0) .1;
+      trmMost = leb-true _ _ (a .1);
+    }
+
+-- a Trm number over 7 has no time
+pub trm-none : (n : ℕ) → 7 < n → 0 ≡ trmTime n
+unfolding trmTime trmTimes
+trm-none n h = sym (List·getD-eq-default trmTimes 0 h)
+
+-- no Trm is longer than a tenth of a second
+abbrev allUpTo : ℕ → List ℕ → Bool
+allUpTo b [] = true
+allUpTo b (x ∷ l) = leb x b && allUpTo b l
+
+getD-le : (b : ℕ) (l : List ℕ) (n : ℕ) → allUpTo b l ≡ true → getD l n 0 ≤ b
+getD-le b [] n e = zero-le
+getD-le b (x ∷ l) zero e = leb-true x b (both (leb x b) (allUpTo b l) e .0)
+getD-le b (x ∷ l) (suc n) e = getD-le b l n (both (leb x b) (allUpTo b l) e .1)
+
+pub trm-le : (n : ℕ) → trmTime n ≤ 100_000_000
+unfolding trmTime trmTimes
+trm-le n = getD-le 100_000_000 trmTimes n refl

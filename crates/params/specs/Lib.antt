@@ -1,0 +1,3 @@
+-- The parameters of an open, as document 01 sets them out; the code follows with the same names.
+pub mod Params
+pub mod Ranges

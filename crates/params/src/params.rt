@@ -1,0 +1,137 @@
+// What an open gives (document 01, "Opening").
+ghost use mathlib.Core.Path.{_≡_};
+ghost use mathlib.Core.Bool.{_&&_};
+ghost use lib.Dec.{leb};
+ghost use Rattle.params.specs.Params.{peak, least, initial, within, codesFit, ratesFit, numbersFit, paramsFit, trmTime, houseSet};
+use rate::code::rate_of;
+
+// Trm by its number, in nanoseconds.
+const TRM_TIMES: [u64; 8] = [
+    781250,
+    1562500,
+    3125000,
+    6250000,
+    12500000,
+    25000000,
+    50000000,
+    100000000,
+];
+
+pub fn trm_time(number: u32) -> u64
+    ensures { λ t. ⌜ t ≡ trmTime number ⌝ }
+{
+    if 7 < number {
+        return 0;
+    }
+    TRM_TIMES[number as usize]
+}
+
+fn within(low: u32, high: u32, x: u32) -> bool
+    ensures { λ b. ⌜ b ≡ within low high x ⌝ }
+{
+    low <= x && x <= high
+}
+
+#[repr(C)]
+pub struct Params {
+    pub pcr: u32,
+    pub mcr: u32,
+    pub icr: u32,
+    pub n: u32,
+    pub r: u32,
+    pub d: u32,
+    pub c: u32,
+    pub crm: u32,
+    pub adtf: u32,
+    pub trm: u32,
+}
+
+impl Params {
+    // The house set; its three rates come from the caller.
+    pub const N: u32 = 5;
+
+    pub const R: u32 = 4;
+
+    pub const D: u32 = 4;
+
+    pub const C: u32 = 4;
+
+    pub const CRM: u32 = 524288;
+
+    pub const ADTF: u32 = 50;
+
+    pub const TRM: u32 = 7;
+
+    pub fn house(pcr: u32, mcr: u32, icr: u32) -> Params
+        ensures { λ p. ⌜ p ≡ houseSet pcr mcr icr ⌝ }
+    {
+        Params {
+            pcr,
+            mcr,
+            icr,
+            n: Params::N,
+            r: Params::R,
+            d: Params::D,
+            c: Params::C,
+            crm: Params::CRM,
+            adtf: Params::ADTF,
+            trm: Params::TRM,
+        }
+    }
+
+    // The rates of the three codes.
+    pub fn peak(self) -> u64
+        ensures { λ a. ⌜ a ≡ peak self ⌝ }
+    {
+        rate_of(self.pcr)
+    }
+
+    pub fn least(self) -> u64
+        ensures { λ a. ⌜ a ≡ least self ⌝ }
+    {
+        rate_of(self.mcr)
+    }
+
+    pub fn initial(self) -> u64
+        ensures { λ a. ⌜ a ≡ initial self ⌝ }
+    {
+        rate_of(self.icr)
+    }
+
+    fn codes_fit(self) -> bool
+        ensures { λ b. ⌜ b ≡ codesFit self ⌝ }
+    {
+        self.pcr <= 65535 && (self.mcr <= 65535 && self.icr <= 65535)
+    }
+
+    // The peak is 512 or more, the minimum may be 0, the initial rate lies between them (document 02, L5).
+    fn rates_fit(self) -> bool
+        ensures { λ b. ⌜ b ≡ ratesFit self ⌝ }
+    {
+        let least = self.least();
+        let initial = self.initial();
+        let peak = self.peak();
+        512 <= peak && (least <= initial && initial <= peak)
+    }
+
+    // CRM, ADTF and the Trm number.
+    fn limits_fit(self) -> bool
+        ensures { λ b. ⌜ b ≡ within 1 8388608 (self .crm) && (within 1 1023 (self .adtf) && leb (self .trm) 7) ⌝ }
+    {
+        within(1, 8388608, self.crm) && (within(1, 1023, self.adtf) && self.trm <= 7)
+    }
+
+    fn numbers_fit(self) -> bool
+        ensures { λ b. ⌜ b ≡ numbersFit self ⌝ }
+    {
+        within(1, 8, self.n)
+            && (self.r <= 15 && (self.d <= 15 && (self.c <= 7 && self.limits_fit())))
+    }
+
+    // What an open may give: every range of document 01 at once.
+    pub fn fits(self) -> bool
+        ensures { λ b. ⌜ b ≡ paramsFit self ⌝ }
+    {
+        self.codes_fit() && (self.rates_fit() && self.numbers_fit())
+    }
+}
