@@ -6,12 +6,12 @@ use model::answer::Answer;
 use names::find::Found;
 use names::find::find;
 use rate::units::LATEST_TIME;
+use receiving::make::with_made;
+use sending::interval::rested;
 use storing::store::update_destination;
 use table::layout::LAST;
 use table::layout::LEVEL;
 use table::layout::WORDS;
-use transition::interval::rested;
-use transition::make::with_made;
 
 // Refusals 8, 11, 14, 16, 17.
 pub fn make(t: &mut [u64; WORDS], name: u32, time: u64) -> Answer

@@ -5,9 +5,9 @@ use loading::load::load;
 use model::answer::Answer;
 use names::find::Found;
 use names::find::find;
+use receiving::receive::offered;
 use storing::store::update_source;
 use table::layout::WORDS;
-use transition::receive::offered;
 
 // Refusals 11, 15. The sum is never formed before it is known to fit.
 pub fn offer(t: &mut [u64; WORDS], name: u32, cells: u64) -> Answer

@@ -8,11 +8,11 @@ use model::answer::Answer;
 use names::find::Found;
 use names::find::find;
 use rate::units::LATEST_TIME;
+use sending::interval::rested;
+use sending::out_of_rate::after_out_of_rate;
 use storing::store::update_outside;
 use table::layout::LAST;
 use table::layout::WORDS;
-use transition::interval::rested;
-use transition::out_of_rate::after_out_of_rate;
 
 // Refusals 1, 8, 11, 14, 18. It replays no match.
 pub fn out_of_rate(t: &mut [u64; WORDS], name: u32, time: u64, cell: &mut [u8]) -> Answer

@@ -22,15 +22,15 @@ use reading::read::efci_of;
 use reading::read::header_refusal;
 use reading::read::is_data;
 use reading::read::resource_refusal;
+use receiving::receive::after_backward_cell;
+use receiving::receive::after_data_cell;
+use receiving::receive::after_forward_payload;
 use storing::store::update_destination;
 use storing::store::update_efci;
 use storing::store::update_source;
 use table::layout::LEVEL;
 use table::layout::WORDS;
 use tournament::replay::levels_led;
-use transition::receive::after_backward_cell;
-use transition::receive::after_data_cell;
-use transition::receive::after_forward_payload;
 
 // A data cell, whose octets no longer count: refusal 11.
 fn receive_data(t: &mut [u64; WORDS], vpi: u32, vci: u32, efci: bool) -> Answer

@@ -16,13 +16,13 @@ use loading::load::load;
 use model::answer::Answer;
 use moves::moves::Rate;
 use params::params::Params;
+use receiving::make::made_fields;
 use scheduling::kind::kind_at;
+use sending::send::after;
+use sending::send::forward_fields;
 use storing::store::update;
 use storing::store::update_source;
 use table::layout::WORDS;
-use transition::make::made_fields;
-use transition::send::after;
-use transition::send::forward_fields;
 use writing::turned::put_turned;
 use writing::write::put_resource;
 
