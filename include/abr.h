@@ -6,8 +6,8 @@
  * sections named below are those of document 01, "The ABR end-system rate
  * engine", which says what every call does, with requests L1 (abr_make), L2
  * (marks of a replaced cell), L4 (1,024 connections, comparisons), L5 (no minimum
- * rate, abr_out_of_rate), L6 (full addresses), L7 (the reserved bit of a rate code)
- * and L8 (abr_export, abr_import) of document 02.
+ * rate, abr_out_of_rate), L6 (full addresses), L7 (the reserved bit of a rate code),
+ * L8 (abr_export, abr_import) and L9 (what the last feedback did) of document 02.
  *
  * Addresses. A connection is named by its VPI and its VCI together, as VPI * 65,536
  * + VCI (document 02, L6): the same VCI on another VPI is another connection. Every
@@ -20,7 +20,7 @@
  *
  * Memory. The library has no heap, no globals and no start-up call. All state
  * is in an abr_table that the caller lends. A table of zeros is the empty one,
- * so `static abr_table table;` is ready for use. It has 270,488 octets, too many
+ * so `static abr_table table;` is ready for use. It has 286,872 octets, too many
  * for most stacks. Only these calls may write a table that is in use. One table
  * is used by one thread at a time; different tables are independent of each
  * other. A table may be moved or copied as a whole, octet by octet, between
@@ -82,11 +82,11 @@ extern "C" {
 
 /* ---- Version ------------------------------------------------------------ */
 
-/* 0.9.0: major, minor and patch number, eight bits each. */
-#define ABR_VERSION 0x000900u
+/* 0.10.0: major, minor and patch number, eight bits each. */
+#define ABR_VERSION 0x000a00u
 
-/* The words of a table, which has 270,488 octets. */
-#define ABR_TABLE_WORDS 33811u
+/* The words of a table, which has 286,872 octets. */
+#define ABR_TABLE_WORDS 35859u
 
 /* ---- Limits ------------------------------------------------------------- */
 
@@ -249,7 +249,8 @@ typedef struct {
 /* The answer of abr_acr. */
 typedef struct {
     uint32_t refusal;
-    uint64_t acr; /* the allowed rate; 0 is possible if the minimum is 0 */
+    uint64_t acr;   /* the allowed rate; 0 is possible if the minimum is 0 */
+    int64_t change; /* what its last accepted backward cell changed: new minus old, below 0 if it fell, 0 before the first */
 } abr_allowed;
 
 /* The answer of abr_read. */
@@ -338,7 +339,12 @@ ABR_MUST_USE abr_answer abr_close(abr_table *table, uint32_t vpi, uint32_t vci);
 ABR_MUST_USE abr_answer abr_offer(abr_table *table, uint32_t vpi, uint32_t vci, uint64_t cells);
 
 /*
- * Reads the allowed rate of a connection (section "Slots", last line).
+ * Reads the allowed rate of a connection (section "Slots", last line), and the
+ * change that its last accepted backward cell made (document 02, L9): the rate after
+ * that cell less the rate before it, from MCR - PCR to PCR - MCR. It is 0 if that cell
+ * left the rate as it was, and before the first one since the open. Every backward cell
+ * counts, one with BN 1 too. Moves before a forward cell and all other calls leave it, so
+ * that acr may have moved since.
  * Refusal: 11 the connection is not open, vpi over 255 or vci over 65,535.
  */
 ABR_MUST_USE abr_allowed abr_acr(const abr_table *table, uint32_t vpi, uint32_t vci);
@@ -543,8 +549,9 @@ ABR_LAYOUT(sent_comparisons, offsetof(abr_sent, comparisons) == 4);
 ABR_LAYOUT(sent_vpi, offsetof(abr_sent, vpi) == 12);
 ABR_LAYOUT(sent_vci, offsetof(abr_sent, vci) == 16);
 ABR_LAYOUT(sent_acr, offsetof(abr_sent, acr) == 24);
-ABR_LAYOUT(allowed_size, sizeof(abr_allowed) == 16);
+ABR_LAYOUT(allowed_size, sizeof(abr_allowed) == 24);
 ABR_LAYOUT(allowed_acr, offsetof(abr_allowed, acr) == 8);
+ABR_LAYOUT(allowed_change, offsetof(abr_allowed, change) == 16);
 ABR_LAYOUT(cell_size, sizeof(abr_cell) == 60);
 ABR_LAYOUT(cell_efci, offsetof(abr_cell, efci) == 8);
 ABR_LAYOUT(cell_rm, offsetof(abr_cell, rm) == 12);

@@ -2,7 +2,7 @@
 //! moves of the allowed rate"), its waiting data, and when and what it sends
 //! ("Slots"; with document 02's L1 a made cell counts as a turned one, with L5 a
 //! connection with an allowed rate of 0 is never ready, and any may send out-of-rate
-//! forward cells).
+//! forward cells; with L9 it keeps what the last feedback did).
 
 use crate::address::Address;
 use crate::cell::{self, Octets, Rm};
@@ -25,6 +25,15 @@ pub enum Kind {
     Turned,
     /// A cell of waiting data.
     Data,
+}
+
+/// What reading a connection's allowed rate gives (document 02, L9).
+#[derive(Debug, Clone, Copy, PartialEq, Eq)]
+pub struct Allowed {
+    /// The allowed rate.
+    pub acr: u64,
+    /// What the last backward cell made of it: new less old; 0 before the first.
+    pub change: i64,
 }
 
 /// The allowed rate and the contract that it moves under. Each move takes the
@@ -116,6 +125,8 @@ pub struct Connection {
     at: Address,
     opened: u64,
     rate: RateRecord,
+    /// The new allowed rate less the old one, of the last backward cell.
+    change: i64,
     /// Nothing before the first cell.
     history: Option<History>,
     /// Waiting data cells.
@@ -135,6 +146,7 @@ impl Connection {
             at,
             opened: time,
             rate: RateRecord::new(contract),
+            change: 0,
             history: None,
             data: 0,
             destination: Destination::default(),
@@ -146,6 +158,14 @@ impl Connection {
     /// The allowed rate.
     pub fn acr(&self) -> u64 {
         self.rate.acr
+    }
+
+    /// The allowed rate, and what the last backward cell made of it.
+    pub fn allowed(&self) -> Allowed {
+        Allowed {
+            acr: self.rate.acr,
+            change: self.change,
+        }
     }
 
     /// The three rates that its open gave, as doubles (document 02, L8).
@@ -183,10 +203,12 @@ impl Connection {
         self.destination.make(self.at, time, level, pcr)
     }
 
-    /// A backward cell arrived: it moves the rate, and with BN 0 it answers all
-    /// unanswered cells.
+    /// A backward cell arrived: it moves the rate, also by nothing, and with BN 0 it
+    /// answers all unanswered cells.
     pub fn receive_backward(&mut self, rm: &Rm) {
+        let old = self.rate.acr;
         self.rate = self.rate.feedback(rm.ci == 1, rm.ni == 1, rate_of(rm.er));
+        self.change = self.rate.acr as i64 - old as i64; // rates have 41 bits at most
         if rm.bn == 0 {
             self.unanswered = 0;
         }

@@ -1,14 +1,14 @@
 //! The table of connections and the calls on it (document 01, from "Opening"
 //! to "Slots"; the orders of refusals are in "Refused because of the state", those
 //! of a made cell and an out-of-rate cell in document 02's L1 and L5, and where 19
-//! comes in L7). Calls that replay matches answer the comparisons (document 02, L4). A
+//! comes in L7; what an ACR is read with in L9). Calls that replay matches answer the comparisons (document 02, L4). A
 //! connection is named by its VPI and VCI together (document 02, L6).
 
 use std::collections::BTreeMap;
 
 use crate::address::Address;
 use crate::cell::{self, Cell, Octets};
-use crate::connection::{Connection, Kind};
+use crate::connection::{Allowed, Connection, Kind};
 use crate::double::Exported;
 use crate::params::Params;
 use crate::refusal::{self, Refusal};
@@ -185,9 +185,15 @@ impl Engine {
         }))
     }
 
-    /// The allowed rate of a connection. Refusal: 11.
+    /// The allowed rate of a connection, and what its last backward cell made of it.
+    /// Refusal: 11.
+    pub fn allowed(&self, at: Address) -> Result<Allowed, Refusal> {
+        Ok(self.entry(at)?.connection.allowed())
+    }
+
+    /// The allowed rate alone. Refusal: 11.
     pub fn acr(&self, at: Address) -> Result<u64, Refusal> {
-        Ok(self.entry(at)?.connection.acr())
+        Ok(self.allowed(at)?.acr)
     }
 
     /// The peak, minimum and initial rate of a connection as doubles in cells per

@@ -34,6 +34,8 @@ pub mod tournament;
 #[cfg(test)]
 mod address_tests;
 #[cfg(test)]
+mod change_tests;
+#[cfg(test)]
 mod comparison_tests;
 #[cfg(test)]
 mod engine_tests;
@@ -50,7 +52,7 @@ mod reserved_bit_tests;
 
 pub use address::Address;
 pub use cell::{read, write_rm, Cell, Rm};
-pub use connection::Kind;
+pub use connection::{Allowed, Kind};
 pub use double::{import, Exported, Imported};
 pub use engine::{Engine, Sent};
 pub use params::Params;

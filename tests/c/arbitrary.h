@@ -12,7 +12,8 @@
  */
 enum {
     LEAVES = 1024,
-    LIVE_WORDS = 17,                    /* of a leaf; the last is for its last out-of-rate cell */
+    LIVE_WORDS = 19,                    /* of a leaf; the last one: its last out-of-rate cell */
+    CHANGE = 7,                         /* of them: the rates before and after its last backward cell */
     USED = 2,                           /* a bit for each leaf that is taken */
     DIRECTORY = USED + LEAVES / 64,     /* (name + 1) * 1024 + leaf, falling, then zeros */
     NODES = DIRECTORY + LEAVES,         /* at place p the winner's leaf + 1, or 0; places 2p and 2p + 1 play match p */

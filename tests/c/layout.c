@@ -57,6 +57,7 @@ static void offsets_of_answers(void)
     AT(abr_sent, acr, 24, 8);
     AT(abr_allowed, refusal, 0, 4);
     AT(abr_allowed, acr, 8, 8);
+    AT(abr_allowed, change, 16, 8);
     AT(abr_cell, refusal, 0, 4);
     AT(abr_cell, kind, 4, 4);
     AT(abr_cell, efci, 8, 4);

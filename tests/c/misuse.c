@@ -259,6 +259,16 @@ static int one_word_changes(void)
     return 1;
 }
 
+/* The rates before and after a backward cell stand in two of its live words: here 512,000 less a sixteenth. */
+static int change_is_stored(void)
+{
+    const uint64_t *change = ((abr_table *)at(TABLE))->words + LIVE + LIVE_WORDS + CHANGE;
+    abr_rm rm = {255, 65535, 1, 0, 1, 0, 0, ABR_CODE_MAX, 0, 0, 0, 0};
+    return change[0] == 512000 && change[1] == 512000 && abr_write_rm(rm, at(CELL), ABR_CELL_OCTETS) == ABR_OK &&
+           abr_receive(at(TABLE), at(CELL), ABR_CELL_OCTETS).refusal == ABR_OK &&
+           change[0] == 512000 && change[1] == 480000;
+}
+
 static int round_of_calls(unsigned long round)
 {
     arbitrary_table(at(TABLE));
@@ -289,7 +299,7 @@ int main(int argc, char **argv)
     state = seed * UINT64_C(0x9E3779B97F4A7C15) | 1;
     step = paths = 1;
     make_objects();
-    if (!places_are_right() || !one_word_changes()) {
+    if (!places_are_right() || !one_word_changes() || !change_is_stored()) {
         printf("misuse: the words of a table stand elsewhere than arbitrary.h says\n");
         return 1;
     }

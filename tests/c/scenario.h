@@ -50,10 +50,11 @@ static abr_answer feedback(uint32_t vpi, uint32_t vci, uint32_t ci, uint32_t er)
     return abr_receive(&table, octets, sizeof octets);
 }
 
-static int acr_is(uint32_t vpi, uint32_t vci, uint64_t acr)
+/* The allowed rate of a connection, and what its last backward cell made of it (document 02, L9). */
+static int acr_is(uint32_t vpi, uint32_t vci, uint64_t acr, int64_t change)
 {
     abr_allowed allowed = abr_acr(&table, vpi, vci);
-    return allowed.refusal == ABR_OK && allowed.acr == acr;
+    return allowed.refusal == ABR_OK && allowed.acr == acr && allowed.change == change;
 }
 
 static void opens(void)
@@ -114,15 +115,15 @@ static void both_send(void)
 static void feedback_moves_the_rates(void)
 {
     CHECK(is(feedback(FIRST, 1, ABR_CODE_MAX), ABR_OK, 10));
-    CHECK(acr_is(FIRST, 480000) && acr_is(SECOND, 512000));
+    CHECK(acr_is(FIRST, 480000, -32000) && acr_is(SECOND, 512000, 0));
     CHECK(is(feedback(SECOND, 0, 0x4E00), ABR_OK, 10)); /* 128 cells per second */
-    CHECK(acr_is(SECOND, 65536));
+    CHECK(acr_is(SECOND, 65536, 65536 - 512000));
     CHECK(slot_is(2 * MS + 66666, NOBODY, ABR_SENT_IDLE, 0)); /* the gap is 1,066,667 */
     CHECK(slot_is(2 * MS + 66667, FIRST, ABR_SENT_DATA, 480000));
     CHECK(slot_is(8 * MS + 812500, FIRST, ABR_SENT_DATA, 480000));
     CHECK(slot_is(8 * MS + 812501, SECOND, ABR_SENT_DATA, 65536)); /* 7,812,500 */
     CHECK(is(feedback(FIRST, 0, ABR_CODE_MAX), ABR_OK, 10));
-    CHECK(acr_is(FIRST, 512000));
+    CHECK(acr_is(FIRST, 512000, 32000));
 }
 
 /* It is received twice before it is sent: the first is marked by the level, and its CI is kept. */
@@ -270,7 +271,7 @@ static void closes(void)
     CHECK(is(abr_close(&table, FIRST), ABR_OK, 10));
     CHECK(is(abr_close(&table, FIRST), ABR_REFUSED_NOT_OPEN, 0));
     allowed = abr_acr(&table, FIRST);
-    CHECK(allowed.refusal == ABR_REFUSED_NOT_OPEN && allowed.acr == 0);
+    CHECK(allowed.refusal == ABR_REFUSED_NOT_OPEN && allowed.acr == 0 && allowed.change == 0);
     CHECK(is(abr_close(&table, SECOND), ABR_OK, 10));
 }
 
@@ -294,7 +295,7 @@ static void without_a_minimum(void)
     CHECK(is(abr_open(&table, THIRD, 121 * MS, abr_house(thousand, 0x01FF, thousand)), ABR_OK, 1));
     CHECK(is(abr_offer(&table, THIRD, 10), ABR_OK, 10));
     CHECK(is(feedback(THIRD, 0, 0), ABR_OK, 10));
-    CHECK(acr_is(THIRD, 0) && slot_is(121 * MS, NOBODY, ABR_SENT_IDLE, 0));
+    CHECK(acr_is(THIRD, 0, -512000) && slot_is(121 * MS, NOBODY, ABR_SENT_IDLE, 0));
     out_of_rate_refused();
     CHECK(cell[0] == 0x0F && cell[1] == 0xF0 && cell[2] == 0x02 && cell[3] == 0x2D); /* payload type 6, CLP 1 */
     rm = rm_in_cell();
@@ -303,7 +304,7 @@ static void without_a_minimum(void)
     CHECK(abr_slot(&table, 300 * MS - 1, cell, sizeof cell).refusal == ABR_REFUSED_TIME_BACKWARD);
     CHECK(slot_is(300 * MS, NOBODY, ABR_SENT_IDLE, 0));
     CHECK(is(feedback(THIRD, 0, ABR_CODE_MAX), ABR_OK, 10));
-    CHECK(acr_is(THIRD, 32000) && slot_is(300 * MS, THIRD, ABR_SENT_FORWARD, 32000));
+    CHECK(acr_is(THIRD, 32000, 32000) && slot_is(300 * MS, THIRD, ABR_SENT_FORWARD, 32000));
     rm = rm_in_cell();
     CHECK(rm.er == thousand && rm.ccr == 0x4BE8 && rm.mcr == 0 && cell[3] == 0x2C);
     CHECK(slot_is(316 * MS - 1, NOBODY, ABR_SENT_IDLE, 0)); /* the gap is 16 ms */

@@ -4,10 +4,10 @@
 #![allow(non_camel_case_types, missing_docs)]
 
 /// The version of the header: major, minor and patch number, eight bits each.
-pub const ABR_VERSION: u32 = 0x00_09_00;
+pub const ABR_VERSION: u32 = 0x00_0A_00;
 
 /// The words of a table.
-pub const ABR_TABLE_WORDS: usize = 33_811;
+pub const ABR_TABLE_WORDS: usize = 35_859;
 
 /// The state of an engine; all zero when empty.
 #[repr(C)]
@@ -63,6 +63,7 @@ pub struct abr_sent {
 pub struct abr_allowed {
     pub refusal: u32,
     pub acr: u64,
+    pub change: i64,
 }
 
 /// The answer of `abr_read`.

@@ -44,6 +44,6 @@ pub use params::Params;
 pub use rate::{code, rate, RATE_MAX, RATE_ONE};
 pub use refusal::Refusal;
 pub use table::{
-    Kind, Sent, Table, COMPARISONS_MAX, CONNECTIONS_MAX, LEVEL_MAX, MAKE_INTERVAL,
+    Allowed, Kind, Sent, Table, COMPARISONS_MAX, CONNECTIONS_MAX, LEVEL_MAX, MAKE_INTERVAL,
     OUT_OF_RATE_INTERVAL, TIME_MAX, VCI_MAX, VCI_MIN, VPI_MAX, WAITING_MAX,
 };

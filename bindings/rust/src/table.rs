@@ -53,6 +53,16 @@ pub struct Sent {
     pub comparisons: u32,
 }
 
+/// The allowed rate of a connection, and what its last feedback did.
+#[derive(Debug, Clone, Copy, PartialEq, Eq, Hash)]
+pub struct Allowed {
+    /// The allowed rate; 0 is possible if the minimum is 0.
+    pub acr: u64,
+    /// The rate after the last accepted backward cell less the rate before it, below 0 if
+    /// it fell; 0 before the first.
+    pub change: i64,
+}
+
 /// The connections of one link. A refused call leaves it as it was.
 #[derive(Clone, PartialEq, Eq)]
 pub struct Table {
@@ -286,7 +296,33 @@ impl Table {
         Refusal::outcome(unsafe { ffi::abr_out_of_rate(self.raw(), vpi, vci, time, octets, len) })
     }
 
-    /// The allowed rate of a connection; 0 is possible if its minimum is 0.
+    /// The allowed rate of a connection, and the change that its last accepted backward
+    /// cell made. Moves before a forward cell leave that change.
+    ///
+    /// # Errors
+    /// [`Refusal::NotOpen`].
+    ///
+    /// ```
+    /// use abr::{Allowed, Params, Rm, Table, CELL_OCTETS};
+    /// let mut table = Table::new();
+    /// table.open(1, 32, 0, &Params::house(0x53E8, 0x4000, 0x53E8))?;
+    /// assert_eq!(table.allowed(1, 32), Ok(Allowed { acr: 512_000, change: 0 }));
+    /// let rm = Rm { vpi: 1, vci: 32, backward: true, ci: true, er: 0x7FFF, ..Rm::default() };
+    /// let mut cell = [0; CELL_OCTETS];
+    /// abr::write_rm(&rm, &mut cell)?;
+    /// table.receive(&cell)?;
+    /// assert_eq!(table.allowed(1, 32), Ok(Allowed { acr: 480_000, change: -32_000 }));
+    /// # Ok::<(), abr::Refusal>(())
+    /// ```
+    pub fn allowed(&self, vpi: u32, vci: u32) -> Result<Allowed, Refusal> {
+        // SAFETY: the pointer is live for the call.
+        let allowed = unsafe { ffi::abr_acr(self.words.as_ptr().cast(), vpi, vci) };
+        Refusal::outcome(allowed.refusal)?;
+        let ffi::abr_allowed { acr, change, .. } = allowed;
+        Ok(Allowed { acr, change })
+    }
+
+    /// The allowed rate alone.
     ///
     /// # Errors
     /// [`Refusal::NotOpen`].
@@ -295,10 +331,7 @@ impl Table {
     /// assert_eq!(abr::Table::new().acr(1, 32), Err(abr::Refusal::NotOpen));
     /// ```
     pub fn acr(&self, vpi: u32, vci: u32) -> Result<u64, Refusal> {
-        // SAFETY: the pointer is live for the call.
-        let allowed = unsafe { ffi::abr_acr(self.words.as_ptr().cast(), vpi, vci) };
-        Refusal::outcome(allowed.refusal)?;
-        Ok(allowed.acr)
+        Ok(self.allowed(vpi, vci)?.acr)
     }
 
     /// The peak, minimum and initial rate of a connection as doubles in cells per

@@ -129,8 +129,9 @@ fn the_layouts_are_those_of_the_header() {
     assert_eq!(offset_of!(ffi::abr_sent, vpi), 12);
     assert_eq!(offset_of!(ffi::abr_sent, vci), 16);
     assert_eq!(offset_of!(ffi::abr_sent, acr), 24);
-    assert_eq!(size_of::<ffi::abr_allowed>(), 16);
+    assert_eq!(size_of::<ffi::abr_allowed>(), 24);
     assert_eq!(offset_of!(ffi::abr_allowed, acr), 8);
+    assert_eq!(offset_of!(ffi::abr_allowed, change), 16);
     assert_eq!(size_of::<ffi::abr_cell>(), 60);
     assert_eq!(offset_of!(ffi::abr_cell, rm), 12);
     assert_eq!(size_of::<ffi::abr_coded>(), 8);

@@ -3,15 +3,20 @@ use Prim.Native.Nat.{ℕ}
 use mathlib.Core.Path.{_≡_, refl, ap, subst, _∙_}
 use mathlib.Core.List.{List}
 use Rattle.cell.specs.Name.{pairName}
+use Rattle.connection.specs.Invariant.{ValidAt}
+use Rattle.connection.proofs.Differences.{rates-kept}
 use Rattle.model.specs.Call.{Call, levelling, outOfRate, Outcome}
 use Rattle.model.specs.Step.{refuse, accept, levelStep, sendOutside, outOfRateStep, step}
-use Rattle.model.specs.Invariant.{WellFormed}
+use Rattle.model.specs.Invariant.{OnEntry, WellFormed}
+use Rattle.model.specs.Queries.{entryAcr, acrOf}
+use Rattle.model.proofs.Entries.{find-each}
 use Rattle.model.proofs.Effects.{Effect, refuses, levels, leaves, effect}
-use Rattle.model.specs.State.{State}
+use Rattle.model.specs.State.{State, Entry, free, taken, find}
 use Rattle.model.specs.declared.acr.Acr.{Acr}
+use Rattle.model.specs.declared.acr.Acr.the-variants.{Rate}
 use Rattle.model.specs.declared.answer.Answer.{Answer}
 use Rattle.engine.specs.Contract.{Meets, MeetsWriting, MeetsAcr}
-use Rattle.abr.specs.Answers.{SlotAnswer, AcrAnswer, CallAnswer, callAnswer, slotAnswer, acrAnswer}
+use Rattle.abr.specs.Answers.{SlotAnswer, AcrAnswer, CallAnswer, callAnswer, slotAnswer, acrAnswer, ofRates}
 use Rattle.abr.specs.Contract.{Answers, Numbered, NumberedWriting, AnswersSlot, AnswersAcr}
 
 -- a call on the name that was made of a pair
@@ -69,6 +74,17 @@ pub slots :
     → AnswersSlot f before after r old new
 slots e m = record { meets = λ s w b. let k = m .meets s w b in (k .0, e ∙ ap slotAnswer (k .1), k .2) }
 
--- reading an ACR
-pub acrs : {n v : ℕ} {l : List ℕ} {a : Acr} {r : AcrAnswer} → n ≡ v → r ≡ acrAnswer a → MeetsAcr n l a → AnswersAcr v l r
-acrs {l = l} {r = r} i e m = subst (λ (u : ℕ). AnswersAcr u l r) i (record { meets = λ s w b. e ∙ ap acrAnswer (m .answers s w b) })
+-- reading an ACR: the rates of a well-formed state are below 2^42
+entry-rates : (last : ℕ) (x : Entry) → OnEntry (ValidAt last) x → ofRates (entryAcr x) ≡ entryAcr x
+unfolding entryAcr
+entry-rates last free h = refl
+entry-rates last (taken c) h = ap (Rate (c .rate .acr)) (rates-kept (c .rate .params) (c .change) (h .1 .before) (h .1 .after))
+
+acr-rates : (s : State) → WellFormed s → (v : ℕ) → ofRates (acrOf s v) ≡ acrOf s v
+unfolding acrOf
+acr-rates s w v = entry-rates (s .last) (find v (s .entries)) (find-each (ValidAt (s .last)) v (s .entries) (w .each))
+
+pub acrs : {n v : ℕ} {l : List ℕ} {a : Acr} {r : AcrAnswer} → n ≡ v → r ≡ acrAnswer (ofRates a) → MeetsAcr n l a → AnswersAcr v l r
+acrs {n} {l = l} {r = r} i e m =
+    subst (λ (u : ℕ). AnswersAcr u l r) i
+    (record { meets = λ s w b. e ∙ ap (λ (a : Acr). acrAnswer (ofRates a)) (m .answers s w b) ∙ ap acrAnswer (acr-rates s w n) })

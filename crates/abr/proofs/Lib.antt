@@ -1,3 +1,4 @@
 pub mod Answered
 pub mod Planned
 pub mod Exports
+pub mod Signed

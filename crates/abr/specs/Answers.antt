@@ -1,7 +1,9 @@
 -- What the calls on a table return, for each case of their answers: the documents' number, 0 if there is no refusal, and zeros beside a refusal.
--- (Document 01, "Slots", "Refused because of the input" and "Refused because of the state"; document 02, L6.)
+-- (Document 01, "Slots", "Refused because of the input" and "Refused because of the state"; document 02, L6 and L9.)
 use Prim.Native.Nat.{ℕ}
+use lib.IntN.{pos}
 use Rattle.cell.specs.Name.{vpiIn, vciIn}
+use Rattle.connection.specs.Change.{difference, asRates}
 use Rattle.connection.specs.declared.kind.Kind.{Kind}
 use Rattle.connection.specs.declared.kind.Kind.the-variants.{Forward, Turned, Data}
 use Rattle.model.specs.declared.answer.Answer.{Answer}
@@ -39,6 +41,12 @@ slotAnswer (Accepted n) = noCell 0 n
 slotAnswer Idle = noCell 0 0
 slotAnswer (Sent v k a n) = record { refusal = 0; comparisons = n; kind = kindNumber k; vpi = vpiIn v; vci = vciIn v; acr = a }
 
+-- the allowed rate, and what the last backward cell changed of it
 abbrev pub acrAnswer : Acr → AcrAnswer
-acrAnswer NotOpen = record { refusal = 11; acr = 0 }
-acrAnswer (Rate a) = record { refusal = 0; acr = a }
+acrAnswer NotOpen = record { refusal = 11; acr = 0; change = pos 0 }
+acrAnswer (Rate a x) = record { refusal = 0; acr = a; change = difference x }
+
+-- with rates below 2^42, which leaves every answer of a table that calls made as it is
+abbrev pub ofRates : Acr → Acr
+ofRates NotOpen = NotOpen
+ofRates (Rate a x) = Rate a (asRates x)

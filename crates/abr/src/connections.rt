@@ -3,7 +3,7 @@ ghost use mathlib.Core.Path.{_≡_};
 ghost use lib.ListN.{length};
 ghost use Rattle.cell.specs.Name.{pairName};
 ghost use Rattle.model.specs.Step.{openStep, closeStep, offerStep, makeStep, outOfRateStep};
-ghost use Rattle.abr.specs.Answers.{callAnswer, acrAnswer};
+ghost use Rattle.abr.specs.Answers.{callAnswer, acrAnswer, ofRates};
 ghost use Rattle.abr.specs.Contract.{Answers, NumberedWriting, AnswersAcr};
 use cell::name::pair_name;
 use engine::acr::read_acr;
@@ -113,17 +113,24 @@ pub extern "C" fn abr_out_of_rate(
 pub struct AcrAnswer {
     pub refusal: u32,
     pub acr: u64,
+    pub change: i64,
 }
 
+// The change, new rate minus old, is exact: no rate reaches 2^42 (document 02, L9).
 fn acr_answer(a: Acr) -> AcrAnswer
-    ensures { λ r. ⌜ r ≡ acrAnswer a ⌝ }
+    ensures { λ r. ⌜ r ≡ acrAnswer (ofRates a) ⌝ }
 {
     match a {
         Acr::NotOpen => AcrAnswer {
             refusal: 11,
             acr: 0,
+            change: 0,
         },
-        Acr::Rate(acr) => AcrAnswer { refusal: 0, acr },
+        Acr::Rate { acr, change } => AcrAnswer {
+            refusal: 0,
+            acr,
+            change: (change.after % 4398046511104) as i64 - (change.before % 4398046511104) as i64,
+        },
     }
 }
 

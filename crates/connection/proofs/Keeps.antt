@@ -74,23 +74,26 @@ after-same Data t c = record { name = refl; opened = refl; trm = refl; params = 
 -- Whatever the time.
 fresh-in-bounds : (v t : ℕ) (p : Params) → paramsFit p ≡ true → InBounds (fresh v t p)
 unfolding fresh
-fresh-in-bounds v t p e = record { rates = opened-in-bounds p e; counted = omega arith; queued = omega arith }
+fresh-in-bounds v t p e = let h = opened-in-bounds p e in record { rates = h; before = h; after = h; counted = omega arith; queued = omega arith }
 
 offered-in-bounds : (n : ℕ) (c : Connection) → waiting (c .queue) + n ≤ 65535 → InBounds c → InBounds (offered n c)
 unfolding offered
-offered-in-bounds n c h s = record { rates = s .rates; counted = s .counted; queued = h }
+offered-in-bounds n c h s = record { rates = s .rates; before = s .before; after = s .after; counted = s .counted; queued = h }
 
 cleared : (t : Bool) {y : ℕ} → y ≤ 8_388_608 → cond t 0 y ≤ 8_388_608
 cleared true h = omega arith
 cleared false h = h
 
 after-backward-cell-in-bounds : (f : Fields) (c : Connection) → InBounds c → InBounds (afterBackwardCell f c)
-unfolding afterBackwardCell
-after-backward-cell-in-bounds f c s = record {
-  rates = feedback-in-bounds (eqb (f .ci) 1) (eqb (f .ni) 1) (rateOf (f .er)) (c .rate) (s .rates);
-  counted = cleared (eqb (f .bn) 0) (s .counted);
-  queued = s .queued;
-}
+unfolding afterBackwardCell feedback
+after-backward-cell-in-bounds f c s =
+    let h = feedback-in-bounds (eqb (f .ci) 1) (eqb (f .ni) 1) (rateOf (f .er)) (c .rate) (s .rates) in record {
+      rates = h;
+      before = s .rates;
+      after = h;
+      counted = cleared (eqb (f .bn) 0) (s .counted);
+      queued = s .queued;
+    }
 
 work-in-bounds : (level : ℕ) (o : List ℕ) (f : Fields) (c : Connection) → InBounds c → InBounds (afterResourceCell level o f c)
 unfolding afterResourceCell afterForwardCell
@@ -102,9 +105,16 @@ work-in-bounds level o f c s = go (eqb (f .dir) 1)
 
 pub after-in-bounds : (k : Kind) (t : ℕ) (c : Connection) → InBounds c → InBounds (after k t c)
 unfolding after sentForward sentTurned sentData
-after-in-bounds Forward t c s = record { rates = movedBy-in-bounds t (c .unacked) (c .pace) (c .rate) (s .rates); counted = omega arith; queued = s .queued }
+after-in-bounds Forward t c s =
+    let p = movedBy-params t (c .unacked) (c .pace) (c .rate) in record {
+      rates = movedBy-in-bounds t (c .unacked) (c .pace) (c .rate) (s .rates);
+      before = rw p (s .before);
+      after = rw p (s .after);
+      counted = omega arith;
+      queued = s .queued;
+    }
 after-in-bounds Turned t c s = s
-after-in-bounds Data t c s = record { rates = s .rates; counted = s .counted; queued = omega (arith, s .queued) }
+after-in-bounds Data t c s = record { rates = s .rates; before = s .before; after = s .after; counted = s .counted; queued = omega (arith, s .queued) }
 
 -- At a time.
 pace-later : (now later n : ℕ) (p : Pace) → now ≤ later → PaceFits now n p → PaceFits later n p

@@ -11,3 +11,4 @@ pub mod Keeps
 pub mod Readiness
 pub mod Spaced
 pub mod Waited
+pub mod Differences

@@ -12,18 +12,19 @@ use Rattle.crc.specs.declared.payload.Payload.{Payload}
 use Rattle.crc.specs.Payload.{octetsOf, payloadOf}
 use Rattle.cell.specs.declared.fields.Fields.{Fields}
 use Rattle.cell.specs.Turning.{turnedPayload}
-use Rattle.connection.specs.Parts.{Connection, Cell, withRate, withUnacked, withDestination, Destination, Waiting, Nothing}
+use Rattle.connection.specs.Parts.{Connection, Cell, withRate, withUnacked, withChange, changed, withDestination, Destination, Waiting, Nothing}
 use Rattle.connection.specs.Receiving.{afterBackwardCell, afterForwardPayload, waitingCi, markKept}
 
-module _ (f : Fields) (c : Connection) {e : ℕ} {q : Rate} {a : Connection}
-    (er : e ≡ rateOf (f .er)) (move : q ≡ feedback (eqb (f .ci) 1) (eqb (f .ni) 1) e (c .rate)) (rate : a ≡ withRate c q) where
-  pub after-backward-cell-own : {r : Connection} → f .bn ≡ 0 → r ≡ withUnacked a 0 → r ≡ afterBackwardCell f c
+module _ (f : Fields) (c : Connection) {e : ℕ} {q : Rate} {a b : Connection}
+    (er : e ≡ rateOf (f .er)) (move : q ≡ feedback (eqb (f .ci) 1) (eqb (f .ni) 1) e (c .rate)) (rate : a ≡ withRate c q)
+    (change : b ≡ withChange a (changed (c .rate .acr) (q .acr))) where
+  pub after-backward-cell-own : {r : Connection} → f .bn ≡ 0 → r ≡ withUnacked b 0 → r ≡ afterBackwardCell f c
   unfolding afterBackwardCell
-  after-backward-cell-own h r = rw (eq-eqb _ _ h, r, rate, move, er)
+  after-backward-cell-own h r = rw (eq-eqb _ _ h, r, change, rate, move, er)
 
-  pub after-backward-cell-other : (f .bn ≡ 0 → ⊥) → a ≡ afterBackwardCell f c
+  pub after-backward-cell-other : (f .bn ≡ 0 → ⊥) → b ≡ afterBackwardCell f c
   unfolding afterBackwardCell
-  after-backward-cell-other h = rw (ne-eqb _ _ h, rate, move, er)
+  after-backward-cell-other h = rw (ne-eqb _ _ h, change, rate, move, er)
 
 pub after-forward-cell-is :
     (level : ℕ) (p : Payload) (c : Connection) {w : Payload} {r : Connection} → w ≡ payloadOf (turnedPayload level (markKept (c .destination)) (octetsOf p))

@@ -6,18 +6,20 @@ use mathlib.Core.Bool.{true}
 use Rattle.params.specs.declared.params.Params.{Params}
 use Rattle.moves.specs.declared.moves.Rate.{Rate}
 use Rattle.params.specs.Params.{nrm, paramsFit, trmTime}
-use Rattle.moves.specs.Bounds.{RateInBounds}
+use Rattle.moves.specs.Bounds.{Between, RateInBounds}
 use Rattle.cell.specs.Name.{vciIn, noName}
-use Rattle.connection.specs.Parts.{Connection, Pace, Unsent, Running, Queue, Made, Instant, Never, At, waiting}
+use Rattle.connection.specs.Parts.{Connection, Pace, Unsent, Running, Queue, Change, Made, Instant, Never, At, waiting}
 
--- whatever the time: the rate between its bounds, Y and the waiting data within theirs
-pub record PartsInBounds (q : Rate) (y : ℕ) (l : Queue) : Type 0 where
+-- whatever the time: the rate between its bounds, and so those before and after the last backward cell; Y and the waiting data within theirs
+pub record PartsInBounds (q : Rate) (y : ℕ) (l : Queue) (x : Change) : Type 0 where
   pub rates : RateInBounds q
+  pub before : Between (q .params) (x .before)
+  pub after : Between (q .params) (x .after)
   pub counted : y ≤ 8_388_608
   pub queued : waiting l ≤ 65535
 
 abbrev pub InBounds : Connection → Type 0
-InBounds c = PartsInBounds (c .rate) (c .unacked) (c .queue)
+InBounds c = PartsInBounds (c .rate) (c .unacked) (c .queue) (c .change)
 
 -- no cell was sent after now, no forward cell after the last cell, and k is below Nrm
 abbrev pub PaceFits : (now nrm : ℕ) → Pace → Type 0

@@ -1,5 +1,6 @@
 -- One connection, as document 01 sets it out. Each file states one part of it; the code follows with the same names.
 pub mod Parts
+pub mod Change
 pub mod Receiving
 pub mod Interval
 pub mod Making

@@ -1,13 +1,14 @@
--- A connection, its parts, and the same connection with one part changed. (Document 01, "Opening".)
+-- A connection, its parts, and the same connection with one part changed. (Document 01, "Opening"; document 02, L9.)
 use Prim.Native.Nat.{ℕ, _+_, _-_}
 use mathlib.Core.Bool.{false}
 use Rattle.params.specs.declared.params.Params.{Params}
 use Rattle.moves.specs.declared.moves.Rate.{Rate}
-use Rattle.params.specs.Params.{trmTime}
+use Rattle.params.specs.Params.{initial, trmTime}
 use Rattle.moves.specs.Moves.{opened}
 pub use Rattle.connection.specs.declared.parts.Pace.{Pace}
 pub use Rattle.connection.specs.declared.parts.Pace.the-variants.{Unsent, Running}
 pub use Rattle.connection.specs.declared.parts.Queue.{Queue}
+pub use Rattle.connection.specs.declared.parts.Change.{Change}
 pub use Rattle.connection.specs.declared.parts.Waiting.{Waiting}
 pub use Rattle.connection.specs.declared.parts.Waiting.the-variants.{Nothing, Cell}
 pub use Rattle.connection.specs.declared.parts.Made.{Made}
@@ -16,24 +17,27 @@ pub use Rattle.connection.specs.declared.ready.Instant.{Instant}
 pub use Rattle.connection.specs.declared.ready.Instant.the-variants.{Never, At}
 pub use Rattle.connection.specs.declared.parts.Connection.{Connection}
 
--- All that the calls do to a connection is made of these six.
+-- All that the calls do to a connection is made of these seven.
 abbrev pub withRate : Connection → Rate → Connection
-withRate c q = record { name = c .name; opened = c .opened; trm = c .trm; rate = q; pace = c .pace; unacked = c .unacked; queue = c .queue; destination = c .destination; outside = c .outside }
+withRate c q = record { name = c .name; opened = c .opened; trm = c .trm; rate = q; pace = c .pace; unacked = c .unacked; queue = c .queue; change = c .change; destination = c .destination; outside = c .outside }
 
 abbrev pub withPace : Connection → Pace → Connection
-withPace c p = record { name = c .name; opened = c .opened; trm = c .trm; rate = c .rate; pace = p; unacked = c .unacked; queue = c .queue; destination = c .destination; outside = c .outside }
+withPace c p = record { name = c .name; opened = c .opened; trm = c .trm; rate = c .rate; pace = p; unacked = c .unacked; queue = c .queue; change = c .change; destination = c .destination; outside = c .outside }
 
 abbrev pub withUnacked : Connection → ℕ → Connection
-withUnacked c y = record { name = c .name; opened = c .opened; trm = c .trm; rate = c .rate; pace = c .pace; unacked = y; queue = c .queue; destination = c .destination; outside = c .outside }
+withUnacked c y = record { name = c .name; opened = c .opened; trm = c .trm; rate = c .rate; pace = c .pace; unacked = y; queue = c .queue; change = c .change; destination = c .destination; outside = c .outside }
 
 abbrev pub withQueue : Connection → Queue → Connection
-withQueue c l = record { name = c .name; opened = c .opened; trm = c .trm; rate = c .rate; pace = c .pace; unacked = c .unacked; queue = l; destination = c .destination; outside = c .outside }
+withQueue c l = record { name = c .name; opened = c .opened; trm = c .trm; rate = c .rate; pace = c .pace; unacked = c .unacked; queue = l; change = c .change; destination = c .destination; outside = c .outside }
+
+abbrev pub withChange : Connection → Change → Connection
+withChange c x = record { name = c .name; opened = c .opened; trm = c .trm; rate = c .rate; pace = c .pace; unacked = c .unacked; queue = c .queue; change = x; destination = c .destination; outside = c .outside }
 
 abbrev pub withDestination : Connection → Destination → Connection
-withDestination c b = record { name = c .name; opened = c .opened; trm = c .trm; rate = c .rate; pace = c .pace; unacked = c .unacked; queue = c .queue; destination = b; outside = c .outside }
+withDestination c b = record { name = c .name; opened = c .opened; trm = c .trm; rate = c .rate; pace = c .pace; unacked = c .unacked; queue = c .queue; change = c .change; destination = b; outside = c .outside }
 
 abbrev pub withOutside : Connection → Instant → Connection
-withOutside c i = record { name = c .name; opened = c .opened; trm = c .trm; rate = c .rate; pace = c .pace; unacked = c .unacked; queue = c .queue; destination = c .destination; outside = i }
+withOutside c i = record { name = c .name; opened = c .opened; trm = c .trm; rate = c .rate; pace = c .pace; unacked = c .unacked; queue = c .queue; change = c .change; destination = c .destination; outside = i }
 
 -- the data cells that wait; n more; one less
 abbrev pub waiting : Queue → ℕ
@@ -49,7 +53,11 @@ dequeued l = record { cells = l .cells - 1 }
 abbrev pub freshDestination : Destination
 freshDestination = record { efci = false; turned = Nothing; made = record { level = 0; last = Never } }
 
--- a connection as it starts: ACR = ICR, no cell sent, nothing waiting, Y = 0, no cell outside the rate
+-- the allowed rate before a backward cell and after it
+abbrev pub changed : (before after : ℕ) → Change
+changed a b = record { before = a; after = b }
+
+-- a connection as it starts: ACR = ICR, no cell sent, nothing waiting, Y = 0, no change by a backward cell (document 02, L9), no cell outside the rate
 unfoldable pub fresh : (name time : ℕ) → Params → Connection
 fresh v t p = record {
   name = v;
@@ -59,6 +67,7 @@ fresh v t p = record {
   pace = Unsent;
   unacked = 0;
   queue = record { cells = 0 };
+  change = changed (initial p) (initial p);
   destination = freshDestination;
   outside = Never;
 }

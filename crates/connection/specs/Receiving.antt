@@ -1,9 +1,10 @@
--- What a received cell, or an offer, makes of its connection. (Document 01, "Opening", "Four moves of the allowed rate" and "Turning cells round".)
+-- What a received cell, or an offer, makes of its connection. (Document 01, "Opening", "Four moves of the allowed rate" and "Turning cells round"; document 02, L9.)
 use Prim.Native.Nat.{ℕ, _/_, _%_}
 use mathlib.Core.Bool.{Bool, false, cond, _||_}
 use mathlib.Core.List.{List}
 use lib.Dec.{eqb}
 use lib.ListN.{getD}
+use Rattle.moves.specs.declared.moves.Rate.{Rate}
 use Rattle.rate.specs.Code.{rateOf}
 use Rattle.moves.specs.Moves.{feedback}
 use Rattle.crc.specs.declared.payload.Payload.{Payload}
@@ -11,7 +12,7 @@ use Rattle.crc.specs.Payload.{octetsOf, payloadOf}
 use Rattle.cell.specs.declared.fields.Fields.{Fields}
 use Rattle.cell.specs.Octets.{payload}
 use Rattle.cell.specs.Turning.{turnedPayload}
-use Rattle.connection.specs.Parts.{Connection, Destination, Waiting, Nothing, Cell, withRate, withUnacked, withQueue, withDestination, enqueued}
+use Rattle.connection.specs.Parts.{Connection, Destination, Waiting, Nothing, Cell, withRate, withUnacked, withQueue, withChange, withDestination, enqueued, changed}
 
 -- an offer adds to the waiting data
 unfoldable pub offered : ℕ → Connection → Connection
@@ -21,10 +22,14 @@ offered n c = withQueue c (enqueued n (c .queue))
 unfoldable pub afterDataCell : Bool → Connection → Connection
 afterDataCell e c = withDestination c (record { efci = e; turned = c .destination .turned; made = c .destination .made })
 
--- feedback; the answer of a destination, BN 0, clears Y as well
+-- the rate record after a backward cell's feedback
+abbrev pub fedBack : Fields → Rate → Rate
+fedBack f q = feedback (eqb (f .ci) 1) (eqb (f .ni) 1) (rateOf (f .er)) q
+
+-- feedback, and what it changed (document 02, L9); the answer of a destination, BN 0, clears Y as well
 unfoldable pub afterBackwardCell : Fields → Connection → Connection
 afterBackwardCell f c =
-    withUnacked (withRate c (feedback (eqb (f .ci) 1) (eqb (f .ni) 1) (rateOf (f .er)) (c .rate))) (cond (eqb (f .bn) 0) 0 (c .unacked))
+    withUnacked (withChange (withRate c (fedBack f (c .rate))) (changed (c .rate .acr) (fedBack f (c .rate) .acr))) (cond (eqb (f .bn) 0) 0 (c .unacked))
 
 -- the CI of a turned cell that waits: bit 5 of octet 7, which is the second of its payload
 unfoldable pub waitingCi : Waiting → Bool

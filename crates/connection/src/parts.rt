@@ -1,6 +1,6 @@
-// The parts of a connection (document 01, "Opening", "Turning cells round" and "Slots").
+// The parts of a connection (document 01, "Opening", "Turning cells round" and "Slots"; document 02, L9).
 ghost use mathlib.Core.Path.{_≡_};
-ghost use Rattle.connection.specs.Parts.{fresh, withRate, withPace, withUnacked, withQueue, withDestination, withOutside};
+ghost use Rattle.connection.specs.Parts.{fresh, withRate, withPace, withUnacked, withQueue, withChange, withDestination, withOutside};
 use crate::ready::Instant;
 use crc::payload::Payload;
 use moves::moves::Rate;
@@ -22,6 +22,12 @@ pub enum Pace {
 // The data cells that wait.
 pub struct Queue {
     pub cells: u32,
+}
+
+// The allowed rate before the last backward cell and after it; before the first one both are the initial rate (document 02, L9).
+pub struct Change {
+    pub before: u64,
+    pub after: u64,
 }
 
 // The one turned cell that waits, if any.
@@ -54,6 +60,7 @@ pub struct Connection {
     pub pace: Pace,
     pub unacked: u32,
     pub queue: Queue,
+    pub change: Change,
     pub destination: Destination,
     pub outside: Instant,
 }
@@ -63,14 +70,19 @@ impl Connection {
     pub fn fresh(name: u32, time: u64, params: Params) -> Connection
         ensures { λ c. ⌜ c ≡ fresh name time params ⌝ }
     {
+        let rate = Rate::opened(params);
         Connection {
             name,
             opened: time,
             trm: trm_time(params.trm),
-            rate: Rate::opened(params),
+            rate,
             pace: Pace::Unsent,
             unacked: 0,
             queue: Queue { cells: 0 },
+            change: Change {
+                before: rate.acr,
+                after: rate.acr,
+            },
             destination: Destination {
                 efci: false,
                 turned: Waiting::Nothing,
@@ -96,6 +108,7 @@ impl Connection {
     {
         let rate = self.rate;
         let queue = self.queue;
+        let change = self.change;
         let destination = self.destination;
         let outside = self.outside;
         Connection {
@@ -106,6 +119,7 @@ impl Connection {
             pace,
             unacked: self.unacked,
             queue,
+            change,
             destination,
             outside,
         }
@@ -125,6 +139,13 @@ impl Connection {
         self
     }
 
+    pub fn with_change(mut self, change: Change) -> Connection
+        ensures { λ c. ⌜ c ≡ withChange self change ⌝ }
+    {
+        self.change = change;
+        self
+    }
+
     pub fn with_destination(mut self, destination: Destination) -> Connection
         ensures { λ c. ⌜ c ≡ withDestination self destination ⌝ }
     {
@@ -138,6 +159,7 @@ impl Connection {
         let rate = self.rate;
         let pace = self.pace;
         let queue = self.queue;
+        let change = self.change;
         let destination = self.destination;
         Connection {
             name: self.name,
@@ -147,6 +169,7 @@ impl Connection {
             pace,
             unacked: self.unacked,
             queue,
+            change,
             destination,
             outside,
         }

@@ -1,4 +1,4 @@
-// Reading one connection's allowed rate (document 01, "Slots").
+// Reading one connection's allowed rate, and those before and after its last backward cell (document 01, "Slots"; document 02, L9).
 ghost use Rattle.engine.specs.Contract.{MeetsAcr};
 use loading::load::load;
 use model::acr::Acr;
@@ -14,5 +14,9 @@ pub fn read_acr(t: &[u64; WORDS], name: u32) -> Acr
         return Acr::NotOpen;
     };
     let c = load(t, i);
-    Acr::Rate(c.rate.acr)
+    let change = c.change;
+    Acr::Rate {
+        acr: c.rate.acr,
+        change,
+    }
 }

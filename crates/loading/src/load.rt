@@ -4,6 +4,7 @@ ghost use Prim.Native.Nat.{_<_, _+_, _≤_};
 ghost use Rattle.table.specs.Loading.{paceOf, paceAt, waitingOf, waitingAt, instantOf, madeAt, paramsAt, connectionAt};
 ghost use Rattle.table.specs.Layout.{size};
 ghost use Rattle.model.specs.State.{capacity};
+use connection::parts::Change;
 use connection::parts::Connection;
 use connection::parts::Destination;
 use connection::parts::Made;
@@ -112,9 +113,9 @@ pub fn load(t: &[u64; WORDS], i: usize) -> Connection
     let b = FIXED + i * FIXED_WIDTH;
     let params = params_at(t, b + 2);
     let pace = pace_at(t, a + 3);
-    let turned = waiting_at(t, a + 7);
-    let made = made_at(t, a + 14);
-    let outside = instant_of(t[a + 16]);
+    let turned = waiting_at(t, a + 9);
+    let made = made_at(t, a + 16);
+    let outside = instant_of(t[a + 18]);
     Connection {
         name: (t[NAMES + i] % 16777216) as u32,
         opened: t[b] % 9223372036854775808,
@@ -125,8 +126,12 @@ pub fn load(t: &[u64; WORDS], i: usize) -> Connection
         queue: Queue {
             cells: (t[a + 2] % 4294967296) as u32,
         },
+        change: Change {
+            before: t[a + 7],
+            after: t[a + 8],
+        },
         destination: Destination {
-            efci: t[a + 7] % 2 == 1,
+            efci: t[a + 9] % 2 == 1,
             turned,
             made,
         },

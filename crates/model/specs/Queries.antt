@@ -1,4 +1,4 @@
--- Reading one connection's allowed rate, or the rate codes of its contract: calls that leave the table as it is. 11. (Document 01, "Slots"; document 02, L8.)
+-- Reading one connection's allowed rate, with those before and after its last backward cell, or the rate codes of its contract: calls that leave the table as it is. 11. (Document 01, "Slots"; document 02, L8 and L9.)
 use Prim.Native.Nat.{ℕ}
 use Rattle.model.specs.State.{State, Entry, free, taken, find}
 use Rattle.model.specs.declared.acr.Acr.{Acr}
@@ -8,7 +8,7 @@ use Rattle.model.specs.declared.contract.Contract.the-variants.{NotOpen 
 
 unfoldable pub entryAcr : Entry → Acr
 entryAcr free = NotOpen
-entryAcr (taken c) = Rate (c .rate .acr)
+entryAcr (taken c) = Rate (c .rate .acr) (c .change)
 
 unfoldable pub acrOf : State → (name : ℕ) → Acr
 acrOf s v = entryAcr (find v (s .entries))

@@ -1,5 +1,7 @@
-// What reading a connection's allowed rate answers (document 01, "Slots").
+// What reading a connection's allowed rate answers: the rate, and those before and after the last backward cell (document 01, "Slots"; document 02, L9).
+use connection::parts::Change;
+
 pub enum Acr {
     NotOpen,
-    Rate(u64),
+    Rate { acr: u64, change: Change },
 }

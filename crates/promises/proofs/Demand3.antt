@@ -45,7 +45,7 @@ same-kind (sends v k a b m n) = refl
 not-above : {x y : Entry} → Lower x y → NotAbove (entryRate x) (entryRate y)
 unfolding entryRate
 not-above vacant = neither
-not-above (lower c a l) = both l
+not-above (lower c a z l) = both l
 
 agree : {o p : Outcome} → Both o p → Agree o p
 agree h = record { refusals = same-refusal (h .answers); kinds = same-kind (h .answers); rates = λ v. not-above (find-lower v (h .states)) }

@@ -20,13 +20,14 @@ use Rattle.cell.specs.Name.{pairName}
 use Rattle.cell.specs.Fields.{cellName}
 use Rattle.cell.specs.Reading.{reading}
 use Rattle.connection.specs.declared.parts.Connection.{Connection}
+use Rattle.connection.specs.declared.parts.Change.{Change}
 use Rattle.connection.specs.declared.kind.Kind.{Kind}
 use Rattle.connection.specs.declared.kind.Kind.the-variants.{Forward, Turned, Data}
 use Rattle.connection.specs.declared.parts.Pace.{Pace}
 use Rattle.connection.specs.declared.parts.Pace.the-variants.{Unsent, Running}
-use Rattle.connection.specs.Parts.{fresh}
+use Rattle.connection.specs.Parts.{fresh, changed}
 use Rattle.connection.specs.Making.{withMade}
-use Rattle.connection.specs.Receiving.{offered, afterDataCell, afterBackwardCell, afterForwardCell, afterResourceCell}
+use Rattle.connection.specs.Receiving.{offered, afterDataCell, fedBack, afterBackwardCell, afterForwardCell, afterResourceCell}
 use Rattle.connection.specs.OutOfRate.{afterOutOfRate}
 use Rattle.connection.specs.Ready.{lastBefore}
 use Rattle.connection.specs.Kind.{isForward, isTurned, kindAt}
@@ -81,10 +82,10 @@ require-meets {s₁} {s₂} {o} {p} r n t u e h = subst (λ (u : Bool). Meets (r
 -- a change of the connection of one name, open in both or in neither
 ofOpen-meets :
     {s₁ s₂ : State} {x y : Entry} → Tables s₁ s₂ → Lower x y → (f g : Connection → Outcome)
-    → ((c : Connection) (a : ℕ) → x ≡ taken c → a ≤ c .rate .acr → Meets (f c) (g (lowered c a))) → Meets (ofOpen s₁ x f) (ofOpen s₂ y g)
+    → ((c : Connection) (a : ℕ) (z : Change) → x ≡ taken c → a ≤ c .rate .acr → Meets (f c) (g (lowered c a z))) → Meets (ofOpen s₁ x f) (ofOpen s₂ y g)
 unfolding ofOpen
 ofOpen-meets r vacant f g h = λ _. refuse-both r 11
-ofOpen-meets r (lower c a l) f g h = h c a refl l
+ofOpen-meets r (lower c a z l) f g h = h c a z refl l
 
 -- Open, close, offer and level.
 open-meets : {s₁ s₂ : State} → Tables s₁ s₂ → (vpi vci t : ℕ) (p : Params) → Meets (openStep s₁ vpi vci t p) (openStep s₂ vpi vci t p)
@@ -101,14 +102,14 @@ open-meets r vpi vci t p =
 
 close-meets : {s₁ s₂ : State} → Tables s₁ s₂ → (v : ℕ) → Meets (closeStep s₁ v) (closeStep s₂ v)
 unfolding closeStep replay
-close-meets r v = ofOpen-meets r (find-lower v r) _ _ λ c a e l _. accept-both _ _ (put-tables v vacant r)
+close-meets r v = ofOpen-meets r (find-lower v r) _ _ λ c a z e l _. accept-both _ _ (put-tables v vacant r)
 
 offer-meets : {s₁ s₂ : State} → Tables s₁ s₂ → (v n : ℕ) → Meets (offerStep s₁ v n) (offerStep s₂ v n)
 unfolding offerStep replay offered
 offer-meets r v n =
-    ofOpen-meets r (find-lower v r) _ _ λ c a e l.
+    ofOpen-meets r (find-lower v r) _ _ λ c a z e l.
     require-meets r 15 _ _ refl λ _.
-    accept-both _ _ (put-tables v (lower (offered n c) a l) r)
+    accept-both _ _ (put-tables v (lower (offered n c) a z l) r)
 
 level-meets : {s₁ s₂ : State} → Tables s₁ s₂ → (l : ℕ) → Meets (levelStep s₁ l) (levelStep s₂ l)
 unfolding levelStep
@@ -116,24 +117,24 @@ level-meets r l = require-meets r 9 _ _ refl λ _. accept-both _ _ (withLevel-ta
 
 -- Receive.
 after-backward-cell-lower :
-    (f g : Fields) → MoreCongested f g → (c : Connection) (a : ℕ) → c .rate .acr ≤ peak (c .rate .params) → a ≤ c .rate .acr
-    → Lower (taken (afterBackwardCell f c)) (taken (afterBackwardCell g (lowered c a)))
+    (f g : Fields) → MoreCongested f g → (c : Connection) (a : ℕ) (z : Change) → c .rate .acr ≤ peak (c .rate .params) → a ≤ c .rate .acr
+    → Lower (taken (afterBackwardCell f c)) (taken (afterBackwardCell g (lowered c a z)))
 unfolding afterBackwardCell feedback
-after-backward-cell-lower f g h c a u l =
+after-backward-cell-lower f g h c a z u l =
     rw (h .bn)
-    (lower (afterBackwardCell f c) (feedback (eqb (g .ci) 1) (eqb (g .ni) 1) (rateOf (g .er)) (moved (c .rate) a) .acr)
+    (lower (afterBackwardCell f c) (fedBack g (moved (c .rate) a) .acr) (changed a (fedBack g (moved (c .rate) a) .acr))
     (feedback-mono (eqb (f .ci) 1) (eqb (f .ni) 1) (eqb (g .ci) 1) (eqb (g .ni) 1) (rateOf (f .er)) (rateOf (g .er)) (c .rate) a l u (h .level) (h .rate)))
 
 -- the same cell in both
 work-lower :
-    (level : ℕ) (o : List ℕ) (f : Fields) (c : Connection) (a : ℕ) → c .rate .acr ≤ peak (c .rate .params) → a ≤ c .rate .acr
-    → Lower (taken (afterResourceCell level o f c)) (taken (afterResourceCell level o f (lowered c a)))
+    (level : ℕ) (o : List ℕ) (f : Fields) (c : Connection) (a : ℕ) (z : Change) → c .rate .acr ≤ peak (c .rate .params) → a ≤ c .rate .acr
+    → Lower (taken (afterResourceCell level o f c)) (taken (afterResourceCell level o f (lowered c a z)))
 unfolding afterResourceCell afterForwardCell
-work-lower level o f c a u l = go (eqb (f .dir) 1) refl
+work-lower level o f c a z u l = go (eqb (f .dir) 1) refl
   where
-    go : (t : Bool) → eqb (f .dir) 1 ≡ t → Lower (taken (cond t (afterBackwardCell f c) (afterForwardCell level o c))) (taken (cond t (afterBackwardCell f (lowered c a)) (afterForwardCell level o (lowered c a))))
-    go true e = after-backward-cell-lower f f (record { name = refl; first = eqb-true _ _ e; second = eqb-true _ _ e; bn = refl; rate = le-refl _; level = le-refl _ }) c a u l
-    go false e = lower (afterForwardCell level o c) a l
+    go : (t : Bool) → eqb (f .dir) 1 ≡ t → Lower (taken (cond t (afterBackwardCell f c) (afterForwardCell level o c))) (taken (cond t (afterBackwardCell f (lowered c a z)) (afterForwardCell level o (lowered c a z))))
+    go true e = after-backward-cell-lower f f (record { name = refl; first = eqb-true _ _ e; second = eqb-true _ _ e; bn = refl; rate = le-refl _; level = le-refl _ }) c a z u l
+    go false e = lower (afterForwardCell level o c) a z l
 
 below-peak : {s : State} → WellFormed s → (v : ℕ) (c : Connection) → find v (s .entries) ≡ taken c → c .rate .acr ≤ peak (c .rate .params)
 below-peak w v c e = valid-at w v c e .1 .rates .below
@@ -142,13 +143,13 @@ resource-meets : {s₁ s₂ : State} → WellFormed s₁ → Tables s₁ s₂ �
 unfolding readStep replay
 resource-meets w (tables l t hs) o f =
     let r = tables l t hs in
-    ofOpen-meets r (find-lower (cellName f) r) _ _ λ c a e h _. accept-both _ _ (put-tables (cellName f) (work-lower l o f c a (below-peak w (cellName f) c e) h) r)
+    ofOpen-meets r (find-lower (cellName f) r) _ _ λ c a z e h _. accept-both _ _ (put-tables (cellName f) (work-lower l o f c a z (below-peak w (cellName f) c e) h) r)
 
 read-meets : {s₁ s₂ : State} → WellFormed s₁ → Tables s₁ s₂ → (o : List ℕ) (q : Reading) → Meets (readStep s₁ o q) (readStep s₂ o q)
 unfolding readStep replay afterDataCell
 read-meets w r o (Unread n) = λ _. refuse-both r n
 read-meets w r o (User vpi vci e) =
-    ofOpen-meets r (find-lower (pairName vpi vci) r) _ _ λ c a _ l _. accept-both _ _ (put-tables (pairName vpi vci) (lower (afterDataCell e c) a l) r)
+    ofOpen-meets r (find-lower (pairName vpi vci) r) _ _ λ c a z _ l _. accept-both _ _ (put-tables (pairName vpi vci) (lower (afterDataCell e c) a z l) r)
 read-meets w r o (Resource f) = resource-meets w r o f
 
 -- two backward cells, the second at least as congested
@@ -163,10 +164,10 @@ moreCongested-at :
 unfolding replay
 moreCongested-at {s₁} {s₂} wh r a b f g k v w q =
     rw q
-    (ofOpen-meets r (find-lower v r) _ _ λ c x e l _.
+    (ofOpen-meets r (find-lower v r) _ _ λ c x z e l _.
     accept-both _ _ (put-tables v
-    (rw (work-backward (s₁ .level) a f c (k .first), work-backward (s₂ .level) b g (lowered c x) (k .second))
-    (after-backward-cell-lower f g k c x (below-peak wh v c e) l)) r))
+    (rw (work-backward (s₁ .level) a f c (k .first), work-backward (s₂ .level) b g (lowered c x z) (k .second))
+    (after-backward-cell-lower f g k c x z (below-peak wh v c e) l)) r))
 
 moreCongested-meets : {s₁ s₂ : State} → WellFormed s₁ → Tables s₁ s₂ → (a b : List ℕ) {q r : Reading} → NotLessCongested q r → Meets (readStep s₁ a q) (readStep s₂ b r)
 unfolding readStep
@@ -174,34 +175,34 @@ moreCongested-meets w r a b (alike n) = λ _. refuse-both r n
 moreCongested-meets w r a b (moreCongested f g k) = moreCongested-at w r a b f g k (cellName f) (cellName g) (k .name)
 
 -- Slot.
-forward-same : (t : ℕ) (c : Connection) (a : ℕ) (p : Pace) → isForward t (lowered c a) p ≡ isForward t c p
+forward-same : (t : ℕ) (c : Connection) (a : ℕ) (z : Change) (p : Pace) → isForward t (lowered c a z) p ≡ isForward t c p
 unfolding isForward lastBefore
-forward-same t c a Unsent = refl
-forward-same t c a (Running sent forward k turned) = refl
+forward-same t c a z Unsent = refl
+forward-same t c a z (Running sent forward k turned) = refl
 
-turned-same : (c : Connection) (a : ℕ) (p : Pace) → isTurned (lowered c a) p ≡ isTurned c p
+turned-same : (c : Connection) (a : ℕ) (z : Change) (p : Pace) → isTurned (lowered c a z) p ≡ isTurned c p
 unfolding isTurned
-turned-same c a Unsent = refl
-turned-same c a (Running sent forward k turned) = refl
+turned-same c a z Unsent = refl
+turned-same c a z (Running sent forward k turned) = refl
 
 -- the kind hangs on no rate
-kind-same : (t : ℕ) (c : Connection) (a : ℕ) → kindAt t (lowered c a) ≡ kindAt t c
+kind-same : (t : ℕ) (c : Connection) (a : ℕ) (z : Change) → kindAt t (lowered c a z) ≡ kindAt t c
 unfolding kindAt
-kind-same t c a = rw (forward-same t c a (c .pace), turned-same c a (c .pace))
+kind-same t c a z = rw (forward-same t c a z (c .pace), turned-same c a z (c .pace))
 
-after-lower : (k : Kind) (t : ℕ) (c : Connection) (a : ℕ) → a ≤ c .rate .acr → Lower (taken (after k t c)) (taken (after k t (lowered c a)))
+after-lower : (k : Kind) (t : ℕ) (c : Connection) (a : ℕ) (z : Change) → a ≤ c .rate .acr → Lower (taken (after k t c)) (taken (after k t (lowered c a z)))
 unfolding after sentForward sentTurned sentData
-after-lower Forward t c a l =
+after-lower Forward t c a z l =
     rw (movedBy-only t (c .unacked) (c .pace) (c .rate) a)
-    (lower (sentForward t c) (movedBy t (c .unacked) (c .pace) (moved (c .rate) a) .acr) (movedBy-mono t (c .unacked) (c .pace) (c .rate) a l))
-after-lower Turned t c a l = lower (sentTurned t c) a l
-after-lower Data t c a l = lower (sentData t c) a l
+    (lower (sentForward t c) (movedBy t (c .unacked) (c .pace) (moved (c .rate) a) .acr) z (movedBy-mono t (c .unacked) (c .pace) (c .rate) a l))
+after-lower Turned t c a z l = lower (sentTurned t c) a z l
+after-lower Data t c a z l = lower (sentData t c) a z l
 
 entry-both : {s₁ s₂ : State} → Tables s₁ s₂ → (t v : ℕ) {x y : Entry} → Lower x y → Both (serveEntry s₁ t v x) (serveEntry s₂ t v y)
 unfolding serveEntry sendStep idleStep
 entry-both r t v vacant = record { states = r; answers = idles }
-entry-both r t v (lower c a l) =
-    rw (kind-same t c a) (record { states = put-tables v (after-lower (kindAt t c) t c a l) r; answers = sends v (kindAt t c) _ _ _ _ })
+entry-both r t v (lower c a z l) =
+    rw (kind-same t c a z) (record { states = put-tables v (after-lower (kindAt t c) t c a z l) r; answers = sends v (kindAt t c) _ _ _ _ })
 
 pub none≢some : {v : ℕ} → _≡_ {A = Option ℕ} none (some v) → ⊥
 none≢some e = let z : _≡_ {A = ℕ} 0 1 = cc in omega arith
@@ -244,26 +245,26 @@ make-meets : {s₁ s₂ : State} → Tables s₁ s₂ → (v t : ℕ) → Meets 
 unfolding makeStep replay withMade
 make-meets (tables l u hs) v t =
     require-meets (tables l u hs) 8 _ _ refl
-    (ofOpen-meets (tables l u hs) (find-lower v (tables l u hs)) _ _ λ c a e h.
+    (ofOpen-meets (tables l u hs) (find-lower v (tables l u hs)) _ _ λ c a z e h.
     require-meets (tables l u hs) 14 _ _ refl
     (require-meets (tables l u hs) 16 _ _ refl
     (require-meets (tables l u hs) 17 _ _ refl λ _.
-    accept-both _ _ (put-tables v (lower (withMade t l c) a h) (withTime-tables t (tables l u hs))))))
+    accept-both _ _ (put-tables v (lower (withMade t l c) a z h) (withTime-tables t (tables l u hs))))))
 
 -- A cell outside the rate, at the same places in both: its octets may differ in CCR, as a slot's may.
-outside-both : {s₁ s₂ : State} → Tables s₁ s₂ → (t v : ℕ) (c : Connection) (a : ℕ) → a ≤ c .rate .acr → Both (sendOutside s₁ t v c) (sendOutside s₂ t v (lowered c a))
+outside-both : {s₁ s₂ : State} → Tables s₁ s₂ → (t v : ℕ) (c : Connection) (a : ℕ) (z : Change) → a ≤ c .rate .acr → Both (sendOutside s₁ t v c) (sendOutside s₂ t v (lowered c a z))
 unfolding sendOutside afterOutOfRate
-outside-both r t v c a l = record { states = put-tables v (lower (afterOutOfRate t c) a l) r; answers = plain 0 0 }
+outside-both r t v c a z l = record { states = put-tables v (lower (afterOutOfRate t c) a z l) r; answers = plain 0 0 }
 
 out-of-rate-meets : {s₁ s₂ : State} → Tables s₁ s₂ → (v t room : ℕ) → Meets (outOfRateStep s₁ v t room) (outOfRateStep s₂ v t room)
 unfolding outOfRateStep
 out-of-rate-meets r v t room =
     require-meets r 1 _ _ refl
     (require-meets r 8 _ _ refl
-    (ofOpen-meets r (find-lower v r) _ _ λ c a e l.
+    (ofOpen-meets r (find-lower v r) _ _ λ c a z e l.
     require-meets r 14 _ _ (ap (λ l. leb l t) (last-same r))
     (require-meets r 18 _ _ refl λ _.
-    outside-both (withTime-tables t r) t v c a l)))
+    outside-both (withTime-tables t r) t v c a z l)))
 
 -- Every call.
 same-meets : {s₁ s₂ : State} → WellFormed s₁ → Tables s₁ s₂ → (c : Call) → Meets (step s₁ c) (step s₂ c)

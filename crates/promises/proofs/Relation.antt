@@ -1,4 +1,4 @@
--- The relation that two lists of calls keep: two tables that are equal but for the allowed rates, those of the second being no higher.
+-- The relation that two lists of calls keep: two tables that are equal but for the allowed rates, those of the second being no higher, and for what the last backward cells changed.
 use Prim.Native.Nat.{ℕ, zero, suc, _≤_}
 use mathlib.Core.Path.{_≡_, refl, ap}
 use mathlib.Core.Bool.{Bool}
@@ -7,16 +7,17 @@ use lib.ListN.{length, getD, set, replicate}
 use native.Mathlib.Nat.{le-refl}
 use Rattle.moves.specs.Moves.{moved}
 use Rattle.connection.specs.declared.parts.Connection.{Connection}
-use Rattle.connection.specs.Parts.{withRate}
+use Rattle.connection.specs.declared.parts.Change.{Change}
+use Rattle.connection.specs.Parts.{withRate, withChange}
 use Rattle.model.specs.State.{State, Entry, free, taken, empty, capacity, position, isFree, holds, find, put, inserted, roomLeft, withTime, withLevel}
 
--- the same connection at another allowed rate
-abbrev pub lowered : Connection → ℕ → Connection
-lowered c a = withRate c (moved (c .rate) a)
+-- the same connection at another allowed rate, with another change by its last backward cell
+abbrev pub lowered : Connection → ℕ → Change → Connection
+lowered c a x = withChange (withRate c (moved (c .rate) a)) x
 
 pub data Lower : Entry → Entry → Type 0 where
   vacant : Lower free free
-  lower : (c : Connection) (a : ℕ) → a ≤ c .rate .acr → Lower (taken c) (taken (lowered c a))
+  lower : (c : Connection) (a : ℕ) (x : Change) → a ≤ c .rate .acr → Lower (taken c) (taken (lowered c a x))
 
 pub data Lowers : List Entry → List Entry → Type 0 where
   end : Lowers [] []
@@ -34,12 +35,12 @@ position-same f e (more h hs) = rw (e _ _ h, position-same f e hs)
 holds-same : (v : ℕ) (x y : Entry) → Lower x y → holds v x ≡ holds v y
 unfolding holds
 holds-same v _ _ vacant = refl
-holds-same v _ _ (lower c a h) = refl
+holds-same v _ _ (lower c a x h) = refl
 
 pub isFree-same : (x y : Entry) → Lower x y → isFree x ≡ isFree y
 unfolding isFree
 isFree-same _ _ vacant = refl
-isFree-same _ _ (lower c a h) = refl
+isFree-same _ _ (lower c a x h) = refl
 
 length-same : {xs ys : List Entry} → Lowers xs ys → length xs ≡ length ys
 length-same end = refl
@@ -67,7 +68,7 @@ put-tables v h (tables l t {xs} hs) = rw (← position-same (holds v) (holds-sam
 pub inserted-tables : (c : Connection) {s₁ s₂ : State} → Tables s₁ s₂ → Tables (inserted c s₁) (inserted c s₂)
 unfolding inserted
 inserted-tables c (tables l t {xs} hs) =
-    rw (← position-same isFree isFree-same hs) (tables l t (set-lower (lower c (c .rate .acr) (le-refl _)) hs (position isFree xs)))
+    rw (← position-same isFree isFree-same hs) (tables l t (set-lower (lower c (c .rate .acr) (c .change) (le-refl _)) hs (position isFree xs)))
 
 pub roomLeft-same : {s₁ s₂ : State} → Tables s₁ s₂ → roomLeft s₁ ≡ roomLeft s₂
 unfolding roomLeft

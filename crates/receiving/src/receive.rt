@@ -6,6 +6,7 @@ ghost use Rattle.connection.specs.Parts.{waiting};
 ghost use Rattle.connection.specs.Receiving.{offered, afterDataCell, afterBackwardCell, waitingCi, afterForwardPayload};
 use crate::feedback::with_feedback;
 use cell::fields::Fields;
+use connection::parts::Change;
 use connection::parts::Connection;
 use connection::parts::Destination;
 use connection::parts::Queue;
@@ -34,12 +35,16 @@ pub fn after_data_cell(efci: bool, c: Connection) -> Connection
     c.with_destination(Destination { efci, turned, made })
 }
 
-// Feedback; the answer of a destination, BN 0, clears Y as well.
+// Feedback, and what it changed (document 02, L9); the answer of a destination, BN 0, clears Y as well.
 pub fn after_backward_cell(f: Fields, c: Connection) -> Connection
     ensures { λ r. ⌜ r ≡ afterBackwardCell f c ⌝ }
 {
     let rate = c.rate;
-    let moved = c.with_rate(with_feedback(rate, f.ci == 1, f.ni == 1, rate_of(f.er)));
+    let fed = with_feedback(rate, f.ci == 1, f.ni == 1, rate_of(f.er));
+    let moved = c.with_rate(fed).with_change(Change {
+        before: rate.acr,
+        after: fed.acr,
+    });
     let cleared = moved.with_unacked(0);
     if f.bn == 0 { cleared } else { moved }
 }

@@ -39,7 +39,7 @@ KeptBy P v s (opening vpi vci t p) a = Unit
 KeptBy P v s (closing vpi vci) a = pairName vpi vci ≢ v
 KeptBy P v s (receiving o) a =
     ((e : Bool) (d : Connection) → P d → P (afterDataCell e d))
-    × ((f : Fields) (d : Connection) → reading o ≡ Resource f → find v (s .entries) ≡ taken d → P d → P (afterResourceCell (s .level) o f d))
+    × ((f : Fields) (d : Connection) → reading o ≡ Resource f → cellName f ≡ v → find v (s .entries) ≡ taken d → P d → P (afterResourceCell (s .level) o f d))
 KeptBy P v s (offering vpi vci n) a = (d : Connection) → P d → P (offered n d)
 KeptBy P v s (levelling l) a = Unit
 KeptBy P v s (slot t room) a = (d : Connection) (acr n : ℕ) → a ≡ Sent v (kindAt t d) acr n → P d → P (after (kindAt t d) t d)
@@ -72,7 +72,7 @@ module _ (P : Connection → Type 0) (v : ℕ) where
   effect-kept {s} a (offers vpi vci n d f b) q m = changed-kept (pairName vpi vci) s a d (offered n d) f refl (λ _ _. q d) m
   effect-kept {s} a (marks o vpi vci e d r f) q m = changed-kept (pairName vpi vci) s a d (afterDataCell e d) f refl (λ _ _. q .0 e d) m
   effect-kept {s} a (works o g d r f) q m =
-      changed-kept (cellName g) s a d (afterResourceCell (s .level) o g d) f (work-same (s .level) o g d .name) (λ _ h. q .1 g d r h) m
+      changed-kept (cellName g) s a d (afterResourceCell (s .level) o g d) f (work-same (s .level) o g d .name) (λ n h. q .1 g d r n h) m
   effect-kept a (levels l b) q m = m
   effect-kept a (idles t room g b) q m = m
   effect-kept {s} a (sends t room i u g b) q m =

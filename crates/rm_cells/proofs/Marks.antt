@@ -129,7 +129,7 @@ unfolding offered afterDataCell withMade afterOutOfRate
 quiet-kept v w (opening vpi vci t p) a q = tt
 quiet-kept v w (closing vpi vci) a q = q
 quiet-kept v {s} w (receiving o) a q =
-    (λ e d m. m, λ f d r g m. work-mark v (s .level) o f d q r (rw (← name-of v s d g) (valid-at w v d g .0 .coded)) m)
+    (λ e d m. m, λ f d r _ g m. work-mark v (s .level) o f d q r (rw (← name-of v s d g) (valid-at w v d g .0 .coded)) m)
 quiet-kept v w (offering vpi vci n) a q = λ d m. m
 quiet-kept v w (levelling l) a q = tt
 quiet-kept v w (slot t room) a q = λ d acr n e m. sent-mark v t (kindAt t d) d (λ k. q acr n (e ∙ sent-same refl k)) m

@@ -133,7 +133,7 @@ unfolding offered afterDataCell withMade afterOutOfRate
 open-kept vpi vci l t w (opening i j x p) a q = tt
 open-kept vpi vci l t w (closing i j) a q = λ e. let k = names-apart vpi vci i j l (sym e) in q (rw (k .0, k .1))
 open-kept vpi vci l t {s} w (receiving o) a q =
-    (λ e d m. kept-since t d (afterDataCell e d) refl m, λ f d r g m. kept-since t d (afterResourceCell (s .level) o f d) (work-out-of-rate (s .level) o f d) m)
+    (λ e d m. kept-since t d (afterDataCell e d) refl m, λ f d r _ g m. kept-since t d (afterResourceCell (s .level) o f d) (work-out-of-rate (s .level) o f d) m)
 open-kept vpi vci l t w (offering i j n) a q = λ d m. kept-since t d (offered n d) refl m
 open-kept vpi vci l t w (levelling k) a q = tt
 open-kept vpi vci l t w (slot x room) a q = λ d acr n e m. kept-since t d (after (kindAt x d) x d) (after-out-of-rate (kindAt x d) x d) m

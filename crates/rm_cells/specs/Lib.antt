@@ -3,3 +3,4 @@ pub mod Marks
 pub mod OutOfRate
 pub mod Addresses
 pub mod ReservedBit
+pub mod Changes

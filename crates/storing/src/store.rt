@@ -101,7 +101,7 @@ fn bit(b: bool) -> u64
 
 // The words of the sending side, from index b on.
 fn put_source(t: &mut [u64; WORDS], b: usize, c: Connection)
-    requires { ⌜ b + 7 ≤ size ⌝ }
+    requires { ⌜ b + 9 ≤ size ⌝ }
     ensures { λ _. ⌜ now (t .exit) ≡ put (now (t .entry)) b (sourceWords c) ⌝ }
 {
     let pace = c.pace;
@@ -115,6 +115,8 @@ fn put_source(t: &mut [u64; WORDS], b: usize, c: Connection)
     t[b + 4] = p.sent;
     t[b + 5] = p.forward;
     t[b + 6] = p.k;
+    t[b + 7] = c.change.before;
+    t[b + 8] = c.change.after;
 }
 
 fn destination_tag(destination: Destination) -> u64
@@ -279,7 +281,7 @@ fn clear_fixed(t: &mut [u64; WORDS], b: usize)
 }
 
 fn clear_live(t: &mut [u64; WORDS], b: usize)
-    requires { ⌜ b + 17 ≤ size ⌝ }
+    requires { ⌜ b + 19 ≤ size ⌝ }
     ensures { λ _. ⌜ now (t .exit) ≡ put (now (t .entry)) b (replicate liveWidth 0) ⌝ }
 {
     clear_fixed(t, b);
@@ -288,6 +290,8 @@ fn clear_live(t: &mut [u64; WORDS], b: usize)
     t[b + 14] = 0;
     t[b + 15] = 0;
     t[b + 16] = 0;
+    t[b + 17] = 0;
+    t[b + 18] = 0;
 }
 
 // An entry that a connection of this name leaves.

@@ -125,8 +125,8 @@ pub load-ranged : (l : List ℕ) (i : ℕ) → InRange (connectionAt l i)
 load-ranged l i = record {
   opened = omega arith;
   trm = omega arith;
-  made = instant-ranged (getD l (liveFrom + i * liveWidth + 14 + 1) 0);
-  outside = instant-ranged (getD l (liveFrom + i * liveWidth + 16) 0);
+  made = instant-ranged (getD l (liveFrom + i * liveWidth + 16 + 1) 0);
+  outside = instant-ranged (getD l (liveFrom + i * liveWidth + 18) 0);
   pace = pace-ranged (getD l (liveFrom + i * liveWidth + 3) 0) (getD l (liveFrom + i * liveWidth + 3 + 1) 0) (getD l (liveFrom + i * liveWidth + 3 + 2) 0) (getD l (liveFrom + i * liveWidth + 3 + 3) 0) .0;
 }
 

@@ -24,7 +24,7 @@ sides-by l m n i c e f =
     f ∙ ap (λ (x : List ℕ). put x (destinationFrom + i * liveWidth) (destinationWords (c .destination))) e ∙ ap (λ (p : ℕ). put (put l (liveFrom + i * liveWidth) (sourceWords c)) p (destinationWords (c .destination))) at
     ∙ put-append l (liveFrom + i * liveWidth) (sourceWords c) (destinationWords (c .destination))
   where
-    at : destinationFrom + i * liveWidth ≡ liveFrom + i * liveWidth + 7
+    at : destinationFrom + i * liveWidth ≡ liveFrom + i * liveWidth + 9
     at = omega arith
 
 -- and the last cell outside the rate
@@ -33,11 +33,11 @@ live-by l m n i c e f =
     f ∙ ap (λ (x : List ℕ). outsideUpdated x i (c .outside)) e ∙ ap (λ (p : ℕ). set (put l (liveFrom + i * liveWidth) (sideWords c)) p (instantWord (c .outside))) behind
     ∙ put-append l (liveFrom + i * liveWidth) (sideWords c) (outsideWords c)
   where
-    behind : outsideFrom + i * liveWidth ≡ liveFrom + i * liveWidth + 16
+    behind : outsideFrom + i * liveWidth ≡ liveFrom + i * liveWidth + 18
     behind = omega arith
 
-pub cleared-live-by : (l m : List ℕ) (b : ℕ) → m ≡ put l b (replicate fixedWidth 0) → set (set (set (set (set m (b + 12) 0) (b + 13) 0) (b + 14) 0) (b + 15) 0) (b + 16) 0 ≡ put l b (replicate liveWidth 0)
-cleared-live-by l m b e = ap (λ (x : List ℕ). set (set (set (set (set x (b + 12) 0) (b + 13) 0) (b + 14) 0) (b + 15) 0) (b + 16) 0) e
+pub cleared-live-by : (l m : List ℕ) (b : ℕ) → m ≡ put l b (replicate fixedWidth 0) → set (set (set (set (set (set (set m (b + 12) 0) (b + 13) 0) (b + 14) 0) (b + 15) 0) (b + 16) 0) (b + 17) 0) (b + 18) 0 ≡ put l b (replicate liveWidth 0)
+cleared-live-by l m b e = ap (λ (x : List ℕ). set (set (set (set (set (set (set x (b + 12) 0) (b + 13) 0) (b + 14) 0) (b + 15) 0) (b + 16) 0) (b + 17) 0) (b + 18) 0) e
 
 -- the whole entry, one column after the other
 pub given-by :

@@ -56,7 +56,7 @@ abbrev pub liveFrom : ℕ
 liveFrom = namesFrom + capacity
 
 abbrev pub sourceWidth : ℕ
-sourceWidth = 7
+sourceWidth = 9
 
 abbrev pub destinationWidth : ℕ
 destinationWidth = 9
@@ -114,10 +114,11 @@ waitingPayload (Cell p) = p
 abbrev pub payloadWords : Payload → List ℕ
 payloadWords p = p .a ∷ p .b ∷ p .c ∷ p .d ∷ p .e ∷ p .f ∷ []
 
--- what moves while a connection is open: the words of its source, then those of its destination
+-- what moves while a connection is open: the words of its source, the last of them those of its change, then those of its destination
 abbrev pub sourceWords : Connection → List ℕ
 sourceWords c =
-    c .rate .acr ∷ c .unacked ∷ c .queue .cells ∷ paceTag (c .pace) ∷ paceSent (c .pace) ∷ paceForward (c .pace) ∷ paceK (c .pace) ∷ []
+    c .rate .acr ∷ c .unacked ∷ c .queue .cells ∷ paceTag (c .pace) ∷ paceSent (c .pace) ∷ paceForward (c .pace) ∷ paceK (c .pace)
+    ∷ c .change .before ∷ c .change .after ∷ []
 
 -- the last making, or the last cell outside the rate: 0 if there was none, else its instant plus 1
 abbrev pub instantWord : Instant → ℕ

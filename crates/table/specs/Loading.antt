@@ -14,6 +14,7 @@ use Rattle.connection.specs.declared.parts.Waiting.the-variants.{Nothing, Cell}
 use Rattle.connection.specs.declared.parts.Waiting.{Waiting}
 use Rattle.connection.specs.declared.parts.Connection.{Connection}
 use Rattle.connection.specs.declared.parts.Made.{Made}
+use Rattle.connection.specs.Parts.{changed}
 use Rattle.connection.specs.declared.ready.Instant.{Instant}
 use Rattle.connection.specs.declared.ready.Instant.the-variants.{Never, At}
 use Rattle.table.specs.Layout.{namesFrom, liveFrom, liveWidth, fixedFrom, fixedWidth}
@@ -62,8 +63,9 @@ connectionFrom name l a m b = record {
   pace = paceAt l (a + 3);
   unacked = getD l (a + 1) 0 % 2 ^ 32;
   queue = record { cells = getD l (a + 2) 0 % 2 ^ 32 };
-  destination = record { efci = eqb (getD l (a + 7) 0 % 2) 1; turned = waitingAt l (a + 7); made = madeAt l (a + 14) };
-  outside = instantOf (getD l (a + 16) 0);
+  change = changed (getD l (a + 7) 0) (getD l (a + 8) 0);
+  destination = record { efci = eqb (getD l (a + 9) 0 % 2) 1; turned = waitingAt l (a + 9); made = madeAt l (a + 16) };
+  outside = instantOf (getD l (a + 18) 0);
 }
 
 abbrev pub connectionAt : List ℕ → (entry : ℕ) → Connection

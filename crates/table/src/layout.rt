@@ -29,7 +29,7 @@ pub const NAMES: usize = KEYS + CAPACITY;
 
 pub const LIVE: usize = NAMES + CAPACITY;
 
-pub const SOURCE_WIDTH: usize = 7;
+pub const SOURCE_WIDTH: usize = 9;
 
 pub const DESTINATION_WIDTH: usize = 9;
 

@@ -1,6 +1,7 @@
-//! One call made on both sides; answer, octets, allowed rate and table compared.
+//! One call made on both sides; answer, octets, allowed rate with its last change and
+//! table compared.
 
-use reference::{Address, Engine};
+use reference::{Address, Allowed, Engine};
 
 use crate::call::{Answer, Call, Outcome};
 use crate::expected;
@@ -69,11 +70,11 @@ impl Both {
         self.leaving % LEAVES_TABLE == 1
     }
 
-    /// Compares the allowed rate of one address, open or not.
+    /// Compares the allowed rate and its last change of one address, open or not.
     pub fn same_acr(&mut self, at: Address) -> Result<(), Difference> {
         self.rates += 1;
         let ours = self.library.acr(at)?;
-        let theirs = self.engine.acr(at).map(Answer::Number);
+        let theirs = self.engine.allowed(at).map(Answer::Allowed);
         if ours == theirs {
             return Ok(());
         }
@@ -82,8 +83,8 @@ impl Both {
         ))
     }
 
-    /// The allowed rate as the reference has it.
-    pub fn acr(&self, at: Address) -> Option<u64> {
-        self.engine.acr(at).ok()
+    /// The allowed rate and its last change as the reference has them.
+    pub fn allowed(&self, at: Address) -> Option<Allowed> {
+        self.engine.allowed(at).ok()
     }
 }

@@ -1,7 +1,7 @@
 //! A call with its arguments.
 
 use abr::ffi::{abr_params, abr_rm};
-use reference::Address;
+use reference::{Address, Allowed};
 
 use crate::octets::Octets;
 
@@ -154,7 +154,9 @@ pub enum Answer {
     Comparisons(u32),
     /// A slot.
     Sent(abr::ffi::abr_sent),
-    /// A number: an allowed rate, a rate or a code.
+    /// An allowed rate, and what the last feedback did.
+    Allowed(Allowed),
+    /// A number: a rate or a code.
     Number(u64),
     /// A cell that was read.
     Cell(abr::ffi::abr_cell),

@@ -292,6 +292,32 @@ events! {
     ImportTwoTo32,
     /// A double above it was refused.
     ImportLarge,
+    /// A backward cell raised the rate.
+    ChangeRise,
+    /// One lowered it.
+    ChangeFall,
+    /// One left it, after one that had changed it.
+    ChangeNothing,
+    /// One with BN 1 changed it.
+    ChangeBn,
+    /// One raised it from minimum to peak.
+    ChangeToPeak,
+    /// One lowered it from peak to minimum.
+    ChangeToMinimum,
+    /// The first cell moved the rate, by another amount than the last backward cell.
+    ChangeKeptFirst,
+    /// The same after more than ADTF.
+    ChangeKeptIdle,
+    /// The same because of unanswered cells.
+    ChangeKeptUnanswered,
+    /// A cell was made on a connection whose last backward cell changed the rate.
+    ChangeKeptMade,
+    /// An out-of-rate cell of such a connection was written.
+    ChangeKeptOutside,
+    /// A cell to such a connection was refused.
+    ChangeKeptRefused,
+    /// The address of such a connection was opened anew.
+    ChangeReopened,
     /// Exactly 65,535 cells wait after an offer.
     OfferFills,
     /// An offer of nothing to a full connection.

@@ -21,7 +21,7 @@ pub fn call(engine: &mut Engine, call: &Call, buffer: &mut Buffer) -> Outcome {
             .slot(time, buffer.octets(len))
             .map(|sent| Answer::Sent(library_sent(sent))),
         Call::OutOfRate { at, time, len } => done(engine.out_of_rate(at, time, buffer.octets(len))),
-        Call::Acr { at } => engine.acr(at).map(Answer::Number),
+        Call::Acr { at } => engine.allowed(at).map(Answer::Allowed),
         Call::Export { at } => engine.export(at).map(exported),
         Call::WriteRm { rm, len } => {
             done(reference::write_rm(&reference_rm(&rm), buffer.octets(len)))

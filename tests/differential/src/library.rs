@@ -6,7 +6,7 @@ use abr::ffi::{
     self, abr_allowed, abr_answer, abr_cell, abr_coded, abr_imported, abr_rated, abr_sent,
     abr_table,
 };
-use reference::Address;
+use reference::{Address, Allowed};
 
 use crate::call::{Answer, Call, Outcome};
 use crate::octets::Buffer;
@@ -70,7 +70,7 @@ impl Library {
         })
     }
 
-    /// The allowed rate of an address, open or not.
+    /// The allowed rate of an address, open or not, and its last change.
     pub fn acr(&self, at: Address) -> Result<Outcome, Difference> {
         // SAFETY: the pointer is live.
         answered(unsafe { ffi::abr_acr(&*self.table, at.vpi, at.vci) })
@@ -153,7 +153,10 @@ answers! {
     abr_answer: |answer: abr_answer| Answer::Comparisons(answer.comparisons);
     abr_sent: Answer::Sent;
     abr_cell: Answer::Cell;
-    abr_allowed: |allowed: abr_allowed| Answer::Number(allowed.acr);
+    abr_allowed: |allowed: abr_allowed| Answer::Allowed(Allowed {
+        acr: allowed.acr,
+        change: allowed.change,
+    });
     abr_coded: |coded: abr_coded| Answer::Number(coded.code.into());
     abr_rated: |rated: abr_rated| Answer::Number(rated.rate);
     abr_imported: |imported: abr_imported| Answer::Imported {

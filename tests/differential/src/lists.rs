@@ -47,8 +47,13 @@ impl List {
     /// Makes a call on both sides and adds it to what is known.
     pub fn step(&mut self, call: &Call, coverage: &mut Coverage) -> Result<Outcome, Difference> {
         let outcome = self.both.call(call)?;
-        let acr = concerned(call, &outcome).and_then(|at| self.both.acr(at));
-        self.seen.add(call, &outcome, acr.unwrap_or(0), coverage);
+        let at = concerned(call, &outcome).unwrap_or_default();
+        let allowed = self.both.allowed(at);
+        let acr = allowed.map_or(0, |allowed| allowed.acr);
+        self.seen.add(call, &outcome, acr, coverage);
+        if let Some(allowed) = allowed {
+            self.seen.same_change(at, allowed)?;
+        }
         Ok(outcome)
     }
 

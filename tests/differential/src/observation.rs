@@ -3,6 +3,7 @@
 //! counts come from it; no comparison of the two sides depends on it.
 
 mod address;
+mod change;
 mod doubles;
 mod made;
 mod outside;
@@ -38,6 +39,8 @@ pub struct Connection {
     pub icr: u64,
     pub opened: u64,
     pub acr: u64,
+    /// The allowed rate after the last backward cell less the one before it.
+    change: i64,
     pub sends: Option<Sends>,
     pub data: u64,
     pub turned: Option<Turned>,
@@ -64,6 +67,7 @@ impl Connection {
             icr: rate(params.icr),
             opened: time,
             acr,
+            change: 0,
             sends: None,
             data: 0,
             turned: None,
@@ -121,6 +125,8 @@ pub struct Observation {
     pub closed: BTreeSet<Address>,
     /// Closed with data, a backward cell or unanswered cells on them.
     loaded: BTreeSet<Address>,
+    /// Closed after a backward cell that changed the rate.
+    changed: BTreeSet<Address>,
     /// The last making on each address, also if it was closed since.
     makings: BTreeMap<Address, u64>,
     /// The last out-of-rate cell on each address, also if it was closed since.
@@ -145,6 +151,7 @@ impl Observation {
             Err(number) => {
                 self.refused_address(call, *number, coverage);
                 self.refused_reserved(call, *number, coverage);
+                self.refused_change(call, coverage);
                 doubles::refused(call, coverage);
                 self.refused(call, *number, coverage);
                 return self.refused_outside(call, *number, coverage);
@@ -183,6 +190,7 @@ impl Observation {
             .insert(at, Connection::new(params, time, acr));
         coverage.reach(Event::Reopened, self.closed.contains(&at));
         coverage.reach(Event::ReopenedLoaded, self.loaded.contains(&at));
+        coverage.reach(Event::ChangeReopened, self.changed.remove(&at));
         coverage.reach(Event::OpenedBeside, self.elsewhere(at));
         coverage.reach(Event::Full, self.connections.len() == CONNECTIONS_MAX);
         coverage.reach(Event::TimeMax, time == TIME_MAX);
@@ -194,6 +202,9 @@ impl Observation {
         let Some(connection) = self.connections.remove(&at) else {
             return;
         };
+        if connection.change != 0 {
+            self.changed.insert(at);
+        }
         if connection.waits() || connection.unanswered > 0 {
             self.loaded.insert(at);
         } else {
@@ -230,6 +241,7 @@ impl Observation {
             let er = reference::rate_of(u32::from(cell[7]) << 8 | u32::from(cell[8]));
             backward_received(connection, bits, er, coverage);
             zero::received(connection, bits, er, acr, coverage);
+            change::received(connection, bits, acr, coverage);
             connection.acr = acr;
             connection.stopped |= acr == 0;
         }
@@ -253,6 +265,7 @@ impl Observation {
         if let Some(connection) = self.connections.get_mut(&at) {
             made::sent(connection, sent.kind, self.level, coverage);
             zero::sent(connection, time, sent, coverage);
+            change::sent(connection, time, sent.acr, coverage);
             kind_sent(connection, time, sent.kind, coverage);
             connection.acr = sent.acr;
             connection.stopped = sent.acr == 0;

@@ -6,12 +6,14 @@
 //! allowed rate of the second is above that of the first, and every allowed rate is
 //! between its minimum, which may be 0, and its peak. Refusals and kinds are the same;
 //! comparisons may differ, since ready instants follow the rates. Two out-of-rate
-//! cells differ in CCR and CRC-10 only.
+//! cells differ in CCR and CRC-10 only. The change that the last feedback made (document
+//! 02, L9) is never more than from minimum to peak or back; the two lists' changes are in
+//! no order.
 
 use std::ops::Range;
 
 use abr::CELL_OCTETS;
-use reference::Address;
+use reference::{Address, Allowed};
 
 use crate::call::{Answer, Call, Outcome};
 use crate::coverage::Coverage;
@@ -114,8 +116,12 @@ impl Pair {
             outside(buffers, tally)?;
         }
         let at = concerned(call, &first).unwrap_or_default();
-        let acr = number(&self.first.acr(at)?).unwrap_or(0);
+        let allowed = allowed(&self.first.acr(at)?);
+        let acr = allowed.map_or(0, |allowed| allowed.acr);
         self.seen.add(call, &first, acr, &mut Coverage::default());
+        if let Some(allowed) = allowed {
+            self.seen.same_change(at, allowed)?;
+        }
         self.compare(tally)?;
         Ok(true)
     }
@@ -125,16 +131,16 @@ impl Pair {
         for (at, connection) in &self.seen.connections {
             let first = self.first.acr(*at)?;
             let second = self.second.acr(*at)?;
-            let (Some(one), Some(two)) = (number(&first), number(&second)) else {
+            let (Some(one), Some(two)) = (allowed(&first), allowed(&second)) else {
                 return Err(format!("ACR of {at:?}: {first:?} and {second:?}"));
             };
-            let ordered = connection.mcr <= two && two <= one && one <= connection.pcr;
-            if !ordered {
-                let (mcr, pcr) = (connection.mcr, connection.pcr);
-                return Err(format!(
-                    "ACR of {at:?}: {one} and {two}, from {mcr} to {pcr}"
-                ));
+            let (mcr, pcr) = (connection.mcr, connection.pcr);
+            let ordered = mcr <= two.acr && two.acr <= one.acr && one.acr <= pcr;
+            let small = |change: i64| change.unsigned_abs() <= pcr - mcr;
+            if !ordered || !small(one.change) || !small(two.change) {
+                return Err(format!("{at:?}: {one:?} and {two:?}, from {mcr} to {pcr}"));
             }
+            let (one, two) = (one.acr, two.acr);
             tally.compared += 1;
             tally.lower += u64::from(two < one);
             tally.stopped += u64::from(two == 0 && one > 0);
@@ -143,10 +149,10 @@ impl Pair {
     }
 }
 
-/// The number that an accepted call answers.
-fn number(outcome: &Outcome) -> Option<u64> {
+/// The allowed rate and change that an accepted call answers.
+fn allowed(outcome: &Outcome) -> Option<Allowed> {
     match outcome {
-        Ok(Answer::Number(number)) => Some(*number),
+        Ok(Answer::Allowed(allowed)) => Some(*allowed),
         _ => None,
     }
 }

@@ -25,6 +25,7 @@ impl Observation {
         coverage.reach(Event::MadeUnderEfci, level == 1 && connection.efci);
         coverage.reach(Event::MadeBeforeFirst, connection.sends.is_none());
         coverage.reach(Event::MadeReplaced, connection.made.is_some());
+        coverage.reach(Event::ChangeKeptMade, connection.change != 0);
         coverage.reach(Event::MadeBesideTurned, connection.turned.is_some());
         let marked = connection.turned.is_some_and(|cell| cell.ci);
         coverage.reach(Event::MadeBesideMarked, level == 1 && marked);

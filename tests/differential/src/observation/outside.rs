@@ -24,6 +24,7 @@ impl Observation {
         coverage.reach(Event::OutsideAtZero, acr == 0);
         coverage.reach(Event::OutsideBelowOne, 0 < acr && acr < RATE_ONE);
         coverage.reach(Event::OutsideBeforeFirst, first);
+        coverage.reach(Event::ChangeKeptOutside, connection.change != 0);
         coverage.reach(Event::OutsideAboveIcr, first && acr > connection.icr);
         let cuts = connection.unanswered >= connection.params.crm && connection.params.c != 7;
         let unanswered = cuts && acr > connection.mcr;

@@ -1,7 +1,7 @@
 //! One end system with one connection, on the library and on the reference.
 //! Each call is made on both, and they must agree on every answer and octet.
 
-use abr::{Cell, Kind, Params, Rm, Table, CELL_OCTETS};
+use abr::{Allowed, Cell, Kind, Params, Rm, Table, CELL_OCTETS};
 use convert::{library_sent, reference_params, reference_rm};
 use differential::octets::{put_header, Header};
 use reference::{Address, Engine};
@@ -196,10 +196,15 @@ impl Station {
         (0..rounds).map(|i| self.round(i * 100 * MS)).collect()
     }
 
-    /// The allowed rate.
+    /// The allowed rate; what the last backward cell made of it is compared too.
     pub fn acr(&self) -> u64 {
-        let acr = self.library.acr(VPI, VCI).expect("library");
-        assert_eq!(self.reference.acr(AT), Ok(acr), "library and reference");
+        let Allowed { acr, change } = self.library.allowed(VPI, VCI).expect("library");
+        let ours = reference::Allowed { acr, change };
+        assert_eq!(
+            self.reference.allowed(AT),
+            Ok(ours),
+            "library and reference"
+        );
         acr
     }
 }

@@ -15,9 +15,10 @@ load-requires c κs = let f = c .before .before .before in below (f .before .arg
 returns-2 : tie.Need-returns-2
 unfolding acrOf entryAcr
 returns-2 c =
-    let i = c .before .before in
+    let d = c .before in
+    let i = d .before .before in
     let f = i .before .before in
-    reads-found entryAcr (f .before .args .t .now) (f .before .args .name) (f .find .ensures) (i .i .given .1) (c .load .ensures)
+    reads-found entryAcr (f .before .args .t .now) (f .before .args .name) (f .find .ensures) (i .i .given .1) (d .load .ensures)
 
 pub read-acr-spec : {M : Type 1} → statement M
 read-acr-spec = tie.close (tie.spec (λ c κs. search needs) (λ c. search needs) (λ c. search needs) returns load-requires returns-2)

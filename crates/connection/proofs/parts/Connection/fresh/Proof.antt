@@ -4,15 +4,9 @@ use borrow.Author.Needs.{needs}
 use Rattle.connection.proofs.parts.Connection.fresh.Statement.{statement}
 use Rattle.connection.proofs.parts.Connection.fresh.Tie as tie
 
-trm-time-requires : tie.Need-trm-time-requires
-trm-time-requires c κs = search needs
-
-opened-requires : tie.Need-opened-requires
-opened-requires c κs = search needs
-
 returns : tie.Need-returns
 unfolding fresh
-returns c = cc
+returns c = rw (c .before .opened .ensures, c .trm-time .ensures)
 
 pub fresh-spec : {M : Type 1} → statement M
-fresh-spec = tie.close (tie.spec trm-time-requires opened-requires returns)
+fresh-spec = tie.close (tie.spec (λ c κs. search needs) (λ c κs. search needs) returns)
