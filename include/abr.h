@@ -46,12 +46,14 @@
  * many it replayed, one comparison each: 1 to 10. Refused calls, idle slots and
  * all other calls replay none.
  *
- * Rates are whole numbers of 1/512 cell per second, times are nanoseconds
- * (section "Units and the 16-bit rate code").
+ * Rates are whole numbers of 1/512 cell per second, but for the doubles of abr_export
+ * and abr_import, which are in cells per second; times are nanoseconds (section "Units
+ * and the 16-bit rate code").
  *
  * Rate codes. Bit 15 of a code is reserved. A call that reads a code with that bit
  * set is refused with 19: abr_open, abr_receive, abr_read, abr_rate (document 02,
- * L7). No code that abr_code gives and no cell that the library writes has it.
+ * L7). No code that abr_code or abr_import gives and no cell that the library writes
+ * has it.
  */
 #ifndef ABR_H
 #define ABR_H

@@ -9,7 +9,7 @@ const TWO_TO_32: f64 = 4_294_967_296.0;
 /// The largest code rate in cells per second.
 const LARGEST_CELLS: f64 = 4_290_772_992.0;
 
-/// The double after another in the order of doubles, and the one before it.
+/// The double before another in the order of doubles, and the one after it.
 fn beside(x: f64) -> [f64; 2] {
     [
         f64::from_bits(x.to_bits() - 1),

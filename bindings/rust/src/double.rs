@@ -21,12 +21,13 @@ pub struct Contract {
 pub enum Imported {
     /// The double is the rate of this code.
     Exact(u32),
-    /// It is above the rate of a code and below the next.
+    /// It is above the rate of this code, and below that of every higher code if there is
+    /// one.
     Below {
         /// The code below it.
         code: u32,
-        /// The double less the rate of that code, in cells per second and exact; above
-        /// 0.
+        /// The double less the rate of that code over 512, in cells per second and exact;
+        /// above 0.
         remainder: f64,
     },
 }
@@ -40,8 +41,8 @@ impl Imported {
     }
 }
 
-/// The rate code of a double in cells per second. Rate of the code and remainder make
-/// the double with no rounding; both zeros have the code 0.
+/// The rate code of a double in cells per second. The rate of the code over 512 plus the
+/// remainder is the double with no rounding; both zeros have the code 0.
 ///
 /// # Errors
 /// [`Refusal::Double`] if it is not a number, infinite, below 0, between 0 and 1, or 2^32

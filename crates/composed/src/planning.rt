@@ -1,5 +1,5 @@
 // A contract exported and its peak imported again. It is here for its contract, as `each_call` is: what the two exports ensure is what the promise on planning
-// (promises/specs/Planning.antt) asks for.
+// (exports/specs/Planning.antt) asks for.
 ghost use Rattle.cell.specs.Name.{pairName};
 ghost use Rattle.composed.specs.Planning.{PeakBack};
 use abr::planning::ImportAnswer;
