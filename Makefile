@@ -10,7 +10,7 @@
 #
 # ABR_LIB names another archive than the proved one, which then is not built.
 
-VERSION := 0.10.0
+VERSION := 0.11.0
 PREFIX ?= /usr/local
 DESTDIR ?=
 CC ?= gcc

@@ -4,8 +4,8 @@
  * an end of the directory of names: VPI 0 and VCI 32, or VPI 255 and VCI 65,535. Where the directory moves, it is the
  * highest name, with all other words behind its own, and its ready instant is the earliest; elsewhere the lowest name,
  * and all ready instants are equal. The others are on all VPIs, four to each. A forward cell makes both of its
- * moves, and a received one replaces another. bench/worst.c counts the instructions of these calls, tests/c/stack.c
- * measures their stack.
+ * moves, and a received one replaces another. A port has 1,024 demands. bench/worst.c counts the instructions of these
+ * calls, tests/c/stack.c measures their stack.
  */
 #ifndef CASES_H
 #define CASES_H
@@ -18,7 +18,7 @@
 #define OTHERS (ABR_CONNECTIONS_MAX - 1)
 
 /* What a case needs beside the connections. */
-enum need { NOTHING, NRM_2, TURNED_WAITS, MADE_WAITS, OUTSIDE, FORWARD_CELL, BACKWARD_CELL, DATA_CELL, CLOSED };
+enum need { NOTHING, NRM_2, TURNED_WAITS, MADE_WAITS, OUTSIDE, FORWARD_CELL, BACKWARD_CELL, DATA_CELL, CLOSED, DEMANDS };
 
 /* The connection concerned. */
 enum name { LOWEST, HIGHEST };
@@ -41,6 +41,7 @@ static uint8_t cell[ABR_CELL_OCTETS];
 static abr_rm rm = {0, 0, 0, 0, 1, 0, 0, 0x53E8, 0x5000, 0x4000, 7, 9};
 static abr_params params;
 static address at; /* of the one concerned */
+static uint64_t demands[ABR_DEMANDS_MAX], capacity;
 
 /* The answers of the calls. */
 static uint32_t refusal;
@@ -52,6 +53,7 @@ static abr_coded coded;
 static abr_rated rated;
 static abr_contract contract;
 static abr_imported imported;
+static abr_share share;
 
 static void call_slot(void) { sent = abr_slot(&table, 3 * SECOND, cell, sizeof cell); }
 static void call_idle(void) { sent = abr_slot(&table, SECOND, cell, sizeof cell); }
@@ -72,6 +74,9 @@ static void call_read(void) { content = abr_read(cell, sizeof cell); }
 static void call_code(void) { coded = abr_code(ABR_RATE_MAX); }
 static void call_rate(void) { rated = abr_rate(ABR_CODE_MAX); }
 static void call_import(void) { imported = abr_import(1000.7); }
+static void call_fair_share(void) { share = abr_fair_share(capacity, demands, ABR_DEMANDS_MAX); }
+static void call_limit(void) { refusal = abr_limit(ABR_RATE_ONE, cell, sizeof cell); }
+static void call_port(void) { refusal = abr_port(capacity, demands, ABR_DEMANDS_MAX, cell, sizeof cell); }
 static void call_house(void) { params = abr_house(ABR_CODE_MAX, 0x4000, 0x53E8); }
 
 static const abr_case cases[] = {
@@ -97,6 +102,9 @@ static const abr_case cases[] = {
     {"code", NOTHING, LOWEST, call_code, 0},
     {"rate", NOTHING, LOWEST, call_rate, 0},
     {"import", NOTHING, LOWEST, call_import, 0},
+    {"fair share", DEMANDS, LOWEST, call_fair_share, 0},
+    {"limit, backward cell", BACKWARD_CELL, LOWEST, call_limit, 0},
+    {"port, backward cell", DEMANDS, LOWEST, call_port, 0},
     {"house", NOTHING, LOWEST, call_house, 0},
 };
 
@@ -162,6 +170,29 @@ static int make_rm_cell(uint32_t dir)
     return abr_write_rm(rm, cell, sizeof cell) != ABR_OK;
 }
 
+/*
+ * As many demands as there may be, and the capacity for which sharing goes through them most often: each pass finds some of
+ * them met that the pass before left one unit short. The counts are of those that are not met yet.
+ */
+static void make_demands(void)
+{
+    static const unsigned above[] = {1024, 789, 608, 468, 360, 277, 213, 164, 126, 97, 75, 58, 45,
+                                     35,   27,  21,  16,  12,  9,   7,   5,   4,   3,  2,  1};
+    const unsigned passes = sizeof above / sizeof above[0];
+    uint64_t share = 0, left;
+    unsigned made = 0;
+    capacity = left = UINT64_C(1463780477780833);
+    for (unsigned i = 0; i + 1 < passes; i++) {
+        uint64_t step = left / above[i] + 1;
+        for (; made < ABR_DEMANDS_MAX - above[i + 1]; made++) {
+            demands[made] = share + 1;
+        }
+        left -= step * above[i + 1] + (above[i] - above[i + 1]);
+        share += step;
+    }
+    demands[made] = ABR_RATE_MAX;
+}
+
 /* Prepares table and cell for a case; 0 if every call of it was accepted. */
 static int prepare(const abr_case *which)
 {
@@ -181,6 +212,7 @@ static int prepare(const abr_case *which)
     case FORWARD_CELL: return make_rm_cell(0);
     case BACKWARD_CELL: return make_rm_cell(1);
     case DATA_CELL: return make_data_cell();
+    case DEMANDS: make_demands(); return make_rm_cell(1);
     case CLOSED: return abr_close(&table, at.vpi, at.vci).refusal != ABR_OK;
     default: return 0;
     }
@@ -195,11 +227,14 @@ static int accepted(const abr_case *which)
     if (which->call == call_read) {
         return content.refusal == ABR_OK && content.kind == which->kind;
     }
+    if (which->call == call_fair_share) {
+        return share.refusal == ABR_OK && share.limited == 1;
+    }
     if (which->call == call_export) {
         return refusal == ABR_OK && contract.pcr > 0;
     }
     return (refusal | answer.refusal | sent.refusal | allowed.refusal | coded.refusal | rated.refusal |
-            imported.refusal) == ABR_OK;
+            imported.refusal | share.refusal) == ABR_OK;
 }
 
 #endif

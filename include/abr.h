@@ -7,7 +7,8 @@
  * engine", which says what every call does, with requests L1 (abr_make), L2
  * (marks of a replaced cell), L4 (1,024 connections, comparisons), L5 (no minimum
  * rate, abr_out_of_rate), L6 (full addresses), L7 (the reserved bit of a rate code),
- * L8 (abr_export, abr_import) and L9 (what the last feedback did) of document 02.
+ * L8 (abr_export, abr_import), L9 (what the last feedback did) and L10 (abr_port,
+ * abr_fair_share, abr_limit) of document 02.
  *
  * Addresses. A connection is named by its VPI and its VCI together, as VPI * 65,536
  * + VCI (document 02, L6): the same VCI on another VPI is another connection. Every
@@ -26,11 +27,12 @@
  * other. A table may be moved or copied as a whole, octet by octet, between
  * calls.
  *
- * Pointers. The only ones are to tables and to octets, and in abr_export to the
- * number that takes the refusal. None may be null. The length given with a pointer
- * to octets is that of the memory there. The memory of two pointers of one call
- * must not overlap. Octets need no alignment; a table is aligned as C aligns
- * uint64_t.
+ * Pointers. The only ones are to tables, to octets and to demanded rates, and in
+ * abr_export to the number that takes the refusal. None may be null, also if the
+ * length or count beside it is 0. The length given with a pointer to octets is that
+ * of the memory there, and the count given with one to demands is how many are there.
+ * The memory of two pointers of one call must not overlap. Octets need no alignment;
+ * tables and demands are aligned as C aligns uint64_t, a refusal as it aligns uint32_t.
  *
  * Answers. Parameters and fields are passed by value, and so is every answer: a
  * number, or a struct whose first field is the refusal. Only the answer of abr_export
@@ -84,8 +86,8 @@ extern "C" {
 
 /* ---- Version ------------------------------------------------------------ */
 
-/* 0.10.0: major, minor and patch number, eight bits each. */
-#define ABR_VERSION 0x000a00u
+/* 0.11.0: major, minor and patch number, eight bits each. */
+#define ABR_VERSION 0x000b00u
 
 /* The words of a table, which has 286,872 octets. */
 #define ABR_TABLE_WORDS 35859u
@@ -122,6 +124,9 @@ extern "C" {
 
 /* The highest congestion level. */
 #define ABR_LEVEL_MAX 2u
+
+/* The most demands that a capacity is shared among. */
+#define ABR_DEMANDS_MAX 1024u
 
 /* One cell per second, which is also the least peak rate of a connection. */
 #define ABR_RATE_ONE 512u
@@ -193,6 +198,8 @@ extern "C" {
 /* Because of the input, added by document 02. */
 #define ABR_REFUSED_RESERVED_BIT 19u /* reserved bit of a rate code is set */
 #define ABR_REFUSED_DOUBLE 20u       /* not a rate: not a number, infinite, below 0, between 0 and 1, or 2^32 and more */
+#define ABR_REFUSED_DEMANDS 21u      /* over 1,024 demands */
+#define ABR_REFUSED_DEMAND 22u       /* a demand is above the largest rate */
 
 /* ---- Types -------------------------------------------------------------- */
 
@@ -288,6 +295,13 @@ typedef struct {
     uint32_t code;    /* of the greatest code rate not above the double */
     double remainder; /* what the double has more than that rate, in cells per second; 0.0 if nothing */
 } abr_imported;
+
+/* The answer of abr_fair_share. */
+typedef struct {
+    uint32_t refusal;
+    uint32_t limited; /* 1: rate is the share; 0: there is no limit */
+    uint64_t rate;    /* the share; 0 if there is no limit */
+} abr_share;
 
 /* ---- Header and archive ------------------------------------------------- */
 
@@ -497,6 +511,40 @@ ABR_MUST_USE abr_imported abr_import(double cells_per_second);
  */
 abr_params abr_house(uint32_t pcr, uint32_t mcr, uint32_t icr);
 
+/* ---- The port of a switch, without a table ------------------------------ */
+
+/*
+ * Shares a capacity among demanded rates (document 02, L10): the share is the greatest
+ * whole s for which the sum of min(demand, s) is not above the capacity. If the plain sum
+ * of the demands is not above it, and so also without demands, there is no limit. The order
+ * of the demands does not matter, and more capacity never means a lower share, no limit
+ * counting as the highest. Capacity and demands are rates; the capacity may be any number.
+ * The demands are read only.
+ * Refusals in order:
+ *   21  count over 1,024
+ *   22  a demand above the largest rate
+ */
+ABR_MUST_USE abr_share abr_fair_share(uint64_t capacity, const uint64_t *demands, size_t count);
+
+/*
+ * Limits the explicit rate of a passing cell (document 02, L10). In a backward RM cell ER
+ * becomes the code of the lower of its rate and the given one, whichever it is, and the
+ * CRC-10 is made new; a code of rate 0 is written as 0x0000. Every other bit stays, GFC,
+ * CLP, octet 5 and the reserved ones too. A forward RM cell and a data cell stay as they
+ * are. The rate is a share, but may be any number.
+ * Refusals in order: 1, 2, 4, 5, 6, 19, as for abr_receive.
+ */
+ABR_MUST_USE uint32_t abr_limit(uint64_t rate, uint8_t *cell, size_t len);
+
+/*
+ * A passing cell at the port of a switch (document 02, L10): abr_fair_share and, if there
+ * is a limit, abr_limit with that share. With no limit every octet stays, but the cell is
+ * looked at all the same.
+ * Refusals in order: 21, 22, as for abr_fair_share; then 1, 2, 4, 5, 6, 19, as for
+ * abr_receive.
+ */
+ABR_MUST_USE uint32_t abr_port(uint64_t capacity, const uint64_t *demands, size_t count, uint8_t *cell, size_t len);
+
 /* ---- The text of a refusal ---------------------------------------------- */
 
 /* The text of an answer, as it is beside its number above; never null. */
@@ -523,6 +571,8 @@ static inline const char *abr_refusal_text(uint32_t refusal)
     case ABR_REFUSED_TOO_OFTEN: return "less than 100 ms since the last out-of-rate cell on this connection";
     case ABR_REFUSED_RESERVED_BIT: return "reserved bit of a rate code is set";
     case ABR_REFUSED_DOUBLE: return "not a rate: not a number, infinite, below 0, between 0 and 1, or 2^32 and more";
+    case ABR_REFUSED_DEMANDS: return "over 1,024 demands";
+    case ABR_REFUSED_DEMAND: return "a demand is above the largest rate";
     default: return "not an answer of this library";
     }
 }
@@ -566,6 +616,9 @@ ABR_LAYOUT(contract_icr, offsetof(abr_contract, icr) == 16);
 ABR_LAYOUT(imported_size, sizeof(abr_imported) == 16);
 ABR_LAYOUT(imported_code, offsetof(abr_imported, code) == 4);
 ABR_LAYOUT(imported_remainder, offsetof(abr_imported, remainder) == 8);
+ABR_LAYOUT(share_size, sizeof(abr_share) == 16);
+ABR_LAYOUT(share_limited, offsetof(abr_share, limited) == 4);
+ABR_LAYOUT(share_rate, offsetof(abr_share, rate) == 8);
 
 #undef ABR_LAYOUT
 

@@ -37,6 +37,9 @@ pub trait Engine {
     fn code(rate: u64);
     fn rate(code: u32);
     fn import(cells_per_second: f64);
+    fn fair_share(capacity: u64, demands: &[u64]);
+    fn limit(rate: u64, cell: &mut Octets);
+    fn port(capacity: u64, demands: &[u64], cell: &mut Octets);
     /// The house set with one code for the three rates.
     fn house(code: u32);
 }
@@ -129,6 +132,19 @@ impl Engine for Library {
 
     fn import(cells_per_second: f64) {
         black_box(&unsafe { ffi::abr_import(cells_per_second) });
+    }
+
+    fn fair_share(capacity: u64, demands: &[u64]) {
+        black_box(&unsafe { ffi::abr_fair_share(capacity, demands.as_ptr(), demands.len()) });
+    }
+
+    fn limit(rate: u64, cell: &mut Octets) {
+        black_box(unsafe { ffi::abr_limit(rate, cell.as_mut_ptr(), cell.len()) });
+    }
+
+    fn port(capacity: u64, demands: &[u64], cell: &mut Octets) {
+        let (rates, count) = (demands.as_ptr(), demands.len());
+        black_box(unsafe { ffi::abr_port(capacity, rates, count, cell.as_mut_ptr(), cell.len()) });
     }
 
     fn house(code: u32) {
@@ -233,6 +249,21 @@ impl Engine for Reference {
     #[inline(never)]
     fn import(cells_per_second: f64) {
         black_box(&reference::import(cells_per_second));
+    }
+
+    #[inline(never)]
+    fn fair_share(capacity: u64, demands: &[u64]) {
+        black_box(&reference::fair_share(capacity, demands));
+    }
+
+    #[inline(never)]
+    fn limit(rate: u64, cell: &mut Octets) {
+        black_box(&reference::limit(rate, cell));
+    }
+
+    #[inline(never)]
+    fn port(capacity: u64, demands: &[u64], cell: &mut Octets) {
+        black_box(&reference::port::port(capacity, demands, cell));
     }
 
     #[inline(never)]

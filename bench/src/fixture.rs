@@ -16,6 +16,9 @@ const CODE: u32 = 0x6121;
 /// The rate code of one cell per second.
 const SLOW: u32 = 0x4000;
 
+/// A rate of 1,000 cells per second.
+const LIMIT: u64 = 512_000;
+
 /// Longer than the gap at any rate at which data is sent.
 const ROUND: u64 = 1_000_000;
 
@@ -29,8 +32,11 @@ pub struct Fixture<E: Engine> {
     time: u64,
     step: u64,
     rm: E::Rm,
-    /// Received or read in turn.
+    /// Received, read or limited in turn.
     cells: [Octets; 2],
+    /// What a capacity is shared among, and the capacity, which limits.
+    demands: Vec<u64>,
+    capacity: u64,
 }
 
 impl<E: Engine> Fixture<E> {
@@ -38,6 +44,7 @@ impl<E: Engine> Fixture<E> {
     pub fn new(connections: u32, workload: Workload) -> Self {
         let last = address(connections.max(1) - 1);
         let rms = rms(last, workload);
+        let demands = rates(workload.demands());
         let mut fixture = Fixture {
             workload,
             engine: E::empty(),
@@ -48,6 +55,8 @@ impl<E: Engine> Fixture<E> {
             step: step(connections, workload),
             rm: E::rm(&rms[0]),
             cells: rms.map(|rm| cell_of(&rm, workload)),
+            capacity: demands.iter().sum::<u64>() / 2,
+            demands,
         };
         for place in order(connections, workload) {
             let params = E::params(&params_of(place, workload));
@@ -120,8 +129,6 @@ impl<E: Engine> Fixture<E> {
             Workload::Receive(_) | Workload::Unknown(_) => repeat(times, |i| {
                 self.engine.receive(black_box(&self.cells[i % 2]));
             }),
-            Workload::Read(_) => repeat(times, |i| E::read(black_box(&self.cells[i % 2]))),
-            Workload::Write => repeat(times, |_| E::write_rm(black_box(&self.rm), &mut buffer)),
             Workload::Offer => repeat(times, |_| self.engine.offer(black_box(self.last), 0)),
             Workload::OpenClose => self.open_close(times, highest()),
             Workload::OpenCloseLow => self.open_close(times, lowest()),
@@ -137,15 +144,36 @@ impl<E: Engine> Fixture<E> {
             Workload::Acr => repeat(times, |_| self.engine.acr(black_box(self.last))),
             Workload::Export => repeat(times, |_| self.engine.export(black_box(self.last))),
             Workload::Level => repeat(times, |_| self.engine.set_level(black_box(1))),
+            other => self.run_without_table(other, times, &mut buffer),
+        }
+        black_box(buffer);
+    }
+
+    /// Runs a workload that has no table.
+    fn run_without_table(&self, workload: Workload, times: u64, buffer: &mut Octets) {
+        match workload {
+            Workload::Read(_) => repeat(times, |i| E::read(black_box(&self.cells[i % 2]))),
+            Workload::Write => repeat(times, |_| E::write_rm(black_box(&self.rm), buffer)),
             Workload::Code => repeat(times, |_| E::code(black_box(512_000))),
             Workload::Rate => repeat(times, |_| E::rate(black_box(CODE))),
             Workload::Import { exact } => {
                 let cells = if exact { 1_000.0 } else { 1_000.7 };
                 repeat(times, |_| E::import(black_box(cells)));
             }
+            Workload::FairShare { .. } => repeat(times, |_| {
+                E::fair_share(self.capacity, black_box(&self.demands));
+            }),
+            Workload::Limit => repeat(times, |i| {
+                *buffer = self.cells[i % 2];
+                E::limit(black_box(LIMIT), buffer);
+            }),
+            Workload::Port { .. } => repeat(times, |i| {
+                *buffer = self.cells[i % 2];
+                E::port(self.capacity, black_box(&self.demands), buffer);
+            }),
             Workload::House => repeat(times, |_| E::house(black_box(CODE))),
+            other => unreachable!("{other:?} has a table"),
         }
-        black_box(buffer);
     }
 
     /// Opens and closes one more connection so many times.
@@ -243,6 +271,14 @@ fn step(connections: u32, workload: Workload) -> u64 {
         Workload::LastFirst => u64::from(connections) * step,
         _ => step,
     }
+}
+
+/// So many demands, each of a rate of its own, in no order.
+fn rates(count: u32) -> Vec<u64> {
+    let code = |place: u32| CODE - place * 37 % 1_024;
+    (0..count)
+        .map(|place| reference::rate_of(code(place)))
+        .collect()
 }
 
 /// The fields of the RM cells, in turn.

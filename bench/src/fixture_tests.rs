@@ -161,6 +161,26 @@ fn doubles_are_accepted() {
     assert!(remainder(1_000.7) > 0.0);
 }
 
+/// The measured shares are limits, and the measured cells are backward ones whose ER is
+/// lowered.
+#[test]
+fn ports_limit() {
+    for row in &ROWS {
+        let fixture = Fixture::<Reference>::new(0, row.workload);
+        let share = reference::fair_share(fixture.capacity, &fixture.demands).unwrap();
+        let rate = match row.workload {
+            Workload::Limit => LIMIT,
+            Workload::FairShare { .. } | Workload::Port { .. } => share.expect("a limit"),
+            _ => continue,
+        };
+        for mut cell in fixture.cells {
+            let before = cell;
+            assert_eq!(reference::limit(rate, &mut cell), Ok(()), "{}", row.name);
+            assert_ne!(cell, before, "{}", row.name);
+        }
+    }
+}
+
 /// The measured opens and closes are accepted.
 #[test]
 fn opens_are_accepted() {

@@ -56,6 +56,12 @@ pub enum Workload {
     Rate,
     /// The code of a double, which is the rate of that code or between two.
     Import { exact: bool },
+    /// The share of a capacity among so many demands.
+    FairShare { demands: u32 },
+    /// A backward cell whose ER is limited to a rate.
+    Limit,
+    /// A backward cell at a port with so many demands.
+    Port { demands: u32 },
     /// The house set of parameters.
     House,
 }
@@ -66,6 +72,14 @@ impl Workload {
         match self {
             Workload::Receive(sort) | Workload::Unknown(sort) | Workload::Read(sort) => Some(sort),
             _ => None,
+        }
+    }
+
+    /// The demands that it shares a capacity among.
+    pub fn demands(self) -> u32 {
+        match self {
+            Workload::FairShare { demands } | Workload::Port { demands } => demands,
+            _ => 0,
         }
     }
 
@@ -97,7 +111,7 @@ const fn row(name: &'static str, text: &'static str, connections: u32, workload:
 }
 
 /// All rows.
-pub static ROWS: [Row; 53] = [
+pub static ROWS: [Row; 59] = [
     row(
         "slot-1",
         "slot, 1 busy connection",
@@ -349,6 +363,42 @@ pub static ROWS: [Row; 53] = [
         "import a double with a remainder",
         0,
         Workload::Import { exact: false },
+    ),
+    row(
+        "share-16",
+        "share of a capacity, 16 demands",
+        0,
+        Workload::FairShare { demands: 16 },
+    ),
+    row(
+        "share-256",
+        "share of a capacity, 256 demands",
+        0,
+        Workload::FairShare { demands: 256 },
+    ),
+    row(
+        "share-1024",
+        "share of a capacity, 1,024 demands",
+        0,
+        Workload::FairShare { demands: 1_024 },
+    ),
+    row(
+        "limit",
+        "limit ER of a backward RM cell",
+        0,
+        Workload::Limit,
+    ),
+    row(
+        "port-16",
+        "port, backward RM cell, 16 demands",
+        0,
+        Workload::Port { demands: 16 },
+    ),
+    row(
+        "port-1024",
+        "port, backward RM cell, 1,024 demands",
+        0,
+        Workload::Port { demands: 1_024 },
     ),
     row("house", "house set of parameters", 0, Workload::House),
 ];

@@ -289,6 +289,13 @@ pub fn has_ci(cell: &Octets) -> bool {
     cell[BITS] & CI_BIT != 0
 }
 
+/// Writes the code of an explicit rate into an RM cell, with a new CRC-10; all other bits
+/// stay.
+pub(crate) fn put_er(cell: &mut Octets, er: u32) {
+    cell[ER..CCR].copy_from_slice(&(er as u16).to_be_bytes());
+    put_crc(cell);
+}
+
 /// The backward cell made of a forward RM cell of a connection: DIR set, BN cleared,
 /// CI and NI set if `ci` and `ni` say so and else as received, new header and CRC. All
 /// other bits of the payload are unchanged, the reserved ones too.

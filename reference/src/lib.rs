@@ -15,6 +15,7 @@
 //! * [`connection`]: the four moves of the allowed rate, and pacing;
 //! * [`tournament`]: the matches between ready instants, and their count;
 //! * [`engine`]: the table of connections and the calls on it;
+//! * [`port`]: the share of a capacity, and the port of a switch that limits ER by it;
 //! * [`refusal`]: the numbers of the refusals.
 
 #![forbid(unsafe_code)]
@@ -26,6 +27,7 @@ pub mod destination;
 pub mod double;
 pub mod engine;
 pub mod params;
+pub mod port;
 pub mod rate;
 pub mod refusal;
 pub mod spacing;
@@ -56,5 +58,6 @@ pub use connection::{Allowed, Kind};
 pub use double::{import, Exported, Imported};
 pub use engine::{Engine, Sent};
 pub use params::Params;
+pub use port::{fair_share, limit};
 pub use rate::{code_of, gap, rate, rate_of};
 pub use refusal::Refusal;

@@ -44,3 +44,7 @@ pub const RESERVED_BIT: Refusal = 19;
 /// A double that is no rate: not a number, infinite, below 0, between 0 and 1, or 2^32
 /// and more.
 pub const DOUBLE: Refusal = 20;
+/// More than 1,024 demands.
+pub const DEMANDS: Refusal = 21;
+/// A demand above the largest rate.
+pub const DEMAND: Refusal = 22;

@@ -1,9 +1,9 @@
 /* Every answer with a refusal, ignored: a compiler must warn of each of these lines. */
 #include "abr.h"
 
-void ignored(abr_table *table, uint8_t *cell, abr_params params, abr_rm rm, uint32_t *refusal);
+void ignored(abr_table *table, uint8_t *cell, abr_params params, abr_rm rm, uint32_t *refusal, uint64_t *demands);
 
-void ignored(abr_table *table, uint8_t *cell, abr_params params, abr_rm rm, uint32_t *refusal)
+void ignored(abr_table *table, uint8_t *cell, abr_params params, abr_rm rm, uint32_t *refusal, uint64_t *demands)
 {
     abr_open(table, 1, 32, 0, params);
     abr_close(table, 1, 32);
@@ -20,4 +20,7 @@ void ignored(abr_table *table, uint8_t *cell, abr_params params, abr_rm rm, uint
     abr_code(512);
     abr_rate(0x4000);
     abr_import(1.0);
+    abr_fair_share(1, demands, 1);
+    abr_limit(1, cell, ABR_CELL_OCTETS);
+    abr_port(1, demands, 1, cell, ABR_CELL_OCTETS);
 }

@@ -72,6 +72,9 @@ static void offsets_of_answers(void)
     AT(abr_imported, refusal, 0, 4);
     AT(abr_imported, code, 4, 4);
     AT(abr_imported, remainder, 8, 8);
+    AT(abr_share, refusal, 0, 4);
+    AT(abr_share, limited, 4, 4);
+    AT(abr_share, rate, 8, 8);
 }
 
 /* Each field of an RM cell is written from and read to its own place. */
@@ -202,6 +205,9 @@ static void any_alignment(void)
         CHECK(abr_write_rm(rm, octets, ABR_CELL_OCTETS) == ABR_OK);
         cell = abr_read(octets, ABR_CELL_OCTETS);
         CHECK(cell.refusal == ABR_OK && cell.rm.er == 0x7FFF);
+        CHECK(abr_limit(ABR_RATE_ONE, octets, ABR_CELL_OCTETS) == ABR_OK);
+        cell = abr_read(octets, ABR_CELL_OCTETS);
+        CHECK(cell.refusal == ABR_OK && cell.rm.er == 0x4000);
         CHECK(abr_receive(&table, octets, ABR_CELL_OCTETS).refusal == ABR_OK);
         CHECK(abr_out_of_rate(&table, 1, 32, shift << 40, octets, ABR_CELL_OCTETS) == ABR_OK);
         CHECK(abr_read(octets, ABR_CELL_OCTETS).refusal == ABR_OK);

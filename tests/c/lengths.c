@@ -1,6 +1,7 @@
 /*
  * Buffers of 53 octets up to more than 2^32, mapped in full: a length that is 53
- * only in its low bits is refused like any other, and nothing is written.
+ * only in its low bits is refused like any other, and nothing is written. The same of
+ * counts of demands that are small only in their low bits.
  */
 #define _DEFAULT_SOURCE
 #include <string.h>
@@ -9,6 +10,7 @@
 #include "abr.h"
 #include "check.h"
 
+static const int flags = MAP_PRIVATE | MAP_ANONYMOUS | MAP_NORESERVE;
 static abr_table table;
 
 /* Writes a cell for VCI 32 on VPI 1 to the start of the octets. */
@@ -32,6 +34,7 @@ static void zeros(uint8_t *octets, size_t len)
 
 static void refused(uint8_t *octets, size_t len)
 {
+    static const uint64_t demand = 2000;
     static abr_table before;
     uint8_t kept[64];
     abr_rm rm = {1, 33, 0, 0, 0, 0, 0, 0, 0, 0, 0, 0};
@@ -41,16 +44,36 @@ static void refused(uint8_t *octets, size_t len)
     CHECK(answer.refusal == ABR_REFUSED_LENGTH && answer.comparisons == 0);
     CHECK(abr_write_rm(rm, octets, len) == ABR_REFUSED_LENGTH);
     CHECK(abr_out_of_rate(&table, 1, 32, 1000, octets, len) == ABR_REFUSED_LENGTH);
+    CHECK(abr_limit(1000, octets, len) == ABR_REFUSED_LENGTH);
+    CHECK(abr_port(1000, &demand, 1, octets, len) == ABR_REFUSED_LENGTH);
     zeros(octets, len);
     CHECK(memcmp(kept, octets, sizeof kept) == 0);
     CHECK(memcmp(&before, &table, sizeof before) == 0);
 }
 
+/* More demands than there may be, all 0, are refused for their number whatever its low bits are. */
+static void too_many(size_t count)
+{
+    const size_t size = (count * sizeof(uint64_t) + 4095) / 4096 * 4096;
+    const uint64_t *demands = mmap(NULL, size, PROT_READ, flags, -1, 0);
+    uint8_t octets[ABR_CELL_OCTETS];
+    abr_share share;
+    if (demands == MAP_FAILED) {
+        perror("mmap");
+        checks_failed++;
+        return;
+    }
+    put_cell(octets);
+    share = abr_fair_share(0, demands, count);
+    CHECK(share.refusal == ABR_REFUSED_DEMANDS && share.limited == 0 && share.rate == 0);
+    CHECK(abr_port(0, demands, count, octets, sizeof octets) == ABR_REFUSED_DEMANDS);
+    munmap((void *)demands, size);
+}
+
 int main(void)
 {
-    static const int widths[] = {7, 8, 16, 31, 32};
+    static const int widths[] = {7, 8, 16, 31, 32}, counts[] = {11, 16, 31, 32};
     const size_t size = ((size_t)1 << 32) + 4096;
-    const int flags = MAP_PRIVATE | MAP_ANONYMOUS | MAP_NORESERVE;
     uint8_t *octets = mmap(NULL, size, PROT_READ | PROT_WRITE, flags, -1, 0);
     if (octets == MAP_FAILED) {
         perror("mmap");
@@ -64,6 +87,9 @@ int main(void)
         refused(octets, ((size_t)1 << widths[i]) + ABR_CELL_OCTETS);
     }
     CHECK(abr_receive(&table, octets, ABR_CELL_OCTETS).refusal == ABR_OK);
+    for (size_t i = 0; i < sizeof counts / sizeof counts[0]; i++) {
+        too_many(((size_t)1 << counts[i]) + 1);
+    }
     printf("lengths: %s\n", checks_failed ? "FAILED" : "ok");
     return checks_failed != 0;
 }

@@ -12,10 +12,10 @@
 #include "abr.h"
 #include "arbitrary.h"
 
-enum { TABLE, CELL, REFUSAL, OBJECTS };
+enum { TABLE, CELL, REFUSAL, DEMANDS, OBJECTS };
 enum {
     OPEN, CLOSE, RECEIVE, OFFER, SET_LEVEL, MAKE, SLOT, OUT_OF_RATE, ACR, EXPORT,
-    WRITE_RM, READ, CODE, RATE, IMPORT, HOUSE, CALLS
+    WRITE_RM, READ, CODE, RATE, IMPORT, FAIR_SHARE, LIMIT, PORT, HOUSE, CALLS
 };
 
 typedef struct {
@@ -23,7 +23,8 @@ typedef struct {
     size_t size;
 } object;
 
-static const size_t sizes[OBJECTS] = {sizeof(abr_table), ABR_CELL_OCTETS, sizeof(uint32_t)};
+static const size_t sizes[OBJECTS] = {sizeof(abr_table), ABR_CELL_OCTETS, sizeof(uint32_t),
+                                      (ABR_DEMANDS_MAX + 2) * sizeof(uint64_t)};
 static object objects[OBJECTS];
 static size_t guard;
 
@@ -117,6 +118,26 @@ static double any_double(void)
     return number;
 }
 
+static size_t demand_count; /* of the demands that a call is given */
+
+/* Draws demands, mostly few and mostly in range; before a call, since it may not write them. */
+static void any_demands(void)
+{
+    uint64_t *demands = at(DEMANDS), most = ABR_RATE_MAX >> (next() % 42);
+    demand_count = (size_t)(next() % (next() % 16 ? 8 : ABR_DEMANDS_MAX + 3));
+    for (size_t i = 0; i < demand_count; i++) {
+        demands[i] = next() % 64 ? next() % (most + 1) : edge_word();
+    }
+}
+
+/* The refusal of a share, which has zeros beside it, and no rate where there is no limit; ~0 if not. */
+static uint32_t share_call(void)
+{
+    abr_share share = abr_fair_share(edge_word(), at(DEMANDS), demand_count);
+    int none = share.refusal || !share.limited;
+    return share.limited > 1 || (share.refusal && share.limited) || (none && share.rate) ? ~0u : share.refusal;
+}
+
 /* The refusal of an export, which is written in every case; ~0 if it is not, or has rates beside it. */
 static uint32_t export_call(address to)
 {
@@ -148,6 +169,9 @@ static uint32_t without_table(int call)
     case IMPORT:
         imported = abr_import(any_double());
         return imported.refusal && (imported.code || imported.remainder != 0) ? ~0u : imported.refusal;
+    case FAIR_SHARE: return share_call();
+    case LIMIT: return abr_limit(edge_word(), at(CELL), any_length());
+    case PORT: return abr_port(edge_word(), at(DEMANDS), demand_count, at(CELL), any_length());
     default: return abr_house((uint32_t)next(), 1, 2).n == ABR_HOUSE_N ? ABR_OK : ~0u;
     }
 }
@@ -184,7 +208,20 @@ static int may_write(int which, int call, uint32_t refusal)
     if (which == REFUSAL) {
         return call == EXPORT;
     }
-    return call == SLOT || ((call == WRITE_RM || call == OUT_OF_RATE) && refusal == ABR_OK);
+    if (which == DEMANDS) {
+        return 0;
+    }
+    return call == SLOT ||
+           ((call == WRITE_RM || call == OUT_OF_RATE || call == LIMIT || call == PORT) && refusal == ABR_OK);
+}
+
+/*
+ * Whether an object is compared whole: one that a call may not write. The demands are long
+ * too, and are compared after the calls that are given them.
+ */
+static int compared(int which, int call, uint32_t refusal)
+{
+    return !may_write(which, call, refusal) && (which != DEMANDS || call == FAIR_SHARE || call == PORT);
 }
 
 /* Copies what a call may not write: always the octets before and behind an object. */
@@ -193,7 +230,7 @@ static void copy(int call)
     for (int i = 0; i < OBJECTS; i++) {
         const object *o = &objects[i];
         size_t back = guard + sizes[i];
-        if (may_write(i, call, ABR_OK) && i == TABLE) {
+        if ((i == TABLE || i == DEMANDS) && !compared(i, call, ABR_OK)) {
             memcpy(o->copy, o->block, guard);
             memcpy(o->copy + back, o->block + back, guard);
         } else {
@@ -210,7 +247,7 @@ static int unchanged(int call, uint32_t refusal)
         size_t back = guard + sizes[i];
         int outside = memcmp(o->block, o->copy, guard) == 0 &&
                       memcmp(o->block + back, o->copy + back, guard) == 0;
-        if (!outside || (!may_write(i, call, refusal) && memcmp(o->block, o->copy, o->size) != 0)) {
+        if (!outside || (compared(i, call, refusal) && memcmp(o->block, o->copy, o->size) != 0)) {
             printf("object %d: octets changed that the call may not write\n", i);
             return 0;
         }
@@ -275,6 +312,7 @@ static int round_of_calls(unsigned long round)
     for (int i = 0; i < 48; i++) {
         int call = (int)(next() % CALLS);
         any_cell();
+        any_demands();
         copy(call);
         alarm(20);
         uint32_t refusal = one_call(call);

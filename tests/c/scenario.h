@@ -216,6 +216,61 @@ static void exports(uint32_t vpi, uint32_t vci, uint32_t expected)
     CHECK(refusal == expected && contract.pcr == cells && contract.mcr == least && contract.icr == cells);
 }
 
+/* The share of a capacity among four demands, whose sum is 2,000 (document 02, L10); ~0 if there is no limit. */
+static uint64_t share_of(uint64_t capacity)
+{
+    static const uint64_t demands[4] = {800, 0, 200, 1000};
+    abr_share share = abr_fair_share(capacity, demands, 4);
+    CHECK(share.refusal == ABR_OK && share.limited <= 1 && (share.limited || share.rate == 0));
+    return share.limited ? share.rate : ~UINT64_C(0);
+}
+
+/* Too many demands, and too large a one: before anything about the cell, and with zeros beside the refusal. */
+static void demands_refused(void)
+{
+    static uint64_t demands[ABR_DEMANDS_MAX + 1];
+    abr_share share;
+    demands[0] = ABR_RATE_MAX;
+    share = abr_fair_share(9, demands, ABR_DEMANDS_MAX);
+    CHECK(share.refusal == ABR_OK && share.limited == 1 && share.rate == 9);
+    demands[0]++;
+    share = abr_fair_share(9, demands, ABR_DEMANDS_MAX);
+    CHECK(share.refusal == ABR_REFUSED_DEMAND && share.limited == 0 && share.rate == 0);
+    share = abr_fair_share(9, demands, ABR_DEMANDS_MAX + 1);
+    CHECK(share.refusal == ABR_REFUSED_DEMANDS && share.limited == 0 && share.rate == 0);
+    CHECK(abr_port(9, demands, ABR_DEMANDS_MAX, cell, 52) == ABR_REFUSED_DEMAND);
+    CHECK(abr_port(9, demands, ABR_DEMANDS_MAX + 1, cell, 52) == ABR_REFUSED_DEMANDS);
+}
+
+/* ER of a backward or forward cell that has passed a port with one demand of 2,000 cells per second; the rest stays. */
+static uint32_t er_after(uint32_t dir, uint32_t er, uint64_t capacity)
+{
+    static const uint64_t demand = 1024000;
+    abr_rm rm = {FIRST, 0, 0, 1, 0, 1, 0, thousand, slowest, 7, 9}, after;
+    rm.dir = dir;
+    rm.er = er;
+    CHECK(abr_write_rm(rm, cell, sizeof cell) == ABR_OK);
+    CHECK(abr_port(capacity, &demand, 1, cell, sizeof cell) == ABR_OK);
+    after = rm_in_cell();
+    rm.er = after.er;
+    CHECK(memcmp(&after, &rm, sizeof rm) == 0);
+    return after.er;
+}
+
+/* A port: the share, and ER lowered to it. 512,511 is between the rates of 0x53E8 and the code after it. */
+static void passes_a_port(void)
+{
+    CHECK(share_of(2000) == ~UINT64_C(0) && share_of(1999) == 999 && share_of(1800) == 800);
+    CHECK(share_of(1799) == 799 && share_of(601) == 200 && share_of(599) == 199 && share_of(2) == 0);
+    demands_refused();
+    CHECK(er_after(1, ABR_CODE_MAX, 512511) == thousand && er_after(1, ABR_CODE_MAX, 0) == 0);
+    CHECK(er_after(1, slowest, 512000) == slowest && er_after(1, 0x3FFF, 512000) == 0);
+    CHECK(er_after(1, ABR_CODE_MAX, 1024000) == ABR_CODE_MAX && er_after(0, ABR_CODE_MAX, 512000) == ABR_CODE_MAX);
+    CHECK(abr_limit(ABR_RATE_ONE, cell, 52) == ABR_REFUSED_LENGTH);
+    cell[20] ^= 1;
+    CHECK(abr_limit(ABR_RATE_ONE, cell, sizeof cell) == ABR_REFUSED_CRC);
+}
+
 /* Gives octets the CRC-10 that belongs in them, found by trying all; their refusal then. */
 static uint32_t read_with_crc(uint8_t *octets)
 {
@@ -316,8 +371,8 @@ static void nothing_is_left(void)
 {
     CHECK(slot_is(ABR_TIME_MAX, NOBODY, ABR_SENT_IDLE, 0));
     CHECK(strcmp(abr_refusal_text(ABR_OK), "accepted") == 0);
-    CHECK(strcmp(abr_refusal_text(20), abr_refusal_text(21)) != 0);
-    CHECK(strcmp(abr_refusal_text(3), abr_refusal_text(21)) == 0); /* withdrawn (document 02, L6) */
+    CHECK(strcmp(abr_refusal_text(22), abr_refusal_text(23)) != 0);
+    CHECK(strcmp(abr_refusal_text(3), abr_refusal_text(23)) == 0); /* withdrawn (document 02, L6) */
 }
 
 static int scenario(const char *name)
@@ -336,6 +391,7 @@ static int scenario(const char *name)
     exports(FIRST, ABR_OK);
     exports(SECOND, ABR_OK);
     exports(NOT_OPEN, ABR_REFUSED_NOT_OPEN);
+    passes_a_port();
     reserved_bit_in_a_cell(FIRST);
     reserved_bit_in_a_cell(NOT_OPEN);
     reserved_bit_in_an_open();

@@ -4,7 +4,7 @@
 #![allow(non_camel_case_types, missing_docs)]
 
 /// The version of the header: major, minor and patch number, eight bits each.
-pub const ABR_VERSION: u32 = 0x00_0A_00;
+pub const ABR_VERSION: u32 = 0x00_0B_00;
 
 /// The words of a table.
 pub const ABR_TABLE_WORDS: usize = 35_859;
@@ -104,6 +104,15 @@ pub struct abr_imported {
     pub remainder: f64,
 }
 
+/// The answer of `abr_fair_share`.
+#[repr(C)]
+#[derive(Debug, Clone, Copy, PartialEq, Eq, Default)]
+pub struct abr_share {
+    pub refusal: u32,
+    pub limited: u32,
+    pub rate: u64,
+}
+
 extern "C" {
     pub fn abr_version() -> u32;
     pub fn abr_table_words() -> u32;
@@ -141,6 +150,15 @@ extern "C" {
     pub fn abr_rate(code: u32) -> abr_rated;
     pub fn abr_import(cells_per_second: f64) -> abr_imported;
     pub fn abr_house(pcr: u32, mcr: u32, icr: u32) -> abr_params;
+    pub fn abr_fair_share(capacity: u64, demands: *const u64, count: usize) -> abr_share;
+    pub fn abr_limit(rate: u64, cell: *mut u8, len: usize) -> u32;
+    pub fn abr_port(
+        capacity: u64,
+        demands: *const u64,
+        count: usize,
+        cell: *mut u8,
+        len: usize,
+    ) -> u32;
 }
 
 /// Whether these declarations and the linked archive belong together.

@@ -34,6 +34,7 @@ mod cell;
 mod double;
 pub mod ffi;
 mod params;
+mod port;
 mod rate;
 mod refusal;
 mod table;
@@ -41,6 +42,7 @@ mod table;
 pub use cell::{read, write_rm, Cell, Rm, CELL_OCTETS};
 pub use double::{import, Contract, Imported};
 pub use params::Params;
+pub use port::{fair_share, limit, port, Share, DEMANDS_MAX};
 pub use rate::{code, rate, RATE_MAX, RATE_ONE};
 pub use refusal::Refusal;
 pub use table::{

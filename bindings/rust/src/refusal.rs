@@ -4,8 +4,8 @@ use std::error::Error;
 use std::fmt;
 
 /// A refused call changes nothing and says why (document 01, "Refused because
-/// of the input" and "Refused because of the state"; document 02, L1, L5, L7
-/// and L8). L6 withdrew refusal 3.
+/// of the input" and "Refused because of the state"; document 02, L1, L5, L7,
+/// L8 and L10). L6 withdrew refusal 3.
 ///
 /// ```
 /// use abr::Refusal;
@@ -13,7 +13,7 @@ use std::fmt;
 /// assert_eq!(Refusal::Range.number(), 7);
 /// assert_eq!(Refusal::try_from(7), Ok(Refusal::Range));
 /// assert_eq!(Refusal::try_from(3), Err(3));
-/// assert_eq!(Refusal::try_from(21), Err(21));
+/// assert_eq!(Refusal::try_from(23), Err(23));
 /// assert_eq!(Refusal::Full.to_string(), "1,024 connections are open");
 /// ```
 #[derive(Debug, Clone, Copy, PartialEq, Eq, Hash)]
@@ -60,11 +60,15 @@ pub enum Refusal {
     /// A double is not a rate: not a number, infinite, below 0, between 0 and 1, or 2^32
     /// and more.
     Double = 20,
+    /// More than 1,024 demands.
+    Demands = 21,
+    /// A demand is above the largest rate.
+    Demand = 22,
 }
 
 impl Refusal {
     /// All refusals in the order of their numbers.
-    pub const ALL: [Refusal; 19] = [
+    pub const ALL: [Refusal; 21] = [
         Refusal::Length,
         Refusal::HeaderCheck,
         Refusal::PayloadType,
@@ -84,6 +88,8 @@ impl Refusal {
         Refusal::TooOften,
         Refusal::ReservedBit,
         Refusal::Double,
+        Refusal::Demands,
+        Refusal::Demand,
     ];
 
     /// Its number in the documents.
@@ -119,6 +125,8 @@ impl Refusal {
             Refusal::Double => {
                 "not a rate: not a number, infinite, below 0, between 0 and 1, or 2^32 and more"
             }
+            Refusal::Demands => "over 1,024 demands",
+            Refusal::Demand => "a demand is above the largest rate",
         }
     }
 

@@ -49,6 +49,7 @@ fn the_limits_are_those_of_the_header() {
     let interval = value("ABR_OUT_OF_RATE_INTERVAL");
     assert_eq!(interval, abr::OUT_OF_RATE_INTERVAL);
     assert_eq!(value("ABR_LEVEL_MAX"), u64::from(abr::LEVEL_MAX));
+    assert_eq!(value("ABR_DEMANDS_MAX"), abr::DEMANDS_MAX as u64);
     assert_eq!(value("ABR_RATE_ONE"), abr::RATE_ONE);
     assert_eq!(value("ABR_TIME_MAX"), abr::TIME_MAX);
     assert_eq!(value("ABR_RATE_MAX"), abr::RATE_MAX);
@@ -110,7 +111,7 @@ fn the_refusals_are_those_of_the_header() {
     assert_eq!(defined("ABR_OK"), (0, "accepted"));
     assert_eq!(Refusal::try_from(0), Err(0));
     assert_eq!(Refusal::try_from(3), Err(3)); // withdrawn by document 02's L6
-    assert_eq!(Refusal::try_from(21), Err(21));
+    assert_eq!(Refusal::try_from(23), Err(23));
 }
 
 #[test]
@@ -143,6 +144,9 @@ fn the_layouts_are_those_of_the_header() {
     assert_eq!(size_of::<ffi::abr_imported>(), 16);
     assert_eq!(offset_of!(ffi::abr_imported, code), 4);
     assert_eq!(offset_of!(ffi::abr_imported, remainder), 8);
+    assert_eq!(size_of::<ffi::abr_share>(), 16);
+    assert_eq!(offset_of!(ffi::abr_share, limited), 4);
+    assert_eq!(offset_of!(ffi::abr_share, rate), 8);
 }
 
 /// Header and INTEGRATION.md say how many octets a table has.
@@ -174,5 +178,5 @@ fn every_prototype_of_the_header_is_declared_and_no_other() {
     let ffi = include_str!("../src/ffi.rs");
     let foreign = |line: &&str| line.starts_with("    pub fn ");
     assert_eq!(header, names(ffi.lines().filter(foreign)));
-    assert_eq!(header.len(), 18);
+    assert_eq!(header.len(), 21);
 }

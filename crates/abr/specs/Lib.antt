@@ -5,3 +5,4 @@ pub mod Codes
 pub mod Planning
 pub mod Contract
 pub mod Exports
+pub mod Shares

@@ -5,4 +5,5 @@ pub mod codes;
 pub mod connections;
 pub mod link;
 pub mod planning;
+pub mod ports;
 pub mod version;

@@ -49,7 +49,7 @@ module _ (p : List ℕ) (n : length p ≡ 48) where
   unfolding withCrc
   withCrc-check = let l : payloadCheck p < 1024 = payload-lt p in payload-own p (payloadCheck p / 256) (payloadCheck p % 256) n (omega arith)
 
-  withCrc-right : (getD (withCrc p) 46 0 * 256 + getD (withCrc p) 47 0) % 1024 ≡ payloadCheck (withCrc p)
+  pub withCrc-right : (getD (withCrc p) 46 0 * 256 + getD (withCrc p) 47 0) % 1024 ≡ payloadCheck (withCrc p)
   withCrc-right = let l : payloadCheck p < 1024 = payload-lt p in rw (withCrc-46, withCrc-47, withCrc-check) (omega arith)
 
   pub withCrc-octets : AreOctets p → AreOctets (withCrc p)

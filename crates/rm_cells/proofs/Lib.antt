@@ -5,3 +5,4 @@ pub mod OutOfRate
 pub mod Addresses
 pub mod ReservedBit
 pub mod Changes
+pub mod Ported

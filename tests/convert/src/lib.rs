@@ -1,7 +1,7 @@
 //! The structs of the C interface and of the reference, converted into each
 //! other.
 
-use abr::ffi::{abr_cell, abr_params, abr_rm, abr_sent};
+use abr::ffi::{abr_cell, abr_params, abr_rm, abr_sent, abr_share};
 use reference::{Cell, Kind, Params, Rm, Sent};
 
 /// A struct with these fields of another.
@@ -60,6 +60,15 @@ pub fn library_sent(sent: Option<Sent>) -> abr_sent {
         vpi: sent.vpi,
         vci: sent.vci,
         acr: sent.acr,
+    }
+}
+
+/// The library's answer of an accepted share; nothing is no limit.
+pub fn library_share(share: Option<u64>) -> abr_share {
+    abr_share {
+        refusal: 0,
+        limited: share.is_some().into(),
+        rate: share.unwrap_or(0),
     }
 }
 

@@ -3,6 +3,7 @@
 use abr::ffi::{abr_params, abr_rm};
 use reference::{Address, Allowed};
 
+use crate::demands::Demands;
 use crate::octets::Octets;
 
 /// One call of the interface. Of a buffer to be written only the length is
@@ -63,6 +64,20 @@ pub enum Call {
     Import {
         bits: u64,
     },
+    FairShare {
+        capacity: u64,
+        demands: Demands,
+    },
+    /// The cell is written in place, and so are those of a port.
+    Limit {
+        rate: u64,
+        cell: Octets,
+    },
+    Port {
+        capacity: u64,
+        demands: Demands,
+        cell: Octets,
+    },
     House {
         pcr: u32,
         mcr: u32,
@@ -71,7 +86,7 @@ pub enum Call {
 }
 
 /// The sorts of call, in the order of [`Call::sort`].
-pub const SORTS: [&str; 16] = [
+pub const SORTS: [&str; 19] = [
     "open",
     "close",
     "receive",
@@ -87,6 +102,9 @@ pub const SORTS: [&str; 16] = [
     "code",
     "rate",
     "import",
+    "fair_share",
+    "limit",
+    "port",
     "house",
 ];
 
@@ -109,7 +127,10 @@ impl Call {
             Call::Code { .. } => 12,
             Call::Rate { .. } => 13,
             Call::Import { .. } => 14,
-            Call::House { .. } => 15,
+            Call::FairShare { .. } => 15,
+            Call::Limit { .. } => 16,
+            Call::Port { .. } => 17,
+            Call::House { .. } => 18,
         }
     }
 
@@ -164,6 +185,8 @@ pub enum Answer {
     Exported([u64; 3]),
     /// A double as a rate code, and the remainder by its bits.
     Imported { code: u32, remainder: u64 },
+    /// A share of a capacity.
+    Share(abr::ffi::abr_share),
     /// The house set.
     Params(abr_params),
 }

@@ -318,6 +318,56 @@ events! {
     ChangeKeptRefused,
     /// The address of such a connection was opened anew.
     ChangeReopened,
+    /// A capacity was shared among no demands.
+    ShareNone,
+    /// One among 1,024.
+    ShareMost,
+    /// One with a demand of the largest rate.
+    ShareLargest,
+    /// The capacity was exactly the sum of the demands.
+    ShareSum,
+    /// It was one less.
+    ShareLessOne,
+    /// The share was 0.
+    ShareZero,
+    /// The share was no less than some demand, and less than another.
+    ShareAboveSome,
+    /// The share did not use up the capacity.
+    ShareRest,
+    /// Over 1,024 demands were refused although one of them is too large.
+    DemandsFirst,
+    /// 1,025 demands were refused.
+    DemandsPastMost,
+    /// A demand of one above the largest rate was refused.
+    DemandPastLargest,
+    /// The last of several demands was refused.
+    DemandLast,
+    /// Over 1,024 demands were refused although the cell is wrong.
+    DemandsBeforeCell,
+    /// A demand was refused although the cell is wrong.
+    DemandBeforeCell,
+    /// A limit above the largest rate.
+    LimitPastLargest,
+    /// A data cell passed under a limit.
+    PassedData,
+    /// A forward cell with an ER above the limit passed.
+    PassedForward,
+    /// A backward cell passed without a limit.
+    PassedNoLimit,
+    /// The same with an ER of rate 0 and another code than 0x0000.
+    PassedNoLimitCoded,
+    /// A limit lowered ER.
+    PassedLowered,
+    /// It lowered ER to the code below it.
+    PassedRounded,
+    /// A limit was exactly ER.
+    PassedEqual,
+    /// A limit was above ER.
+    PassedKept,
+    /// The same with an ER of rate 0 and another code than 0x0000.
+    PassedCoded,
+    /// A limit lowered ER in a cell with GFC, CLP and reserved bits set.
+    PassedOtherBits,
     /// Exactly 65,535 cells wait after an offer.
     OfferFills,
     /// An offer of nothing to a full connection.
@@ -325,7 +375,7 @@ events! {
 }
 
 /// The greatest number of a refusal.
-const REFUSAL_MAX: usize = 20;
+const REFUSAL_MAX: usize = 22;
 
 /// Counts of all that was reached.
 #[derive(Debug, Clone)]
@@ -384,6 +434,9 @@ const REFUSALS: [&[usize]; SORTS.len()] = [
     &[9],
     &[7, 19],
     &[20],
+    &[21, 22],
+    &[1, 2, 4, 5, 6, 19],
+    &[1, 2, 4, 5, 6, 19, 21, 22],
     &[],
 ];
 
@@ -391,8 +444,8 @@ const REFUSALS: [&[usize]; SORTS.len()] = [
 /// [`SORTS`].
 const NAMING: [usize; 7] = [0, 1, 3, 6, 7, 8, 9];
 
-/// Those that read three rate codes: open, receive and read.
-const READING: [usize; 3] = [0, 2, 11];
+/// Those that read three rate codes: open, receive, read, limit and port.
+const READING: [usize; 5] = [0, 2, 11, 16, 17];
 
 impl Coverage {
     /// Counts a call and its outcome.

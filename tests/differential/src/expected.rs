@@ -1,7 +1,9 @@
 //! The expected outcome of a call: the reference's.
 
-use convert::{library_cell, library_params, library_sent, reference_params, reference_rm};
-use reference::{Engine, Exported, Imported, Params};
+use convert::{
+    library_cell, library_params, library_sent, library_share, reference_params, reference_rm,
+};
+use reference::{port, Engine, Exported, Imported, Params};
 
 use crate::call::{Answer, Call, Outcome};
 use crate::octets::Buffer;
@@ -32,6 +34,14 @@ pub fn call(engine: &mut Engine, call: &Call, buffer: &mut Buffer) -> Outcome {
         Call::Code { rate } => reference::code_of(rate).map(|code| Answer::Number(code.into())),
         Call::Rate { code } => reference::rate(code).map(Answer::Number),
         Call::Import { bits } => reference::import(f64::from_bits(bits)).map(imported),
+        Call::FairShare { capacity, demands } => reference::fair_share(capacity, &demands.list())
+            .map(|share| Answer::Share(library_share(share))),
+        Call::Limit { rate, cell } => done(reference::limit(rate, buffer.cell(&cell))),
+        Call::Port {
+            capacity,
+            demands,
+            cell,
+        } => done(port::port(capacity, &demands.list(), buffer.cell(&cell))),
         Call::House { pcr, mcr, icr } => Ok(Answer::Params(library_params(&Params::house(
             pcr, mcr, icr,
         )))),

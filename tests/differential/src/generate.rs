@@ -4,6 +4,7 @@
 mod addresses;
 mod cells;
 mod doubles;
+mod ports;
 mod times;
 
 use abr::ffi::abr_params;
@@ -80,6 +81,13 @@ impl Generator {
             9 => Call::Export {
                 at: self.address(seen),
             },
+            other => self.without_table(other, seen),
+        }
+    }
+
+    /// A call that is given no table, by its place in the order of the sorts.
+    fn without_table(&mut self, sort: usize, seen: &Observation) -> Call {
+        match sort {
             10 => self.write_rm(seen),
             11 => Call::Read {
                 cell: self.cell(seen),
@@ -89,6 +97,9 @@ impl Generator {
             14 => Call::Import {
                 bits: self.double(),
             },
+            15 => self.fair_share(),
+            16 => self.limit(seen),
+            17 => self.port(seen),
             _ => self.house(),
         }
     }

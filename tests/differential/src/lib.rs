@@ -2,7 +2,7 @@
 //!
 //! * [`rng`]: a small generator of random numbers from a printed seed;
 //! * [`octets`]: cells made octet by octet, with checks computed bit by bit;
-//! * [`call`]: a call with its arguments;
+//! * [`call`], [`demands`]: a call with its arguments;
 //! * [`library`], [`expected`]: a call made on the library, and on the
 //!   reference, whose outcome is the expected one;
 //! * [`both`]: one call made on both sides and everything compared;
@@ -16,6 +16,7 @@
 pub mod both;
 pub mod call;
 pub mod coverage;
+pub mod demands;
 pub mod expected;
 pub mod generate;
 pub mod library;

@@ -4,7 +4,7 @@ use std::fmt::Debug;
 
 use abr::ffi::{
     self, abr_allowed, abr_answer, abr_cell, abr_coded, abr_imported, abr_rated, abr_sent,
-    abr_table,
+    abr_share, abr_table,
 };
 use reference::{Address, Allowed};
 
@@ -105,11 +105,32 @@ fn without_table(call: &Call, buffer: &mut Buffer) -> Result<Outcome, Difference
         Call::Code { rate } => answered(unsafe { ffi::abr_code(rate) })?,
         Call::Rate { code } => answered(unsafe { ffi::abr_rate(code) })?,
         Call::Import { bits } => answered(unsafe { ffi::abr_import(f64::from_bits(bits)) })?,
+        Call::FairShare { capacity, demands } => {
+            let list = demands.list();
+            answered(unsafe { ffi::abr_fair_share(capacity, list.as_ptr(), list.len()) })?
+        }
+        Call::Limit { rate, cell } => {
+            let octets = buffer.cell(&cell);
+            done(unsafe { ffi::abr_limit(rate, octets.as_mut_ptr(), octets.len()) })
+        }
+        Call::Port {
+            capacity,
+            demands,
+            cell,
+        } => port(capacity, &demands.list(), buffer.cell(&cell)),
         Call::House { pcr, mcr, icr } => {
             Ok(Answer::Params(unsafe { ffi::abr_house(pcr, mcr, icr) }))
         }
         _ => return Err("a call that is given a table".to_owned()),
     })
+}
+
+/// A cell at a port.
+fn port(capacity: u64, demands: &[u64], cell: &mut [u8]) -> Outcome {
+    let (rates, count) = (demands.as_ptr(), demands.len());
+    let (octets, len) = (cell.as_mut_ptr(), cell.len());
+    // SAFETY: both pointers are live, with the count and the length of their memory.
+    done(unsafe { ffi::abr_port(capacity, rates, count, octets, len) })
 }
 
 /// The outcome of a call that answers nothing but its refusal.
@@ -159,6 +180,7 @@ answers! {
     });
     abr_coded: |coded: abr_coded| Answer::Number(coded.code.into());
     abr_rated: |rated: abr_rated| Answer::Number(rated.rate);
+    abr_share: Answer::Share;
     abr_imported: |imported: abr_imported| Answer::Imported {
         code: imported.code,
         remainder: imported.remainder.to_bits(),

@@ -7,6 +7,7 @@ mod change;
 mod doubles;
 mod made;
 mod outside;
+mod ports;
 mod reserved;
 mod turned;
 mod zero;
@@ -153,11 +154,13 @@ impl Observation {
                 self.refused_reserved(call, *number, coverage);
                 self.refused_change(call, coverage);
                 doubles::refused(call, coverage);
+                ports::refused(call, *number, coverage);
                 self.refused(call, *number, coverage);
                 return self.refused_outside(call, *number, coverage);
             }
         };
         reserved::accepted(call, coverage);
+        ports::accepted(call, coverage);
         match (*call, *answer) {
             (Call::Open { at, time, params }, _) => {
                 self.opened(at, time, params, acr, coverage);

@@ -66,6 +66,13 @@ impl Buffer {
     pub fn octets(&mut self, len: usize) -> &mut [u8] {
         &mut self.bytes[GUARD..GUARD + len]
     }
+
+    /// That part with a cell in it, for a call that writes it in place.
+    pub fn cell(&mut self, cell: &Octets) -> &mut [u8] {
+        let octets = self.octets(cell.as_slice().len());
+        octets.copy_from_slice(cell.as_slice());
+        octets
+    }
 }
 
 /// The five numbers of a header.

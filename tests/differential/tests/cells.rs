@@ -132,6 +132,17 @@ fn both_sides_read_random_octets_the_same() {
 /// The octets that the three rate codes of a cell begin with.
 const CODES: [usize; 3] = [7, 9, 11];
 
+/// The header of a cell of this payload type, GFC and CLP being 0.
+fn header(at: Address, pt: u32) -> Header {
+    Header {
+        gfc: 0,
+        vpi: at.vpi,
+        vci: at.vci,
+        pt,
+        clp: 0,
+    }
+}
+
 /// A good RM cell of the open connection.
 fn good(dir: u8) -> [u8; CELL_OCTETS] {
     let mut octets = [0x6A; CELL_OCTETS];
@@ -154,14 +165,7 @@ fn good(dir: u8) -> [u8; CELL_OCTETS] {
         0,
     ]);
     octets[51] = 0;
-    let header = Header {
-        gfc: 0,
-        vpi: AT.vpi,
-        vci: AT.vci,
-        pt: 6,
-        clp: 0,
-    };
-    put_header(&mut octets, &header);
+    put_header(&mut octets, &header(AT, 6));
     put_crc(&mut octets);
     octets
 }
@@ -304,39 +308,20 @@ fn where_19_comes_in_the_order_of_refusals() {
         (read, agree(&mut both, &Call::Receive { cell }).err())
     };
     for bits in 1..8 {
-        for vci in [AT.vci, AT.vci + 1] {
-            let (vpi, gfc, clp) = (AT.vpi, 0, 0);
+        for at in [AT, Address::new(AT.vpi, AT.vci + 1)] {
             let mut octets = good(1);
             for (place, octet) in CODES.into_iter().enumerate() {
                 octets[octet] |= (bits >> place & 1) << 7;
             }
-            put_header(
-                &mut octets,
-                &Header {
-                    gfc,
-                    vpi,
-                    vci,
-                    pt: 6,
-                    clp,
-                },
-            );
+            put_header(&mut octets, &header(at, 6));
             assert_eq!(answers(&octets), (Some(5), Some(5)));
             put_crc(&mut octets);
             assert_eq!(answers(&octets), (Some(19), Some(19))); // before 11
             octets[5] = 0;
             put_crc(&mut octets);
             assert_eq!(answers(&octets), (Some(6), Some(6)));
-            put_header(
-                &mut octets,
-                &Header {
-                    gfc,
-                    vpi,
-                    vci,
-                    pt: 2,
-                    clp,
-                },
-            );
-            let unknown = (vci != AT.vci).then_some(11);
+            put_header(&mut octets, &header(at, 2));
+            let unknown = (at != AT).then_some(11);
             assert_eq!(answers(&octets), (None, unknown));
         }
     }

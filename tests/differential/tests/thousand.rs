@@ -35,7 +35,7 @@ const LEAST: u64 = 200;
 /// The calls between two changes of what is open: neither opens nor closes.
 const NO_CHANGE: Profile = Profile {
     name: "no change",
-    weights: [0, 0, 24, 8, 2, 46, 4, 4, 0, 0, 0, 0, 0, 0, 0, 0],
+    weights: [0, 0, 24, 8, 2, 46, 4, 4, 0, 0, 0, 0, 0, 0, 0, 0, 0, 0, 0],
     ..PROFILES[1]
 };
 

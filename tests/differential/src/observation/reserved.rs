@@ -63,12 +63,15 @@ pub(super) fn accepted(call: &Call, coverage: &mut Coverage) {
     }
 }
 
-/// The three rate codes of an open, or of a cell that is received or read, in the order
-/// of their places, whatever else the cell is.
+/// The three rate codes of an open, or of a cell that is received or read or passes a port,
+/// in the order of their places, whatever else the cell is.
 fn codes(call: &Call) -> Option<[u32; 3]> {
     match call {
         Call::Open { params, .. } => Some([params.pcr, params.mcr, params.icr]),
-        Call::Receive { cell } | Call::Read { cell } => {
+        Call::Receive { cell }
+        | Call::Read { cell }
+        | Call::Limit { cell, .. }
+        | Call::Port { cell, .. } => {
             let octets = cell.as_slice().get(7..13)?;
             let code = |place: usize| u32::from(octets[place]) << 8 | u32::from(octets[place + 1]);
             Some([code(0), code(2), code(4)])

@@ -1,0 +1,78 @@
+-- The tests that led to each return say what is read, and so what passes.
+use mathlib.Core.Path.{_≡_, sym, ap, _∙_}
+use lib.ListN.{length}
+use borrow.Author.Needs.{needs}
+use Rattle.cell.specs.Reading.{reading}
+use Rattle.cell.specs.declared.read.Reading.the-variants.{Resource}
+use Rattle.cell.proofs.Admits.{resource-received}
+use Rattle.port.specs.Limit.{heldEr}
+use Rattle.port.proofs.Cases.{limit-refused, limit-user, limit-forward, limit-backward, er-is, er-fits}
+use Rattle.port.proofs.limit.limit.Statement.{statement}
+use Rattle.port.proofs.limit.limit.Tie as tie
+
+-- the cell was found whole
+of-53 : (c : tie.Else1) → length (c .before .before .before .before .args .cell .now) ≡ 53
+of-53 c = c .before .refusal .ensures .size (c .if1 .left)
+
+-- an RM cell with these fields
+fields : (c : tie.After-fields-of) → reading (c .before .before .before .before .before .before .before .before .before .args .cell .now) ≡ Resource (c .fields-of .result)
+fields c =
+    let d = c .before .before in
+    let e = d .before .before .before in
+    e .before .refusal .ensures .resource (e .if1 .left) (sym (d .before .is-data .ensures) ∙ d .if2 .left) ∙ sym (ap Resource (c .fields-of .ensures))
+
+-- the code that is written
+code : (c : tie.After-code-or-zero) → c .code-or-zero .result
+    ≡ heldEr (c .before .before .before .before .before .before .before .before .before .before .before .before .before .before .before .args .rate) (c .before .before .before .before .before .before .fields-of .result .er)
+code c = er-is _ _ (c .before .before .rate-of .ensures) (c .before .lesser .ensures) (c .code-or-zero .ensures)
+
+returns : tie.Need-returns
+returns c = limit-refused _ _ (c .before .refusal .ensures .refused (c .if1 .taken))
+
+is-data-requires : tie.Need-is-data-requires
+is-data-requires c κs = of-53 (c .before)
+
+returns-2 : tie.Need-returns-2
+returns-2 c =
+    let d = c .before in
+    let e = d .before .before in
+    limit-user _ _ (e .before .refusal .ensures .user (e .if1 .left) (sym (d .is-data .ensures) ∙ c .if2 .taken))
+
+fields-of-requires : tie.Need-fields-of-requires
+fields-of-requires c κs = of-53 (c .before .before .before .before)
+
+returns-3 : tie.Need-returns-3
+returns-3 c = limit-forward _ _ (fields (c .before .before)) (c .if3 .taken)
+
+put-er-requires : tie.Need-put-er-requires
+put-er-requires c κs =
+    let f = c .before .before .before .before .before .before in
+    let e = f .before .before .before .before .before in
+    (of-53 e, (er-fits _ (f .fields-of .result .er) (code c), resource-received _ (f .fields-of .result) (fields f) .check))
+
+returns-4 : tie.Need-returns-4
+returns-4 c =
+    let p = c .before .before in
+    let k = p .before in
+    let i = k .before .before .before .before in
+    limit-backward _ _ (fields (i .before .before)) (i .if3 .left) (code k) (p .put-er .ensures)
+
+pub limit-spec : {M : Type 1} → statement M
+limit-spec =
+    tie.close
+    (tie.spec
+    (λ c κs. search needs)
+    (λ c. search needs)
+    returns
+    is-data-requires
+    (λ c. search needs)
+    returns-2
+    fields-of-requires
+    (λ c. search needs)
+    returns-3
+    (λ c κs. search needs)
+    (λ c κs. search needs)
+    (λ c κs. search needs)
+    put-er-requires
+    (λ c. search needs)
+    returns-4)

@@ -1,0 +1,10 @@
+pub mod Sums
+pub mod Places
+pub mod Fitting
+pub mod Rises
+pub mod Cases
+pub mod Greatest
+pub mod Order
+pub mod Capacity
+pub mod Held
+pub mod Examples
