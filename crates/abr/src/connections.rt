@@ -11,10 +11,10 @@ use engine::close::close;
 use engine::make::make;
 use engine::offer::offer;
 use engine::open::open;
-use engine::out_of_rate::out_of_rate;
 use model::acr::Acr;
 use model::answer::Answer;
 use params::params::Params;
+use slots::out_of_rate::out_of_rate;
 use table::layout::WORDS;
 
 // The documents' number for an answer, 0 if it is no refusal, and the comparisons that the call made (document 02, L4).

@@ -6,11 +6,11 @@ ghost use Rattle.abr.specs.Answers.{kindNumber, noCell, slotAnswer};
 ghost use Rattle.abr.specs.Contract.{Answers, Numbered, AnswersSlot};
 use crate::connections::CallAnswer;
 use crate::connections::call_answer;
+use arrivals::receive::receive;
 use connection::kind::Kind;
 use engine::level::set_level;
-use engine::receive::receive;
-use engine::slot::slot;
 use model::answer::Answer;
+use slots::slot::slot;
 use table::layout::WORDS;
 
 // Refusals 1, 2, 4, then 5, 6 and 19 for RM cells, 11.

@@ -2,8 +2,4 @@
 pub mod Outcomes
 pub mod CallCases
 pub mod OpenCases
-pub mod ReceiveCases
-pub mod SendCases
-pub mod SlotCases
 pub mod MakeCases
-pub mod OutOfRateCases

@@ -1,5 +1,2 @@
--- The calls on the words of a lent table.
--- What each must meet:
+-- What each call on the words of a lent table must meet.
 pub mod Contract
--- For the code's own functions:
-pub mod Slots

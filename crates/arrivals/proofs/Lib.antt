@@ -1,0 +1,2 @@
+-- What a received cell does to the words of a table: one lemma for each way out.
+pub mod ReceiveCases

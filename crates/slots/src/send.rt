@@ -1,0 +1,96 @@
+// A slot that goes to an entry: the cell that it sends, and what that makes of the entry (document 01, "Slots").
+ghost use mathlib.Core.Path.{_≡_};
+ghost use Prim.Native.Nat.{_≤_, _<_};
+ghost use lib.ListN.{length};
+ghost use Rattle.rate.specs.Units.{latestTime};
+ghost use Rattle.cell.specs.Name.{noName};
+ghost use Rattle.connection.specs.Range.{InRange};
+ghost use Rattle.connection.specs.Sending.{backwardCell};
+ghost use Rattle.slots.specs.Slots.{ForwardIn, Carried, MovedBy, Sends};
+ghost use Rattle.model.specs.State.{capacity};
+ghost use Rattle.storing.specs.Updates.{Updates};
+use connection::kind::Kind;
+use connection::parts::Connection;
+use connection::parts::Waiting;
+use loading::load::load;
+use model::answer::Answer;
+use moves::moves::Rate;
+use params::params::Params;
+use receiving::make::made_fields;
+use scheduling::kind::kind_at;
+use sending::send::after;
+use sending::send::forward_fields;
+use storing::store::update;
+use storing::store::update_source;
+use table::layout::WORDS;
+use writing::turned::put_turned;
+use writing::write::put_resource;
+
+// The backward cell that goes: the turned one that waits, else the made one.
+fn put_backward(cell: &mut [u8], name: u32, params: Params, w: Waiting, level: u32)
+    requires { ⌜ (length (now cell) ≡ 53) × (name < noName) ⌝ }
+    ensures { λ _. ⌜ now (cell .exit) ≡ backwardCell name params w level ⌝ }
+{
+    match w {
+        Waiting::Nothing => put_resource(cell, 0, made_fields(name, params, level)),
+        Waiting::Cell(p) => put_turned(cell, name / 65536, name % 65536, p),
+    }
+}
+
+// A forward cell, with CLP 1 if it goes outside the rate (document 02, L5).
+pub fn put_forward(cell: &mut [u8], clp: u32, name: u32, rate: Rate)
+    requires { ⌜ (length (now cell) ≡ 53) × ((clp ≤ 1) × (name < noName)) ⌝ }
+    ensures { λ _. ⌜ ForwardIn clp name rate (now (cell .exit)) ⌝ }
+{
+    put_resource(cell, clp, forward_fields(name, rate));
+}
+
+// Data is the caller's own: the buffer stays.
+fn put_cell(cell: &mut [u8], kind: Kind, c: Connection, next: Connection)
+    requires { ⌜ (length (now cell) ≡ 53) × ((c .name < noName) × (next .name < noName)) ⌝ }
+    ensures { λ _. ⌜ Carried kind c next (now (cell .entry)) (now (cell .exit)) ⌝ }
+{
+    match kind {
+        Kind::Forward => {
+            let rate = next.rate;
+            put_forward(cell, 0, next.name, rate)
+        }
+        Kind::Turned => {
+            let rate = c.rate;
+            let params = rate.params;
+            let destination = c.destination;
+            let turned = destination.turned;
+            put_backward(cell, c.name, params, turned, destination.made.level)
+        }
+        Kind::Data => {}
+    }
+}
+
+// Only a turned or made cell changes the receiving side: it no longer waits.
+fn store_sent(t: &mut [u64; WORDS], i: usize, kind: Kind, next: Connection) -> u32
+    requires { ⌜ (i < capacity) × InRange next ⌝ }
+    ensures { λ n. ⌜ Updates (MovedBy kind) (now (t .entry)) (now (t .exit)) i next n ⌝ }
+{
+    match kind {
+        Kind::Forward => update_source(t, i, next),
+        Kind::Turned => update(t, i, next),
+        Kind::Data => update_source(t, i, next),
+    }
+}
+
+pub fn send(t: &mut [u64; WORDS], time: u64, i: usize, cell: &mut [u8]) -> Answer
+    requires { ⌜ (i < capacity) × ((time ≤ latestTime) × (length (now cell) ≡ 53)) ⌝ }
+    ensures { λ r. ⌜ Sends time i (now (t .entry)) (now (t .exit)) r (now (cell .entry)) (now (cell .exit)) ⌝ }
+{
+    let c = load(t, i);
+    let kind = kind_at(time, c);
+    let next = after(kind, time, c);
+    put_cell(cell, kind, c, next);
+    let comparisons = store_sent(t, i, kind, next);
+    Answer::Sent {
+        name: c.name,
+        kind,
+        acr: next.rate.acr,
+        comparisons,
+    }
+}
