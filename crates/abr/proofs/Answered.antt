@@ -16,7 +16,10 @@ use Rattle.model.specs.declared.acr.Acr.{Acr}
 use Rattle.model.specs.declared.acr.Acr.the-variants.{Rate}
 use Rattle.model.specs.declared.answer.Answer.{Answer}
 use Rattle.engine.specs.Contract.{Meets, MeetsWriting, MeetsAcr}
-use Rattle.abr.specs.Answers.{SlotAnswer, AcrAnswer, CallAnswer, callAnswer, slotAnswer, acrAnswer, ofRates}
+use Rattle.answers.specs.declared.calls.SlotAnswer.{SlotAnswer}
+use Rattle.answers.specs.declared.calls.AcrAnswer.{AcrAnswer}
+use Rattle.answers.specs.declared.calls.CallAnswer.{CallAnswer}
+use Rattle.answers.specs.Calls.{callAnswer, slotAnswer, acrAnswer, ofRates}
 use Rattle.abr.specs.Contract.{Answers, Numbered, NumberedWriting, AnswersSlot, AnswersAcr}
 
 -- a call on the name that was made of a pair

@@ -15,7 +15,8 @@ use Rattle.model.proofs.Reached.{step-well-formed, reached-well-formed}
 use Rattle.table.specs.Layout.{words}
 use Rattle.table.proofs.Words.{empty-words}
 use Rattle.engine.specs.Contract.{bufferContent}
-use Rattle.abr.specs.Answers.{CallAnswer, refusalAlone, callAnswer, noCell, slotAnswer}
+use Rattle.answers.specs.declared.calls.CallAnswer.{CallAnswer}
+use Rattle.answers.specs.Calls.{refusalAlone, callAnswer, noCell, slotAnswer}
 use Rattle.abr.specs.Exports.{Observation, noSlot, Performs, opens, closes, receives, offers, levels, makes, leaves, slots, Trace, ended, then, finalWords, zeros, Matches, AllMatch, neither, both, ExportsAreRun}
 
 -- a call that is no slot

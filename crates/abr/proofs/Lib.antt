@@ -1,4 +1,3 @@
 pub mod Answered
 pub mod Planned
 pub mod Exports
-pub mod Signed

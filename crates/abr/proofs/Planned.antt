@@ -15,7 +15,8 @@ use Rattle.doubles.specs.Exact.{IsSum, CodeUnder, Exactly}
 use Rattle.doubles.proofs.Exactness.{imports-exactly}
 use Rattle.model.specs.declared.contract.Contract.{Contract}
 use Rattle.engine.specs.Contract.{MeetsContract}
-use Rattle.abr.specs.Planning.{ImportAnswer, nil, ExportedAs, importAnswer, Imports}
+use Rattle.answers.specs.declared.planning.ImportAnswer.{ImportAnswer}
+use Rattle.answers.specs.Planning.{nil, ExportedAs, importAnswer, Imports}
 use Rattle.abr.specs.Contract.{AnswersExport}
 
 pub exports :

@@ -8,9 +8,12 @@ use Rattle.model.specs.Call.{Outcome}
 use Rattle.model.specs.Queries.{acrOf, contractOf}
 use Rattle.table.specs.Layout.{words}
 use Rattle.engine.specs.Contract.{bufferContent}
-use Rattle.abr.specs.Answers.{SlotAnswer, AcrAnswer, CallAnswer, refusalAlone, callAnswer, slotAnswer, acrAnswer}
+use Rattle.answers.specs.declared.calls.SlotAnswer.{SlotAnswer}
+use Rattle.answers.specs.declared.calls.AcrAnswer.{AcrAnswer}
+use Rattle.answers.specs.declared.calls.CallAnswer.{CallAnswer}
+use Rattle.answers.specs.Calls.{refusalAlone, callAnswer, slotAnswer, acrAnswer}
 use Rattle.doubles.specs.declared.export.Exported.{Exported}
-use Rattle.abr.specs.Planning.{ExportedAs}
+use Rattle.answers.specs.Planning.{ExportedAs}
 
 -- a call that returns its refusal and the comparisons it made
 pub record Answers (f : State → Outcome) (before after : List ℕ) (r : CallAnswer) : Type 0 where

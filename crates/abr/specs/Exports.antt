@@ -14,9 +14,12 @@ use Rattle.model.specs.Queries.{acrOf, contractOf}
 use Rattle.model.specs.Run.{run, final}
 use Rattle.table.specs.Layout.{words, size}
 use Rattle.engine.specs.Contract.{bufferContent}
-use Rattle.abr.specs.Answers.{SlotAnswer, AcrAnswer, CallAnswer, refusalAlone, noCell, slotAnswer, acrAnswer}
+use Rattle.answers.specs.declared.calls.SlotAnswer.{SlotAnswer}
+use Rattle.answers.specs.declared.calls.AcrAnswer.{AcrAnswer}
+use Rattle.answers.specs.declared.calls.CallAnswer.{CallAnswer}
+use Rattle.answers.specs.Calls.{refusalAlone, noCell, slotAnswer, acrAnswer}
 use Rattle.doubles.specs.declared.export.Exported.{Exported}
-use Rattle.abr.specs.Planning.{ExportedAs}
+use Rattle.answers.specs.Planning.{ExportedAs}
 use Rattle.abr.specs.Contract.{Answers, Numbered, NumberedWriting, AnswersSlot, AnswersAcr, AnswersExport}
 
 -- what a caller sees of one call: the words of the table after it, what it returned, and the lent buffer before and after it

@@ -1,8 +1,3 @@
--- The C interface: what each export returns, and lists of exported calls.
-pub mod Answers
-pub mod Cells
-pub mod Codes
-pub mod Planning
+-- The C interface: the contract of each export, and lists of exported calls.
 pub mod Contract
 pub mod Exports
-pub mod Shares

@@ -2,36 +2,14 @@
 ghost use mathlib.Core.Path.{_≡_};
 ghost use Rattle.rate.specs.Code.{coded};
 ghost use Rattle.params.specs.Params.{houseSet};
-ghost use Rattle.abr.specs.Codes.{codeAnswer, rateAnswer};
+ghost use Rattle.answers.specs.Codes.{codeAnswer, rateAnswer};
+use answers::codes::CodeAnswer;
+use answers::codes::RateAnswer;
+use answers::codes::code_answer;
 use params::params::Params;
-use rate::code::Coded;
 use rate::code::code_of;
 use rate::code::rate_of;
 use rate::code::reserved_clear;
-
-#[repr(C)]
-pub struct CodeAnswer {
-    pub refusal: u32,
-    pub code: u32,
-}
-
-#[repr(C)]
-pub struct RateAnswer {
-    pub refusal: u32,
-    pub rate: u64,
-}
-
-fn code_answer(a: Coded) -> CodeAnswer
-    ensures { λ r. ⌜ r ≡ codeAnswer a ⌝ }
-{
-    match a {
-        Coded::Code(code) => CodeAnswer { refusal: 0, code },
-        Coded::Refused(n) => CodeAnswer {
-            refusal: n,
-            code: 0,
-        },
-    }
-}
 
 // Refusal 9.
 #[no_mangle]

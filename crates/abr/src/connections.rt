@@ -1,56 +1,21 @@
 // The calls that name a connection (document 01, "Opening" and "Slots"; document 02, L1, L5 and L6).
-ghost use mathlib.Core.Path.{_≡_};
 ghost use lib.ListN.{length};
 ghost use Rattle.cell.specs.Name.{pairName};
 ghost use Rattle.model.specs.Step.{openStep, closeStep, offerStep, makeStep, outOfRateStep};
-ghost use Rattle.abr.specs.Answers.{callAnswer, acrAnswer, ofRates};
 ghost use Rattle.abr.specs.Contract.{Answers, NumberedWriting, AnswersAcr};
+use answers::calls::AcrAnswer;
+use answers::calls::CallAnswer;
+use answers::calls::acr_answer;
+use answers::calls::call_answer;
 use cell::name::pair_name;
 use engine::acr::read_acr;
 use engine::close::close;
 use engine::make::make;
 use engine::offer::offer;
 use engine::open::open;
-use model::acr::Acr;
-use model::answer::Answer;
 use params::params::Params;
 use slots::out_of_rate::out_of_rate;
 use table::layout::WORDS;
-
-// The documents' number for an answer, 0 if it is no refusal, and the comparisons that the call made (document 02, L4).
-#[repr(C)]
-pub struct CallAnswer {
-    pub refusal: u32,
-    pub comparisons: u32,
-}
-
-pub fn call_answer(a: Answer) -> CallAnswer
-    ensures { λ r. ⌜ r ≡ callAnswer a ⌝ }
-{
-    match a {
-        Answer::Refused(n) => CallAnswer {
-            refusal: n,
-            comparisons: 0,
-        },
-        Answer::Accepted { comparisons } => CallAnswer {
-            refusal: 0,
-            comparisons,
-        },
-        Answer::Idle => CallAnswer {
-            refusal: 0,
-            comparisons: 0,
-        },
-        Answer::Sent {
-            name: _,
-            kind: _,
-            acr: _,
-            comparisons,
-        } => CallAnswer {
-            refusal: 0,
-            comparisons,
-        },
-    }
-}
 
 // Refusals 10, 19, 7, 8, 12, 13, 14.
 #[no_mangle]
@@ -107,31 +72,6 @@ pub extern "C" fn abr_out_of_rate(
     let name = pair_name(vpi, vci);
     let answer = call_answer(out_of_rate(table, name, time, cell));
     answer.refusal
-}
-
-#[repr(C)]
-pub struct AcrAnswer {
-    pub refusal: u32,
-    pub acr: u64,
-    pub change: i64,
-}
-
-// The change, new rate minus old, is exact: no rate reaches 2^42 (document 02, L9).
-fn acr_answer(a: Acr) -> AcrAnswer
-    ensures { λ r. ⌜ r ≡ acrAnswer (ofRates a) ⌝ }
-{
-    match a {
-        Acr::NotOpen => AcrAnswer {
-            refusal: 11,
-            acr: 0,
-            change: 0,
-        },
-        Acr::Rate { acr, change } => AcrAnswer {
-            refusal: 0,
-            acr,
-            change: (change.after % 4398046511104) as i64 - (change.before % 4398046511104) as i64,
-        },
-    }
 }
 
 // Refusal 11.

@@ -3,41 +3,12 @@ ghost use mathlib.Core.Path.{_≡_};
 ghost use Rattle.share.specs.Share.{fairShare};
 ghost use Rattle.port.specs.Limit.{passed, limit};
 ghost use Rattle.port.specs.Port.{port};
-ghost use Rattle.abr.specs.Shares.{shareAnswer};
+ghost use Rattle.answers.specs.Shares.{shareAnswer};
+use answers::shares::ShareAnswer;
+use answers::shares::share_answer;
 use port::limit::limit;
 use port::port::port;
-use share::share::FairShare;
 use share::share::fair_share;
-
-// limited 0: no limit, and rate 0.
-#[repr(C)]
-pub struct ShareAnswer {
-    pub refusal: u32,
-    pub limited: u32,
-    pub rate: u64,
-}
-
-fn share_answer(a: FairShare) -> ShareAnswer
-    ensures { λ r. ⌜ r ≡ shareAnswer a ⌝ }
-{
-    match a {
-        FairShare::Refused(n) => ShareAnswer {
-            refusal: n,
-            limited: 0,
-            rate: 0,
-        },
-        FairShare::NoLimit => ShareAnswer {
-            refusal: 0,
-            limited: 0,
-            rate: 0,
-        },
-        FairShare::Limit(rate) => ShareAnswer {
-            refusal: 0,
-            limited: 1,
-            rate,
-        },
-    }
-}
 
 // Refusals 21, 22.
 #[no_mangle]

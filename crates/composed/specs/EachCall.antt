@@ -5,7 +5,7 @@ use mathlib.Core.List.{List, [], _∷_}
 use lib.ListN.{length}
 use Rattle.cell.specs.Name.{pairName}
 use Rattle.model.specs.Call.{Call, opening, closing, receiving, offering, levelling, slot, making, outOfRate}
-use Rattle.abr.specs.declared.connections.AcrAnswer.{AcrAnswer}
+use Rattle.answers.specs.declared.calls.AcrAnswer.{AcrAnswer}
 use Rattle.abr.specs.Contract.{AnswersAcr}
 use Rattle.abr.specs.Exports.{Observation, Trace}
 use Rattle.composed.specs.declared.Arguments.{Arguments}

@@ -2,8 +2,8 @@
 use Prim.Native.Nat.{ℕ}
 use mathlib.Core.List.{List}
 use Rattle.doubles.specs.declared.export.Exported.{Exported}
-use Rattle.abr.specs.declared.planning.ImportAnswer.{ImportAnswer}
-use Rattle.abr.specs.Planning.{Imports}
+use Rattle.answers.specs.declared.planning.ImportAnswer.{ImportAnswer}
+use Rattle.answers.specs.Planning.{Imports}
 use Rattle.abr.specs.Contract.{AnswersExport}
 
 pub record PeakBack (v : ℕ) (l : List ℕ) (refusal : ℕ) (r : ImportAnswer) : Type 0 where

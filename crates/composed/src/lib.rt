@@ -1,7 +1,6 @@
 // One exported call of each sort in a row, on one table. It is here for its contract: what the exports ensure, as they stand, makes a trace, so that the theorem
 // on traces (abr/specs/Exports.antt) and the promises above it are about these very functions.
 ghost use Rattle.composed.specs.EachCall.{EachCall};
-use abr::connections::AcrAnswer;
 use abr::connections::abr_acr;
 use abr::connections::abr_close;
 use abr::connections::abr_make;
@@ -11,6 +10,7 @@ use abr::connections::abr_out_of_rate;
 use abr::link::abr_receive;
 use abr::link::abr_set_level;
 use abr::link::abr_slot;
+use answers::calls::AcrAnswer;
 use params::params::Params;
 use table::layout::WORDS;
 

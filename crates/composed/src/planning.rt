@@ -2,9 +2,9 @@
 // (exports/specs/Planning.antt) asks for.
 ghost use Rattle.cell.specs.Name.{pairName};
 ghost use Rattle.composed.specs.Planning.{PeakBack};
-use abr::planning::ImportAnswer;
 use abr::planning::abr_export;
 use abr::planning::abr_import;
+use answers::planning::ImportAnswer;
 use table::layout::WORDS;
 
 pub fn peak_back(t: &[u64; WORDS], vpi: u32, vci: u32, refusal: &mut u32) -> ImportAnswer

@@ -32,7 +32,7 @@ use Rattle.model.proofs.Replays.{replayed-most, replayed-least, replayed-one, r
 use Rattle.model.proofs.Preserved.{empty-well-formed}
 use Rattle.model.proofs.Effects.{Effect, refuses, begins, ends, offers, marks, works, levels as levelsTo, idles, sends, makes, leaves, effect}
 use Rattle.model.proofs.Reached.{step-well-formed, reached-well-formed}
-use Rattle.abr.specs.Answers.{slotAnswer}
+use Rattle.answers.specs.Calls.{slotAnswer}
 use Rattle.abr.specs.Exports.{Observation, Matches, AllMatch, neither, both}
 use Rattle.abr.proofs.Exports.{exports-are-run}
 use Rattle.exports.specs.Comparisons.{replays, opensOne, Counted, isSent, CountedAnswer, Comparisons, CountedObserved, ExportsComparisons, ScanPicksWinner}

@@ -23,8 +23,8 @@ use Rattle.model.specs.Run.{run, final, isAccepted, given, givenFrom, entryRate
 use Rattle.model.proofs.Preserved.{empty-well-formed}
 use Rattle.model.proofs.Effects.{Effect, refuses, begins, ends, offers, marks, works, levels, idles, sends, makes, leaves, effect}
 use Rattle.model.proofs.Reached.{step-well-formed}
-use Rattle.abr.specs.declared.connections.AcrAnswer.{AcrAnswer}
-use Rattle.abr.specs.Answers.{slotAnswer, acrAnswer}
+use Rattle.answers.specs.declared.calls.AcrAnswer.{AcrAnswer}
+use Rattle.answers.specs.Calls.{slotAnswer, acrAnswer}
 use Rattle.abr.specs.Contract.{AnswersAcr}
 use Rattle.abr.specs.Exports.{Observation, Trace, finalWords, zeros, Matches, AllMatch, neither, both}
 use Rattle.connection.specs.Sending.{Buffer, untouched}

@@ -17,8 +17,8 @@ use Rattle.model.specs.Queries.{entryContract, contractOf}
 use Rattle.model.specs.Run.{final, paramsGiven}
 use Rattle.model.proofs.Preserved.{empty-well-formed}
 use Rattle.model.proofs.Given.{entryParams, params-given}
-use Rattle.abr.specs.declared.planning.ImportAnswer.{ImportAnswer}
-use Rattle.abr.specs.Planning.{ExportedAs, exactAnswer, importAnswer, Imports}
+use Rattle.answers.specs.declared.planning.ImportAnswer.{ImportAnswer}
+use Rattle.answers.specs.Planning.{ExportedAs, exactAnswer, importAnswer, Imports}
 use Rattle.abr.specs.Contract.{AnswersExport}
 use Rattle.abr.specs.Exports.{Observation, Trace, finalWords, zeros}
 use Rattle.abr.proofs.Exports.{exports-are-run}

@@ -10,8 +10,8 @@ use Rattle.params.specs.declared.params.Params.{Params}
 use Rattle.cell.specs.Name.{nameOf}
 use Rattle.model.specs.Call.{Call}
 use Rattle.model.specs.Run.{given}
-use Rattle.abr.specs.declared.link.SlotAnswer.{SlotAnswer}
-use Rattle.abr.specs.declared.connections.AcrAnswer.{AcrAnswer}
+use Rattle.answers.specs.declared.calls.SlotAnswer.{SlotAnswer}
+use Rattle.answers.specs.declared.calls.AcrAnswer.{AcrAnswer}
 use Rattle.abr.specs.Contract.{AnswersAcr}
 use Rattle.abr.specs.Exports.{Observation, Trace, finalWords, zeros}
 use Rattle.promises.specs.Demand3.{Bounded, InPlace, Comparable}

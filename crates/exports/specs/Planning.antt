@@ -12,8 +12,8 @@ use Rattle.model.specs.State.{empty}
 use Rattle.model.specs.Call.{Call}
 use Rattle.model.specs.Queries.{contractOf}
 use Rattle.model.specs.Run.{final, paramsGiven}
-use Rattle.abr.specs.declared.planning.ImportAnswer.{ImportAnswer}
-use Rattle.abr.specs.Planning.{ExportedAs, exactAnswer, Imports}
+use Rattle.answers.specs.declared.planning.ImportAnswer.{ImportAnswer}
+use Rattle.answers.specs.Planning.{ExportedAs, exactAnswer, Imports}
 use Rattle.abr.specs.Contract.{AnswersExport}
 use Rattle.abr.specs.Exports.{Observation, Trace, finalWords, zeros}
 use Rattle.exports.specs.Exports.{paramsObserved}

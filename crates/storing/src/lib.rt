@@ -1,3 +1,3 @@
-// A connection into the words of its entry.
+// A connection stored in an entry of a table, with its ready key.
 pub mod key;
 pub mod store;

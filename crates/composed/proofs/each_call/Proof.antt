@@ -1,6 +1,6 @@
 use mathlib.Core.Path.{refl}
 use borrow.Author.Needs.{needs}
-use Rattle.abr.specs.Answers.{refusalAlone, noCell}
+use Rattle.answers.specs.Calls.{refusalAlone, noCell}
 use Rattle.abr.specs.Exports.{noSlot, opens, closes, receives, offers, levels, makes, leaves, slots, then, ended}
 use Rattle.composed.proofs.each_call.Statement.{statement}
 use Rattle.composed.proofs.each_call.Tie as tie

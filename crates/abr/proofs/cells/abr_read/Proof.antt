@@ -1,5 +1,5 @@
 use mathlib.Core.Path.{ap, _∙_}
-use Rattle.abr.specs.Cells.{cellAnswer}
+use Rattle.answers.specs.Cells.{cellAnswer}
 use borrow.Author.Needs.{needs}
 use Rattle.abr.proofs.cells.abr_read.Statement.{statement}
 use Rattle.abr.proofs.cells.abr_read.Tie as tie

@@ -2,7 +2,7 @@ use mathlib.Core.Path.{ap, _∙_}
 use Rattle.cell.specs.Fields.{resourceCell}
 use Rattle.cell.specs.Writing.{bufferAfter}
 use Rattle.cell.specs.declared.write.Written.{Written}
-use Rattle.abr.specs.Cells.{writeNumber}
+use Rattle.answers.specs.Cells.{writeNumber}
 use borrow.Author.Needs.{needs}
 use Rattle.abr.proofs.cells.abr_write_rm.Statement.{statement}
 use Rattle.abr.proofs.cells.abr_write_rm.Tie as tie

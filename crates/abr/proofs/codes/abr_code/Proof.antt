@@ -1,5 +1,5 @@
 use mathlib.Core.Path.{ap, _∙_}
-use Rattle.abr.specs.Codes.{codeAnswer}
+use Rattle.answers.specs.Codes.{codeAnswer}
 use borrow.Author.Needs.{needs}
 use Rattle.abr.proofs.codes.abr_code.Statement.{statement}
 use Rattle.abr.proofs.codes.abr_code.Tie as tie

@@ -1,5 +1,5 @@
 use mathlib.Core.Path.{ap, _∙_}
-use Rattle.abr.specs.Shares.{shareAnswer}
+use Rattle.answers.specs.Shares.{shareAnswer}
 use borrow.Author.Needs.{needs}
 use Rattle.abr.proofs.ports.abr_fair_share.Statement.{statement}
 use Rattle.abr.proofs.ports.abr_fair_share.Tie as tie

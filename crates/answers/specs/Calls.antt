@@ -1,0 +1,52 @@
+-- What the calls on a table return, for each case of their answers: the documents' number, 0 if there is no refusal, and zeros beside a refusal.
+-- (Document 01, "Slots", "Refused because of the input" and "Refused because of the state"; document 02, L6 and L9.)
+use Prim.Native.Nat.{ℕ}
+use lib.IntN.{pos}
+use Rattle.cell.specs.Name.{vpiIn, vciIn}
+use Rattle.connection.specs.Change.{difference, asRates}
+use Rattle.connection.specs.declared.kind.Kind.{Kind}
+use Rattle.connection.specs.declared.kind.Kind.the-variants.{Forward, Turned, Data}
+use Rattle.model.specs.declared.answer.Answer.{Answer}
+use Rattle.model.specs.declared.answer.Answer.the-variants.{Refused, Accepted, Idle, Sent}
+use Rattle.model.specs.declared.acr.Acr.{Acr}
+use Rattle.model.specs.declared.acr.Acr.the-variants.{NotOpen, Rate}
+pub use Rattle.answers.specs.declared.calls.AcrAnswer.{AcrAnswer}
+pub use Rattle.answers.specs.declared.calls.CallAnswer.{CallAnswer}
+pub use Rattle.answers.specs.declared.calls.SlotAnswer.{SlotAnswer}
+
+-- a call that makes no comparisons
+abbrev pub refusalAlone : (refusal : ℕ) → CallAnswer
+refusalAlone n = record { refusal = n; comparisons = 0 }
+
+-- a call that is no slot: its refusal, and the comparisons that it made (document 02, L4)
+abbrev pub callAnswer : Answer → CallAnswer
+callAnswer (Refused n) = refusalAlone n
+callAnswer (Accepted n) = record { refusal = 0; comparisons = n }
+callAnswer Idle = refusalAlone 0
+callAnswer (Sent v k a n) = record { refusal = 0; comparisons = n }
+
+-- the kinds of cell that a slot sends; 0 is none
+abbrev pub kindNumber : Kind → ℕ
+kindNumber Forward = 1
+kindNumber Turned = 2
+kindNumber Data = 3
+
+abbrev pub noCell : (refusal comparisons : ℕ) → SlotAnswer
+noCell n k = record { refusal = n; comparisons = k; kind = 0; vpi = 0; vci = 0; acr = 0 }
+
+-- no slot answers Accepted
+abbrev pub slotAnswer : Answer → SlotAnswer
+slotAnswer (Refused n) = noCell n 0
+slotAnswer (Accepted n) = noCell 0 n
+slotAnswer Idle = noCell 0 0
+slotAnswer (Sent v k a n) = record { refusal = 0; comparisons = n; kind = kindNumber k; vpi = vpiIn v; vci = vciIn v; acr = a }
+
+-- the allowed rate, and what the last backward cell changed of it
+abbrev pub acrAnswer : Acr → AcrAnswer
+acrAnswer NotOpen = record { refusal = 11; acr = 0; change = pos 0 }
+acrAnswer (Rate a x) = record { refusal = 0; acr = a; change = difference x }
+
+-- with rates below 2^42, which leaves every answer of a table that calls made as it is
+abbrev pub ofRates : Acr → Acr
+ofRates NotOpen = NotOpen
+ofRates (Rate a x) = Rate a (asRates x)

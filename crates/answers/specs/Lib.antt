@@ -1,0 +1,6 @@
+-- What each export returns.
+pub mod Calls
+pub mod Cells
+pub mod Codes
+pub mod Planning
+pub mod Shares
