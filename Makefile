@@ -3,6 +3,7 @@
 #   make lib                prove the library and write target/staticlib/libabr.a
 #   make demo               two connections, slot by slot, and a picture of them
 #   make test               the gate: proofs, then every test
+#   make tools              abr-judge and abr-trace, in target/cargo/release
 #   make install PREFIX=    library, header and abr.pc
 #   make dist               the tarball that is sold; only of a commit for which make test has passed
 #   make bench              the cost of each call, library and reference
@@ -10,7 +11,7 @@
 #
 # ABR_LIB names another archive than the proved one, which then is not built.
 
-VERSION := 0.11.0
+VERSION := 0.12.0
 PREFIX ?= /usr/local
 DESTDIR ?=
 CC ?= gcc
@@ -26,7 +27,7 @@ LIB_GOAL := lib
 endif
 export ABR_LIB := $(LIB)
 
-.PHONY: lib demo test install dist bench soak clean
+.PHONY: lib demo test tools install dist bench soak clean
 
 lib:
 	rt staticlib abr
@@ -40,6 +41,10 @@ demo: $(LIB_GOAL)
 
 test:
 	.ci/run
+
+tools: $(LIB_GOAL)
+	cargo build --release --quiet -p tools
+	@echo "target/cargo/release/abr-judge and abr-trace; --help says how they are called"
 
 $(BUILD)/abr.pc: abr.pc.in Makefile FORCE
 	@mkdir -p $(BUILD)

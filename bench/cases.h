@@ -4,8 +4,8 @@
  * an end of the directory of names: VPI 0 and VCI 32, or VPI 255 and VCI 65,535. Where the directory moves, it is the
  * highest name, with all other words behind its own, and its ready instant is the earliest; elsewhere the lowest name,
  * and all ready instants are equal. The others are on all VPIs, four to each. A forward cell makes both of its
- * moves, and a received one replaces another. A port has 1,024 demands. bench/worst.c counts the instructions of these
- * calls, tests/c/stack.c measures their stack.
+ * moves, and a received one replaces another. A port has 1,024 demands. A trace has 1,000 cells of fifteen octets. bench/worst.c
+ * counts the instructions of these calls, tests/c/stack.c measures their stack.
  */
 #ifndef CASES_H
 #define CASES_H
@@ -16,9 +16,11 @@
 
 #define SECOND UINT64_C(1000000000)
 #define OTHERS (ABR_CONNECTIONS_MAX - 1)
+#define TRACE_CELLS 1000u
+#define TRACE_CELL 15u /* octets of one of its cells */
 
 /* What a case needs beside the connections. */
-enum need { NOTHING, NRM_2, TURNED_WAITS, MADE_WAITS, OUTSIDE, FORWARD_CELL, BACKWARD_CELL, DATA_CELL, CLOSED, DEMANDS };
+enum need { NOTHING, NRM_2, TURNED_WAITS, MADE_WAITS, OUTSIDE, FORWARD_CELL, BACKWARD_CELL, DATA_CELL, CLOSED, DEMANDS, TRACE };
 
 /* The connection concerned. */
 enum name { LOWEST, HIGHEST };
@@ -42,6 +44,8 @@ static abr_rm rm = {0, 0, 0, 0, 1, 0, 0, 0x53E8, 0x5000, 0x4000, 7, 9};
 static abr_params params;
 static address at; /* of the one concerned */
 static uint64_t demands[ABR_DEMANDS_MAX], capacity;
+static uint8_t trace[2 + TRACE_CELLS * TRACE_CELL];
+static size_t trace_len;
 
 /* The answers of the calls. */
 static uint32_t refusal;
@@ -54,6 +58,7 @@ static abr_rated rated;
 static abr_contract contract;
 static abr_imported imported;
 static abr_share share;
+static abr_verdict verdict;
 
 static void call_slot(void) { sent = abr_slot(&table, 3 * SECOND, cell, sizeof cell); }
 static void call_idle(void) { sent = abr_slot(&table, SECOND, cell, sizeof cell); }
@@ -77,6 +82,7 @@ static void call_import(void) { imported = abr_import(1000.7); }
 static void call_fair_share(void) { share = abr_fair_share(capacity, demands, ABR_DEMANDS_MAX); }
 static void call_limit(void) { refusal = abr_limit(ABR_RATE_ONE, cell, sizeof cell); }
 static void call_port(void) { refusal = abr_port(capacity, demands, ABR_DEMANDS_MAX, cell, sizeof cell); }
+static void call_judge(void) { verdict = abr_judge(trace, trace_len); }
 static void call_house(void) { params = abr_house(ABR_CODE_MAX, 0x4000, 0x53E8); }
 
 static const abr_case cases[] = {
@@ -105,6 +111,7 @@ static const abr_case cases[] = {
     {"fair share", DEMANDS, LOWEST, call_fair_share, 0},
     {"limit, backward cell", BACKWARD_CELL, LOWEST, call_limit, 0},
     {"port, backward cell", DEMANDS, LOWEST, call_port, 0},
+    {"judge, 1,000 cells", TRACE, LOWEST, call_judge, 0},
     {"house", NOTHING, LOWEST, call_house, 0},
 };
 
@@ -193,6 +200,29 @@ static void make_demands(void)
     demands[made] = ABR_RATE_MAX;
 }
 
+/*
+ * A trace that passes: 1,000 cells, 2^50 nanoseconds apart, at the largest rate. Trm has always passed, so that every third
+ * cell is forward. The time of the first one is 0.
+ */
+static void make_trace(void)
+{
+    static const uint8_t head[] = {8, 7, 0}, time[] = {0x80, 0x80, 0x80, 0x80, 0x80, 0x80, 0x80, 0x02};
+    static const uint8_t rate[] = {0x80, 0x80, 0x80, 0x80, 0xF8, 0x3F};
+    uint8_t *to = trace;
+    memcpy(to, head, sizeof head);
+    to += sizeof head;
+    for (unsigned i = 0; i < TRACE_CELLS; i++) {
+        if (i > 0) {
+            memcpy(to, time, sizeof time);
+            to += sizeof time;
+        }
+        *to++ = i % 3 ? ABR_SENT_DATA : ABR_SENT_FORWARD;
+        memcpy(to, rate, sizeof rate);
+        to += sizeof rate;
+    }
+    trace_len = (size_t)(to - trace);
+}
+
 /* Prepares table and cell for a case; 0 if every call of it was accepted. */
 static int prepare(const abr_case *which)
 {
@@ -213,6 +243,7 @@ static int prepare(const abr_case *which)
     case BACKWARD_CELL: return make_rm_cell(1);
     case DATA_CELL: return make_data_cell();
     case DEMANDS: make_demands(); return make_rm_cell(1);
+    case TRACE: make_trace(); return 0;
     case CLOSED: return abr_close(&table, at.vpi, at.vci).refusal != ABR_OK;
     default: return 0;
     }
@@ -234,7 +265,7 @@ static int accepted(const abr_case *which)
         return refusal == ABR_OK && contract.pcr > 0;
     }
     return (refusal | answer.refusal | sent.refusal | allowed.refusal | coded.refusal | rated.refusal |
-            imported.refusal | share.refusal) == ABR_OK;
+            imported.refusal | share.refusal | verdict.refusal | verdict.rule) == ABR_OK;
 }
 
 #endif

@@ -7,8 +7,8 @@
  * engine", which says what every call does, with requests L1 (abr_make), L2
  * (marks of a replaced cell), L4 (1,024 connections, comparisons), L5 (no minimum
  * rate, abr_out_of_rate), L6 (full addresses), L7 (the reserved bit of a rate code),
- * L8 (abr_export, abr_import), L9 (what the last feedback did) and L10 (abr_port,
- * abr_fair_share, abr_limit) of document 02.
+ * L8 (abr_export, abr_import), L9 (what the last feedback did), L10 (abr_port,
+ * abr_fair_share, abr_limit) and L11 (abr_judge) of document 02.
  *
  * Addresses. A connection is named by its VPI and its VCI together, as VPI * 65,536
  * + VCI (document 02, L6): the same VCI on another VPI is another connection. Every
@@ -86,15 +86,15 @@ extern "C" {
 
 /* ---- Version ------------------------------------------------------------ */
 
-/* 0.11.0: major, minor and patch number, eight bits each. */
-#define ABR_VERSION 0x000b00u
+/* 0.12.0: major, minor and patch number, eight bits each. */
+#define ABR_VERSION 0x000c00u
 
 /* The words of a table, which has 286,872 octets. */
 #define ABR_TABLE_WORDS 35859u
 
 /* ---- Limits ------------------------------------------------------------- */
 
-/* The octets of a cell, the only length that any buffer may have. */
+/* The octets of a cell, the only length that any buffer for a cell may have. */
 #define ABR_CELL_OCTETS 53u
 
 /* The connections that may be open at once. */
@@ -159,7 +159,8 @@ extern "C" {
 
 /* ---- Kinds -------------------------------------------------------------- */
 
-/* What a slot sends (abr_sent.kind). A made cell counts as a turned one. */
+/* What a slot sends (abr_sent.kind). A made cell counts as a turned one. A trace has the
+ * same numbers, but for idle (abr_judge). */
 #define ABR_SENT_IDLE 0u
 #define ABR_SENT_FORWARD 1u
 #define ABR_SENT_TURNED 2u
@@ -168,6 +169,12 @@ extern "C" {
 /* What a cell is (abr_cell.kind). */
 #define ABR_CELL_DATA 1u
 #define ABR_CELL_RM 2u
+
+/* The rule that a cell of a trace breaks (abr_verdict.rule). */
+#define ABR_RULE_NONE 0u    /* the trace passes */
+#define ABR_RULE_FIRST 1u   /* the first cell is forward */
+#define ABR_RULE_GAP 2u     /* a later cell is a gap or more after the one before */
+#define ABR_RULE_FORWARD 3u /* a later cell is forward exactly when a forward cell is due */
 
 /* ---- Refusals ----------------------------------------------------------- */
 
@@ -200,6 +207,9 @@ extern "C" {
 #define ABR_REFUSED_DOUBLE 20u       /* not a rate: not a number, infinite, below 0, between 0 and 1, or 2^32 and more */
 #define ABR_REFUSED_DEMANDS 21u      /* over 1,024 demands */
 #define ABR_REFUSED_DEMAND 22u       /* a demand is above the largest rate */
+#define ABR_REFUSED_TRACE_NUMBER 23u /* a number of a trace is not in shortest form or over 64 bits */
+#define ABR_REFUSED_TRACE_END 24u    /* trace is empty or ends inside a record */
+#define ABR_REFUSED_TRACE_RANGE 25u  /* n, Trm number, kind, rate or summed time of a trace is out of range */
 
 /* ---- Types -------------------------------------------------------------- */
 
@@ -302,6 +312,13 @@ typedef struct {
     uint32_t limited; /* 1: rate is the share; 0: there is no limit */
     uint64_t rate;    /* the share; 0 if there is no limit */
 } abr_share;
+
+/* The answer of abr_judge. */
+typedef struct {
+    uint32_t refusal;
+    uint32_t rule; /* ABR_RULE_...: the lowest that the cell breaks; 0: the trace passes */
+    uint64_t cell; /* the first cell that breaks a rule, counted from 1; 0 if none does */
+} abr_verdict;
 
 /* ---- Header and archive ------------------------------------------------- */
 
@@ -545,6 +562,52 @@ ABR_MUST_USE uint32_t abr_limit(uint64_t rate, uint8_t *cell, size_t len);
  */
 ABR_MUST_USE uint32_t abr_port(uint64_t capacity, const uint64_t *demands, size_t count, uint8_t *cell, size_t len);
 
+/* ---- Traces of other transmitters, without a table ---------------------- */
+
+/*
+ * Judges the cells that a transmitter sent in its rate on one connection, from the first
+ * one on (document 02, L11).
+ *
+ * A trace is a row of numbers. A number is written in groups of seven bits, the low group
+ * first, each in an octet whose top bit is 1 when more groups follow. Only the shortest
+ * form is accepted: a last group of 0 has no group before it. A number has at most 64
+ * bits, and so at most ten octets, of which the tenth is 1. The first record is
+ *   n            Nrm = 2^n, 1 to 8
+ *   Trm number   0 to 7
+ * and each cell is a record of
+ *   time         nanoseconds since the cell before, 0 for the first cell
+ *   kind         1 forward, 2 backward, 3 data (ABR_SENT_FORWARD, _TURNED, _DATA)
+ *   rate         the one in force before the cell, in units of 1/512 cell per second, at
+ *                most ABR_RATE_MAX; abr_acr reads it before the slot that sends the cell
+ * The sum of the times is at most 2^62. Out-of-rate cells are left out.
+ *
+ * The rules (section "Slots"), with the gap ceil(512,000,000,000 / rate), the last forward
+ * cell before this one, and k, the cells since that one:
+ *   1  the first cell is forward
+ *   2  a later cell is the gap of its rate or more after the cell before; a rate of 0 has
+ *      no gap and breaks it
+ *   3  a later cell is forward exactly when k is Nrm - 1, or k is 2 or more and at least
+ *      Trm has passed since the last forward cell
+ * The rate of the first cell is not judged. A trace without a cell passes. The answer is
+ * the first cell that breaks a rule and the lowest rule that it breaks, or two zeros. What
+ * abr_slot sends on one connection, from its open on, always passes.
+ *
+ * Refusals:
+ *   23  a number is not in shortest form, seen at its last octet, or over 64 bits, seen at
+ *       its tenth
+ *   24  the trace has no octet, or ends inside a number or a record: n without a Trm
+ *       number too
+ *   25  n, Trm number, kind, rate or the sum of the times is out of its range, or the first
+ *       time is not 0; seen at the last octet of that number
+ * The earliest octet at which one is seen decides, 23 before 25 at the same octet; 24 is
+ * seen at the end, behind all octets. A refusal goes before any broken rule, so that a
+ * trace is read to its end also behind a cell that breaks one.
+ *
+ * The octets are read once, in order and none outside the length, and nothing is written.
+ * Time is in proportion to the length; memory and stack do not depend on it.
+ */
+ABR_MUST_USE abr_verdict abr_judge(const uint8_t *trace, size_t len);
+
 /* ---- The text of a refusal ---------------------------------------------- */
 
 /* The text of an answer, as it is beside its number above; never null. */
@@ -573,6 +636,9 @@ static inline const char *abr_refusal_text(uint32_t refusal)
     case ABR_REFUSED_DOUBLE: return "not a rate: not a number, infinite, below 0, between 0 and 1, or 2^32 and more";
     case ABR_REFUSED_DEMANDS: return "over 1,024 demands";
     case ABR_REFUSED_DEMAND: return "a demand is above the largest rate";
+    case ABR_REFUSED_TRACE_NUMBER: return "a number of a trace is not in shortest form or over 64 bits";
+    case ABR_REFUSED_TRACE_END: return "trace is empty or ends inside a record";
+    case ABR_REFUSED_TRACE_RANGE: return "n, Trm number, kind, rate or summed time of a trace is out of range";
     default: return "not an answer of this library";
     }
 }
@@ -619,6 +685,9 @@ ABR_LAYOUT(imported_remainder, offsetof(abr_imported, remainder) == 8);
 ABR_LAYOUT(share_size, sizeof(abr_share) == 16);
 ABR_LAYOUT(share_limited, offsetof(abr_share, limited) == 4);
 ABR_LAYOUT(share_rate, offsetof(abr_share, rate) == 8);
+ABR_LAYOUT(verdict_size, sizeof(abr_verdict) == 16);
+ABR_LAYOUT(verdict_rule, offsetof(abr_verdict, rule) == 4);
+ABR_LAYOUT(verdict_cell, offsetof(abr_verdict, cell) == 8);
 
 #undef ABR_LAYOUT
 

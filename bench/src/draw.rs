@@ -1,6 +1,6 @@
 //! The picture of slot cost over the number of connections.
 
-use std::fmt::Write;
+use picture::svg::{self, put, text};
 
 const WIDTH: f64 = 820.0;
 const HEIGHT: f64 = 420.0;
@@ -53,20 +53,14 @@ fn x(connections: u32) -> f64 {
 }
 
 /// The whole picture of (connections, library, reference).
-pub fn svg(points: &[(u32, f64, f64)]) -> String {
+pub fn picture(points: &[(u32, f64, f64)]) -> String {
     let costs = || points.iter().flat_map(|point| [point.1, point.2]);
     let scale = Scale::of(
         costs().fold(f64::MAX, f64::min),
         costs().fold(0.0, f64::max),
     );
-    let mut out = format!(
-        "<svg xmlns=\"http://www.w3.org/2000/svg\" viewBox=\"0 0 {WIDTH} {HEIGHT}\" \
-         width=\"{WIDTH}\" height=\"{HEIGHT}\" \
-         font-family=\"Helvetica, Arial, DejaVu Sans, sans-serif\" font-size=\"14\" fill=\"#333\">\n\
-         <rect width=\"100%\" height=\"100%\" fill=\"white\"/>\n\
-         <text x=\"{LEFT}\" y=\"30\" font-size=\"17\" font-weight=\"bold\">\
-         The cost of one slot by the number of busy connections</text>\n"
-    );
+    let title = "The cost of one slot by the number of busy connections";
+    let mut out = svg::begin((WIDTH, HEIGHT), (LEFT, 30.0), title);
     axes(&mut out, &scale);
     let library: Vec<_> = points.iter().map(|p| (p.0, p.1)).collect();
     let reference: Vec<_> = points.iter().map(|p| (p.0, p.2)).collect();
@@ -75,11 +69,6 @@ pub fn svg(points: &[(u32, f64, f64)]) -> String {
     names(&mut out, &scale, points);
     out.push_str("</svg>\n");
     out
-}
-
-/// Writing to a string cannot fail.
-fn put(out: &mut String, words: std::fmt::Arguments<'_>) {
-    out.write_fmt(words).expect("a string accepts all");
 }
 
 /// Both axes with their grid and names.
@@ -127,14 +116,6 @@ fn connections(out: &mut String) {
         );
         text(out, (at, FLOOR + 24.0), "middle", &connections.to_string());
     }
-}
-
-/// A line of text with its anchor.
-fn text(out: &mut String, (x, y): (f64, f64), anchor: &str, words: &str) {
-    put(
-        out,
-        format_args!("<text x=\"{x:.1}\" y=\"{y:.1}\" text-anchor=\"{anchor}\">{words}</text>\n"),
-    );
 }
 
 /// One side's costs.

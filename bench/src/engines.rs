@@ -40,6 +40,7 @@ pub trait Engine {
     fn fair_share(capacity: u64, demands: &[u64]);
     fn limit(rate: u64, cell: &mut Octets);
     fn port(capacity: u64, demands: &[u64], cell: &mut Octets);
+    fn judge(trace: &[u8]);
     /// The house set with one code for the three rates.
     fn house(code: u32);
 }
@@ -145,6 +146,10 @@ impl Engine for Library {
     fn port(capacity: u64, demands: &[u64], cell: &mut Octets) {
         let (rates, count) = (demands.as_ptr(), demands.len());
         black_box(unsafe { ffi::abr_port(capacity, rates, count, cell.as_mut_ptr(), cell.len()) });
+    }
+
+    fn judge(trace: &[u8]) {
+        black_box(&unsafe { ffi::abr_judge(trace.as_ptr(), trace.len()) });
     }
 
     fn house(code: u32) {
@@ -264,6 +269,11 @@ impl Engine for Reference {
     #[inline(never)]
     fn port(capacity: u64, demands: &[u64], cell: &mut Octets) {
         black_box(&reference::port::port(capacity, demands, cell));
+    }
+
+    #[inline(never)]
+    fn judge(trace: &[u8]) {
+        black_box(&reference::judge::judge(trace));
     }
 
     #[inline(never)]

@@ -5,6 +5,7 @@ use std::hint::black_box;
 use reference::{Address, Params, Rm};
 
 use crate::engines::{Engine, Octets};
+use crate::traces;
 use crate::workload::{Sort, Workload};
 
 /// The VCIs on each VPI. Names rise over all VPIs: the i-th connection has VPI i / 4.
@@ -37,6 +38,8 @@ pub struct Fixture<E: Engine> {
     /// What a capacity is shared among, and the capacity, which limits.
     demands: Vec<u64>,
     capacity: u64,
+    /// What is judged.
+    pub trace: Vec<u8>,
 }
 
 impl<E: Engine> Fixture<E> {
@@ -57,6 +60,7 @@ impl<E: Engine> Fixture<E> {
             cells: rms.map(|rm| cell_of(&rm, workload)),
             capacity: demands.iter().sum::<u64>() / 2,
             demands,
+            trace: workload.trace(traces::octets),
         };
         for place in order(connections, workload) {
             let params = E::params(&params_of(place, workload));
@@ -171,6 +175,7 @@ impl<E: Engine> Fixture<E> {
                 *buffer = self.cells[i % 2];
                 E::port(self.capacity, black_box(&self.demands), buffer);
             }),
+            Workload::Judge { .. } => repeat(times, |_| E::judge(black_box(&self.trace))),
             Workload::House => repeat(times, |_| E::house(black_box(CODE))),
             other => unreachable!("{other:?} has a table"),
         }

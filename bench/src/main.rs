@@ -11,6 +11,7 @@ mod draw;
 mod engines;
 mod fixture;
 mod measure;
+mod traces;
 mod workload;
 
 use std::process::ExitCode;
@@ -61,7 +62,7 @@ fn picture(path: &str) -> ExitCode {
     for (connections, library, reference) in &points {
         println!("{connections} connections: library {library:.1} ns, reference {reference:.1} ns");
     }
-    match std::fs::write(path, draw::svg(&points)) {
+    match std::fs::write(path, draw::picture(&points)) {
         Ok(()) => ExitCode::SUCCESS,
         Err(error) => {
             eprintln!("{path}: {error}");

@@ -4,6 +4,7 @@ use std::time::Instant;
 
 use crate::engines::{Engine, Library, Reference};
 use crate::fixture::Fixture;
+use crate::traces;
 use crate::workload::{Row, Workload, ROWS};
 
 /// Passes over all rows, so that a slow period of the machine affects all rows
@@ -71,13 +72,30 @@ pub fn table() {
     for (row, (library, reference)) in rows() {
         let (text, ratio) = (row.text, reference / library);
         println!("{text:<58} {library:>7.1} ns {reference:>7.1} ns {ratio:>6.2}x");
+        if row.workload.cells() > 0 {
+            let [ours, theirs] = [library, reference].map(|ns| speed(row, ns));
+            println!("{:<58} {ours:>7.0} MB/s {theirs:>5.0} MB/s", "");
+        }
     }
 }
 
-/// Name, text and both times of each row, with tabs between.
+/// The octets of the trace that a row judges.
+fn octets(row: &Row) -> usize {
+    row.workload.trace(traces::octets).len()
+}
+
+/// A million octets per second, of a trace judged in so many nanoseconds.
+fn speed(row: &Row, nanoseconds: f64) -> f64 {
+    octets(row) as f64 * 1e3 / nanoseconds
+}
+
+/// Name, text and both times of each row, and the octets and cells of the trace that it
+/// judges, with tabs between.
 pub fn columns() {
     for (row, (library, reference)) in rows() {
-        println!("{}\t{}\t{library:.1}\t{reference:.1}", row.name, row.text);
+        let (octets, cells) = (octets(row), row.workload.cells());
+        let Row { name, text, .. } = row;
+        println!("{name}\t{text}\t{library:.1}\t{reference:.1}\t{octets}\t{cells}");
     }
 }
 

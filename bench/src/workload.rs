@@ -1,5 +1,7 @@
 //! The workloads that are measured, by name.
 
+use crate::traces::Numbers;
+
 /// A cell that is received or read.
 #[derive(Debug, Clone, Copy, PartialEq, Eq)]
 pub enum Sort {
@@ -62,6 +64,8 @@ pub enum Workload {
     Limit,
     /// A backward cell at a port with so many demands.
     Port { demands: u32 },
+    /// A trace of so many cells judged.
+    Judge { cells: u32, numbers: Numbers },
     /// The house set of parameters.
     House,
 }
@@ -79,6 +83,22 @@ impl Workload {
     pub fn demands(self) -> u32 {
         match self {
             Workload::FairShare { demands } | Workload::Port { demands } => demands,
+            _ => 0,
+        }
+    }
+
+    /// The trace that it judges, made by a function of its cells and their numbers.
+    pub fn trace(self, octets: impl Fn(u32, Numbers) -> Vec<u8>) -> Vec<u8> {
+        match self {
+            Workload::Judge { cells, numbers } => octets(cells, numbers),
+            _ => Vec::new(),
+        }
+    }
+
+    /// The cells of that trace.
+    pub fn cells(self) -> u32 {
+        match self {
+            Workload::Judge { cells, .. } => cells,
             _ => 0,
         }
     }
@@ -111,7 +131,7 @@ const fn row(name: &'static str, text: &'static str, connections: u32, workload:
 }
 
 /// All rows.
-pub static ROWS: [Row; 59] = [
+pub static ROWS: [Row; 61] = [
     row(
         "slot-1",
         "slot, 1 busy connection",
@@ -399,6 +419,24 @@ pub static ROWS: [Row; 59] = [
         "port, backward RM cell, 1,024 demands",
         0,
         Workload::Port { demands: 1_024 },
+    ),
+    row(
+        "judge",
+        "judge a trace, 256 cells of 7 octets",
+        0,
+        Workload::Judge {
+            cells: 256,
+            numbers: Numbers::Usual,
+        },
+    ),
+    row(
+        "judge-long",
+        "judge a trace, 256 cells of 15 octets",
+        0,
+        Workload::Judge {
+            cells: 256,
+            numbers: Numbers::Long,
+        },
     ),
     row("house", "house set of parameters", 0, Workload::House),
 ];

@@ -106,6 +106,12 @@ fn cut(rate: u64, exponent: u32) -> u64 {
     (rate * ((1 << exponent) - 1)) >> exponent
 }
 
+/// Whether a later cell is a forward one, k cells and `passed` nanoseconds after the last
+/// forward cell (document 01, "Slots"; document 02's L11 judges traces by it).
+pub fn forward_due(k: u32, nrm: u32, passed: u64, trm: u64) -> bool {
+    k == nrm - 1 || (k >= MRM && passed >= trm)
+}
+
 /// What a connection has sent, from its first cell on.
 #[derive(Debug, Clone, Copy, PartialEq, Eq)]
 struct History {
@@ -249,7 +255,7 @@ impl Connection {
         };
         let Contract { nrm, trm, .. } = self.rate.contract;
         let passed = time - history.last_forward;
-        if history.k == nrm - 1 || (history.k >= MRM && passed >= trm) {
+        if forward_due(history.k, nrm, passed, trm) {
             Kind::Forward
         } else if self.destination.waits() && (!history.turned || self.data == 0) {
             Kind::Turned

@@ -16,6 +16,7 @@
 //! * [`tournament`]: the matches between ready instants, and their count;
 //! * [`engine`]: the table of connections and the calls on it;
 //! * [`port`]: the share of a capacity, and the port of a switch that limits ER by it;
+//! * [`trace`], [`judge`]: the numbers of a trace, and the judge of one;
 //! * [`refusal`]: the numbers of the refusals.
 
 #![forbid(unsafe_code)]
@@ -26,12 +27,14 @@ pub mod connection;
 pub mod destination;
 pub mod double;
 pub mod engine;
+pub mod judge;
 pub mod params;
 pub mod port;
 pub mod rate;
 pub mod refusal;
 pub mod spacing;
 pub mod tournament;
+pub mod trace;
 
 #[cfg(test)]
 mod address_tests;
@@ -57,6 +60,7 @@ pub use cell::{read, write_rm, Cell, Rm};
 pub use connection::{Allowed, Kind};
 pub use double::{import, Exported, Imported};
 pub use engine::{Engine, Sent};
+pub use judge::Breach;
 pub use params::Params;
 pub use port::{fair_share, limit};
 pub use rate::{code_of, gap, rate, rate_of};

@@ -48,3 +48,9 @@ pub const DOUBLE: Refusal = 20;
 pub const DEMANDS: Refusal = 21;
 /// A demand above the largest rate.
 pub const DEMAND: Refusal = 22;
+/// A number of a trace that isn't in shortest form, or has more than 64 bits.
+pub const TRACE_NUMBER: Refusal = 23;
+/// A trace that is empty, or ends inside a record.
+pub const TRACE_END: Refusal = 24;
+/// n, Trm number, kind, rate or summed time of a trace out of range.
+pub const TRACE_RANGE: Refusal = 25;

@@ -138,7 +138,9 @@ fn opening_tests_19_before_13() {
         engine.open(at(vci), 0, &params()).unwrap();
     }
     refused(&engine, 13, |engine| engine.open(at(2000), 0, &params()));
-    refused(&engine, 19, |engine| engine.open(at(2000), 0, &with_bit(&[1])));
+    refused(&engine, 19, |engine| {
+        engine.open(at(2000), 0, &with_bit(&[1]))
+    });
 }
 
 #[test]

@@ -81,33 +81,37 @@ fn parameters(p: &Params) -> [String; 2] {
     [decimal(&rates), numbers]
 }
 
+/// PCR, MCR and ICR of a house set.
+const HOUSE: [(u32, u32, u32); 5] = [
+    (0x53E8, 0x4000, 0x4200),
+    (0x53E8, 0x0000, 0x4200),
+    (0x53E8, 0x4200, 0x4000),
+    (0x4000, 0x4000, 0x4200),
+    (0x153E8, 0x4000, 0x4200),
+];
+
+/// n, r, d, c, CRM, ADTF and the Trm number.
+const NUMBERS: [[u32; 7]; 12] = [
+    [1, 0, 0, 0, 1, 1, 0],
+    [8, 15, 15, 7, 8_388_608, 1023, 7],
+    [0, 4, 4, 4, 524_288, 50, 7],
+    [9, 4, 4, 4, 524_288, 50, 7],
+    [5, 16, 4, 4, 524_288, 50, 7],
+    [5, 4, 16, 4, 524_288, 50, 7],
+    [5, 4, 4, 8, 524_288, 50, 7],
+    [5, 4, 4, 4, 0, 50, 7],
+    [5, 4, 4, 4, 8_388_609, 50, 7],
+    [5, 4, 4, 4, 524_288, 0, 7],
+    [5, 4, 4, 4, 524_288, 1024, 7],
+    [5, 4, 4, 4, 524_288, 50, 8],
+];
+
 fn params() -> Lines {
-    let codes = [
-        (0x53E8, 0x4000, 0x4200),
-        (0x53E8, 0x0000, 0x4200),
-        (0x53E8, 0x4200, 0x4000),
-        (0x4000, 0x4000, 0x4200),
-        (0x153E8, 0x4000, 0x4200),
-    ];
-    let numbers = [
-        [1, 0, 0, 0, 1, 1, 0],
-        [8, 15, 15, 7, 8_388_608, 1023, 7],
-        [0, 4, 4, 4, 524_288, 50, 7],
-        [9, 4, 4, 4, 524_288, 50, 7],
-        [5, 16, 4, 4, 524_288, 50, 7],
-        [5, 4, 16, 4, 524_288, 50, 7],
-        [5, 4, 4, 8, 524_288, 50, 7],
-        [5, 4, 4, 4, 0, 50, 7],
-        [5, 4, 4, 4, 8_388_609, 50, 7],
-        [5, 4, 4, 4, 524_288, 0, 7],
-        [5, 4, 4, 4, 524_288, 1024, 7],
-        [5, 4, 4, 4, 524_288, 50, 8],
-    ];
     let mut lines = Lines::new();
-    for (pcr, mcr, icr) in codes {
+    for (pcr, mcr, icr) in HOUSE {
         lines.extend(parameters(&Params::house(pcr, mcr, icr)));
     }
-    for [n, r, d, c, crm, adtf, trm] in numbers {
+    for [n, r, d, c, crm, adtf, trm] in NUMBERS {
         let house = Params::house(0x53E8, 0x4000, 0x4200);
         lines.extend(parameters(&Params {
             n,
@@ -125,24 +129,29 @@ fn params() -> Lines {
     lines
 }
 
+/// Allowed rate, time since the last forward cell, c, Y, PCR; CI, NI and ER of a backward cell.
+type Move = (u64, u64, u32, u32, u32, bool, bool, u32);
+
+#[rustfmt::skip] // a row to a line
+const MOVES: [Move; 12] = [
+    (1000, 500_000_000, 4, 524_287, 0x7FFF, true, false, 0x7FFF),
+    (500_000, 500_000_000, 4, 524_287, 0x53E8, false, false, 0x7FFF),
+    (512_000, 500_000_000, 4, 524_287, 0x7FFF, true, false, 0x5120),
+    (512_000, 500_000_001, 4, 524_288, 0x7FFF, true, false, 0x5120),
+    (512_000, 500_000_001, 7, 524_288, 0x7FFF, true, false, 0x5120),
+    (600, 500_000_001, 4, 524_288, 0x7FFF, true, false, 0x5120),
+    (520, 500_000_001, 4, 8_388_608, 0x53E8, true, false, 0x7FFF),
+    (400_000, 0, 4, 0, 0x53E8, false, false, 0x7FFF),
+    (400_000, 0, 4, 0, 0x53E8, false, true, 0x7FFF),
+    (400_000, 0, 4, 0, 0x53E8, false, true, 0x5120),
+    (400_000, 0, 4, 0, 0x53E8, false, false, 0x0000),
+    (1000, 0, 4, 0, 0x53E8, true, true, 0x7FFF),
+];
+
 /// The house set with MCR 512, ICR 1,024 and another c: the allowed rate as
 /// opened, and what each move makes of this one.
 fn moved() -> Lines {
-    let rows = [
-        (1000, 500_000_000, 4, 524_287, 0x7FFF, true, false, 0x7FFF),
-        (500_000, 500_000_000, 4, 524_287, 0x53E8, false, false, 0x7FFF),
-        (512_000, 500_000_000, 4, 524_287, 0x7FFF, true, false, 0x5120),
-        (512_000, 500_000_001, 4, 524_288, 0x7FFF, true, false, 0x5120),
-        (512_000, 500_000_001, 7, 524_288, 0x7FFF, true, false, 0x5120),
-        (600, 500_000_001, 4, 524_288, 0x7FFF, true, false, 0x5120),
-        (520, 500_000_001, 4, 8_388_608, 0x53E8, true, false, 0x7FFF),
-        (400_000, 0, 4, 0, 0x53E8, false, false, 0x7FFF),
-        (400_000, 0, 4, 0, 0x53E8, false, true, 0x7FFF),
-        (400_000, 0, 4, 0, 0x53E8, false, true, 0x5120),
-        (400_000, 0, 4, 0, 0x53E8, false, false, 0x0000),
-        (1000, 0, 4, 0, 0x53E8, true, true, 0x7FFF),
-    ];
-    let line = |(acr, passed, c, y, pcr, ci, ni, er)| {
+    let line = |(acr, passed, c, y, pcr, ci, ni, er): Move| {
         let house = Params::house(pcr, 0x4000, 0x4200).contract().unwrap();
         let contract = Contract { c, ..house };
         let record = RateRecord { acr, contract };
@@ -155,7 +164,7 @@ fn moved() -> Lines {
         ];
         decimal(&moved.map(|record| record.acr))
     };
-    rows.map(line).to_vec()
+    MOVES.map(line).to_vec()
 }
 
 /// Octet 5 of four headers, and the checks of "123456789".
@@ -163,7 +172,10 @@ fn checks() -> Lines {
     let headers = [0x00, 0x01, 0x03, 0x09].map(|d| cell::header_check(&[0, 0, 0, d]));
     let crc8 = cell::crc8(b"123456789") ^ 0x55;
     let crc10 = cell::crc10(b"123456789");
-    vec![octets(&headers) + &octets(&[crc8]), hex(&[u32::from(crc10)])]
+    vec![
+        octets(&headers) + &octets(&[crc8]),
+        hex(&[u32::from(crc10)]),
+    ]
 }
 
 /// Fields in which each differs from its neighbours.
@@ -266,37 +278,43 @@ fn put_crc(cell: &mut Octets) {
     cell[52] = rest as u8;
 }
 
+/// A VCI, octet 4, an index and the octet there.
+const CHANGES: [(u32, u8, usize, u8); 22] = [
+    (0x1234, 0x4C, 4, 0x00),
+    (0x1234, 0x4C, 0, 0x10),
+    (0x1234, 0x4C, 1, 0x11),
+    (0x1234, 0x4C, 0, 0x08),
+    (0x1234, 0x48, 0, 0x00),
+    (0x1234, 0x4A, 0, 0x00),
+    (0x1234, 0x4E, 0, 0x00),
+    (0x1234, 0x4C, 5, 0x02),
+    (0x1234, 0x4C, 29, 0x6B),
+    (0x1234, 0x4C, 52, 0x00),
+    (0x1234, 0x4C, 7, 0xFF),
+    (0x1234, 0x4C, 9, 0xD3),
+    (0x1234, 0x4C, 11, 0xC0),
+    (0x1234, 0x4C, 0, 0xF0),
+    (0x1234, 0x4D, 0, 0x00),
+    (0x1234, 0x4C, 6, 0x0F),
+    (0x1234, 0x4C, 21, 0x00),
+    (0x1234, 0x4C, 51, 0xFC),
+    (42, 0xA0, 5, 0x00),
+    (42, 0xA2, 5, 0x00),
+    (42, 0xA4, 5, 0x00),
+    (42, 0xA6, 5, 0x00),
+];
+
 /// The sample on VPI 0 and a VCI with another octet 4, and another octet at an
 /// index: read as it is, then with octet 5 right, then with the CRC-10 right too.
 fn changes() -> Lines {
-    let rows = [
-        (0x1234, 0x4C, 4, 0x00),
-        (0x1234, 0x4C, 0, 0x10),
-        (0x1234, 0x4C, 1, 0x11),
-        (0x1234, 0x4C, 0, 0x08),
-        (0x1234, 0x48, 0, 0x00),
-        (0x1234, 0x4A, 0, 0x00),
-        (0x1234, 0x4E, 0, 0x00),
-        (0x1234, 0x4C, 5, 0x02),
-        (0x1234, 0x4C, 29, 0x6B),
-        (0x1234, 0x4C, 52, 0x00),
-        (0x1234, 0x4C, 7, 0xFF),
-        (0x1234, 0x4C, 9, 0xD3),
-        (0x1234, 0x4C, 11, 0xC0),
-        (0x1234, 0x4C, 0, 0xF0),
-        (0x1234, 0x4D, 0, 0x00),
-        (0x1234, 0x4C, 6, 0x0F),
-        (0x1234, 0x4C, 21, 0x00),
-        (0x1234, 0x4C, 51, 0xFC),
-        (42, 0xA0, 5, 0x00),
-        (42, 0xA2, 5, 0x00),
-        (42, 0xA4, 5, 0x00),
-        (42, 0xA6, 5, 0x00),
-    ];
     let mut lines = Lines::new();
-    for (vci, d, index, x) in rows {
+    for (vci, d, index, x) in CHANGES {
         let mut cell = [0; 53];
-        let rm = Rm { vpi: 0, vci, ..sample() };
+        let rm = Rm {
+            vpi: 0,
+            vci,
+            ..sample()
+        };
         write_rm(&rm, &mut cell).unwrap();
         cell[3] = d;
         cell[index] = x;
@@ -324,7 +342,14 @@ fn received(marks: u8) -> Octets {
 }
 
 fn turning() -> Lines {
-    let levels = [(0, false), (0, true), (1, false), (1, true), (2, false), (2, true)];
+    let levels = [
+        (0, false),
+        (0, true),
+        (1, false),
+        (1, true),
+        (2, false),
+        (2, true),
+    ];
     let mut lines = Lines::new();
     for octet in [0x00, 0x4F, 0x30, 0x5F] {
         for (level, efci) in levels {

@@ -23,4 +23,5 @@ void ignored(abr_table *table, uint8_t *cell, abr_params params, abr_rm rm, uint
     abr_fair_share(1, demands, 1);
     abr_limit(1, cell, ABR_CELL_OCTETS);
     abr_port(1, demands, 1, cell, ABR_CELL_OCTETS);
+    abr_judge(cell, 1);
 }

@@ -75,6 +75,9 @@ static void offsets_of_answers(void)
     AT(abr_share, refusal, 0, 4);
     AT(abr_share, limited, 4, 4);
     AT(abr_share, rate, 8, 8);
+    AT(abr_verdict, refusal, 0, 4);
+    AT(abr_verdict, rule, 4, 4);
+    AT(abr_verdict, cell, 8, 8);
 }
 
 /* Each field of an RM cell is written from and read to its own place. */

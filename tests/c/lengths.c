@@ -1,7 +1,8 @@
 /*
  * Buffers of 53 octets up to more than 2^32, mapped in full: a length that is 53
  * only in its low bits is refused like any other, and nothing is written. The same of
- * counts of demands that are small only in their low bits.
+ * counts of demands that are small only in their low bits. A trace whose length is that of
+ * a shorter one in its low bits is read behind that one's end.
  */
 #define _DEFAULT_SOURCE
 #include <string.h>
@@ -70,6 +71,19 @@ static void too_many(size_t count)
     munmap((void *)demands, size);
 }
 
+/* n and the Trm number, and then zeros: what is cut behind them passes, the rest has a kind of 0. */
+static void judged(uint8_t *octets, size_t above)
+{
+    for (size_t len = above; len <= above + 4; len++) {
+        octets[0] = 5;
+        octets[1] = 7;
+        abr_verdict verdict = abr_judge(octets, len);
+        CHECK(verdict.refusal == ABR_REFUSED_TRACE_RANGE && verdict.rule == 0 && verdict.cell == 0);
+        memset(octets, 0, 2);
+        CHECK(abr_judge(octets, len).refusal == ABR_REFUSED_TRACE_RANGE);
+    }
+}
+
 int main(void)
 {
     static const int widths[] = {7, 8, 16, 31, 32}, counts[] = {11, 16, 31, 32};
@@ -87,6 +101,10 @@ int main(void)
         refused(octets, ((size_t)1 << widths[i]) + ABR_CELL_OCTETS);
     }
     CHECK(abr_receive(&table, octets, ABR_CELL_OCTETS).refusal == ABR_OK);
+    memset(octets, 0, ABR_CELL_OCTETS);
+    for (size_t i = 0; i < sizeof widths / sizeof widths[0]; i++) {
+        judged(octets, (size_t)1 << widths[i]);
+    }
     for (size_t i = 0; i < sizeof counts / sizeof counts[0]; i++) {
         too_many(((size_t)1 << counts[i]) + 1);
     }

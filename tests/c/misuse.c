@@ -12,10 +12,11 @@
 #include "abr.h"
 #include "arbitrary.h"
 
-enum { TABLE, CELL, REFUSAL, DEMANDS, OBJECTS };
+enum { TABLE, CELL, REFUSAL, DEMANDS, TRACE, OBJECTS };
+enum { TRACE_OCTETS = 48 };
 enum {
     OPEN, CLOSE, RECEIVE, OFFER, SET_LEVEL, MAKE, SLOT, OUT_OF_RATE, ACR, EXPORT,
-    WRITE_RM, READ, CODE, RATE, IMPORT, FAIR_SHARE, LIMIT, PORT, HOUSE, CALLS
+    WRITE_RM, READ, CODE, RATE, IMPORT, FAIR_SHARE, LIMIT, PORT, JUDGE, HOUSE, CALLS
 };
 
 typedef struct {
@@ -24,7 +25,7 @@ typedef struct {
 } object;
 
 static const size_t sizes[OBJECTS] = {sizeof(abr_table), ABR_CELL_OCTETS, sizeof(uint32_t),
-                                      (ABR_DEMANDS_MAX + 2) * sizeof(uint64_t)};
+                                      (ABR_DEMANDS_MAX + 2) * sizeof(uint64_t), TRACE_OCTETS};
 static object objects[OBJECTS];
 static size_t guard;
 
@@ -130,6 +131,26 @@ static void any_demands(void)
     }
 }
 
+/* Octets that may be a trace: mostly small numbers behind a right beginning; the last one may say that more follow. */
+static void any_trace(void)
+{
+    static const uint8_t head[] = {5, 7, 0, 1, 0};
+    uint8_t *trace = at(TRACE), mask = next() % 4 ? 0x83 : 0xFF;
+    for (unsigned i = 0; i < TRACE_OCTETS; i++) {
+        trace[i] = (uint8_t)next() & mask;
+    }
+    memcpy(trace, head, (size_t)(next() % (sizeof head + 1)));
+}
+
+/* The refusal of the judge, given octets that end where their object ends; ~0 if what is beside it is wrong. */
+static uint32_t judge_call(void)
+{
+    size_t len = (size_t)(next() % (TRACE_OCTETS + 1));
+    abr_verdict verdict = abr_judge((uint8_t *)at(TRACE) + TRACE_OCTETS - len, len);
+    int none = verdict.refusal || !verdict.rule;
+    return verdict.rule > 3 || (verdict.refusal && verdict.rule) || none != !verdict.cell ? ~0u : verdict.refusal;
+}
+
 /* The refusal of a share, which has zeros beside it, and no rate where there is no limit; ~0 if not. */
 static uint32_t share_call(void)
 {
@@ -172,6 +193,7 @@ static uint32_t without_table(int call)
     case FAIR_SHARE: return share_call();
     case LIMIT: return abr_limit(edge_word(), at(CELL), any_length());
     case PORT: return abr_port(edge_word(), at(DEMANDS), demand_count, at(CELL), any_length());
+    case JUDGE: return judge_call();
     default: return abr_house((uint32_t)next(), 1, 2).n == ABR_HOUSE_N ? ABR_OK : ~0u;
     }
 }
@@ -208,7 +230,7 @@ static int may_write(int which, int call, uint32_t refusal)
     if (which == REFUSAL) {
         return call == EXPORT;
     }
-    if (which == DEMANDS) {
+    if (which == DEMANDS || which == TRACE) {
         return 0;
     }
     return call == SLOT ||
@@ -313,6 +335,7 @@ static int round_of_calls(unsigned long round)
         int call = (int)(next() % CALLS);
         any_cell();
         any_demands();
+        any_trace();
         copy(call);
         alarm(20);
         uint32_t refusal = one_call(call);

@@ -371,8 +371,48 @@ static void nothing_is_left(void)
 {
     CHECK(slot_is(ABR_TIME_MAX, NOBODY, ABR_SENT_IDLE, 0));
     CHECK(strcmp(abr_refusal_text(ABR_OK), "accepted") == 0);
-    CHECK(strcmp(abr_refusal_text(22), abr_refusal_text(23)) != 0);
-    CHECK(strcmp(abr_refusal_text(3), abr_refusal_text(23)) == 0); /* withdrawn (document 02, L6) */
+    CHECK(strcmp(abr_refusal_text(25), abr_refusal_text(26)) != 0);
+    CHECK(strcmp(abr_refusal_text(3), abr_refusal_text(26)) == 0); /* withdrawn (document 02, L6) */
+}
+
+/* The verdict on some octets. */
+static int verdict_is(const uint8_t *trace, size_t len, uint32_t refusal, uint32_t rule, uint64_t cell_number)
+{
+    abr_verdict verdict = abr_judge(trace, len);
+    return verdict.refusal == refusal && verdict.rule == rule && verdict.cell == cell_number;
+}
+
+/*
+ * A trace with Nrm 4 and Trm 100 ms: forward, data, backward, data and forward, a millisecond apart, which is the gap of
+ * 512,000. Then one octet is another.
+ */
+static void judges_a_trace(void)
+{
+    uint8_t trace[] = {2, 7, 0, 1, 0, 0xC0, 0x84, 0x3D, 3, 0x80, 0xA0, 0x1F, 0xC0, 0x84, 0x3D, 2, 0x80, 0xA0, 0x1F,
+                       0xC0, 0x84, 0x3D, 3, 0x80, 0xA0, 0x1F, 0xC0, 0x84, 0x3D, 1, 0x80, 0xA0, 0x1F};
+    const size_t len = sizeof trace;
+    CHECK(verdict_is(trace, len, ABR_OK, ABR_RULE_NONE, 0));
+    CHECK(verdict_is(trace, 2, ABR_OK, ABR_RULE_NONE, 0)); /* no cell */
+    CHECK(verdict_is(trace, 0, ABR_REFUSED_TRACE_END, 0, 0));
+    CHECK(verdict_is(trace, 1, ABR_REFUSED_TRACE_END, 0, 0));
+    CHECK(verdict_is(trace, len - 1, ABR_REFUSED_TRACE_END, 0, 0));
+    trace[29] = 3; /* Nrm - 1 cells have gone, and no forward cell comes */
+    CHECK(verdict_is(trace, len, ABR_OK, ABR_RULE_FORWARD, 5));
+    trace[19] = 0xBF; /* a nanosecond early */
+    CHECK(verdict_is(trace, len, ABR_OK, ABR_RULE_GAP, 4));
+    trace[15] = 1; /* a forward cell too early */
+    CHECK(verdict_is(trace, len, ABR_OK, ABR_RULE_FORWARD, 3));
+    trace[5] = 0xBF; /* two rules are broken */
+    trace[8] = 1;
+    CHECK(verdict_is(trace, len, ABR_OK, ABR_RULE_GAP, 2));
+    trace[3] = 2;
+    CHECK(verdict_is(trace, len, ABR_OK, ABR_RULE_FIRST, 1));
+    trace[len - 1] = 0x80; /* the last number does not end, or has a last group of 0 */
+    CHECK(verdict_is(trace, len, ABR_REFUSED_TRACE_END, 0, 0));
+    trace[len - 1] = 0;
+    CHECK(verdict_is(trace, len, ABR_REFUSED_TRACE_NUMBER, 0, 0));
+    trace[22] = 4; /* a kind that there is not, before that */
+    CHECK(verdict_is(trace, len, ABR_REFUSED_TRACE_RANGE, 0, 0));
 }
 
 static int scenario(const char *name)
@@ -392,6 +432,7 @@ static int scenario(const char *name)
     exports(SECOND, ABR_OK);
     exports(NOT_OPEN, ABR_REFUSED_NOT_OPEN);
     passes_a_port();
+    judges_a_trace();
     reserved_bit_in_a_cell(FIRST);
     reserved_bit_in_a_cell(NOT_OPEN);
     reserved_bit_in_an_open();

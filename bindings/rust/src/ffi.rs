@@ -4,7 +4,7 @@
 #![allow(non_camel_case_types, missing_docs)]
 
 /// The version of the header: major, minor and patch number, eight bits each.
-pub const ABR_VERSION: u32 = 0x00_0B_00;
+pub const ABR_VERSION: u32 = 0x00_0C_00;
 
 /// The words of a table.
 pub const ABR_TABLE_WORDS: usize = 35_859;
@@ -113,6 +113,15 @@ pub struct abr_share {
     pub rate: u64,
 }
 
+/// The answer of `abr_judge`.
+#[repr(C)]
+#[derive(Debug, Clone, Copy, PartialEq, Eq, Default)]
+pub struct abr_verdict {
+    pub refusal: u32,
+    pub rule: u32,
+    pub cell: u64,
+}
+
 extern "C" {
     pub fn abr_version() -> u32;
     pub fn abr_table_words() -> u32;
@@ -159,6 +168,7 @@ extern "C" {
         cell: *mut u8,
         len: usize,
     ) -> u32;
+    pub fn abr_judge(trace: *const u8, len: usize) -> abr_verdict;
 }
 
 /// Whether these declarations and the linked archive belong together.

@@ -33,6 +33,7 @@
 mod cell;
 mod double;
 pub mod ffi;
+mod judge;
 mod params;
 mod port;
 mod rate;
@@ -41,6 +42,7 @@ mod table;
 
 pub use cell::{read, write_rm, Cell, Rm, CELL_OCTETS};
 pub use double::{import, Contract, Imported};
+pub use judge::{judge, Rule, Verdict};
 pub use params::Params;
 pub use port::{fair_share, limit, port, Share, DEMANDS_MAX};
 pub use rate::{code, rate, RATE_MAX, RATE_ONE};

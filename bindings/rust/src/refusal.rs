@@ -5,7 +5,7 @@ use std::fmt;
 
 /// A refused call changes nothing and says why (document 01, "Refused because
 /// of the input" and "Refused because of the state"; document 02, L1, L5, L7,
-/// L8 and L10). L6 withdrew refusal 3.
+/// L8, L10 and L11). L6 withdrew refusal 3.
 ///
 /// ```
 /// use abr::Refusal;
@@ -13,7 +13,7 @@ use std::fmt;
 /// assert_eq!(Refusal::Range.number(), 7);
 /// assert_eq!(Refusal::try_from(7), Ok(Refusal::Range));
 /// assert_eq!(Refusal::try_from(3), Err(3));
-/// assert_eq!(Refusal::try_from(23), Err(23));
+/// assert_eq!(Refusal::try_from(26), Err(26));
 /// assert_eq!(Refusal::Full.to_string(), "1,024 connections are open");
 /// ```
 #[derive(Debug, Clone, Copy, PartialEq, Eq, Hash)]
@@ -64,11 +64,18 @@ pub enum Refusal {
     Demands = 21,
     /// A demand is above the largest rate.
     Demand = 22,
+    /// A number of a trace is not in shortest form, or has more than 64 bits.
+    TraceNumber = 23,
+    /// A trace is empty, or ends inside a record.
+    TraceEnd = 24,
+    /// n, the Trm number, a kind, a rate or the sum of the times of a trace is out of
+    /// range.
+    TraceRange = 25,
 }
 
 impl Refusal {
     /// All refusals in the order of their numbers.
-    pub const ALL: [Refusal; 21] = [
+    pub const ALL: [Refusal; 24] = [
         Refusal::Length,
         Refusal::HeaderCheck,
         Refusal::PayloadType,
@@ -90,6 +97,9 @@ impl Refusal {
         Refusal::Double,
         Refusal::Demands,
         Refusal::Demand,
+        Refusal::TraceNumber,
+        Refusal::TraceEnd,
+        Refusal::TraceRange,
     ];
 
     /// Its number in the documents.
@@ -127,6 +137,11 @@ impl Refusal {
             }
             Refusal::Demands => "over 1,024 demands",
             Refusal::Demand => "a demand is above the largest rate",
+            Refusal::TraceNumber => "a number of a trace is not in shortest form or over 64 bits",
+            Refusal::TraceEnd => "trace is empty or ends inside a record",
+            Refusal::TraceRange => {
+                "n, Trm number, kind, rate or summed time of a trace is out of range"
+            }
         }
     }
 

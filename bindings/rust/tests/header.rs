@@ -3,7 +3,7 @@
 
 use std::mem::{align_of, offset_of, size_of};
 
-use abr::{ffi, Refusal};
+use abr::{ffi, Refusal, Rule};
 
 const HEADER: &str = include_str!("../../../include/abr.h");
 
@@ -111,7 +111,21 @@ fn the_refusals_are_those_of_the_header() {
     assert_eq!(defined("ABR_OK"), (0, "accepted"));
     assert_eq!(Refusal::try_from(0), Err(0));
     assert_eq!(Refusal::try_from(3), Err(3)); // withdrawn by document 02's L6
-    assert_eq!(Refusal::try_from(23), Err(23));
+    assert_eq!(Refusal::try_from(26), Err(26));
+}
+
+#[test]
+fn the_rules_of_a_trace_are_those_of_the_header() {
+    for (name, rule) in [
+        ("FIRST", Rule::First),
+        ("GAP", Rule::Gap),
+        ("FORWARD", Rule::Forward),
+    ] {
+        let (number, comment) = defined(&format!("ABR_RULE_{name}"));
+        assert_eq!((number, comment), (rule.number().into(), rule.text()));
+        assert_eq!(rule.to_string(), comment);
+    }
+    assert_eq!(value("ABR_RULE_NONE"), 0);
 }
 
 #[test]
@@ -147,6 +161,9 @@ fn the_layouts_are_those_of_the_header() {
     assert_eq!(size_of::<ffi::abr_share>(), 16);
     assert_eq!(offset_of!(ffi::abr_share, limited), 4);
     assert_eq!(offset_of!(ffi::abr_share, rate), 8);
+    assert_eq!(size_of::<ffi::abr_verdict>(), 16);
+    assert_eq!(offset_of!(ffi::abr_verdict, rule), 4);
+    assert_eq!(offset_of!(ffi::abr_verdict, cell), 8);
 }
 
 /// Header and INTEGRATION.md say how many octets a table has.
@@ -178,5 +195,5 @@ fn every_prototype_of_the_header_is_declared_and_no_other() {
     let ffi = include_str!("../src/ffi.rs");
     let foreign = |line: &&str| line.starts_with("    pub fn ");
     assert_eq!(header, names(ffi.lines().filter(foreign)));
-    assert_eq!(header.len(), 21);
+    assert_eq!(header.len(), 22);
 }

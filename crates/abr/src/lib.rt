@@ -6,4 +6,5 @@ pub mod connections;
 pub mod link;
 pub mod planning;
 pub mod ports;
+pub mod traces;
 pub mod version;

@@ -4,12 +4,11 @@ use Prim.Native.Nat.{ℕ}
 use lib.IntN.{pos}
 use Rattle.cell.specs.Name.{vpiIn, vciIn}
 use Rattle.connection.specs.Change.{difference, asRates}
-use Rattle.connection.specs.declared.kind.Kind.{Kind}
-use Rattle.connection.specs.declared.kind.Kind.the-variants.{Forward, Turned, Data}
 use Rattle.model.specs.declared.answer.Answer.{Answer}
 use Rattle.model.specs.declared.answer.Answer.the-variants.{Refused, Accepted, Idle, Sent}
 use Rattle.model.specs.declared.acr.Acr.{Acr}
 use Rattle.model.specs.declared.acr.Acr.the-variants.{NotOpen, Rate}
+use Rattle.connection.specs.Kind.{kindNumber}
 pub use Rattle.answers.specs.declared.calls.AcrAnswer.{AcrAnswer}
 pub use Rattle.answers.specs.declared.calls.CallAnswer.{CallAnswer}
 pub use Rattle.answers.specs.declared.calls.SlotAnswer.{SlotAnswer}
@@ -25,12 +24,7 @@ callAnswer (Accepted n) = record { refusal = 0; comparisons = n }
 callAnswer Idle = refusalAlone 0
 callAnswer (Sent v k a n) = record { refusal = 0; comparisons = n }
 
--- the kinds of cell that a slot sends; 0 is none
-abbrev pub kindNumber : Kind → ℕ
-kindNumber Forward = 1
-kindNumber Turned = 2
-kindNumber Data = 3
-
+-- kind 0 is none
 abbrev pub noCell : (refusal comparisons : ℕ) → SlotAnswer
 noCell n k = record { refusal = n; comparisons = k; kind = 0; vpi = 0; vci = 0; acr = 0 }
 

@@ -4,3 +4,4 @@ pub mod Cells
 pub mod Codes
 pub mod Planning
 pub mod Shares
+pub mod Traces

@@ -1,6 +1,7 @@
 // What the calls on a table return (document 01, "Slots"; document 02, L4, L6 and L9).
 ghost use mathlib.Core.Path.{_≡_};
-ghost use Rattle.answers.specs.Calls.{callAnswer, acrAnswer, ofRates, kindNumber, noCell, slotAnswer};
+ghost use Rattle.answers.specs.Calls.{callAnswer, acrAnswer, ofRates, noCell, slotAnswer};
+ghost use Rattle.connection.specs.Kind.{kindNumber};
 use connection::kind::Kind;
 use model::acr::Acr;
 use model::answer::Answer;

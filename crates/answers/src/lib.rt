@@ -4,3 +4,4 @@ pub mod cells;
 pub mod codes;
 pub mod planning;
 pub mod shares;
+pub mod traces;

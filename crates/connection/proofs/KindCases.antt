@@ -15,15 +15,15 @@ module _ (x : ℕ) (c : Connection) {p : Pace} where
 
   module _ {s f k : ℕ} {t : Bool} (e : p ≡ Running s f k t) {l : Bool} (m : l ≡ lastBefore c k) where
     pub forward-last : l ≡ true → true ≡ isForward x c p
-    unfolding isForward
+    unfolding isForward lastBefore
     forward-last h = rw (e, sym m ∙ h)
 
     pub forward-few : l ≡ false → k < 2 → false ≡ isForward x c p
-    unfolding isForward
+    unfolding isForward lastBefore
     forward-few h b = rw (e, sym m ∙ h, lt-leb _ _ b)
 
     pub forward-trm : l ≡ false → 2 ≤ k → leb (f + c .trm) x ≡ isForward x c p
-    unfolding isForward
+    unfolding isForward lastBefore
     forward-trm h b = rw (e, sym m ∙ h, le-leb _ _ b)
 
 module _ (c : Connection) {p : Pace} where

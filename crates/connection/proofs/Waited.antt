@@ -46,7 +46,7 @@ nothing-ready false b false false due soon t i p q r h = let z : _≡_ {A = ℕ}
 data-from :
     (t : ℕ) (c : Connection) (p : Pace) (i : ℕ) → readyFrom c p ≡ At i → i ≤ t → isForward t c p ≡ false → isTurned c p ≡ false
     → 0 < waiting (c .queue)
-unfolding readyFrom anyWaits isForward isTurned
+unfolding readyFrom anyWaits isForward isTurned lastBefore
 data-from t c Unsent i r h f g = let z : _≡_ {A = ℕ} 0 1 = cc in absurd (omega arith)
 data-from t c (Running sent forward k turned) i r h f g = go (ltb 0 (waiting (c .queue))) refl
   where

@@ -1,16 +1,24 @@
 -- What kind of cell a connection sends in a slot at t. (Document 01, "Slots".)
-use Prim.Native.Nat.{ℕ, _+_}
+use Prim.Native.Nat.{ℕ}
 use mathlib.Core.Bool.{Bool, true, false, cond, _&&_, _||_, not}
-use lib.Dec.{leb, eqb}
+use lib.Dec.{eqb}
+use Rattle.params.specs.Params.{nrm}
+use Rattle.params.specs.Forward.{forwardDue}
 use Rattle.connection.specs.Parts.{Connection, Pace, Unsent, Running, waiting}
-use Rattle.connection.specs.Ready.{backwardWaits, lastBefore}
+use Rattle.connection.specs.Ready.{backwardWaits}
 pub use Rattle.connection.specs.declared.kind.Kind.{Kind}
 pub use Rattle.connection.specs.declared.kind.Kind.the-variants.{Forward, Turned, Data}
 
--- the first cell is a forward one; later cells are if k = Nrm − 1, or from k = 2 on if Trm has passed since the last
+-- the numbers of the kinds: in what a slot returns (document 01, "Slots") and in a trace (document 02, L11)
+abbrev pub kindNumber : Kind → ℕ
+kindNumber Forward = 1
+kindNumber Turned = 2
+kindNumber Data = 3
+
+-- the first cell is a forward one; a later one is when it is due
 unfoldable pub isForward : ℕ → Connection → Pace → Bool
 isForward t c Unsent = true
-isForward t c (Running sent forward k turned) = lastBefore c k || (leb 2 k && leb (forward + c .trm) t)
+isForward t c (Running sent forward k turned) = forwardDue (nrm (c .rate .params)) (c .trm) k forward t
 
 -- a turned or made cell that waits goes if none went since the last forward cell, or if no data waits
 unfoldable pub isTurned : Connection → Pace → Bool

@@ -5,3 +5,4 @@ pub mod Makings
 pub mod OutOfRateCalls
 pub mod AddressCalls
 pub mod ReservedCalls
+pub mod OwnTrace

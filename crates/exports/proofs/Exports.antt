@@ -78,7 +78,7 @@ kind-number (Sent v Turned a n) = refl
 kind-number (Sent v Data a n) = refl
 
 -- the pair that a slot returned makes the name again
-back : (v : ℕ) → nameOf (vpiIn v) (vciIn v) ≡ v
+pub back : (v : ℕ) → nameOf (vpiIn v) (vciIn v) ≡ v
 back v = omega arith
 
 went-to : (a : Answer) → wentTo (slotAnswer a) ≡ goesTo a

@@ -2,3 +2,4 @@
 pub mod Exports
 pub mod Comparisons
 pub mod Planning
+pub mod Recorded

@@ -1,3 +1,5 @@
 -- The parameters of an open, as document 01 sets them out; the code follows with the same names.
 pub mod Params
 pub mod Ranges
+-- The slot's rule over Nrm and Trm:
+pub mod Forward

@@ -1,8 +1,7 @@
 //! The picture itself.
 
-use std::fmt::Write;
-
 use crate::scenario::{Track, END, MS, PHASES};
+use crate::svg::{self, put, text, thousands};
 
 const WIDTH: f64 = 960.0;
 const HEIGHT: f64 = 480.0;
@@ -26,17 +25,8 @@ fn y(cells: f64) -> f64 {
 
 /// The whole picture.
 pub fn svg(tracks: &[Track]) -> String {
-    let mut out = format!(
-        "<svg xmlns=\"http://www.w3.org/2000/svg\" viewBox=\"0 0 {WIDTH} {HEIGHT}\" \
-         width=\"{WIDTH}\" height=\"{HEIGHT}\" font-family=\"Helvetica, Arial, DejaVu Sans, sans-serif\" \
-         font-size=\"14\" fill=\"#333\">\n<rect width=\"100%\" height=\"100%\" fill=\"white\"/>\n"
-    );
-    text(
-        &mut out,
-        (LEFT, 28.0),
-        "start\" font-size=\"17\" font-weight=\"bold",
-        "Allowed rates of two connections under changing congestion",
-    );
+    let title = "Allowed rates of two connections under changing congestion";
+    let mut out = svg::begin((WIDTH, HEIGHT), (LEFT, 28.0), title);
     phases(&mut out);
     axes(&mut out);
     for (track, colour) in tracks.iter().zip(COLOURS) {
@@ -44,19 +34,6 @@ pub fn svg(tracks: &[Track]) -> String {
     }
     out.push_str("</svg>\n");
     out
-}
-
-/// A line of text with its anchor.
-fn text(out: &mut String, (x, y): (f64, f64), anchor: &str, words: &str) {
-    put(
-        out,
-        format_args!("<text x=\"{x:.1}\" y=\"{y:.1}\" text-anchor=\"{anchor}\">{words}</text>\n"),
-    );
-}
-
-/// Writing to a string cannot fail.
-fn put(out: &mut String, words: std::fmt::Arguments<'_>) {
-    out.write_fmt(words).expect("a string accepts all");
 }
 
 /// A band for each phase, with its name above.
@@ -81,7 +58,12 @@ fn axes(out: &mut String) {
             out,
             format_args!("<path d=\"M{left} {at:.1}H{right}\" stroke=\"#ccc\"/>\n"),
         );
-        text(out, (left - 10.0, at + 5.0), "end", &thousands(cells));
+        text(
+            out,
+            (left - 10.0, at + 5.0),
+            "end",
+            &thousands(cells.into()),
+        );
     }
     let floor = y(0.0);
     for ms in (0..=END / MS).step_by(200) {
@@ -90,7 +72,7 @@ fn axes(out: &mut String) {
             out,
             format_args!("<path d=\"M{at:.1} {floor}v6\" stroke=\"#333\"/>\n"),
         );
-        text(out, (at, floor + 24.0), "middle", &thousands(ms as u32));
+        text(out, (at, floor + 24.0), "middle", &thousands(ms));
     }
     put(out, format_args!("<path d=\"M{left} {TOP}V{floor}H{right}\" fill=\"none\" stroke=\"#333\" stroke-width=\"1.5\"/>\n"));
     text(
@@ -101,14 +83,6 @@ fn axes(out: &mut String) {
     );
     let middle = (TOP + floor) / 2.0;
     put(out, format_args!("<text transform=\"translate(22 {middle}) rotate(-90)\" text-anchor=\"middle\">allowed cells per second (ACR)</text>\n"));
-}
-
-/// A number with a comma before its thousands.
-fn thousands(number: u32) -> String {
-    match number {
-        0..=999 => number.to_string(),
-        _ => format!("{},{:03}", number / 1_000, number % 1_000),
-    }
 }
 
 /// A rate over time in steps, named at its end.

@@ -1,13 +1,12 @@
 //! Draws the allowed rates of two connections over time, with and without
 //! congestion: `picture [FILE]`, an SVG, to standard output without a file.
 
-mod draw;
-mod scenario;
-
 use std::process::ExitCode;
 
+use picture::{draw, scenario};
+
 fn main() -> ExitCode {
-    let svg = match scenario::run() {
+    let svg = match scenario::tracks() {
         Ok(tracks) => draw::svg(&tracks),
         Err(refusal) => {
             eprintln!("refused: {refusal}");

@@ -2,7 +2,7 @@
 
 use std::collections::VecDeque;
 
-use abr::{Cell, Kind, Params, Refusal, Rm, Table, CELL_OCTETS, RATE_ONE};
+use abr::{Cell, Kind, Params, Refusal, Rm, Sent, Table, CELL_OCTETS, RATE_ONE};
 
 /// One millisecond.
 pub const MS: u64 = 1_000_000;
@@ -14,7 +14,7 @@ const SLOT: u64 = 50_000;
 const ROUND_TRIP: u64 = 20 * MS;
 
 /// The path of both connections.
-const VPI: u32 = 1;
+pub const VPI: u32 = 1;
 
 /// The two connections.
 pub const VCIS: [u32; 2] = [32, 33];
@@ -69,15 +69,43 @@ pub struct Track {
     pub points: Vec<(u64, f64)>,
 }
 
-/// Runs the scenario.
-pub fn run() -> Result<Vec<Track>, Refusal> {
-    let mut table = Table::new();
-    table.open(VPI, 32, 0, &contract(8_000, 1_000, 6)?)?;
-    table.open(VPI, 33, 0, &contract(5_000, 500, 5)?)?;
+/// The allowed rates of both connections, over the scenario.
+pub fn tracks() -> Result<Vec<Track>, Refusal> {
     let mut tracks = VCIS.map(|vci| Track {
         vci,
         points: Vec::new(),
     });
+    run(|slot| {
+        for (track, acr) in tracks.iter_mut().zip(slot.after) {
+            track.add(slot.time, acr);
+        }
+    })?;
+    Ok(tracks.into())
+}
+
+/// A slot of the scenario.
+pub struct Slot {
+    /// Its time.
+    pub time: u64,
+    /// The allowed rates of both connections before it.
+    pub before: [u64; 2],
+    /// What is sent in it.
+    pub sent: Option<Sent>,
+    /// The allowed rates afterwards.
+    pub after: [u64; 2],
+}
+
+/// The parameters of both connections.
+pub fn params() -> Result<[Params; 2], Refusal> {
+    Ok([contract(8_000, 1_000, 6)?, contract(5_000, 500, 5)?])
+}
+
+/// Runs the scenario and shows each slot.
+pub fn run(mut see: impl FnMut(&Slot)) -> Result<(), Refusal> {
+    let mut table = Table::new();
+    for (vci, params) in VCIS.into_iter().zip(params()?) {
+        table.open(VPI, vci, 0, &params)?;
+    }
     let mut answers: VecDeque<(u64, [u8; CELL_OCTETS])> = VecDeque::new();
     for time in (0..=END).step_by(SLOT as usize) {
         while answers.front().is_some_and(|(due, _)| *due <= time) {
@@ -88,16 +116,27 @@ pub fn run() -> Result<Vec<Track>, Refusal> {
             table.offer(VPI, vci, 1).map(drop).or_else(no_room)?;
         }
         let mut cell = [0; CELL_OCTETS];
-        if let Some(sent) = table.slot(time, &mut cell)? {
+        let before = rates(&table)?;
+        let sent = table.slot(time, &mut cell)?;
+        if let Some(sent) = sent {
             if sent.kind == Kind::Forward {
                 answers.push_back((time + ROUND_TRIP, answer(&cell, time + ROUND_TRIP / 2)?));
             }
         }
-        for track in &mut tracks {
-            track.add(time, table.acr(VPI, track.vci)?);
-        }
+        see(&Slot {
+            time,
+            before,
+            sent,
+            after: rates(&table)?,
+        });
     }
-    Ok(tracks.into())
+    Ok(())
+}
+
+/// The allowed rates of both connections.
+fn rates(table: &Table) -> Result<[u64; 2], Refusal> {
+    let [first, second] = VCIS.map(|vci| table.acr(VPI, vci));
+    Ok([first?, second?])
 }
 
 /// Peak and initial rate in cells per second, and the exponent of RIF.

@@ -1,8 +1,8 @@
 //! The structs of the C interface and of the reference, converted into each
 //! other.
 
-use abr::ffi::{abr_cell, abr_params, abr_rm, abr_sent, abr_share};
-use reference::{Cell, Kind, Params, Rm, Sent};
+use abr::ffi::{abr_cell, abr_params, abr_rm, abr_sent, abr_share, abr_verdict};
+use reference::{Breach, Cell, Kind, Params, Rm, Sent};
 
 /// A struct with these fields of another.
 macro_rules! copied {
@@ -69,6 +69,16 @@ pub fn library_share(share: Option<u64>) -> abr_share {
         refusal: 0,
         limited: share.is_some().into(),
         rate: share.unwrap_or(0),
+    }
+}
+
+/// The library's answer of an accepted trace; nothing is a trace that passes.
+pub fn library_verdict(breach: Option<Breach>) -> abr_verdict {
+    let (rule, cell) = breach.map_or((0, 0), |breach| (breach.rule, breach.cell));
+    abr_verdict {
+        refusal: 0,
+        rule,
+        cell,
     }
 }
 

@@ -78,6 +78,10 @@ pub enum Call {
         demands: Demands,
         cell: Octets,
     },
+    /// The trace is drawn from a seed.
+    Judge {
+        trace: u64,
+    },
     House {
         pcr: u32,
         mcr: u32,
@@ -86,7 +90,7 @@ pub enum Call {
 }
 
 /// The sorts of call, in the order of [`Call::sort`].
-pub const SORTS: [&str; 19] = [
+pub const SORTS: [&str; 20] = [
     "open",
     "close",
     "receive",
@@ -105,6 +109,7 @@ pub const SORTS: [&str; 19] = [
     "fair_share",
     "limit",
     "port",
+    "judge",
     "house",
 ];
 
@@ -130,7 +135,8 @@ impl Call {
             Call::FairShare { .. } => 15,
             Call::Limit { .. } => 16,
             Call::Port { .. } => 17,
-            Call::House { .. } => 18,
+            Call::Judge { .. } => 18,
+            Call::House { .. } => 19,
         }
     }
 
@@ -187,6 +193,8 @@ pub enum Answer {
     Imported { code: u32, remainder: u64 },
     /// A share of a capacity.
     Share(abr::ffi::abr_share),
+    /// A verdict on a trace.
+    Verdict(abr::ffi::abr_verdict),
     /// The house set.
     Params(abr_params),
 }

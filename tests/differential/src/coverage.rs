@@ -368,6 +368,68 @@ events! {
     PassedCoded,
     /// A limit lowered ER in a cell with GFC, CLP and reserved bits set.
     PassedOtherBits,
+    /// A trace without a cell was judged.
+    TraceNoCell,
+    /// A later cell came exactly a gap after the one before.
+    TraceGapExact,
+    /// One came a nanosecond earlier.
+    TraceGapLessOne,
+    /// A forward cell came at exactly Trm.
+    TraceTrmExact,
+    /// Another cell came a nanosecond before Trm.
+    TraceTrmLessOne,
+    /// Another cell came at Trm or later, fewer than two having gone.
+    TraceTrmTooFew,
+    /// A forward cell came because of Nrm, within Trm.
+    TraceNrm,
+    /// Another cell came at k = Nrm - 2, within Trm.
+    TraceNrmLessOne,
+    /// The times of a trace sum to 2^62.
+    TraceTimeMax,
+    /// The first cell had a rate of 0, the least or the largest.
+    TraceFirstRate,
+    /// The first cell was not forward.
+    TraceFirstKind,
+    /// A later cell had a rate of 0.
+    TraceRateZero,
+    /// A forward cell came that was not due.
+    TraceForwardEarly,
+    /// Another cell came where a forward one was due.
+    TraceForwardMissing,
+    /// A forward cell came that was not due, and early.
+    TraceGapBeforeKind,
+    /// Two or more cells broke a rule.
+    TraceBrokenTwice,
+    /// A trace was empty.
+    TraceEmpty,
+    /// A trace had n alone.
+    TraceHalfHead,
+    /// A trace ended inside a record.
+    TraceCut,
+    /// A number had a last group of 0.
+    TraceLastGroupZero,
+    /// A number had another tenth octet than 1.
+    TraceTenthOctet,
+    /// n was out of range.
+    TraceN,
+    /// The Trm number was.
+    TraceTrm,
+    /// The first time was not 0.
+    TraceFirstTime,
+    /// A kind was out of range.
+    TraceKind,
+    /// A rate was.
+    TraceRate,
+    /// The sum of the times was.
+    TraceSum,
+    /// A number was out of form and out of range.
+    TraceFormBeforeRange,
+    /// A number was out of range, and a later one out of form.
+    TraceRangeThenForm,
+    /// A number was out of form, and a later one out of range.
+    TraceFormThenRange,
+    /// A cell broke a rule, and a refusal followed.
+    TraceRefusedAfterBroken,
     /// Exactly 65,535 cells wait after an offer.
     OfferFills,
     /// An offer of nothing to a full connection.
@@ -375,7 +437,7 @@ events! {
 }
 
 /// The greatest number of a refusal.
-const REFUSAL_MAX: usize = 22;
+const REFUSAL_MAX: usize = 25;
 
 /// Counts of all that was reached.
 #[derive(Debug, Clone)]
@@ -384,6 +446,8 @@ pub struct Coverage {
     pub calls: u64,
     /// Allowed rates compared.
     pub rates: u64,
+    /// Cells recorded of connections, whose traces were judged.
+    pub recorded: u64,
     /// By sort of call and refusal number; 0 means accepted.
     pub outcomes: [[u64; REFUSAL_MAX + 1]; SORTS.len()],
     /// By kind of slot; 0 is idle.
@@ -406,6 +470,7 @@ impl Default for Coverage {
         Coverage {
             calls: 0,
             rates: 0,
+            recorded: 0,
             outcomes: [[0; REFUSAL_MAX + 1]; SORTS.len()],
             kinds: [0; 4],
             comparisons: [[0; COMPARISONS_MAX as usize + 1]; SORTS.len()],
@@ -437,6 +502,7 @@ const REFUSALS: [&[usize]; SORTS.len()] = [
     &[21, 22],
     &[1, 2, 4, 5, 6, 19],
     &[1, 2, 4, 5, 6, 19, 21, 22],
+    &[23, 24, 25],
     &[],
 ];
 
@@ -496,6 +562,7 @@ impl Coverage {
         };
         self.calls += other.calls;
         self.rates += other.rates;
+        self.recorded += other.recorded;
         for (to, from) in self.outcomes.iter_mut().zip(&other.outcomes) {
             add(to, from);
         }
@@ -561,9 +628,10 @@ impl Coverage {
             .map(|event| format!("{event:?} {}", self.reached(*event)))
             .collect();
         format!(
-            "{} calls, {} rates compared; slots idle {}, forward {}, turned {}, data {}; {}",
+            "{} calls, {} rates compared, {} cells recorded; slots idle {}, forward {}, turned {}, data {}; {}",
             self.calls,
             self.rates,
+            self.recorded,
             self.kinds[0],
             self.kinds[1],
             self.kinds[2],

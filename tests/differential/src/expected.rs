@@ -1,11 +1,13 @@
 //! The expected outcome of a call: the reference's.
 
 use convert::{
-    library_cell, library_params, library_sent, library_share, reference_params, reference_rm,
+    library_cell, library_params, library_sent, library_share, library_verdict, reference_params,
+    reference_rm,
 };
-use reference::{port, Engine, Exported, Imported, Params};
+use reference::{judge, port, Engine, Exported, Imported, Params};
 
 use crate::call::{Answer, Call, Outcome};
+use crate::drawn::Drawn;
 use crate::octets::Buffer;
 
 /// Makes a call on the reference.
@@ -42,10 +44,14 @@ pub fn call(engine: &mut Engine, call: &Call, buffer: &mut Buffer) -> Outcome {
             demands,
             cell,
         } => done(port::port(capacity, &demands.list(), buffer.cell(&cell))),
-        Call::House { pcr, mcr, icr } => Ok(Answer::Params(library_params(&Params::house(
-            pcr, mcr, icr,
-        )))),
+        Call::Judge { trace } => judge::judge(&Drawn::new(trace).octets)
+            .map(|breach| Answer::Verdict(library_verdict(breach))),
+        Call::House { pcr, mcr, icr } => Ok(house(Params::house(pcr, mcr, icr))),
     }
+}
+
+fn house(params: Params) -> Answer {
+    Answer::Params(library_params(&params))
 }
 
 fn exported(contract: Exported) -> Answer {

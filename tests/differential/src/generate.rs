@@ -100,6 +100,9 @@ impl Generator {
             15 => self.fair_share(),
             16 => self.limit(seen),
             17 => self.port(seen),
+            18 => Call::Judge {
+                trace: self.rng.next(),
+            },
             _ => self.house(),
         }
     }
@@ -110,9 +113,9 @@ impl Generator {
 
     fn open(&mut self, seen: &Observation) -> Call {
         let at = if self.fault() {
-            self.not_to_open(seen)
+            self.address_not_to_open(seen)
         } else {
-            self.to_open(seen)
+            self.address_to_open(seen)
         };
         let time = if !first(seen) && self.fault() {
             self.time(seen)

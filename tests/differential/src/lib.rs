@@ -5,9 +5,13 @@
 //! * [`call`], [`demands`]: a call with its arguments;
 //! * [`library`], [`expected`]: a call made on the library, and on the
 //!   reference, whose outcome is the expected one;
+//! * [`trace`], [`drawn`]: the numbers and octets of a trace, and traces drawn with the
+//!   verdict that they must get;
+//! * [`edges`]: the edges of the rules that the cells of a trace are on;
 //! * [`both`]: one call made on both sides and everything compared;
 //! * [`observation`]: what is known of a list's connections from its calls;
 //! * [`profile`], [`generate`]: lists of calls at the edges;
+//! * [`recorder`]: the traces of a list's connections;
 //! * [`coverage`]: what the lists reached;
 //! * [`parallel`]: jobs on all processors;
 //! * [`lists`]: whole lists, each repeatable by its number;
@@ -17,6 +21,8 @@ pub mod both;
 pub mod call;
 pub mod coverage;
 pub mod demands;
+pub mod drawn;
+pub mod edges;
 pub mod expected;
 pub mod generate;
 pub mod library;
@@ -26,4 +32,6 @@ pub mod octets;
 pub mod pairs;
 pub mod parallel;
 pub mod profile;
+pub mod recorder;
 pub mod rng;
+pub mod trace;

@@ -4,11 +4,12 @@ use std::fmt::Debug;
 
 use abr::ffi::{
     self, abr_allowed, abr_answer, abr_cell, abr_coded, abr_imported, abr_rated, abr_sent,
-    abr_share, abr_table,
+    abr_share, abr_table, abr_verdict,
 };
 use reference::{Address, Allowed};
 
 use crate::call::{Answer, Call, Outcome};
+use crate::drawn::Drawn;
 use crate::octets::Buffer;
 
 /// What is wrong, in words.
@@ -118,6 +119,7 @@ fn without_table(call: &Call, buffer: &mut Buffer) -> Result<Outcome, Difference
             demands,
             cell,
         } => port(capacity, &demands.list(), buffer.cell(&cell)),
+        Call::Judge { trace } => judge(&Drawn::new(trace).octets)?,
         Call::House { pcr, mcr, icr } => {
             Ok(Answer::Params(unsafe { ffi::abr_house(pcr, mcr, icr) }))
         }
@@ -131,6 +133,12 @@ fn port(capacity: u64, demands: &[u64], cell: &mut [u8]) -> Outcome {
     let (octets, len) = (cell.as_mut_ptr(), cell.len());
     // SAFETY: both pointers are live, with the count and the length of their memory.
     done(unsafe { ffi::abr_port(capacity, rates, count, octets, len) })
+}
+
+/// A trace judged.
+pub fn judge(trace: &[u8]) -> Result<Outcome, Difference> {
+    // SAFETY: the pointer is live and the length is the slice's own.
+    answered(unsafe { ffi::abr_judge(trace.as_ptr(), trace.len()) })
 }
 
 /// The outcome of a call that answers nothing but its refusal.
@@ -181,6 +189,7 @@ answers! {
     abr_coded: |coded: abr_coded| Answer::Number(coded.code.into());
     abr_rated: |rated: abr_rated| Answer::Number(rated.rate);
     abr_share: Answer::Share;
+    abr_verdict: Answer::Verdict;
     abr_imported: |imported: abr_imported| Answer::Imported {
         code: imported.code,
         remainder: imported.remainder.to_bits(),

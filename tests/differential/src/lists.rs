@@ -1,14 +1,17 @@
 //! Whole lists, run on both sides.
 
+use abr::ffi::abr_verdict;
 use reference::Address;
 
 use crate::both::Both;
 use crate::call::{Answer, Call, Outcome};
 use crate::coverage::Coverage;
 use crate::generate::Generator;
-use crate::library::Difference;
+use crate::library::{self, Difference};
 use crate::observation::Observation;
 use crate::profile::{Profile, PROFILES};
+use crate::recorder::Recorder;
+use crate::trace::Trace;
 
 /// The calls of one list, beside the opens that fill its table.
 const LIST: u64 = 2_000;
@@ -41,6 +44,8 @@ pub struct List {
     pub both: Both,
     /// What is known of its connections.
     pub seen: Observation,
+    /// The cells that they sent.
+    recorder: Recorder,
 }
 
 impl List {
@@ -49,8 +54,9 @@ impl List {
         let outcome = self.both.call(call)?;
         let at = concerned(call, &outcome).unwrap_or_default();
         let allowed = self.both.allowed(at);
-        let acr = allowed.map_or(0, |allowed| allowed.acr);
-        self.seen.add(call, &outcome, acr, coverage);
+        let acr = allowed.map(|allowed| allowed.acr);
+        self.recorder.add(call, &outcome, at, acr);
+        self.seen.add(call, &outcome, acr.unwrap_or(0), coverage);
         if let Some(allowed) = allowed {
             self.seen.same_change(at, allowed)?;
         }
@@ -65,8 +71,28 @@ impl List {
     }
 }
 
-/// Runs the list of a seed, and says where the two sides differ.
+/// Runs the list of a seed, and says where the two sides differ. The trace of every
+/// connection must pass.
 pub fn run(seed: u64, profile: Profile, coverage: &mut Coverage) -> Result<(), Difference> {
+    for (at, trace) in traces(seed, profile, coverage)? {
+        coverage.recorded += trace.cells() as u64;
+        let verdict = library::judge(&trace.octets())?;
+        if verdict != Ok(Answer::Verdict(abr_verdict::default())) {
+            let name = profile.name;
+            return Err(format!(
+                "list {seed} ({name}), {at:?}: {verdict:?}, {trace:?}"
+            ));
+        }
+    }
+    Ok(())
+}
+
+/// Runs the list of a seed, and gives the traces of its connections.
+pub fn traces(
+    seed: u64,
+    profile: Profile,
+    coverage: &mut Coverage,
+) -> Result<Vec<(Address, Trace)>, Difference> {
     let mut generator = Generator::new(seed, profile);
     let mut list = List::default();
     let calls = length(profile);
@@ -85,7 +111,7 @@ pub fn run(seed: u64, profile: Profile, coverage: &mut Coverage) -> Result<(), D
         }
     }
     coverage.rates += list.both.rates;
-    Ok(())
+    Ok(list.recorder.traces())
 }
 
 /// The connection that a call concerns.

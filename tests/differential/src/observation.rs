@@ -20,6 +20,7 @@ use reference::Address;
 
 use crate::call::{address_of, Answer, Call, Outcome};
 use crate::coverage::{Coverage, Event};
+use crate::drawn::Drawn;
 use turned::Turned;
 
 /// What a connection has sent, from its first cell on.
@@ -147,6 +148,7 @@ impl Observation {
     /// the connection that it concerns.
     pub fn add(&mut self, call: &Call, outcome: &Outcome, acr: u64, coverage: &mut Coverage) {
         coverage.count(call, outcome);
+        judged(call, coverage);
         let answer = match outcome {
             Ok(answer) => answer,
             Err(number) => {
@@ -294,6 +296,15 @@ impl Observation {
         coverage.reach(Event::TieFirst, first > 1);
         coverage.reach(Event::TieLater, later > 1);
         coverage.reach(Event::TiePaths, lower_vci);
+    }
+}
+
+/// The edges of the trace that a call judges.
+fn judged(call: &Call, coverage: &mut Coverage) {
+    if let Call::Judge { trace } = call {
+        for event in Drawn::new(*trace).events {
+            coverage.reach(event, true);
+        }
     }
 }
 

@@ -20,21 +20,25 @@ pub struct Profile {
     /// Slots are so far apart that every connection is due again.
     pub spaced: bool,
     /// How often each sort of call is made, in the order of the sorts.
-    pub weights: [u64; 19],
+    pub weights: [u64; 20],
 }
 
-const USUAL: [u64; 19] = [4, 1, 24, 8, 2, 52, 4, 4, 2, 1, 2, 2, 1, 1, 2, 1, 2, 2, 1];
+const USUAL: [u64; 20] = [4, 1, 24, 8, 2, 52, 4, 4, 2, 1, 2, 2, 1, 1, 2, 1, 2, 2, 1, 1];
 
 /// The profiles of the differential lists.
 pub const PROFILES: [Profile; 7] = [
     Profile::usual("one", 1, 8),
     Profile::usual("few", 3, 12),
     Profile {
-        weights: [12, 3, 24, 14, 2, 40, 4, 4, 1, 1, 1, 1, 1, 1, 1, 1, 1, 1, 1],
+        weights: [
+            12, 3, 24, 14, 2, 40, 4, 4, 1, 1, 1, 1, 1, 1, 1, 1, 1, 1, 1, 1,
+        ],
         ..Profile::usual("many", 80, 16)
     },
     Profile {
-        weights: [20, 2, 10, 20, 1, 30, 4, 4, 1, 1, 1, 1, 1, 1, 1, 1, 1, 1, 1],
+        weights: [
+            20, 2, 10, 20, 1, 30, 4, 4, 1, 1, 1, 1, 1, 1, 1, 1, 1, 1, 1, 1,
+        ],
         filled: 1_016,
         ..Profile::usual("full", 1_040, 0)
     },
@@ -46,7 +50,7 @@ pub const PROFILES: [Profile; 7] = [
     Profile {
         fault: 3,
         weights: [
-            10, 2, 30, 10, 4, 30, 4, 4, 4, 4, 12, 12, 4, 4, 4, 4, 8, 8, 1,
+            10, 2, 30, 10, 4, 30, 4, 4, 4, 4, 12, 12, 4, 4, 4, 4, 8, 8, 4, 1,
         ],
         ..Profile::usual("faulty", 4, 10)
     },
@@ -57,7 +61,9 @@ pub const PROFILES: [Profile; 7] = [
 pub const SPACED: Profile = Profile {
     spaced: true,
     no_minimum: 0,
-    weights: [2, 0, 40, 10, 2, 46, 4, 4, 0, 0, 0, 0, 0, 0, 0, 0, 0, 0, 0],
+    weights: [
+        2, 0, 40, 10, 2, 46, 4, 4, 0, 0, 0, 0, 0, 0, 0, 0, 0, 0, 0, 0,
+    ],
     ..Profile::usual("spaced", 3, 20)
 };
 
@@ -66,7 +72,7 @@ pub const SPACED: Profile = Profile {
 pub const NO_MINIMUM: Profile = Profile {
     spaced: true,
     no_minimum: 1,
-    weights: [4, 0, 60, 4, 1, 1, 2, 8, 0, 0, 0, 0, 0, 0, 0, 0, 0, 0, 0],
+    weights: [4, 0, 60, 4, 1, 1, 2, 8, 0, 0, 0, 0, 0, 0, 0, 0, 0, 0, 0, 0],
     ..Profile::usual("no minimum", 3, 20)
 };
 

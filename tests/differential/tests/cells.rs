@@ -433,6 +433,10 @@ fn a_pair_out_of_range_is_never_another_pair() {
             vci,
             ..abr_rm::default()
         };
-        assert_eq!(agree(&mut both, &Call::WriteRm { rm, len }), Err(7), "{at:?}");
+        assert_eq!(
+            agree(&mut both, &Call::WriteRm { rm, len }),
+            Err(7),
+            "{at:?}"
+        );
     }
 }

@@ -16,6 +16,9 @@ const LEAST: u64 = 200;
 /// So many allowed rates must be compared.
 const RATES: u64 = 100_000_000;
 
+/// So many cells of connections must be recorded and judged.
+const RECORDED: u64 = 8_000_000;
+
 /// Runs the lists of a job: a profile's place, and the number of the first.
 fn run_job((place, first): (usize, u64)) -> Result<Coverage, Difference> {
     let mut coverage = Coverage::default();
@@ -47,4 +50,6 @@ fn library_and_reference_agree_on_lists_that_reach_every_edge() {
     let calls = PROFILES.map(|profile| profile.share(LISTS) * lists::length(profile));
     assert_eq!(total.calls, calls.iter().sum());
     assert!(total.rates >= RATES, "{} rates", total.rates);
+    let recorded = total.recorded;
+    assert!(recorded >= RECORDED, "{recorded} cells recorded");
 }

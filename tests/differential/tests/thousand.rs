@@ -35,7 +35,7 @@ const LEAST: u64 = 200;
 /// The calls between two changes of what is open: neither opens nor closes.
 const NO_CHANGE: Profile = Profile {
     name: "no change",
-    weights: [0, 0, 24, 8, 2, 46, 4, 4, 0, 0, 0, 0, 0, 0, 0, 0, 0, 0, 0],
+    weights: [0, 0, 24, 8, 2, 46, 4, 4, 0, 0, 0, 0, 0, 0, 0, 0, 0, 0, 0, 0],
     ..PROFILES[1]
 };
 
@@ -207,7 +207,7 @@ impl Changing {
             if self.rng.once_in(8) {
                 self.slot(1_000)?;
             }
-            if self.count() % ALL_RATES == 0 {
+            if self.count().is_multiple_of(ALL_RATES) {
                 self.same_rates()?;
             }
         }

@@ -78,7 +78,7 @@ impl Generator {
 
     /// An address that no open is accepted for: of a VCI under 32 on any VPI, or not in
     /// range.
-    pub(super) fn not_to_open(&mut self, seen: &Observation) -> Address {
+    pub(super) fn address_not_to_open(&mut self, seen: &Observation) -> Address {
         let (low, any) = (self.rng.pick(&[0, 1, 30, 31]), self.rng.next() as u32);
         let of_low_vci = Address::new(self.rng.pick(&[0, 255, 256, any]), low);
         let outside = self.out_of_range(seen);
@@ -87,7 +87,7 @@ impl Generator {
 
     /// An address of the list; in every second open of a list that began with a full
     /// table one that is not open.
-    pub(super) fn to_open(&mut self, seen: &Observation) -> Address {
+    pub(super) fn address_to_open(&mut self, seen: &Observation) -> Address {
         let place = self.rng.below(self.addresses.len() as u64) as usize;
         let any = self.addresses[place];
         if self.profile.filled == 0 || self.rng.once_in(2) {

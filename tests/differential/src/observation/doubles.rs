@@ -36,7 +36,7 @@ pub(super) fn imported(given: u64, code: u32, coverage: &mut Coverage) {
         return;
     }
     coverage.reach(Event::ImportOne, given == bits(1.0));
-    coverage.reach(Event::ImportExact, given % step == 0);
+    coverage.reach(Event::ImportExact, given.is_multiple_of(step));
     coverage.reach(Event::ImportAbove, given % step == 1);
     coverage.reach(Event::ImportBelow, given % step == step - 1);
     let largest = bits(RATE_MAX as f64 / 512.0);

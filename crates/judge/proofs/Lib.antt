@@ -1,0 +1,7 @@
+pub mod RuleCases
+pub mod ReadCases
+pub mod Progress
+pub mod Rest
+pub mod Earliest
+pub mod Examples
+pub mod Refusals

@@ -1,0 +1,134 @@
+-- The cells of one connection break no rule: by the slot rules each goes a gap or more after the one before, and is a forward one exactly when it is due.
+use Prim.Native.Nat.{ℕ, _-_, _≤_, _<_}
+use mathlib.Core.Path.{_≡_, refl, subst, _∙_}
+use mathlib.Core.Bool.{Bool, true, false, cond, _||_}
+use mathlib.Core.List.{List, _∷_}
+use native.Mathlib.Nat.{le-trans}
+use native.Mathlib.Omega.{arith}
+use borrow.Author.Tests.{eq-eqb}
+use Rattle.rate.specs.Gap.{gap}
+use Rattle.params.specs.declared.params.Params.{Params}
+use Rattle.params.specs.Params.{nrm, paramsFit}
+use Rattle.params.specs.Forward.{forwardDue}
+use Rattle.cell.specs.Name.{pairName}
+use Rattle.judge.specs.declared.judge.Verdict.the-variants.{Passes}
+use Rattle.judge.specs.Rules.{judgedCells}
+use Rattle.connection.specs.declared.parts.Connection.{Connection}
+use Rattle.connection.specs.declared.parts.Pace.{Pace}
+use Rattle.connection.specs.declared.parts.Pace.the-variants.{Unsent, Running}
+use Rattle.connection.specs.declared.ready.Instant.the-variants.{At}
+use Rattle.connection.specs.declared.kind.Kind.{Kind}
+use Rattle.connection.specs.declared.kind.Kind.the-variants.{Forward, Turned, Data}
+use Rattle.connection.specs.Parts.{fresh}
+use Rattle.connection.specs.Ready.{readyInstant}
+use Rattle.connection.specs.Kind.{kindNumber, isForward, isTurned, kindAt}
+use Rattle.connection.specs.Sending.{paced, sentForward, sentTurned, sentData, after}
+use Rattle.connection.specs.Invariant.{PaceFits}
+use Rattle.connection.proofs.Keeps.{Same, after-same}
+use Rattle.connection.proofs.Readiness.{ready-some}
+use Rattle.connection.proofs.Spaced.{dueFrom, ready-due}
+use Rattle.model.specs.State.{State, Entry, taken, empty, find, withTime}
+use Rattle.model.specs.Call.{Call, opening, Outcome}
+use Rattle.model.specs.Step.{refuse, accept, replay, step}
+use Rattle.model.specs.Run.{final, isAccepted}
+use Rattle.model.proofs.Frames.{inserted-read}
+use Rattle.model.proofs.Effects.{Effect, refuses, begins, effect}
+use Rattle.model.proofs.Reached.{step-well-formed, reached-well-formed}
+use Rattle.own_traces.specs.InRate.{SentCell, sentFrom}
+use Rattle.own_traces.specs.Traces.{cellsOf, OwnCellsPass}
+use Rattle.own_traces.proofs.Next.{Stays, cellAt}
+use Rattle.own_traces.proofs.Walk.{CellByCell, each-cell}
+use Rattle.own_traces.proofs.OneCell.{Passing, none-passes, first-passes, later-forward, later-other}
+
+-- A cell that a slot sends.
+abbrev kindBy : ℕ → Connection → Pace → Kind
+kindBy t d p = cond (isForward t d p) Forward (cond (isTurned d p) Turned Data)
+
+abbrev paceAfter : Kind → ℕ → Pace → Pace
+paceAfter Forward t p = Running t t 0 false
+paceAfter Turned t p = paced t true p
+paceAfter Data t p = paced t false p
+
+pace-after : (k : Kind) (t : ℕ) (d : Connection) → after k t d .pace ≡ paceAfter k t (d .pace)
+unfolding after sentForward sentTurned sentData
+pace-after Forward t d = refl
+pace-after Turned t d = refl
+pace-after Data t d = refl
+
+abbrev PassingAt : Connection → Pace → List SentCell → Type 0
+PassingAt d p xs = Passing (nrm (d .rate .params)) (d .trm) p xs
+
+send-passes :
+    (t now : ℕ) (d : Connection) (p : Pace) (xs : List SentCell) → PaceFits now (nrm (d .rate .params)) p → now ≤ t → dueFrom d p ≤ t → 0 < d .rate .acr
+    → PassingAt d (paceAfter (kindBy t d p) t p) xs → PassingAt d p (record { time = t; kind = kindNumber (kindBy t d p); rate = d .rate .acr } ∷ xs)
+unfolding isForward isTurned paced dueFrom
+send-passes t now d Unsent xs f l due some q = first-passes _ _ t (d .rate .acr) xs q
+send-passes t now d (Running sent forward k turned) xs f l due some q = go (forwardDue (nrm (d .rate .params)) (d .trm) k forward t) (isTurned d (Running sent forward k turned)) refl q
+  where
+    new : sent ≤ t
+    new = le-trans (f .1) l
+
+    slow : gap (d .rate .acr) ≤ t - sent
+    slow = omega (arith, due)
+
+    go : (x y : Bool) → forwardDue (nrm (d .rate .params)) (d .trm) k forward t ≡ x
+        → PassingAt d (paceAfter (cond x Forward (cond y Turned Data)) t (Running sent forward k turned)) xs
+        → PassingAt d (Running sent forward k turned) (record { time = t; kind = kindNumber (cond x Forward (cond y Turned Data)); rate = d .rate .acr } ∷ xs)
+    go true y e q = later-forward _ _ sent forward k t (d .rate .acr) turned xs (f .0) new some slow e q
+    go false true e q = later-other _ _ sent forward k t (d .rate .acr) turned xs (f .0) new some slow 2 (turned || true) refl e q
+    go false false e q = later-other _ _ sent forward k t (d .rate .acr) turned xs (f .0) new some slow 3 (turned || false) refl e q
+
+abbrev PassingOf : Connection → List SentCell → Type 0
+PassingOf d xs = PassingAt d (d .pace) xs
+
+same-passes : (d e : Connection) → Same d e → (p : Pace) (xs : List SentCell) → PassingAt e p xs → PassingAt d p xs
+same-passes d e s p xs q =
+    subst (λ (z : ℕ). Passing (nrm (d .rate .params)) z p xs) (s .trm) (subst (λ (z : Params). Passing (nrm z) (e .trm) p xs) (s .params) q)
+
+sent-passes :
+    (t now i : ℕ) (d : Connection) (xs : List SentCell) → PaceFits now (nrm (d .rate .params)) (d .pace) → now ≤ t → readyInstant d ≡ At i → i ≤ t
+    → PassingOf (after (kindAt t d) t d) xs → PassingOf d (cellAt t d ∷ xs)
+unfolding kindAt
+sent-passes t now i d xs f l r due q =
+    let k : Kind = kindBy t d (d .pace) in
+    send-passes t now d (d .pace) xs f l (le-trans (ready-due d i r) due) (ready-some d i r .0)
+    (subst (λ (z : Pace). PassingAt d z xs) (pace-after k t d) (same-passes d (after k t d) (after-same k t d) (after k t d .pace) xs q))
+
+stays-passes : (d e : Connection) → Stays d e → (xs : List SentCell) → PassingOf e xs → PassingOf d xs
+stays-passes d e y xs q = subst (λ (z : Pace). PassingAt d z xs) (y .pace) (same-passes d e (y .kept) (e .pace) xs q)
+
+passing : CellByCell (λ now d xs. PassingOf d xs)
+passing = record {
+  none = λ now d. none-passes _ _ (d .pace);
+  waits = λ now later d e xs l y q. stays-passes d e y xs q;
+  sends = λ now t i d xs k l m r due q. sent-passes t now i d xs (k .0 .paced) l r due q;
+}
+
+-- From the opening on.
+pub record Opened (v t : ℕ) (p : Params) (ss : List Entry) : Type 0 where
+  pub found : find v ss ≡ taken (fresh v t p)
+  pub fits : paramsFit p ≡ true
+
+accepted-opens : {s : State} (vpi vci t : ℕ) (p : Params) {o : Outcome} → Effect s (opening vpi vci t p) o → isAccepted (o .answer) ≡ true → Opened (pairName vpi vci) t p (o .state .entries)
+unfolding refuse accept replay isAccepted withTime fresh
+accepted-opens vpi vci t p (refuses _ n h) a = let z : _≡_ {A = ℕ} 0 1 = cc in absurd (omega arith)
+accepted-opens {s} vpi vci t p (begins _ _ _ _ g) a = record {
+  found = inserted-read (λ (x : Entry). x) (pairName vpi vci) s (fresh (pairName vpi vci) t p) (g .new) (g .room) ∙ rw (eq-eqb (pairName vpi vci) (pairName vpi vci) refl) refl;
+  fits = g .fits;
+}
+
+pub opened-at :
+    (before : List Call) (vpi vci t : ℕ) (p : Params) → isAccepted (step (final empty before) (opening vpi vci t p) .answer) ≡ true
+    → Opened (pairName vpi vci) t p (step (final empty before) (opening vpi vci t p) .state .entries)
+opened-at before vpi vci t p a = accepted-opens vpi vci t p (effect (final empty before) (reached-well-formed before .unique) (opening vpi vci t p)) a
+
+fresh-passes : (v t : ℕ) (p : Params) (xs : List SentCell) → PassingOf (fresh v t p) xs → judgedCells (p .n) (p .trm) (cellsOf xs) ≡ Passes
+unfolding fresh
+fresh-passes v t p xs h = h
+
+pub own-cells-pass : OwnCellsPass
+own-cells-pass before vpi vci t p after a =
+    let s : State = step (final empty before) (opening vpi vci t p) .state in
+    let v : ℕ = pairName vpi vci in
+    fresh-passes v t p (sentFrom v s after)
+    (each-cell passing v after s (step-well-formed (reached-well-formed before) (opening vpi vci t p)) (fresh v t p) (opened-at before vpi vci t p a .found))

@@ -1,0 +1,46 @@
+-- The in-rate cells that the engine sends on one connection, from its opening on, make a trace that passes the judge. (Document 02, L11.)
+use Prim.Native.Nat.{ℕ, _-_}
+use mathlib.Core.Path.{_≡_}
+use mathlib.Core.Bool.{true}
+use mathlib.Core.List.{List, [], _∷_}
+use Rattle.params.specs.declared.params.Params.{Params}
+use Rattle.cell.specs.Name.{pairName}
+use Rattle.judge.specs.declared.cells.Cell.{Cell}
+use Rattle.judge.specs.declared.judge.Verdict.the-variants.{Passes}
+use Rattle.judge.specs.Rules.{judgedCells}
+use Rattle.judge.specs.Octets.{judgedOctets}
+use Rattle.model.specs.State.{empty}
+use Rattle.model.specs.Call.{Call, opening}
+use Rattle.model.specs.Step.{step}
+use Rattle.model.specs.Run.{final, isAccepted}
+use Rattle.own_traces.specs.InRate.{SentCell, sentFrom}
+use Rattle.own_traces.specs.Written.{traceOctets}
+
+abbrev pub cellOf : (since : ℕ) → SentCell → Cell
+cellOf since x = record { since = since; kind = x .kind; rate = x .rate }
+
+-- the cells after one at the instant `last`
+unfoldable pub laterCells : (last : ℕ) → List SentCell → List Cell
+laterCells last [] = []
+laterCells last (x ∷ xs) = cellOf (x .time - last) x ∷ laterCells (x .time) xs
+
+-- the cells of a trace: the first one's time is 0, each later one's counts from the one before
+unfoldable pub cellsOf : List SentCell → List Cell
+cellsOf [] = []
+cellsOf (x ∷ xs) = cellOf 0 x ∷ laterCells (x .time) xs
+
+-- the cells sent on a pair that is opened after the calls `before`, by the calls `after`
+abbrev pub ownCells : (before : List Call) → (vpi vci t : ℕ) → Params → (after : List Call) → List Cell
+ownCells before vpi vci t p after = cellsOf (sentFrom (pairName vpi vci) (step (final empty before) (opening vpi vci t p) .state) after)
+
+-- after any list of calls from the empty table, an accepted opening, and any further list of calls: the cells break no rule,
+abbrev pub OwnCellsPass : Type 0
+OwnCellsPass =
+    (before : List Call) (vpi vci t : ℕ) (p : Params) (after : List Call) → isAccepted (step (final empty before) (opening vpi vci t p) .answer) ≡ true
+    → judgedCells (p .n) (p .trm) (ownCells before vpi vci t p after) ≡ Passes
+
+-- and so their octets pass
+abbrev pub OwnTracePasses : Type 0
+OwnTracePasses =
+    (before : List Call) (vpi vci t : ℕ) (p : Params) (after : List Call) → isAccepted (step (final empty before) (opening vpi vci t p) .answer) ≡ true
+    → judgedOctets (traceOctets (p .n) (p .trm) (ownCells before vpi vci t p after)) ≡ Passes

@@ -1,0 +1,2 @@
+-- The numbers of a trace, as document 02, L11 sets them out.
+pub mod Numbers

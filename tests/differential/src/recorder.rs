@@ -1,0 +1,68 @@
+//! The traces of a list's connections (document 02, L11): the cells that each is given a
+//! slot for, from its open to its close or to the end of the list.
+
+use std::collections::BTreeMap;
+
+use reference::Address;
+
+use crate::call::{Answer, Call, Outcome};
+use crate::trace::Trace;
+
+/// A connection that is open.
+struct Recording {
+    trace: Trace,
+    /// The allowed rate after the last call that concerned the connection, on which library
+    /// and reference agree; no other call changes it.
+    rate: u64,
+    /// When the last cell was sent; nothing before the first.
+    last: Option<u64>,
+}
+
+/// What is recorded.
+#[derive(Default)]
+pub struct Recorder {
+    open: BTreeMap<Address, Recording>,
+    closed: Vec<(Address, Trace)>,
+}
+
+impl Recorder {
+    /// A call concerned this address, and its allowed rate afterwards was read, if it is
+    /// open then.
+    pub fn add(&mut self, call: &Call, outcome: &Outcome, at: Address, rate: Option<u64>) {
+        match (*call, *outcome) {
+            (Call::Open { params, .. }, Ok(_)) => {
+                let trace = Trace::new(params.n.into(), params.trm.into());
+                let (rate, last) = (rate.unwrap_or_default(), None);
+                self.open.insert(at, Recording { trace, rate, last });
+            }
+            (Call::Close { .. }, Ok(_)) => {
+                let closed = self.open.remove(&at);
+                self.closed.extend(closed.map(|open| (at, open.trace)));
+            }
+            (Call::Slot { time, .. }, Ok(Answer::Sent(sent))) if sent.kind > 0 => {
+                if let Some(open) = self.open.get_mut(&at) {
+                    open.sent(time, sent.kind.into());
+                }
+            }
+            _ => {}
+        }
+        if let (Some(open), Some(rate)) = (self.open.get_mut(&at), rate) {
+            open.rate = rate;
+        }
+    }
+
+    /// All traces, those of the connections that are open last.
+    pub fn traces(self) -> Vec<(Address, Trace)> {
+        let open = self.open.into_iter().map(|(at, open)| (at, open.trace));
+        self.closed.into_iter().chain(open).collect()
+    }
+}
+
+impl Recording {
+    /// A cell of this kind was sent.
+    fn sent(&mut self, time: u64, kind: u64) {
+        let passed = time - self.last.unwrap_or(time);
+        self.trace.push(passed, kind, self.rate);
+        self.last = Some(time);
+    }
+}

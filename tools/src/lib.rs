@@ -1,0 +1,28 @@
+//! What `abr-judge` and `abr-trace` are made of. The verdict is always the library's; these
+//! modules read and write traces, say in a sentence what the verdict means, and draw it.
+//!
+//! * [`arguments`], [`console`]: how the programs are called, and what they print;
+//! * [`number`]: the numbers of a trace in their octets;
+//! * [`trace`], [`fault`]: its cells, and where it can't be read further;
+//! * [`history`]: what the rules look at before a cell;
+//! * [`text`]: traces written as decimal numbers;
+//! * [`input`], [`progress`]: files read, and the progress line of all that is done with one;
+//! * [`excerpt`]: what is said of a trace, from one reading of its cells;
+//! * [`explain`], [`draw`]: the verdict in a sentence, and the picture;
+//! * [`record`], [`scenario`], [`random`]: traces recorded from a transmitter.
+
+pub mod arguments;
+pub mod console;
+pub mod draw;
+pub mod excerpt;
+pub mod explain;
+pub mod fault;
+pub mod history;
+pub mod input;
+pub mod number;
+pub mod progress;
+pub mod random;
+pub mod record;
+pub mod scenario;
+pub mod text;
+pub mod trace;

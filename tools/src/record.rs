@@ -1,0 +1,56 @@
+//! A trace recorded from what a transmitter sends on one connection.
+
+use abr::Params;
+
+use crate::text;
+use crate::trace::{octets, Cell, Head, Kind};
+
+/// The cells of one connection so far.
+#[derive(Debug, Clone)]
+pub struct Recorder {
+    head: Head,
+    cells: Vec<Cell>,
+    /// When the first cell was sent.
+    first: u64,
+}
+
+impl Recorder {
+    /// A connection that was opened with these parameters.
+    pub fn new(params: &Params) -> Self {
+        let (n, trm) = (params.n.into(), params.trm.into());
+        Recorder {
+            head: Head { n, trm },
+            cells: Vec::new(),
+            first: 0,
+        }
+    }
+
+    /// A slot sent a cell on the connection, whose allowed rate had been this one.
+    pub fn sent(&mut self, time: u64, kind: abr::Kind, rate: u64) {
+        if self.cells.is_empty() {
+            self.first = time;
+        }
+        let time = time - self.first;
+        self.cells.push(Cell {
+            number: self.cells.len() as u64 + 1,
+            passed: time - self.cells.last().map_or(0, |last| last.time),
+            time,
+            kind: match kind {
+                abr::Kind::Forward => Kind::Forward,
+                abr::Kind::Turned => Kind::Backward,
+                abr::Kind::Data => Kind::Data,
+            },
+            rate,
+        });
+    }
+
+    /// The trace as octets.
+    pub fn octets(&self) -> Vec<u8> {
+        octets(self.head, &self.cells)
+    }
+
+    /// The trace as numbers.
+    pub fn text(&self) -> String {
+        text::written(self.head, &self.cells)
+    }
+}
