@@ -50,6 +50,7 @@ static size_t trace_len;
 /* The answers of the calls. */
 static uint32_t refusal;
 static abr_answer answer;
+static abr_closed closed;
 static abr_sent sent;
 static abr_cell content;
 static abr_allowed allowed;
@@ -64,7 +65,7 @@ static void call_slot(void) { sent = abr_slot(&table, 3 * SECOND, cell, sizeof c
 static void call_idle(void) { sent = abr_slot(&table, SECOND, cell, sizeof cell); }
 static void call_receive(void) { answer = abr_receive(&table, cell, sizeof cell); }
 static void call_open(void) { answer = abr_open(&table, at.vpi, at.vci, 3 * SECOND, params); }
-static void call_close(void) { answer = abr_close(&table, at.vpi, at.vci); }
+static void call_close(void) { closed = abr_close(&table, at.vpi, at.vci); }
 static void call_offer(void) { answer = abr_offer(&table, at.vpi, at.vci, 1); }
 static void call_set_level(void) { refusal = abr_set_level(&table, 2); }
 static void call_make(void) { answer = abr_make(&table, at.vpi, at.vci, 3 * SECOND); }
@@ -264,7 +265,7 @@ static int accepted(const abr_case *which)
     if (which->call == call_export) {
         return refusal == ABR_OK && contract.pcr > 0;
     }
-    return (refusal | answer.refusal | sent.refusal | allowed.refusal | coded.refusal | rated.refusal |
+    return (refusal | answer.refusal | closed.refusal | sent.refusal | allowed.refusal | coded.refusal | rated.refusal |
             imported.refusal | share.refusal | verdict.refusal | verdict.rule) == ABR_OK;
 }
 

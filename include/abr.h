@@ -8,7 +8,8 @@
  * (marks of a replaced cell), L4 (1,024 connections, comparisons), L5 (no minimum
  * rate, abr_out_of_rate), L6 (full addresses), L7 (the reserved bit of a rate code),
  * L8 (abr_export, abr_import), L9 (what the last feedback did), L10 (abr_port,
- * abr_fair_share, abr_limit) and L11 (abr_judge) of document 02.
+ * abr_fair_share, abr_limit), L11 (abr_judge) and L12 (the cells of a close) of
+ * document 02.
  *
  * Addresses. A connection is named by its VPI and its VCI together, as VPI * 65,536
  * + VCI (document 02, L6): the same VCI on another VPI is another connection. Every
@@ -86,8 +87,8 @@ extern "C" {
 
 /* ---- Version ------------------------------------------------------------ */
 
-/* 0.12.0: major, minor and patch number, eight bits each. */
-#define ABR_VERSION 0x000c00u
+/* 0.13.0: major, minor and patch number, eight bits each. */
+#define ABR_VERSION 0x000d00u
 
 /* The words of a table, which has 286,872 octets. */
 #define ABR_TABLE_WORDS 35859u
@@ -249,11 +250,18 @@ typedef struct {
     uint32_t sn;  /* carried only */
 } abr_rm;
 
-/* The answer of an open, a close, an offer, a received and a made cell. */
+/* The answer of an open, an offer, a received and a made cell. */
 typedef struct {
     uint32_t refusal;
     uint32_t comparisons; /* 1 to ABR_COMPARISONS_MAX; 0 if it is refused */
 } abr_answer;
+
+/* The answer of a close. */
+typedef struct {
+    uint32_t refusal;
+    uint32_t comparisons; /* 1 to ABR_COMPARISONS_MAX; 0 if it is refused */
+    uint64_t cells;       /* the data cells that waited, at most ABR_WAITING_MAX; 0 if it is refused */
+} abr_closed;
 
 /* The answer of a slot. An idle slot has 0 in all six. */
 typedef struct {
@@ -355,11 +363,16 @@ static inline int abr_matches(void)
 ABR_MUST_USE abr_answer abr_open(abr_table *table, uint32_t vpi, uint32_t vci, uint64_t time, abr_params params);
 
 /*
- * Closes a connection and drops all that waits on it (section "Opening").
+ * Closes a connection and drops all that waits on it (section "Opening"). It answers
+ * how many data cells that were (document 02, L12); turned and made cells that waited
+ * are not counted. So no data cell is unaccounted: at any time, for each VPI and VCI,
+ * the cells of all accepted offers are as many as the slots with ABR_SENT_DATA, the
+ * cells that its closes answered and those that wait together, however often it was
+ * closed and opened anew.
  * Comparisons: 1 to 10.
  * Refusal: 11 the connection is not open, vpi over 255 or vci over 65,535.
  */
-ABR_MUST_USE abr_answer abr_close(abr_table *table, uint32_t vpi, uint32_t vci);
+ABR_MUST_USE abr_closed abr_close(abr_table *table, uint32_t vpi, uint32_t vci);
 
 /*
  * Adds data cells to those that wait on a connection (section "Opening").
@@ -662,6 +675,9 @@ ABR_LAYOUT(rm_er, offsetof(abr_rm, er) == 28);
 ABR_LAYOUT(rm_sn, offsetof(abr_rm, sn) == 44);
 ABR_LAYOUT(answer_size, sizeof(abr_answer) == 8);
 ABR_LAYOUT(answer_comparisons, offsetof(abr_answer, comparisons) == 4);
+ABR_LAYOUT(closed_size, sizeof(abr_closed) == 16);
+ABR_LAYOUT(closed_comparisons, offsetof(abr_closed, comparisons) == 4);
+ABR_LAYOUT(closed_cells, offsetof(abr_closed, cells) == 8);
 ABR_LAYOUT(sent_size, sizeof(abr_sent) == 32);
 ABR_LAYOUT(sent_comparisons, offsetof(abr_sent, comparisons) == 4);
 ABR_LAYOUT(sent_vpi, offsetof(abr_sent, vpi) == 12);

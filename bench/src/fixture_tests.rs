@@ -189,6 +189,6 @@ fn opens_are_accepted() {
     let engine = &mut fixture.engine.engine;
     for at in [highest(), lowest()] {
         assert_eq!(engine.open(at, time, &fixture.params), Ok(1));
-        assert_eq!(engine.close(at), Ok(1));
+        assert_eq!(engine.close(at).unwrap().comparisons, 1);
     }
 }

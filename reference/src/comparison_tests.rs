@@ -22,6 +22,11 @@ fn slot(engine: &mut Engine, time: u64) -> Option<(u32, u32)> {
     sent.map(|sent| (sent.vci, sent.comparisons))
 }
 
+/// The comparisons of a close.
+fn close(engine: &mut Engine, vci: u32) -> u32 {
+    engine.close(at(vci)).unwrap().comparisons
+}
+
 #[test]
 fn one_connection() {
     let mut engine = Engine::new();
@@ -38,9 +43,9 @@ fn one_connection() {
     assert_eq!(slot(&mut engine, MS), Some((32, 10)));
     assert_eq!(engine.offer(at(32), 0), Ok(1)); // k is 1 and nothing waits
     assert_eq!(engine.receive(&octets(&forward(32))), Ok(10));
-    assert_eq!(engine.close(at(32)), Ok(10));
+    assert_eq!(close(&mut engine, 32), 10);
     assert_eq!(engine.open(at(32), MS, &params()), Ok(1));
-    assert_eq!(engine.close(at(32)), Ok(1));
+    assert_eq!(close(&mut engine, 32), 1);
 }
 
 #[test]
@@ -61,8 +66,8 @@ fn a_cell_for_a_leaf_that_leads_some_levels() {
     assert_eq!(engine.receive(&data(37, false)), Ok(1));
     assert_eq!(engine.receive(&data(38, false)), Ok(2));
     assert_eq!(engine.receive(&data(32, false)), Ok(10));
-    assert_eq!(engine.close(at(36)), Ok(3)); // leaf 5 at levels 1 and 2, leaf 0 at level 3
-    assert_eq!(engine.close(at(32)), Ok(10)); // leaf 1 at every level
+    assert_eq!(close(&mut engine, 36), 3); // leaf 5 at levels 1 and 2, leaf 0 at level 3
+    assert_eq!(close(&mut engine, 32), 10); // leaf 1 at every level
     assert_eq!(slot(&mut engine, 7), Some((33, 10)));
 }
 
@@ -131,7 +136,7 @@ fn the_table_filled_and_emptied() {
     }
     assert_eq!(slot(&mut engine, 0), None);
     for vci in vcis {
-        assert_eq!(engine.close(at(vci)), Ok(10)); // the first of those that are left
+        assert_eq!(close(&mut engine, vci), 10); // the first of those that are left
     }
     assert_eq!(engine.open(at(32), 0, &params()), Ok(1));
 }

@@ -184,6 +184,11 @@ impl Connection {
         }
     }
 
+    /// The data cells that wait.
+    pub fn waiting(&self) -> u64 {
+        self.data
+    }
+
     /// Adds waiting data. Refusal: 15.
     pub fn offer(&mut self, cells: u64) -> Result<(), Refusal> {
         if cells > DATA_MAX - self.data {

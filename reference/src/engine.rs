@@ -1,7 +1,7 @@
 //! The table of connections and the calls on it (document 01, from "Opening"
 //! to "Slots"; the orders of refusals are in "Refused because of the state", those
 //! of a made cell and an out-of-rate cell in document 02's L1 and L5, and where 19
-//! comes in L7; what an ACR is read with in L9). Calls that replay matches answer the comparisons (document 02, L4). A
+//! comes in L7; what an ACR is read with in L9, and what a close answers in L12). Calls that replay matches answer the comparisons (document 02, L4). A
 //! connection is named by its VPI and VCI together (document 02, L6).
 
 use std::collections::BTreeMap;
@@ -36,6 +36,15 @@ pub struct Sent {
     pub kind: Kind,
     /// Its allowed rate, after the moves of a forward cell.
     pub acr: u64,
+    /// The comparisons made.
+    pub comparisons: u32,
+}
+
+/// The answer of a close (document 02, L12).
+#[derive(Debug, Clone, Copy, PartialEq, Eq)]
+pub struct Closed {
+    /// The data cells that waited.
+    pub cells: u64,
     /// The comparisons made.
     pub comparisons: u32,
 }
@@ -92,11 +101,14 @@ impl Engine {
         self.replay(at)
     }
 
-    /// Closes a connection, drops all that waits on it and answers the
-    /// comparisons. Refusal: 11.
-    pub fn close(&mut self, at: Address) -> Result<u32, Refusal> {
+    /// Closes a connection, drops all that waits on it and answers how many data cells
+    /// that were, and the comparisons. Refusal: 11.
+    pub fn close(&mut self, at: Address) -> Result<Closed, Refusal> {
         let entry = self.table.remove(&at).ok_or(refusal::NOT_OPEN)?;
-        Ok(self.tournament.release(entry.leaf))
+        Ok(Closed {
+            cells: entry.connection.waiting(),
+            comparisons: self.tournament.release(entry.leaf),
+        })
     }
 
     /// Receives a cell and answers the comparisons. Refusals: 1, 2, 4, for RM
@@ -200,6 +212,11 @@ impl Engine {
     /// second. Refusal: 11.
     pub fn export(&self, at: Address) -> Result<Exported, Refusal> {
         Ok(self.entry(at)?.connection.export())
+    }
+
+    /// The data cells that wait under a name; none if it is not open.
+    pub fn waiting(&self, at: Address) -> u64 {
+        self.entry(at).map_or(0, |entry| entry.connection.waiting())
     }
 
     /// Who wins the tournament, whatever the time: ready instant and name.

@@ -764,6 +764,16 @@ fn random_params(at: Address) -> Params {
     Params::house(0x53E8, least_code(at.vci), 0x4A00)
 }
 
+/// Random numbers below a limit, by a linear congruence (Knuth) from a seed.
+pub(crate) fn draws(seed: u64) -> impl FnMut(u32) -> u32 {
+    let mut state = seed;
+    move |limit| {
+        state = state.wrapping_mul(6_364_136_223_846_793_005);
+        state = state.wrapping_add(1_442_695_040_888_963_407);
+        (state >> 33) as u32 % limit
+    }
+}
+
 /// A random call on the engine, on one of those, accepted or refused. Its
 /// comparisons, 0 for a set level, an out-of-rate cell and an idle slot.
 fn random_call(
@@ -773,7 +783,7 @@ fn random_call(
 ) -> Result<u32, u32> {
     let at = RANDOM[draw(4) as usize];
     match draw(10) {
-        0 if draw(8) == 0 => engine.close(at),
+        0 if draw(8) == 0 => engine.close(at).map(|closed| closed.comparisons),
         0 => engine.open(at, *time, &random_params(at)),
         1 => engine.offer(at, u64::from(draw(9))),
         2 => engine.set_level(draw(4)).map(|()| 0),
@@ -821,14 +831,10 @@ fn slot_of_the_top(engine: &mut Engine, time: u64) -> Result<u32, u32> {
 #[test]
 fn rates_and_comparisons_stay_in_bounds_in_long_lists() {
     let mut engine = Engine::new();
-    let (mut state, mut time, mut moved, mut stopped) = (1u64, 0, 0, 0);
+    let (mut draw, mut time, mut moved, mut stopped) = (draws(1), 0, 0, 0);
     for _ in 0..200_000 {
         let before = engine.acr(at(33));
-        let answer = random_call(&mut engine, &mut time, |limit| {
-            state = state.wrapping_mul(6_364_136_223_846_793_005);
-            state = state.wrapping_add(1_442_695_040_888_963_407);
-            (state >> 33) as u32 % limit
-        });
+        let answer = random_call(&mut engine, &mut time, &mut draw);
         assert!(answer.is_err() || answer.is_ok_and(|comparisons| comparisons <= 10));
         moved += u32::from(engine.acr(at(33)) != before);
         for at in RANDOM {

@@ -41,6 +41,8 @@ mod address_tests;
 #[cfg(test)]
 mod change_tests;
 #[cfg(test)]
+mod closing_tests;
+#[cfg(test)]
 mod comparison_tests;
 #[cfg(test)]
 mod engine_tests;
@@ -59,7 +61,7 @@ pub use address::Address;
 pub use cell::{read, write_rm, Cell, Rm};
 pub use connection::{Allowed, Kind};
 pub use double::{import, Exported, Imported};
-pub use engine::{Engine, Sent};
+pub use engine::{Closed, Engine, Sent};
 pub use judge::Breach;
 pub use params::Params;
 pub use port::{fair_share, limit};

@@ -252,7 +252,8 @@ fn a_leaf_at_rate_0_wins_no_match() {
     assert_eq!(engine.receive(&stop), Ok(10)); // leaf 1 wins at every level
     assert_eq!(engine.receive(&stop), Ok(1));
     assert_eq!(engine.offer(at(32), 1), Ok(1));
-    assert_eq!(engine.close(at(33)), Ok(10)); // nobody is left
+    let closed = engine.close(at(33)).unwrap();
+    assert_eq!(closed.comparisons, 10); // nobody is left
     assert_eq!(engine.receive(&stop), Ok(1));
     assert_eq!(engine.receive(&octets(&explicit(0x7FFF))), Ok(10));
     assert_eq!(engine.top(), Some((0, 32)));

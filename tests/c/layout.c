@@ -49,6 +49,9 @@ static void offsets_of_answers(void)
 {
     AT(abr_answer, refusal, 0, 4);
     AT(abr_answer, comparisons, 4, 4);
+    AT(abr_closed, refusal, 0, 4);
+    AT(abr_closed, comparisons, 4, 4);
+    AT(abr_closed, cells, 8, 8);
     AT(abr_sent, refusal, 0, 4);
     AT(abr_sent, comparisons, 4, 4);
     AT(abr_sent, kind, 8, 4);

@@ -198,13 +198,20 @@ static uint32_t without_table(int call)
     }
 }
 
+/* The refusal of a close, which has zeros beside it; ~0 if not. */
+static uint32_t close_call(address to)
+{
+    abr_closed closed = abr_close(at(TABLE), to.vpi, to.vci);
+    return closed.refusal && (closed.comparisons || closed.cells) ? ~0u : closed.refusal;
+}
+
 /* Makes one call; its refusal. The comparisons of a table that no call made may be any. */
 static uint32_t one_call(int call)
 {
     address to = any_address();
     switch (call) {
     case OPEN: return abr_open(at(TABLE), to.vpi, to.vci, any_time(), any_params()).refusal;
-    case CLOSE: return abr_close(at(TABLE), to.vpi, to.vci).refusal;
+    case CLOSE: return close_call(to);
     case RECEIVE: return abr_receive(at(TABLE), at(CELL), any_length()).refusal;
     case OFFER: return abr_offer(at(TABLE), to.vpi, to.vci, edge_word()).refusal;
     case SET_LEVEL: return abr_set_level(at(TABLE), (uint32_t)(next() % 4));

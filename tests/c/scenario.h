@@ -41,6 +41,12 @@ static int is(abr_answer answer, uint32_t refusal, uint32_t comparisons)
     return answer.refusal == refusal && answer.comparisons == comparisons;
 }
 
+/* The same of a close, and the data cells that waited (document 02, L12). */
+static int closed_is(abr_closed closed, uint32_t refusal, uint32_t comparisons, uint64_t cells)
+{
+    return closed.refusal == refusal && closed.comparisons == comparisons && closed.cells == cells;
+}
+
 /* A backward cell for a connection is received. */
 static abr_answer feedback(uint32_t vpi, uint32_t vci, uint32_t ci, uint32_t er)
 {
@@ -82,7 +88,7 @@ static void out_of_range(uint32_t vpi, uint32_t vci)
     rm.vpi = vpi;
     rm.vci = vci;
     CHECK(is(abr_open(&table, vpi, vci, 0, abr_house(thousand, slowest, thousand)), ABR_REFUSED_RANGE, 0));
-    CHECK(is(abr_close(&table, vpi, vci), ABR_REFUSED_NOT_OPEN, 0));
+    CHECK(closed_is(abr_close(&table, vpi, vci), ABR_REFUSED_NOT_OPEN, 0, 0));
     CHECK(is(abr_offer(&table, vpi, vci, 1), ABR_REFUSED_NOT_OPEN, 0));
     CHECK(is(abr_make(&table, vpi, vci, 0), ABR_REFUSED_NOT_OPEN, 0));
     CHECK(abr_out_of_rate(&table, vpi, vci, 0, cell, sizeof cell) == ABR_REFUSED_NOT_OPEN);
@@ -320,14 +326,15 @@ static void reserved_bit_in_an_open(void)
     }
 }
 
+/* 100 cells were offered to each; the first had three data slots, the second two. Made and turned cells do not count. */
 static void closes(void)
 {
     abr_allowed allowed;
-    CHECK(is(abr_close(&table, FIRST), ABR_OK, 10));
-    CHECK(is(abr_close(&table, FIRST), ABR_REFUSED_NOT_OPEN, 0));
+    CHECK(closed_is(abr_close(&table, FIRST), ABR_OK, 10, 97));
+    CHECK(closed_is(abr_close(&table, FIRST), ABR_REFUSED_NOT_OPEN, 0, 0));
     allowed = abr_acr(&table, FIRST);
     CHECK(allowed.refusal == ABR_REFUSED_NOT_OPEN && allowed.acr == 0 && allowed.change == 0);
-    CHECK(is(abr_close(&table, SECOND), ABR_OK, 10));
+    CHECK(closed_is(abr_close(&table, SECOND), ABR_OK, 10, 98));
 }
 
 /* The refusals of an out-of-rate cell in their order; nothing else is open, and the last time is 121 ms. */
@@ -364,7 +371,7 @@ static void without_a_minimum(void)
     CHECK(rm.er == thousand && rm.ccr == 0x4BE8 && rm.mcr == 0 && cell[3] == 0x2C);
     CHECK(slot_is(316 * MS - 1, NOBODY, ABR_SENT_IDLE, 0)); /* the gap is 16 ms */
     CHECK(slot_is(316 * MS, THIRD, ABR_SENT_DATA, 32000));
-    CHECK(is(abr_close(&table, THIRD), ABR_OK, 10));
+    CHECK(closed_is(abr_close(&table, THIRD), ABR_OK, 10, 9));
 }
 
 static void nothing_is_left(void)

@@ -4,7 +4,7 @@
 #![allow(non_camel_case_types, missing_docs)]
 
 /// The version of the header: major, minor and patch number, eight bits each.
-pub const ABR_VERSION: u32 = 0x00_0C_00;
+pub const ABR_VERSION: u32 = 0x00_0D_00;
 
 /// The words of a table.
 pub const ABR_TABLE_WORDS: usize = 35_859;
@@ -37,12 +37,21 @@ pub struct abr_rm {
     pub sn: u32,
 }
 
-/// The answer of an open, a close, an offer, a received and a made cell.
+/// The answer of an open, an offer, a received and a made cell.
 #[repr(C)]
 #[derive(Debug, Clone, Copy, PartialEq, Eq, Default)]
 pub struct abr_answer {
     pub refusal: u32,
     pub comparisons: u32,
+}
+
+/// The answer of a close.
+#[repr(C)]
+#[derive(Debug, Clone, Copy, PartialEq, Eq, Default)]
+pub struct abr_closed {
+    pub refusal: u32,
+    pub comparisons: u32,
+    pub cells: u64,
 }
 
 /// The answer of a slot.
@@ -132,7 +141,7 @@ extern "C" {
         time: u64,
         params: abr_params,
     ) -> abr_answer;
-    pub fn abr_close(table: *mut abr_table, vpi: u32, vci: u32) -> abr_answer;
+    pub fn abr_close(table: *mut abr_table, vpi: u32, vci: u32) -> abr_closed;
     pub fn abr_receive(table: *mut abr_table, cell: *const u8, len: usize) -> abr_answer;
     pub fn abr_offer(table: *mut abr_table, vpi: u32, vci: u32, cells: u64) -> abr_answer;
     pub fn abr_set_level(table: *mut abr_table, level: u32) -> u32;

@@ -4,8 +4,9 @@
 //! link sends, what kind of cell, and what rate it is allowed afterwards. All
 //! state is in a [`Table`]. Rates are whole numbers of 1/512 cell per second,
 //! times are nanoseconds. An accepted open, close, receive, offer or make answers
-//! the comparisons that it made between ready instants, 1 to [`COMPARISONS_MAX`]. A
-//! connection is named by its VPI and its VCI together.
+//! the comparisons that it made between ready instants, 1 to [`COMPARISONS_MAX`], and a
+//! close the data cells that waited. A connection is named by its VPI and its VCI
+//! together.
 //!
 //! ```
 //! use abr::{Kind, Params, Table, CELL_OCTETS};
@@ -48,6 +49,6 @@ pub use port::{fair_share, limit, port, Share, DEMANDS_MAX};
 pub use rate::{code, rate, RATE_MAX, RATE_ONE};
 pub use refusal::Refusal;
 pub use table::{
-    Allowed, Kind, Sent, Table, COMPARISONS_MAX, CONNECTIONS_MAX, LEVEL_MAX, MAKE_INTERVAL,
+    Allowed, Closed, Kind, Sent, Table, COMPARISONS_MAX, CONNECTIONS_MAX, LEVEL_MAX, MAKE_INTERVAL,
     OUT_OF_RATE_INTERVAL, TIME_MAX, VCI_MAX, VCI_MIN, VPI_MAX, WAITING_MAX,
 };

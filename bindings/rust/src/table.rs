@@ -53,6 +53,15 @@ pub struct Sent {
     pub comparisons: u32,
 }
 
+/// What a close answers.
+#[derive(Debug, Clone, Copy, PartialEq, Eq, Hash)]
+pub struct Closed {
+    /// The data cells that waited.
+    pub cells: u64,
+    /// The comparisons made.
+    pub comparisons: u32,
+}
+
 /// The allowed rate of a connection, and what its last feedback did.
 #[derive(Debug, Clone, Copy, PartialEq, Eq, Hash)]
 pub struct Allowed {
@@ -115,22 +124,26 @@ impl Table {
         comparisons(unsafe { ffi::abr_open(self.raw(), vpi, vci, time, *params) })
     }
 
-    /// Closes a connection, drops all that waits on it and answers the
-    /// comparisons.
+    /// Closes a connection, drops all that waits on it and answers how many data cells
+    /// that were, and the comparisons. With the data slots and what still waits they are
+    /// the cells of all accepted offers to this name, however often it was opened.
     ///
     /// # Errors
     /// [`Refusal::NotOpen`].
     ///
     /// ```
-    /// # use abr::{Params, Refusal, Table};
+    /// # use abr::{Closed, Params, Refusal, Table, COMPARISONS_MAX};
     /// # let mut table = Table::new();
     /// # table.open(1, 32, 0, &Params::house(0x53E8, 0x4000, 0x53E8)).unwrap();
-    /// assert_eq!(table.close(1, 32), Ok(1));
+    /// table.offer(1, 32, 7)?;
+    /// let closed = Closed { cells: 7, comparisons: COMPARISONS_MAX };
+    /// assert_eq!(table.close(1, 32), Ok(closed));
     /// assert_eq!(table.close(1, 32), Err(Refusal::NotOpen));
+    /// # Ok::<(), Refusal>(())
     /// ```
-    pub fn close(&mut self, vpi: u32, vci: u32) -> Result<u32, Refusal> {
+    pub fn close(&mut self, vpi: u32, vci: u32) -> Result<Closed, Refusal> {
         // SAFETY: the pointer is live for the call.
-        comparisons(unsafe { ffi::abr_close(self.raw(), vpi, vci) })
+        closed(unsafe { ffi::abr_close(self.raw(), vpi, vci) })
     }
 
     /// Receives a cell: a backward RM cell moves the rate of its connection, a
@@ -363,6 +376,15 @@ impl Table {
 fn comparisons(answer: ffi::abr_answer) -> Result<u32, Refusal> {
     Refusal::outcome(answer.refusal)?;
     Ok(answer.comparisons)
+}
+
+/// What an accepted close answers.
+fn closed(answer: ffi::abr_closed) -> Result<Closed, Refusal> {
+    Refusal::outcome(answer.refusal)?;
+    Ok(Closed {
+        cells: answer.cells,
+        comparisons: answer.comparisons,
+    })
 }
 
 impl Default for Table {

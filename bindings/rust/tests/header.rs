@@ -139,6 +139,9 @@ fn the_layouts_are_those_of_the_header() {
     assert_eq!(offset_of!(ffi::abr_rm, sn), 44);
     assert_eq!(size_of::<ffi::abr_answer>(), 8);
     assert_eq!(offset_of!(ffi::abr_answer, comparisons), 4);
+    assert_eq!(size_of::<ffi::abr_closed>(), 16);
+    assert_eq!(offset_of!(ffi::abr_closed, comparisons), 4);
+    assert_eq!(offset_of!(ffi::abr_closed, cells), 8);
     assert_eq!(size_of::<ffi::abr_sent>(), 32);
     assert_eq!(offset_of!(ffi::abr_sent, comparisons), 4);
     assert_eq!(offset_of!(ffi::abr_sent, vpi), 12);

@@ -19,8 +19,9 @@ use Rattle.engine.specs.Contract.{Meets, MeetsWriting, MeetsAcr}
 use Rattle.answers.specs.declared.calls.SlotAnswer.{SlotAnswer}
 use Rattle.answers.specs.declared.calls.AcrAnswer.{AcrAnswer}
 use Rattle.answers.specs.declared.calls.CallAnswer.{CallAnswer}
-use Rattle.answers.specs.Calls.{callAnswer, slotAnswer, acrAnswer, ofRates}
-use Rattle.abr.specs.Contract.{Answers, Numbered, NumberedWriting, AnswersSlot, AnswersAcr}
+use Rattle.answers.specs.declared.calls.ClosedAnswer.{ClosedAnswer}
+use Rattle.answers.specs.Calls.{callAnswer, closedAnswer, slotAnswer, acrAnswer, ofRates}
+use Rattle.abr.specs.Contract.{Answers, AnswersClosed, Numbered, NumberedWriting, AnswersSlot, AnswersAcr}
 
 -- a call on the name that was made of a pair
 pub named : (f : ℕ → State → Outcome) {n m : ℕ} {before after : List ℕ} {a : Answer} → n ≡ m → Meets (f n) before after a → Meets (f m) before after a
@@ -34,6 +35,10 @@ named-writing f {before = before} {after = after} {a = a} {old = old} {new = new
 -- a call that returns its refusal and the comparisons it made
 pub answers : {f : State → Outcome} {before after : List ℕ} {a : Answer} {r : CallAnswer} → r ≡ callAnswer a → Meets f before after a → Answers f before after r
 answers e m = record { meets = λ s w b. let k = m .meets s w b in (k .0, e ∙ ap callAnswer (k .1)) }
+
+-- a close
+pub closes : {f : State → Outcome} {before after : List ℕ} {a : Answer} {r : ClosedAnswer} → r ≡ closedAnswer a → Meets f before after a → AnswersClosed f before after r
+closes e m = record { meets = λ s w b. let k = m .meets s w b in (k .0, e ∙ ap closedAnswer (k .1)) }
 
 -- a call that returns its refusal alone, of a definition that makes no comparisons
 alone : {a r c : CallAnswer} → r ≡ a → a ≡ c → c .comparisons ≡ 0 → record { refusal = r .refusal; comparisons = 0 } ≡ c

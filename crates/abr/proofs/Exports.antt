@@ -6,8 +6,8 @@ use lib.ListN.{length}
 use Rattle.connection.specs.Sending.{Buffer, untouched}
 use Rattle.model.specs.State.{State, empty}
 use Rattle.model.specs.Invariant.{WellFormed}
-use Rattle.model.specs.Call.{Call, opening, closing, receiving, offering, levelling, slot, making, outOfRate, Outcome}
-use Rattle.model.specs.Step.{refuse, accept, replay, sendOutside, step}
+use Rattle.model.specs.Call.{Call, opening, closing, receiving, offering, levelling, slot, making, outOfRate, Outcome, closedCells}
+use Rattle.model.specs.Step.{refuse, accept, replay, discard, idleStep, sendStep, sendOutside, step}
 use Rattle.model.specs.Run.{run, final}
 use Rattle.model.proofs.Preserved.{empty-well-formed}
 use Rattle.model.proofs.Effects.{Effect, refuses, begins, ends, offers as offersTo, marks, works, levels as levelsTo, idles, sends, makes as makesAt, leaves as leavesAt, effect}
@@ -16,8 +16,9 @@ use Rattle.table.specs.Layout.{words}
 use Rattle.table.proofs.Words.{empty-words}
 use Rattle.engine.specs.Contract.{bufferContent}
 use Rattle.answers.specs.declared.calls.CallAnswer.{CallAnswer}
-use Rattle.answers.specs.Calls.{refusalAlone, callAnswer, noCell, slotAnswer}
-use Rattle.abr.specs.Exports.{Observation, noSlot, Performs, opens, closes, receives, offers, levels, makes, leaves, slots, Trace, ended, then, finalWords, zeros, Matches, AllMatch, neither, both, ExportsAreRun}
+use Rattle.answers.specs.declared.calls.ClosedAnswer.{ClosedAnswer}
+use Rattle.answers.specs.Calls.{refusalAlone, callAnswer, closedAnswer, noCell, slotAnswer}
+use Rattle.abr.specs.Exports.{Observation, noSlot, afterClose, Performs, opens, closes, receives, offers, levels, makes, leaves, slots, Trace, ended, then, finalWords, zeros, Matches, AllMatch, neither, both, ExportsAreRun}
 
 -- a call that is no slot
 abbrev NoSlot : Call → Type 0
@@ -41,13 +42,41 @@ WithoutBuffer (slot t room) = ⊥
 WithoutBuffer (making a b t) = Unit
 WithoutBuffer (outOfRate a b t room) = ⊥
 
+-- a call that discards no data cells
+abbrev NoClose : Call → Type 0
+NoClose (opening a b t p) = Unit
+NoClose (closing a b) = ⊥
+NoClose (receiving o) = Unit
+NoClose (offering a b n) = Unit
+NoClose (levelling l) = Unit
+NoClose (slot t room) = Unit
+NoClose (making a b t) = Unit
+NoClose (outOfRate a b t room) = Unit
+
+effect-no-cells : {s : State} {c : Call} {o : Outcome} → Effect s c o → NoClose c → 0 ≡ closedCells (o .answer)
+unfolding refuse accept replay idleStep sendStep sendOutside closedCells
+effect-no-cells (refuses c n h) u = refl
+effect-no-cells (begins a b t p g) u = refl
+effect-no-cells (ends a b d f) u = absurd u
+effect-no-cells (offersTo a b n d f h) u = refl
+effect-no-cells (marks o a b e d r f) u = refl
+effect-no-cells (works o q d r f) u = refl
+effect-no-cells (levelsTo l h) u = refl
+effect-no-cells (idles t room g b) u = refl
+effect-no-cells (sends t room i v g b) u = refl
+effect-no-cells (makesAt a b t d f g h m) u = refl
+effect-no-cells (leavesAt a b t room d f g h) u = refl
+
+no-cells : {s : State} → WellFormed s → (c : Call) → NoClose c → 0 ≡ closedCells (step s c .answer)
+no-cells {s} w c u = effect-no-cells (effect s (w .unique) c) u
+
 -- it writes none that it is not lent, and its answer is a refusal and comparisons alone
 pub record Plain (c : Call) (o : Outcome) : Type 0 where
   pub buffer : WithoutBuffer c → o .buffer ≡ untouched
   pub answer : noCell (callAnswer (o .answer) .refusal) (callAnswer (o .answer) .comparisons) ≡ slotAnswer (o .answer)
 
 effect-plain : {s : State} {c : Call} {o : Outcome} → Effect s c o → NoSlot c → Plain c o
-unfolding refuse accept replay sendOutside
+unfolding refuse accept replay discard sendOutside
 effect-plain (refuses c n h) u = record { buffer = λ _. refl; answer = refl }
 effect-plain (begins a b t p g) u = record { buffer = λ _. refl; answer = refl }
 effect-plain (ends a b d f) u = record { buffer = λ _. refl; answer = refl }
@@ -68,22 +97,33 @@ returned-plain : {s : State} → WellFormed s → (c : Call) → NoSlot c → (r
 returned-plain {s} w c u r h = ap (λ (a : CallAnswer). noCell (a .refusal) (a .comparisons)) h ∙ effect-plain (effect s (w .unique) c) u .answer
 
 plain-matches :
-    {s : State} → WellFormed s → (c : Call) → NoSlot c → WithoutBuffer c → (m : List ℕ) (r : CallAnswer) → (m ≡ words (step s c .state)) × (r ≡ callAnswer (step s c .answer))
+    {s : State} → WellFormed s → (c : Call) → NoSlot c → WithoutBuffer c → NoClose c → (m : List ℕ) (r : CallAnswer) → (m ≡ words (step s c .state)) × (r ≡ callAnswer (step s c .answer))
     → Matches (step s c) (noSlot m r)
-plain-matches {s} w c u b m r h =
-    record { table = h .0; returned = returned-plain w c u r (h .1); buffer = nothing-written (step s c .buffer) (effect-plain (effect s (w .unique) c) u .buffer b) }
+plain-matches {s} w c u b k m r h =
+    record { table = h .0; returned = returned-plain w c u r (h .1); cells = no-cells w c k; buffer = nothing-written (step s c .buffer) (effect-plain (effect s (w .unique) c) u .buffer b) }
+
+close-matches :
+    {s : State} → WellFormed s → (vpi vci : ℕ) (m : List ℕ) (r : ClosedAnswer) → (m ≡ words (step s (closing vpi vci) .state)) × (r ≡ closedAnswer (step s (closing vpi vci) .answer))
+    → Matches (step s (closing vpi vci)) (afterClose m r)
+close-matches {s} w a b m r h = record {
+  table = h .0;
+  returned = returned-plain w (closing a b) tt (record { refusal = r .refusal; comparisons = r .comparisons }) (ap (λ (x : ClosedAnswer). record { refusal = x .refusal; comparisons = x .comparisons }) (h .1));
+  cells = ap (λ (x : ClosedAnswer). x .cells) (h .1);
+  buffer = nothing-written (step s (closing a b) .buffer) (effect-plain (effect s (w .unique) (closing a b)) tt .buffer tt);
+}
 
 performs-matches : {s : State} → WellFormed s → {c : Call} {l : List ℕ} {o : Observation} → Performs c l o → l ≡ words s → Matches (step s c) o
 unfolding step
-performs-matches {s} w (opens {vpi} {vci} {t} {p} {l} {m} {r} h) e = plain-matches w (opening vpi vci t p) tt tt m r (h .meets s w e)
-performs-matches {s} w (closes {vpi} {vci} {l} {m} {r} h) e = plain-matches w (closing vpi vci) tt tt m r (h .meets s w e)
-performs-matches {s} w (receives {o} {l} {m} {r} h) e = plain-matches w (receiving o) tt tt m r (h .meets s w e)
-performs-matches {s} w (offers {vpi} {vci} {n} {l} {m} {r} h) e = plain-matches w (offering vpi vci n) tt tt m r (h .meets s w e)
-performs-matches {s} w (levels {k} {l} {m} {r} h) e = plain-matches w (levelling k) tt tt m (refusalAlone r) (h .meets s w e)
-performs-matches {s} w (makes {vpi} {vci} {t} {l} {m} {r} h) e = plain-matches w (making vpi vci t) tt tt m r (h .meets s w e)
+performs-matches {s} w (opens {vpi} {vci} {t} {p} {l} {m} {r} h) e = plain-matches w (opening vpi vci t p) tt tt tt m r (h .meets s w e)
+performs-matches {s} w (closes {vpi} {vci} {l} {m} {r} h) e = close-matches w vpi vci m r (h .meets s w e)
+performs-matches {s} w (receives {o} {l} {m} {r} h) e = plain-matches w (receiving o) tt tt tt m r (h .meets s w e)
+performs-matches {s} w (offers {vpi} {vci} {n} {l} {m} {r} h) e = plain-matches w (offering vpi vci n) tt tt tt m r (h .meets s w e)
+performs-matches {s} w (levels {k} {l} {m} {r} h) e = plain-matches w (levelling k) tt tt tt m (refusalAlone r) (h .meets s w e)
+performs-matches {s} w (makes {vpi} {vci} {t} {l} {m} {r} h) e = plain-matches w (making vpi vci t) tt tt tt m r (h .meets s w e)
 performs-matches {s} w (leaves {vpi} {vci} {t} {l} {m} {old} {new} {r} h) e =
-    let g = h .meets s w e in record { table = g .0; returned = returned-plain w (outOfRate vpi vci t (length old)) tt (refusalAlone r) (g .1); buffer = g .2 }
-performs-matches {s} w (slots h) e = let g = h .meets s w e in record { table = g .0; returned = g .1; buffer = g .2 }
+    let g = h .meets s w e in record { table = g .0; returned = returned-plain w (outOfRate vpi vci t (length old)) tt (refusalAlone r) (g .1); cells = no-cells w (outOfRate vpi vci t (length old)) tt; buffer = g .2 }
+performs-matches {s} w (slots {t} {l} {m} {old} h) e =
+    let g = h .meets s w e in record { table = g .0; returned = g .1; cells = no-cells w (slot t (length old)) tt; buffer = g .2 }
 
 onward :
     (s : State) → WellFormed s → (cs : List Call) (l : List ℕ) (os : List Observation) → Trace cs l os → l ≡ words s

@@ -11,13 +11,18 @@ use Rattle.engine.specs.Contract.{bufferContent}
 use Rattle.answers.specs.declared.calls.SlotAnswer.{SlotAnswer}
 use Rattle.answers.specs.declared.calls.AcrAnswer.{AcrAnswer}
 use Rattle.answers.specs.declared.calls.CallAnswer.{CallAnswer}
-use Rattle.answers.specs.Calls.{refusalAlone, callAnswer, slotAnswer, acrAnswer}
+use Rattle.answers.specs.declared.calls.ClosedAnswer.{ClosedAnswer}
+use Rattle.answers.specs.Calls.{refusalAlone, callAnswer, closedAnswer, slotAnswer, acrAnswer}
 use Rattle.doubles.specs.declared.export.Exported.{Exported}
 use Rattle.answers.specs.Planning.{ExportedAs}
 
 -- a call that returns its refusal and the comparisons it made
 pub record Answers (f : State → Outcome) (before after : List ℕ) (r : CallAnswer) : Type 0 where
   pub meets : (s : State) → WellFormed s → before ≡ words s → (after ≡ words (f s .state)) × (r ≡ callAnswer (f s .answer))
+
+-- a close, which returns the data cells that waited besides (document 02, L12)
+pub record AnswersClosed (f : State → Outcome) (before after : List ℕ) (r : ClosedAnswer) : Type 0 where
+  pub meets : (s : State) → WellFormed s → before ≡ words s → (after ≡ words (f s .state)) × (r ≡ closedAnswer (f s .answer))
 
 -- a call that returns its refusal alone: it makes no comparisons
 pub record Numbered (f : State → Outcome) (before after : List ℕ) (r : ℕ) : Type 0 where

@@ -1,5 +1,5 @@
 -- What lists of exported calls do to one lent table, as C sees it: numbers, structs, octets and words. (Document 01, "What the library commits to", 1, and
--- "The lists of demand 3"; document 02, L6.)
+-- "The lists of demand 3"; document 02, L6 and L12.)
 use Prim.Native.Nat.{ℕ}
 use mathlib.Core.Path.{_≡_}
 use mathlib.Core.List.{List, [], _∷_}
@@ -8,7 +8,7 @@ use Rattle.params.specs.declared.params.Params.{Params}
 use Rattle.cell.specs.Name.{pairName}
 use Rattle.model.specs.State.{State, empty}
 use Rattle.model.specs.Invariant.{WellFormed}
-use Rattle.model.specs.Call.{Call, opening, closing, receiving, offering, levelling, slot, making, outOfRate, Outcome}
+use Rattle.model.specs.Call.{Call, opening, closing, receiving, offering, levelling, slot, making, outOfRate, Outcome, closedCells}
 use Rattle.model.specs.Step.{openStep, closeStep, receiveStep, offerStep, levelStep, slotStep, makeStep, outOfRateStep}
 use Rattle.model.specs.Queries.{acrOf, contractOf}
 use Rattle.model.specs.Run.{run, final}
@@ -17,37 +17,42 @@ use Rattle.engine.specs.Contract.{bufferContent}
 use Rattle.answers.specs.declared.calls.SlotAnswer.{SlotAnswer}
 use Rattle.answers.specs.declared.calls.AcrAnswer.{AcrAnswer}
 use Rattle.answers.specs.declared.calls.CallAnswer.{CallAnswer}
+use Rattle.answers.specs.declared.calls.ClosedAnswer.{ClosedAnswer}
 use Rattle.answers.specs.Calls.{refusalAlone, noCell, slotAnswer, acrAnswer}
 use Rattle.doubles.specs.declared.export.Exported.{Exported}
 use Rattle.answers.specs.Planning.{ExportedAs}
-use Rattle.abr.specs.Contract.{Answers, Numbered, NumberedWriting, AnswersSlot, AnswersAcr, AnswersExport}
+use Rattle.abr.specs.Contract.{Answers, AnswersClosed, Numbered, NumberedWriting, AnswersSlot, AnswersAcr, AnswersExport}
 
--- what a caller sees of one call: the words of the table after it, what it returned, and the lent buffer before and after it
+-- what a caller sees of one call: the words of the table after it, what it returned, with the data cells of a close, and the lent buffer before and after it
 pub record Observation : Type 0 where
   pub table : List ℕ
   pub returned : SlotAnswer
+  pub cells : ℕ
   pub old : List ℕ
   pub new : List ℕ
 
 -- a call that is lent no buffer to write
 abbrev pub noSlot : (table : List ℕ) → CallAnswer → Observation
-noSlot l r = record { table = l; returned = noCell (r .refusal) (r .comparisons); old = []; new = [] }
+noSlot l r = record { table = l; returned = noCell (r .refusal) (r .comparisons); cells = 0; old = []; new = [] }
+
+abbrev pub afterClose : (table : List ℕ) → ClosedAnswer → Observation
+afterClose l r = record { table = l; returned = noCell (r .refusal) (r .comparisons); cells = r .cells; old = []; new = [] }
 
 -- One exported call on these words. What each case holds is the ensures of abr_open, abr_close, abr_receive, abr_offer, abr_set_level, abr_make, abr_out_of_rate or abr_slot, so that
 -- every such call makes one of these.
 pub data Performs : Call → (before : List ℕ) → Observation → Type 0 where
   opens : {vpi vci t : ℕ} {p : Params} {l m : List ℕ} {r : CallAnswer} → Answers (λ s. openStep s vpi vci t p) l m r → Performs (opening vpi vci t p) l (noSlot m r)
-  closes : {vpi vci : ℕ} {l m : List ℕ} {r : CallAnswer} → Answers (λ s. closeStep s (pairName vpi vci)) l m r → Performs (closing vpi vci) l (noSlot m r)
+  closes : {vpi vci : ℕ} {l m : List ℕ} {r : ClosedAnswer} → AnswersClosed (λ s. closeStep s (pairName vpi vci)) l m r → Performs (closing vpi vci) l (afterClose m r)
   receives : {o : List ℕ} {l m : List ℕ} {r : CallAnswer} → Answers (λ s. receiveStep s o) l m r → Performs (receiving o) l (noSlot m r)
   offers : {vpi vci n : ℕ} {l m : List ℕ} {r : CallAnswer} → Answers (λ s. offerStep s (pairName vpi vci) n) l m r → Performs (offering vpi vci n) l (noSlot m r)
   levels : {k : ℕ} {l m : List ℕ} {r : ℕ} → Numbered (λ s. levelStep s k) l m r → Performs (levelling k) l (noSlot m (refusalAlone r))
   makes : {vpi vci t : ℕ} {l m : List ℕ} {r : CallAnswer} → Answers (λ s. makeStep s (pairName vpi vci) t) l m r → Performs (making vpi vci t) l (noSlot m r)
   leaves :
       {vpi vci t : ℕ} {l m old new : List ℕ} {r : ℕ} → NumberedWriting (λ s. outOfRateStep s (pairName vpi vci) t (length old)) l m r old new
-      → Performs (outOfRate vpi vci t (length old)) l (record { table = m; returned = noCell r 0; old = old; new = new })
+      → Performs (outOfRate vpi vci t (length old)) l (record { table = m; returned = noCell r 0; cells = 0; old = old; new = new })
   slots :
       {t : ℕ} {l m old new : List ℕ} {r : SlotAnswer} → AnswersSlot (λ s. slotStep s t (length old)) l m r old new
-      → Performs (slot t (length old)) l (record { table = m; returned = r; old = old; new = new })
+      → Performs (slot t (length old)) l (record { table = m; returned = r; cells = 0; old = old; new = new })
 
 -- calls in a row, each on the words that the call before it left
 pub data Trace : List Call → (first : List ℕ) → List Observation → Type 0 where
@@ -67,6 +72,7 @@ zeros = replicate size 0
 pub record Matches (p : Outcome) (o : Observation) : Type 0 where
   pub table : o .table ≡ words (p .state)
   pub returned : o .returned ≡ slotAnswer (p .answer)
+  pub cells : o .cells ≡ closedCells (p .answer)
   pub buffer : o .new ≡ bufferContent (p .buffer) (o .old)
 
 -- each of them in its place, and as many of the one as of the other

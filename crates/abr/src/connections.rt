@@ -1,12 +1,14 @@
-// The calls that name a connection (document 01, "Opening" and "Slots"; document 02, L1, L5 and L6).
+// The calls that name a connection (document 01, "Opening" and "Slots"; document 02, L1, L5, L6 and L12).
 ghost use lib.ListN.{length};
 ghost use Rattle.cell.specs.Name.{pairName};
 ghost use Rattle.model.specs.Step.{openStep, closeStep, offerStep, makeStep, outOfRateStep};
-ghost use Rattle.abr.specs.Contract.{Answers, NumberedWriting, AnswersAcr};
+ghost use Rattle.abr.specs.Contract.{Answers, AnswersClosed, NumberedWriting, AnswersAcr};
 use answers::calls::AcrAnswer;
 use answers::calls::CallAnswer;
+use answers::calls::ClosedAnswer;
 use answers::calls::acr_answer;
 use answers::calls::call_answer;
+use answers::calls::closed_answer;
 use cell::name::pair_name;
 use engine::acr::read_acr;
 use engine::close::close;
@@ -33,11 +35,11 @@ pub extern "C" fn abr_open(
 
 // Refusal 11.
 #[no_mangle]
-pub extern "C" fn abr_close(table: &mut [u64; WORDS], vpi: u32, vci: u32) -> CallAnswer
-    ensures { λ r. ⌜ Answers (λ s. closeStep s (pairName vpi vci)) (now (table .entry)) (now (table .exit)) r ⌝ }
+pub extern "C" fn abr_close(table: &mut [u64; WORDS], vpi: u32, vci: u32) -> ClosedAnswer
+    ensures { λ r. ⌜ AnswersClosed (λ s. closeStep s (pairName vpi vci)) (now (table .entry)) (now (table .exit)) r ⌝ }
 {
     let name = pair_name(vpi, vci);
-    call_answer(close(table, name))
+    closed_answer(close(table, name))
 }
 
 // Refusals 11, 15.

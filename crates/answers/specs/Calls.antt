@@ -1,16 +1,18 @@
 -- What the calls on a table return, for each case of their answers: the documents' number, 0 if there is no refusal, and zeros beside a refusal.
--- (Document 01, "Slots", "Refused because of the input" and "Refused because of the state"; document 02, L6 and L9.)
+-- (Document 01, "Slots", "Refused because of the input" and "Refused because of the state"; document 02, L6, L9 and L12.)
 use Prim.Native.Nat.{ℕ}
 use lib.IntN.{pos}
 use Rattle.cell.specs.Name.{vpiIn, vciIn}
 use Rattle.connection.specs.Change.{difference, asRates}
 use Rattle.model.specs.declared.answer.Answer.{Answer}
-use Rattle.model.specs.declared.answer.Answer.the-variants.{Refused, Accepted, Idle, Sent}
+use Rattle.model.specs.declared.answer.Answer.the-variants.{Refused, Accepted, Closed, Idle, Sent}
+use Rattle.model.specs.Call.{closedCells}
 use Rattle.model.specs.declared.acr.Acr.{Acr}
 use Rattle.model.specs.declared.acr.Acr.the-variants.{NotOpen, Rate}
 use Rattle.connection.specs.Kind.{kindNumber}
 pub use Rattle.answers.specs.declared.calls.AcrAnswer.{AcrAnswer}
 pub use Rattle.answers.specs.declared.calls.CallAnswer.{CallAnswer}
+pub use Rattle.answers.specs.declared.calls.ClosedAnswer.{ClosedAnswer}
 pub use Rattle.answers.specs.declared.calls.SlotAnswer.{SlotAnswer}
 
 -- a call that makes no comparisons
@@ -21,17 +23,23 @@ refusalAlone n = record { refusal = n; comparisons = 0 }
 abbrev pub callAnswer : Answer → CallAnswer
 callAnswer (Refused n) = refusalAlone n
 callAnswer (Accepted n) = record { refusal = 0; comparisons = n }
+callAnswer (Closed n k) = record { refusal = 0; comparisons = n }
 callAnswer Idle = refusalAlone 0
 callAnswer (Sent v k a n) = record { refusal = 0; comparisons = n }
+
+-- a close: the data cells that waited beside them
+abbrev pub closedAnswer : Answer → ClosedAnswer
+closedAnswer a = record { refusal = callAnswer a .refusal; comparisons = callAnswer a .comparisons; cells = closedCells a }
 
 -- kind 0 is none
 abbrev pub noCell : (refusal comparisons : ℕ) → SlotAnswer
 noCell n k = record { refusal = n; comparisons = k; kind = 0; vpi = 0; vci = 0; acr = 0 }
 
--- no slot answers Accepted
+-- no slot answers Accepted or Closed
 abbrev pub slotAnswer : Answer → SlotAnswer
 slotAnswer (Refused n) = noCell n 0
 slotAnswer (Accepted n) = noCell 0 n
+slotAnswer (Closed n k) = noCell 0 n
 slotAnswer Idle = noCell 0 0
 slotAnswer (Sent v k a n) = record { refusal = 0; comparisons = n; kind = kindNumber k; vpi = vpiIn v; vci = vciIn v; acr = a }
 

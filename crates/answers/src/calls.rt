@@ -1,6 +1,6 @@
-// What the calls on a table return (document 01, "Slots"; document 02, L4, L6 and L9).
+// What the calls on a table return (document 01, "Slots"; document 02, L4, L6, L9 and L12).
 ghost use mathlib.Core.Path.{_≡_};
-ghost use Rattle.answers.specs.Calls.{callAnswer, acrAnswer, ofRates, noCell, slotAnswer};
+ghost use Rattle.answers.specs.Calls.{callAnswer, closedAnswer, acrAnswer, ofRates, noCell, slotAnswer};
 ghost use Rattle.connection.specs.Kind.{kindNumber};
 use connection::kind::Kind;
 use model::acr::Acr;
@@ -25,6 +25,13 @@ pub fn call_answer(a: Answer) -> CallAnswer
             refusal: 0,
             comparisons,
         },
+        Answer::Closed {
+            comparisons,
+            cells: _,
+        } => CallAnswer {
+            refusal: 0,
+            comparisons,
+        },
         Answer::Idle => CallAnswer {
             refusal: 0,
             comparisons: 0,
@@ -37,6 +44,51 @@ pub fn call_answer(a: Answer) -> CallAnswer
         } => CallAnswer {
             refusal: 0,
             comparisons,
+        },
+    }
+}
+
+// The same of a close, and the data cells that waited (document 02, L12).
+#[repr(C)]
+pub struct ClosedAnswer {
+    pub refusal: u32,
+    pub comparisons: u32,
+    pub cells: u64,
+}
+
+pub fn closed_answer(a: Answer) -> ClosedAnswer
+    ensures { λ r. ⌜ r ≡ closedAnswer a ⌝ }
+{
+    match a {
+        Answer::Refused(refusal) => ClosedAnswer {
+            refusal,
+            comparisons: 0,
+            cells: 0,
+        },
+        Answer::Accepted { comparisons } => ClosedAnswer {
+            refusal: 0,
+            comparisons,
+            cells: 0,
+        },
+        Answer::Closed { comparisons, cells } => ClosedAnswer {
+            refusal: 0,
+            comparisons,
+            cells,
+        },
+        Answer::Idle => ClosedAnswer {
+            refusal: 0,
+            comparisons: 0,
+            cells: 0,
+        },
+        Answer::Sent {
+            name: _,
+            kind: _,
+            acr: _,
+            comparisons,
+        } => ClosedAnswer {
+            refusal: 0,
+            comparisons,
+            cells: 0,
         },
     }
 }
@@ -107,6 +159,10 @@ pub fn slot_answer(a: Answer) -> SlotAnswer
     match a {
         Answer::Refused(n) => no_cell(n, 0),
         Answer::Accepted { comparisons } => no_cell(0, comparisons),
+        Answer::Closed {
+            comparisons,
+            cells: _,
+        } => no_cell(0, comparisons),
         Answer::Idle => no_cell(0, 0),
         Answer::Sent {
             name,

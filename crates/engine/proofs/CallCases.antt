@@ -10,19 +10,20 @@ use Rattle.connection.specs.Receiving.{offered}
 use Rattle.connection.proofs.Keeps.{Same}
 use Rattle.model.specs.State.{State, Entry, free, taken, find, leafOf, put, withLevel, capacity}
 use Rattle.model.specs.Invariant.{WellFormed}
+use Rattle.model.proofs.Preserved.{put-well-formed}
 use Rattle.table.specs.Layout.{words}
 use Rattle.table.specs.Loading.{connectionAt}
 use Rattle.names.specs.declared.find.Found.{Found}
 use Rattle.names.specs.declared.find.Found.the-variants.{At, Nothing}
 use Rattle.names.specs.Finding.{Located, Finds}
 use Rattle.names.proofs.Found.{found-at}
-use Rattle.model.specs.declared.answer.Answer.the-variants.{Refused, Accepted}
-use Rattle.model.specs.Call.{closing, offering}
-use Rattle.model.specs.Step.{refuse, accept, replay, ofOpen, closeStep, offerStep, levelStep, step}
+use Rattle.model.specs.declared.answer.Answer.the-variants.{Refused, Accepted, Closed}
+use Rattle.model.specs.Call.{offering}
+use Rattle.model.specs.Step.{refuse, accept, replay, discard, ofOpen, closeStep, offerStep, levelStep, step}
 use Rattle.storing.specs.Updates.{Updates, SourceMoved, Leaves}
 use Rattle.tournament.specs.Replaying.{Ordered}
 use Rattle.engine.specs.Contract.{MeetsReading}
-use Rattle.engine.proofs.Outcomes.{refused-out, replayed-out, replay-well-formed, ordered, below, missing, standing, pair-of, loaded-is, put-at, put-becomes, updated-is}
+use Rattle.engine.proofs.Outcomes.{refused-out, replayed-out, discarded-out, replay-well-formed, ordered, below, missing, standing, pair-of, loaded-is, put-at, put-becomes, updated-is}
 use Rattle.laws.specs.Require.{require}
 
 -- Set level.
@@ -39,18 +40,18 @@ pub close-missing : (s : State) (v : ℕ) → find v (s .entries) ≡ free → c
 unfolding closeStep ofOpen
 close-missing s v e = rw e
 
-pub close-done : (s : State) (v : ℕ) (c : Connection) → find v (s .entries) ≡ taken c → closeStep s v ≡ replay (leafOf v s) s (put v free s)
+pub close-done : (s : State) (v : ℕ) (c : Connection) → find v (s .entries) ≡ taken c → closeStep s v ≡ discard (waiting (c .queue)) (leafOf v s) s (put v free s)
 unfolding closeStep ofOpen
 close-done s v c e = rw e
 
 pub close-out :
-    (s : State) → WellFormed s → {l m : List ℕ} {n : ℕ} → l ≡ words s → {v i : ℕ} → Located (s .entries) v i → Leaves l m i v n
-    → (m ≡ words (closeStep s v .state)) × (Accepted n ≡ closeStep s v .answer)
+    (s : State) → WellFormed s → {l m : List ℕ} {n : ℕ} → l ≡ words s → {v i : ℕ} → i < capacity → Located (s .entries) v i → {d : Connection} → d ≡ connectionAt l i
+    → Leaves l m i v n → (m ≡ words (closeStep s v .state)) × (Closed n (waiting (d .queue)) ≡ closeStep s v .answer)
 unfolding step
-close-out s w e {v} {i} p u =
-    let done = close-done s v (p .holder) (found-at p) in
-    let z = replay-well-formed w (closing (vpiIn v) (vciIn v)) (leafOf v s) (put v free s) (ap (closeStep s) (pair-of s w p) ∙ done) in
-    replayed-out (leafOf v s) s (put v free s)
+close-out s w e {v} {i} h p {d} q u =
+    let done = close-done s v (p .holder) (found-at p) ∙ ap (λ (x : Connection). discard (waiting (x .queue)) (leafOf v s) s (put v free s)) (sym (loaded-is s w p e h q)) in
+    let z = put-well-formed w v free tt tt in
+    discarded-out (waiting (d .queue)) (leafOf v s) s (put v free s)
     (put-becomes s v (p .place) free
     (u .is s w e (p .holder) (p .here) (p .named) (subst (λ (r : State). Ordered (r .entries)) (put-at s v (p .place) free) (ordered z)))) done
 

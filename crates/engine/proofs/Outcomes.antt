@@ -23,9 +23,9 @@ use Rattle.model.proofs.Entries.{each-get, each-map}
 use Rattle.connection.proofs.Reached.{in-range, ready-below}
 use Rattle.table.proofs.Loaded.{load-ranged, load-room}
 use Rattle.table.proofs.Words.{lead-same, load-at, efci-at, outside-at}
-use Rattle.model.specs.declared.answer.Answer.the-variants.{Refused, Accepted}
+use Rattle.model.specs.declared.answer.Answer.the-variants.{Refused, Accepted, Closed}
 use Rattle.model.specs.Call.{Call, Outcome}
-use Rattle.model.specs.Step.{refuse, accept, replay, step}
+use Rattle.model.specs.Step.{refuse, accept, replay, discard, step}
 use Rattle.model.specs.Tournament.{leafLead, replayed}
 use Rattle.model.proofs.Replays.{replayed-same}
 use Rattle.model.proofs.Reached.{step-well-formed}
@@ -47,6 +47,13 @@ pub replayed-out :
     → (m ≡ words (o .state)) × (Accepted n ≡ o .answer)
 unfolding replay accept
 replayed-out x s r h q = rw q (h .0, ap Accepted (h .1))
+
+-- the same of a call that discards what waited
+pub discarded-out :
+    {m : List ℕ} {n : ℕ} {o : Outcome} (k x : ℕ) (s r : State) → (m ≡ words r) × (n ≡ replayed x (s .entries) (r .entries)) → o ≡ discard k x s r
+    → (m ≡ words (o .state)) × (Closed n k ≡ o .answer)
+unfolding discard
+discarded-out k x s r h q = rw q (h .0, ap (λ (i : ℕ). Closed i k) (h .1))
 
 -- the state that such a call leaves is well-formed
 pub replay-well-formed : {s : State} → WellFormed s → (c : Call) (x : ℕ) (r : State) → step s c ≡ replay x s r → WellFormed r

@@ -6,3 +6,4 @@ pub mod OutOfRateCalls
 pub mod AddressCalls
 pub mod ReservedCalls
 pub mod OwnTrace
+pub mod ConservedCalls

@@ -8,7 +8,7 @@ use Rattle.connection.specs.Making.{withMade}
 use Rattle.connection.specs.OutOfRate.{afterOutOfRate}
 use Rattle.connection.specs.Sending.{madeLeft, sentTurned}
 use Rattle.model.specs.State.{withLevel}
-use Rattle.model.specs.Step.{refuse, closeStep, levelStep, idleStep, makeStep, sendOutside, outOfRateStep}
+use Rattle.model.specs.Step.{refuse, discard, closeStep, levelStep, idleStep, makeStep, sendOutside, outOfRateStep}
 use Rattle.model.specs.Queries.{entryAcr, acrOf}
 use Rattle.model.specs.Run.{isAccepted}
 use Rattle.own_traces.specs.InRate.{acrIn, cellIn, atSlot, sentBy, closes, sentFrom}
@@ -18,7 +18,7 @@ use Rattle.examples.specs.OwnTrace.{OwnTrace}
 use Rattle.examples.proofs.Witness.{computing}
 
 pub own-trace : OwnTrace
-unfolding computing readOn written writtenAll withSent tooSoon brokenRule judgedFrom ranged rateRead kindRead sinceRead mostSince prepended recordThen cellsFrom verdictOf trmRead nRead rested withMade afterOutOfRate madeLeft sentTurned withLevel refuse closeStep levelStep idleStep makeStep sendOutside outOfRateStep entryAcr acrOf isAccepted acrIn cellIn atSlot sentBy closes sentFrom cellNumbers laterCells cellsOf
+unfolding computing readOn written writtenAll withSent tooSoon brokenRule judgedFrom ranged rateRead kindRead sinceRead mostSince prepended recordThen cellsFrom verdictOf trmRead nRead rested withMade afterOutOfRate madeLeft sentTurned withLevel refuse discard closeStep levelStep idleStep makeStep sendOutside outOfRateStep entryAcr acrOf isAccepted acrIn cellIn atSlot sentBy closes sentFrom cellNumbers laterCells cellsOf
 own-trace = record {
   opens = refl;
   cells = refl;

@@ -12,7 +12,7 @@ use Rattle.model.specs.declared.acr.Acr.the-variants.{NotOpen}
 use Rattle.model.specs.Step.{step}
 use Rattle.model.specs.Queries.{acrOf}
 use Rattle.model.specs.Run.{final}
-use Rattle.examples.specs.Unstarred.{refused, accepted, sent, next, house}
+use Rattle.examples.specs.Unstarred.{refused, accepted, closedWith, sent, next, house}
 
 -- VPI 1 and VCI 32 are open, at level 1; their name is 65,568
 abbrev pub opened : List Call
@@ -66,7 +66,7 @@ pub record AddressCalls : Type 0 where
   pub foldedOutside : next opened (outOfRate 0 65568 0 53) ≡ refused 11
   pub foldedAcr : acrOf (final empty opened) (pairName 0 65568) ≡ NotOpen
   -- while the pair itself is taken
-  pub closed : next opened (closing 1 32) ≡ accepted
+  pub closed : next opened (closing 1 32) ≡ closedWith 0
   pub offered : next opened (offering 1 32 1) ≡ accepted
   pub made : next opened (making 1 32 0) ≡ accepted
   pub outside : next opened (outOfRate 1 32 0 53) ≡ accepted

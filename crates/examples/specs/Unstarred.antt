@@ -12,7 +12,7 @@ use Rattle.connection.specs.declared.kind.Kind.{Kind}
 use Rattle.connection.specs.declared.kind.Kind.the-variants.{Forward, Data}
 use Rattle.model.specs.State.{Entry, free, taken, empty, find}
 use Rattle.model.specs.declared.answer.Answer.{Answer}
-use Rattle.model.specs.declared.answer.Answer.the-variants.{Refused, Accepted, Idle, Sent}
+use Rattle.model.specs.declared.answer.Answer.the-variants.{Refused, Accepted, Closed, Idle, Sent}
 use Rattle.model.specs.Call.{Call, opening, receiving, offering, slot}
 use Rattle.model.specs.Step.{step}
 use Rattle.model.specs.Run.{final}
@@ -22,12 +22,14 @@ use Rattle.examples.specs.Witness.{unmarked}
 pub data Result : Type 0 where
   refused : ℕ → Result
   accepted : Result
+  closedWith : (cells : ℕ) → Result
   idle : Result
   sent : (name : ℕ) → Kind → (acr : ℕ) → Result
 
 abbrev pub result : Answer → Result
 result (Refused n) = refused n
 result (Accepted n) = accepted
+result (Closed n k) = closedWith k
 result Idle = idle
 result (Sent v k a n) = sent v k a
 

@@ -19,9 +19,9 @@ use Rattle.model.specs.Invariant.{WellFormed, NamesUnique}
 use Rattle.model.specs.Choice.{Winner, noneReady, wins, candidateFrom, winner, Ahead, Chosen, Best}
 use Rattle.model.specs.Tournament.{levels, Lead, noLead, leads, instantLead, leafLead, winnerAt, inTime, leadWord, replayed}
 use Rattle.model.specs.declared.answer.Answer.{Answer}
-use Rattle.model.specs.declared.answer.Answer.the-variants.{Refused, Accepted, Idle, Sent}
+use Rattle.model.specs.declared.answer.Answer.the-variants.{Refused, Accepted, Closed, Idle, Sent}
 use Rattle.model.specs.Call.{Call, opening, closing, receiving, offering, levelling, slot, making, outOfRate, Outcome, comparisons}
-use Rattle.model.specs.Step.{refuse, accept, replay, sendStep, idleStep, sendOutside, step}
+use Rattle.model.specs.Step.{refuse, accept, replay, discard, sendStep, idleStep, sendOutside, step}
 use Rattle.model.specs.Run.{run, final, isAccepted}
 use Rattle.model.proofs.Entries.{each-at, taken-in, lowest-free, entry-place}
 use Rattle.model.proofs.Frames.{name-of}
@@ -132,7 +132,7 @@ opened-counted {s} w u t p r =
     (ap (leafLead (position isFree (s .entries))) (lowest-free (s .entries))) (ap (instantLead (fresh u t p .name) (position isFree (s .entries))) (fresh-never u t p))
 
 effect-counted : {s : State} → WellFormed s → {c : Call} {o : Outcome} → Effect s c o → CountedAnswer c (o .answer)
-unfolding refuse accept replay sendStep idleStep sendOutside withTime isAccepted comparisons
+unfolding refuse accept replay discard sendStep idleStep sendOutside withTime isAccepted comparisons
 effect-counted w (refuses c n h) = none-counted c false (λ e _. false≢true e)
 effect-counted w (begins vpi vci t p g) = leaf-counted _ refl _ _ _ (λ _. opened-counted w (pairName vpi vci) t p (g .room))
 effect-counted w (ends vpi vci d f) = leaf-counted _ refl _ _ _ (λ e. absurd (false≢true e))
@@ -157,6 +157,7 @@ scan-picks-winner cs t = root-winner t (final empty cs .entries) (reached-well-f
 sent-number : (a : Answer) → not (eqb (slotAnswer a .kind) 0) ≡ isSent a
 sent-number (Refused n) = refl
 sent-number (Accepted n) = refl
+sent-number (Closed n k) = refl
 sent-number Idle = refl
 sent-number (Sent v Forward a n) = refl
 sent-number (Sent v Turned a n) = refl
@@ -166,6 +167,7 @@ comparisons-number : (a : Answer) → slotAnswer a .comparisons ≡ comparisons 
 unfolding comparisons
 comparisons-number (Refused n) = refl
 comparisons-number (Accepted n) = refl
+comparisons-number (Closed n k) = refl
 comparisons-number Idle = refl
 comparisons-number (Sent v k a n) = refl
 

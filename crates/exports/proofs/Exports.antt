@@ -15,9 +15,9 @@ use Rattle.connection.specs.declared.kind.Kind.the-variants.{Forward, Turned, D
 use Rattle.model.specs.State.{State, Entry, free, taken, empty, find}
 use Rattle.model.specs.Invariant.{WellFormed}
 use Rattle.model.specs.declared.answer.Answer.{Answer}
-use Rattle.model.specs.declared.answer.Answer.the-variants.{Refused, Accepted, Idle, Sent}
+use Rattle.model.specs.declared.answer.Answer.the-variants.{Refused, Accepted, Closed, Idle, Sent}
 use Rattle.model.specs.Call.{Call, Outcome, refusal, goesTo, kindSent}
-use Rattle.model.specs.Step.{refuse, accept, replay, idleStep, sendStep, sendOutside, step}
+use Rattle.model.specs.Step.{refuse, accept, replay, discard, idleStep, sendStep, sendOutside, step}
 use Rattle.model.specs.Queries.{entryAcr, acrOf}
 use Rattle.model.specs.Run.{run, final, isAccepted, given, givenFrom, entryRate, allowed}
 use Rattle.model.proofs.Preserved.{empty-well-formed}
@@ -37,7 +37,7 @@ use Rattle.promises.proofs.Demand3.{demand3}
 
 -- What the numbers say of the answers: 0 of an accepted call alone.
 pub effect-accepted : {s : State} {c : Call} {o : Outcome} → Effect s c o → eqb (slotAnswer (o .answer) .refusal) 0 ≡ isAccepted (o .answer)
-unfolding refuse accept replay idleStep sendStep sendOutside isAccepted
+unfolding refuse accept replay discard idleStep sendStep sendOutside isAccepted
 effect-accepted (refuses c n h) = ne-eqb n 0 (λ e. omega (arith, h, e))
 effect-accepted (begins vpi vci t p g) = refl
 effect-accepted (ends vpi vci d f) = refl
@@ -59,6 +59,7 @@ refusal-number : (a : Answer) → slotAnswer a .refusal ≡ orZero (refusal a)
 unfolding refusal orZero
 refusal-number (Refused n) = refl
 refusal-number (Accepted n) = refl
+refusal-number (Closed n k) = refl
 refusal-number Idle = refl
 refusal-number (Sent v k a n) = refl
 
@@ -72,6 +73,7 @@ kind-number : (a : Answer) → slotAnswer a .kind ≡ kindOrZero (kindSent a)
 unfolding kindSent kindOrZero
 kind-number (Refused n) = refl
 kind-number (Accepted n) = refl
+kind-number (Closed n k) = refl
 kind-number Idle = refl
 kind-number (Sent v Forward a n) = refl
 kind-number (Sent v Turned a n) = refl
@@ -85,6 +87,7 @@ went-to : (a : Answer) → wentTo (slotAnswer a) ≡ goesTo a
 unfolding goesTo
 went-to (Refused n) = refl
 went-to (Accepted n) = refl
+went-to (Closed n k) = refl
 went-to Idle = refl
 went-to (Sent v Forward a n) = ap some (back v)
 went-to (Sent v Turned a n) = ap some (back v)
@@ -92,7 +95,7 @@ went-to (Sent v Data a n) = ap some (back v)
 
 -- Refusals.
 effect-leaves : {s : State} {c : Call} {o : Outcome} → Effect s c o → (slotAnswer (o .answer) .refusal ≡ 0 → ⊥) → (o .state ≡ s) × (o .buffer ≡ untouched)
-unfolding refuse accept replay idleStep sendStep sendOutside
+unfolding refuse accept replay discard idleStep sendStep sendOutside
 effect-leaves (refuses c n h) z = (refl, refl)
 effect-leaves (begins vpi vci t p g) z = absurd (z refl)
 effect-leaves (ends vpi vci d f) z = absurd (z refl)

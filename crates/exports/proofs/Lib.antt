@@ -3,3 +3,4 @@ pub mod Exports
 pub mod Comparisons
 pub mod Planning
 pub mod Recorded
+pub mod Conservation

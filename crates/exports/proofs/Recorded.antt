@@ -16,7 +16,7 @@ use Rattle.model.specs.Invariant.{WellFormed}
 use Rattle.model.specs.declared.acr.Acr.{Acr}
 use Rattle.model.specs.declared.acr.Acr.the-variants.{NotOpen, Rate}
 use Rattle.model.specs.declared.answer.Answer.{Answer}
-use Rattle.model.specs.declared.answer.Answer.the-variants.{Refused, Accepted, Idle, Sent}
+use Rattle.model.specs.declared.answer.Answer.the-variants.{Refused, Accepted, Closed, Idle, Sent}
 use Rattle.model.specs.Call.{Call, opening, closing, receiving, offering, levelling, slot, making, outOfRate}
 use Rattle.model.specs.Step.{step}
 use Rattle.model.specs.Queries.{acrOf}
@@ -43,6 +43,7 @@ cell-returned : (v t rate : ℕ) (a : Answer) → cellReturned v t rate (slotAns
 unfolding cellIn
 cell-returned v t rate (Refused n) = refl
 cell-returned v t rate (Accepted n) = refl
+cell-returned v t rate (Closed n k) = refl
 cell-returned v t rate Idle = refl
 cell-returned v t rate (Sent u Forward a n) = rw (back u) refl
 cell-returned v t rate (Sent u Turned a n) = rw (back u) refl

@@ -9,7 +9,7 @@ use Rattle.model.specs.State.{empty}
 use Rattle.model.specs.Choice.{winner}
 use Rattle.model.specs.Tournament.{levels, winnerAt, inTime}
 use Rattle.model.specs.declared.answer.Answer.{Answer}
-use Rattle.model.specs.declared.answer.Answer.the-variants.{Refused, Accepted, Idle, Sent}
+use Rattle.model.specs.declared.answer.Answer.the-variants.{Refused, Accepted, Closed, Idle, Sent}
 use Rattle.model.specs.Call.{Call, opening, closing, receiving, offering, levelling, slot, making, outOfRate, comparisons}
 use Rattle.model.specs.Step.{step}
 use Rattle.model.specs.Run.{final, isAccepted}
@@ -51,6 +51,7 @@ pub record Counted (c : Call) (accepted sent : Bool) (n : ℕ) : Type 0 where
 abbrev pub isSent : Answer → Bool
 isSent (Refused n) = false
 isSent (Accepted n) = false
+isSent (Closed n k) = false
 isSent Idle = false
 isSent (Sent v k a n) = true
 

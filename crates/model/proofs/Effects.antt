@@ -28,7 +28,7 @@ use Rattle.model.specs.Invariant.{NamesUnique}
 use Rattle.model.specs.Choice.{Winner, noneReady, wins, winner, Chosen, Best}
 use Rattle.model.proofs.Winners.{winner-best}
 use Rattle.model.specs.Call.{Call, opening, closing, receiving, offering, levelling, slot, making, outOfRate, Outcome}
-use Rattle.model.specs.Step.{refuse, accept, replay, ofOpen, openStep, closeStep, offerStep, readStep, receiveStep, levelStep, sendStep, idleStep, serveEntry, serve, slotStep, makeStep, sendOutside, outOfRateStep, step}
+use Rattle.model.specs.Step.{refuse, accept, replay, discard, ofOpen, openStep, closeStep, offerStep, readStep, receiveStep, levelStep, sendStep, idleStep, serveEntry, serve, slotStep, makeStep, sendOutside, outOfRateStep, step}
 use Rattle.laws.specs.Require.{require}
 
 -- an instant that does not lie before the last accepted one
@@ -52,7 +52,7 @@ pub data Effect (s : State) : Call → Outcome → Type 0 where
       → Effect s (opening a b t p) (replay (position isFree (s .entries)) s (withTime t (inserted (fresh (pairName a b) t p) s)))
   ends :
       (a b : ℕ) (d : Connection) → find (pairName a b) (s .entries) ≡ taken d
-      → Effect s (closing a b) (replay (leafOf (pairName a b) s) s (put (pairName a b) free s))
+      → Effect s (closing a b) (discard (waiting (d .queue)) (leafOf (pairName a b) s) s (put (pairName a b) free s))
   offers :
       (a b n : ℕ) (d : Connection) → find (pairName a b) (s .entries) ≡ taken d → waiting (d .queue) + n ≤ 65535
       → Effect s (offering a b n) (replay (leafOf (pairName a b) s) s (put (pairName a b) (taken (offered n d)) s))

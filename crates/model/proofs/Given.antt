@@ -24,7 +24,7 @@ use Rattle.model.proofs.Entries.{absent-find, each-free}
 use Rattle.model.proofs.Frames.{put-kept, inserted-read, freed-read}
 use Rattle.model.proofs.Preserved.{empty-well-formed}
 use Rattle.model.specs.Call.{Call, opening, closing, receiving, offering, levelling, slot, making, outOfRate, Outcome}
-use Rattle.model.specs.Step.{refuse, accept, replay, sendStep, sendOutside, idleStep, step}
+use Rattle.model.specs.Step.{refuse, accept, replay, discard, sendStep, sendOutside, idleStep, step}
 use Rattle.model.specs.Run.{final, isAccepted, given, givenFrom, paramsGiven}
 use Rattle.model.proofs.Effects.{Enters, Effect, refuses, begins, ends, offers, marks, works, levels, idles, sends, makes, leaves, effect}
 use Rattle.model.proofs.Reached.{step-well-formed}
@@ -64,7 +64,7 @@ unfolding entryParams
 kept-params v u s a d e f n h = put-kept entryParams v u s a d e f n (ap some h)
 
 effect-given : (v : ℕ) {s : State} → NamesUnique (s .entries) → {c : Call} {o : Outcome} → Effect s c o → paramsAt v (o .state) ≡ given v c (isAccepted (o .answer)) (paramsAt v s)
-unfolding refuse accept replay withLevel idleStep sendStep sendOutside withTime given isAccepted offered afterDataCell withMade afterOutOfRate
+unfolding refuse accept replay discard withLevel idleStep sendStep sendOutside withTime given isAccepted offered afterDataCell withMade afterOutOfRate
 effect-given v {s} u (refuses c n h) = refused-given v c s n (paramsAt v s)
 effect-given v {s} u (begins a b t p g) = begun-params v s (pairName a b) t p g
 effect-given v {s} u (ends a b d f) = ended-params v (pairName a b) s u

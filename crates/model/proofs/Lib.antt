@@ -10,3 +10,4 @@ pub mod Counts
 pub mod Effects
 pub mod Reached
 pub mod Given
+pub mod Conservation

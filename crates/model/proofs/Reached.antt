@@ -24,7 +24,7 @@ use Rattle.model.proofs.Frames.{name-of}
 use Rattle.model.proofs.Preserved.{valid-at, put-well-formed, inserted-well-formed, withTime-well-formed, withLevel-well-formed, empty-well-formed}
 use Rattle.model.proofs.Winners.{winner-best}
 use Rattle.model.specs.Call.{Call, Outcome}
-use Rattle.model.specs.Step.{refuse, accept, replay, sendStep, sendOutside, idleStep, step}
+use Rattle.model.specs.Step.{refuse, accept, replay, discard, sendStep, sendOutside, idleStep, step}
 use Rattle.model.specs.Run.{final}
 use Rattle.model.proofs.Effects.{Timely, Enters, Effect, refuses, begins, ends, offers, marks, works, levels, idles, sends, makes, leaves, effect}
 
@@ -45,7 +45,7 @@ sent-well-formed w t u g d f =
     changed-well-formed (withTime-well-formed w t (g .since) (g .until)) u d (after (kindAt t d) t d) f (after-same (kindAt t d) t d .name) (after-valid (kindAt t d) t d refl)
 
 effect-well-formed : {s : State} → WellFormed s → {c : Call} {o : Outcome} → Effect s c o → WellFormed (o .state)
-unfolding refuse accept replay idleStep sendStep sendOutside offered afterDataCell withTime withMade afterOutOfRate
+unfolding refuse accept replay discard idleStep sendStep sendOutside offered afterDataCell withTime withMade afterOutOfRate
 effect-well-formed w (refuses c n h) = w
 effect-well-formed w (begins a b t p g) = begun-well-formed w (pairName a b) t p g
 effect-well-formed w (ends a b d f) = put-well-formed w (pairName a b) free tt tt

@@ -7,7 +7,7 @@ use Rattle.connection.specs.declared.kind.Kind.{Kind}
 use Rattle.connection.specs.Sending.{Buffer}
 use Rattle.model.specs.State.{State}
 pub use Rattle.model.specs.declared.answer.Answer.{Answer}
-pub use Rattle.model.specs.declared.answer.Answer.the-variants.{Refused, Accepted, Idle, Sent}
+pub use Rattle.model.specs.declared.answer.Answer.the-variants.{Refused, Accepted, Closed, Idle, Sent}
 
 -- Nothing bounds the arguments. What a lent buffer holds before a slot, or a cell outside the rate, is no argument, so room is its length.
 pub data Call : Type 0 where
@@ -30,6 +30,7 @@ pub record Outcome : Type 0 where
 unfoldable pub refusal : Answer → Option ℕ
 refusal (Refused n) = some n
 refusal (Accepted n) = none
+refusal (Closed n k) = none
 refusal Idle = none
 refusal (Sent v k a n) = none
 
@@ -37,12 +38,14 @@ refusal (Sent v k a n) = none
 unfoldable pub goesTo : Answer → Option ℕ
 goesTo (Refused n) = none
 goesTo (Accepted n) = none
+goesTo (Closed n k) = none
 goesTo Idle = none
 goesTo (Sent v k a n) = some v
 
 unfoldable pub kindSent : Answer → Option Kind
 kindSent (Refused n) = none
 kindSent (Accepted n) = none
+kindSent (Closed n k) = none
 kindSent Idle = none
 kindSent (Sent v k a n) = some k
 
@@ -50,5 +53,14 @@ kindSent (Sent v k a n) = some k
 unfoldable pub comparisons : Answer → ℕ
 comparisons (Refused n) = 0
 comparisons (Accepted n) = n
+comparisons (Closed n k) = n
 comparisons Idle = 0
 comparisons (Sent v k a n) = n
+
+-- the data cells that waited on what a call closed: none of another call (document 02, L12)
+unfoldable pub closedCells : Answer → ℕ
+closedCells (Refused n) = 0
+closedCells (Accepted n) = 0
+closedCells (Closed n k) = k
+closedCells Idle = 0
+closedCells (Sent v k a n) = 0

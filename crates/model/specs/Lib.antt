@@ -11,3 +11,5 @@ pub mod Queries
 pub mod Run
 -- What holds of every table that calls made:
 pub mod Invariant
+-- Every data cell is accounted for, call by call:
+pub mod Conservation

@@ -8,7 +8,7 @@ use lib.Dec.{eqb}
 use Rattle.params.specs.declared.params.Params.{Params}
 use Rattle.cell.specs.Name.{pairName}
 use Rattle.model.specs.State.{State, Entry, free, taken, empty, find}
-use Rattle.model.specs.Call.{Call, opening, closing, receiving, offering, levelling, slot, making, outOfRate, Answer, Refused, Accepted, Idle, Sent, Outcome}
+use Rattle.model.specs.Call.{Call, opening, closing, receiving, offering, levelling, slot, making, outOfRate, Answer, Refused, Accepted, Closed, Idle, Sent, Outcome}
 use Rattle.model.specs.Step.{step}
 
 -- the outcome of each call, in order
@@ -24,6 +24,7 @@ final s (c ∷ cs) = final (step s c .state) cs
 unfoldable pub isAccepted : Answer → Bool
 isAccepted (Refused n) = false
 isAccepted (Accepted n) = true
+isAccepted (Closed n k) = true
 isAccepted Idle = true
 isAccepted (Sent v k a n) = true
 

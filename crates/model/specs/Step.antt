@@ -24,7 +24,7 @@ use Rattle.connection.specs.OutOfRate.{afterOutOfRate, outOfRateCell}
 use Rattle.model.specs.State.{State, Entry, free, taken, position, isFree, find, leafOf, put, inserted, roomLeft, withTime, withLevel}
 use Rattle.model.specs.Choice.{Winner, noneReady, wins, winner}
 use Rattle.model.specs.Tournament.{replayed}
-use Rattle.model.specs.Call.{Call, opening, closing, receiving, offering, levelling, slot, making, outOfRate, Refused, Accepted, Idle, Sent, Outcome}
+use Rattle.model.specs.Call.{Call, opening, closing, receiving, offering, levelling, slot, making, outOfRate, Refused, Accepted, Closed, Idle, Sent, Outcome}
 use Rattle.laws.specs.Require.{require}
 
 -- a refusal leaves table and buffer
@@ -37,6 +37,10 @@ accept n s = record { state = s; answer = Accepted n; buffer = untouched }
 -- accepted, and the matches of the leaf that changed are replayed (document 02, L4)
 unfoldable pub replay : (leaf : ℕ) (before after : State) → Outcome
 replay x s r = accept (replayed x (s .entries) (r .entries)) r
+
+-- the same of a call that discards this many waiting data cells (document 02, L12)
+unfoldable pub discard : (cells leaf : ℕ) (before after : State) → Outcome
+discard n x s r = record { state = r; answer = Closed (replayed x (s .entries) (r .entries)) n; buffer = untouched }
 
 -- the rest on the open connection in an entry; 11 on a free one
 unfoldable pub ofOpen : State → Entry → (Connection → Outcome) → Outcome
@@ -55,9 +59,9 @@ openStep s vpi vci t p =
     (require (refuse s 14) (leb (s .last) t)
     (replay (position isFree (s .entries)) s (withTime t (inserted (fresh (pairName vpi vci) t p) s)))))))))
 
--- Close: 11. All that waits on the connection goes with it.
+-- Close: 11. All that waits on the connection goes with it, and the answer counts the data cells.
 unfoldable pub closeStep : State → (name : ℕ) → Outcome
-closeStep s v = ofOpen s (find v (s .entries)) λ c. replay (leafOf v s) s (put v free s)
+closeStep s v = ofOpen s (find v (s .entries)) λ c. discard (waiting (c .queue)) (leafOf v s) s (put v free s)
 
 -- Offer: 11, 15.
 unfoldable pub offerStep : State → (name cells : ℕ) → Outcome

@@ -26,7 +26,7 @@ use Rattle.connection.proofs.Keeps.{Same, work-same, made-same, out-of-rate-sam
 use Rattle.model.specs.State.{State, Entry, free, taken, find, put, inserted, withTime, withLevel}
 use Rattle.model.specs.Invariant.{NamesUnique}
 use Rattle.model.specs.Call.{Call, opening, closing, receiving, offering, levelling, slot, making, outOfRate, Outcome}
-use Rattle.model.specs.Step.{refuse, accept, replay, sendStep, sendOutside, idleStep}
+use Rattle.model.specs.Step.{refuse, accept, replay, discard, sendStep, sendOutside, idleStep}
 use Rattle.model.specs.Queries.{entryAcr, acrOf}
 use Rattle.model.specs.Run.{isAccepted}
 use Rattle.model.proofs.Entries.{Case, same, other, case, taken≢free}
@@ -158,11 +158,11 @@ module _ (v : ℕ) (s : State) (d : Connection) (e : find v (s .entries) ≡ tak
   abbrev cellOf : (t : ℕ) → Connection → (rate : ℕ) → SentCell
   cellOf t x r = record { time = t; kind = kindNumber (kindAt t x); rate = r }
 
-  ends-next : (a b : ℕ) → NamesUnique (s .entries) → (n : ℕ) → Next v s d (closing a b) (accept n (put (pairName a b) free s))
-  unfolding accept closes sentBy atSlot isAccepted put
-  ends-next a b u n = go (case (pairName a b) v)
+  ends-next : (a b : ℕ) → NamesUnique (s .entries) → (k x : ℕ) → Next v s d (closing a b) (discard k x s (put (pairName a b) free s))
+  unfolding discard closes sentBy atSlot isAccepted put
+  ends-next a b u k x = go (case (pairName a b) v)
     where
-      go : Case (pairName a b) v → Next v s d (closing a b) (accept n (put (pairName a b) free s))
+      go : Case (pairName a b) v → Next v s d (closing a b) (discard k x s (put (pairName a b) free s))
       go (same q) = closed (eq-eqb (pairName a b) v q)
       go (other q) = quiet (ne-eqb (pairName a b) v q) refl (le-refl (s .last)) (ended (pairName a b) u q)
 
@@ -195,7 +195,7 @@ pub effect-next :
 unfolding accept replay idleStep sendOutside withTime withLevel put inserted closes sentBy atSlot cellIn
 effect-next v {s} d e a (refuses c n h) = refuse-next v s d e n c
 effect-next v {s} d e a (begins i j t p g) = quiet refl refl (g .timely .since) (begun v s d e (pairName i j) t p g)
-effect-next v {s} d e a (ends i j x f) = ends-next v s d e i j a _
+effect-next v {s} d e a (ends i j x f) = ends-next v s d e i j a _ _
 effect-next v {s} d e a (offers i j n x f h) = quiet refl refl (le-refl (s .last)) (changed v s d e (pairName i j) a x (offered n x) f (offered-stays n x))
 effect-next v {s} d e a (marks o i j b x r f) = quiet refl refl (le-refl (s .last)) (changed v s d e (pairName i j) a x (afterDataCell b x) f (marked-stays b x))
 effect-next v {s} d e a (works o q x r f) =

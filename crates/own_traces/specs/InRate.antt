@@ -9,7 +9,7 @@ use Rattle.model.specs.State.{State}
 use Rattle.model.specs.declared.acr.Acr.{Acr}
 use Rattle.model.specs.declared.acr.Acr.the-variants.{NotOpen, Rate}
 use Rattle.model.specs.declared.answer.Answer.{Answer}
-use Rattle.model.specs.declared.answer.Answer.the-variants.{Refused, Accepted, Idle, Sent}
+use Rattle.model.specs.declared.answer.Answer.the-variants.{Refused, Accepted, Closed, Idle, Sent}
 use Rattle.model.specs.Call.{Call, opening, closing, receiving, offering, levelling, slot, making, outOfRate}
 use Rattle.model.specs.Step.{step}
 use Rattle.model.specs.Queries.{acrOf}
@@ -30,6 +30,7 @@ acrIn (Rate a x) = a
 unfoldable pub cellIn : (v time rate : ℕ) → Answer → List SentCell
 cellIn v t rate (Refused n) = []
 cellIn v t rate (Accepted n) = []
+cellIn v t rate (Closed n k) = []
 cellIn v t rate Idle = []
 cellIn v t rate (Sent u k a n) = cond (eqb u v) (record { time = t; kind = kindNumber k; rate = rate } ∷ []) []
 

@@ -14,7 +14,7 @@ use Rattle.model.proofs.Reached.{step-well-formed, reached-well-formed}
 use Rattle.model.proofs.Given.{entryParams, params-given}
 use Rattle.promises.specs.Demand3.{Bounded, notOpen, between, InPlace, Comparable, SamePlace, NotAbove, neither, both, Agree, Demand3}
 use Rattle.promises.proofs.Relation.{Lower, vacant, lower, Tables, find-lower, empty-tables}
-use Rattle.promises.proofs.Pairs.{SameAnswer, refusals, plain, idles, sends, Both, step-meets}
+use Rattle.promises.proofs.Pairs.{SameAnswer, refusals, plain, closes, idles, sends, Both, step-meets}
 
 -- Bounds.
 bounded-entry : (now : ℕ) (x : Entry) → OnEntry (ValidAt now) x → Bounded (entryParams x) (entryRate x)
@@ -32,6 +32,7 @@ same-refusal : {a b : Answer} → SameAnswer a b → refusal a ≡ refusal b
 unfolding refusal
 same-refusal (refusals n) = refl
 same-refusal (plain m n) = refl
+same-refusal (closes k m n) = refl
 same-refusal idles = refl
 same-refusal (sends v k a b m n) = refl
 
@@ -39,6 +40,7 @@ same-kind : {a b : Answer} → SameAnswer a b → kindSent a ≡ kindSent b
 unfolding kindSent
 same-kind (refusals n) = refl
 same-kind (plain m n) = refl
+same-kind (closes k m n) = refl
 same-kind idles = refl
 same-kind (sends v k a b m n) = refl
 

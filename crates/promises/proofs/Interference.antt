@@ -20,7 +20,7 @@ use Rattle.model.specs.State.{State, Entry, taken, empty, find, put, withTime, 
 use Rattle.model.specs.Invariant.{NamesUnique}
 use Rattle.model.proofs.Frames.{put-read, inserted-read, freed-read}
 use Rattle.model.specs.Call.{Call, Outcome, goesTo}
-use Rattle.model.specs.Step.{refuse, accept, replay, sendStep, idleStep, sendOutside}
+use Rattle.model.specs.Step.{refuse, accept, replay, discard, sendStep, idleStep, sendOutside}
 use Rattle.model.specs.Run.{final}
 use Rattle.model.proofs.Effects.{Effect, refuses, begins, ends, offers, marks, works, levels, idles, sends, makes, leaves, effect}
 use Rattle.model.proofs.Reached.{reached-well-formed}
@@ -42,7 +42,7 @@ put-other v u s a d e f n h = put-read same v u s a d e f n ∙ other u v _ _ h
 effect-other :
     (v : ℕ) {s : State} → NamesUnique (s .entries) → {c : Call} {o : Outcome} → Effect s c o → names c (o .answer) ≢ some v
     → find v (o .state .entries) ≡ find v (s .entries)
-unfolding same names readName refuse accept replay sendStep idleStep sendOutside withTime withLevel goesTo fresh offered afterDataCell withMade afterOutOfRate
+unfolding same names readName refuse accept replay discard sendStep idleStep sendOutside withTime withLevel goesTo fresh offered afterDataCell withMade afterOutOfRate
 effect-other v a (refuses c n z) h = refl
 effect-other v {s} a (begins vpi vci t p g) h = inserted-read same v s (fresh (pairName vpi vci) t p) (g .new) (g .room) ∙ other (pairName vpi vci) v _ _ h
 effect-other v {s} a (ends vpi vci d f) h = freed-read same v (pairName vpi vci) s a ∙ other (pairName vpi vci) v _ _ h

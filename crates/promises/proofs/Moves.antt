@@ -29,7 +29,7 @@ use Rattle.model.proofs.Frames.{put-read, inserted-read, freed-read}
 use Rattle.model.specs.declared.answer.Answer.{Answer}
 use Rattle.model.specs.declared.answer.Answer.the-variants.{Refused, Accepted, Idle, Sent}
 use Rattle.model.specs.Call.{Call, opening, closing, receiving, offering, levelling, slot, making, outOfRate, Outcome}
-use Rattle.model.specs.Step.{refuse, accept, replay, sendStep, idleStep, sendOutside}
+use Rattle.model.specs.Step.{refuse, accept, replay, discard, sendStep, idleStep, sendOutside}
 use Rattle.model.specs.Run.{final}
 use Rattle.model.proofs.Effects.{Effect, refuses, begins, ends, offers, marks, works, levels, idles, sends, makes, leaves, effect}
 use Rattle.model.proofs.Reached.{reached-well-formed}
@@ -90,7 +90,7 @@ sent-moves v t room acr n Turned d = stays
 sent-moves v t room acr n Data d = stays
 
 effect-moves : (v : ℕ) {s : State} → NamesUnique (s .entries) → {c : Call} {o : Outcome} → Effect s c o → MovesTo v c (o .answer) (find v (s .entries)) (find v (o .state .entries))
-unfolding self refuse accept replay sendStep idleStep sendOutside withTime withLevel fresh offered afterDataCell withMade afterOutOfRate
+unfolding self refuse accept replay discard sendStep idleStep sendOutside withTime withLevel fresh offered afterDataCell withMade afterOutOfRate
 effect-moves v {s} a (refuses c n h) = rests v c (Refused n) (find v (s .entries))
 effect-moves v {s} a (begins vpi vci t p g) =
     rw (inserted-read self v s (fresh (pairName vpi vci) t p) (g .new) (g .room))

@@ -38,9 +38,9 @@ use Rattle.model.specs.Invariant.{WellFormed}
 use Rattle.model.specs.Choice.{Winner, noneReady, wins, winner}
 use Rattle.model.proofs.Preserved.{valid-at}
 use Rattle.model.specs.declared.answer.Answer.{Answer}
-use Rattle.model.specs.declared.answer.Answer.the-variants.{Refused, Accepted, Idle, Sent}
+use Rattle.model.specs.declared.answer.Answer.the-variants.{Refused, Accepted, Closed, Idle, Sent}
 use Rattle.model.specs.Call.{Call, opening, closing, receiving, offering, levelling, slot, making, outOfRate, Outcome, goesTo}
-use Rattle.model.specs.Step.{refuse, accept, replay, ofOpen, openStep, closeStep, offerStep, readStep, receiveStep, levelStep, sendStep, idleStep, serveEntry, serve, slotStep, makeStep, sendOutside, outOfRateStep, step}
+use Rattle.model.specs.Step.{refuse, accept, replay, discard, ofOpen, openStep, closeStep, offerStep, readStep, receiveStep, levelStep, sendStep, idleStep, serveEntry, serve, slotStep, makeStep, sendOutside, outOfRateStep, step}
 use Rattle.promises.specs.Demand3.{Comparable, equal, congested, SamePlace}
 use Rattle.promises.proofs.Relation.{lowered, Lower, vacant, lower, Tables, tables, isFree-same, find-lower, put-tables, inserted-tables, roomLeft-same, last-same, withTime-tables, withLevel-tables}
 use Rattle.promises.proofs.Readings.{MoreCongested, NotLessCongested, alike, moreCongested, reading-congested}
@@ -49,6 +49,7 @@ use Rattle.laws.specs.Require.{require}
 pub data SameAnswer : Answer → Answer → Type 0 where
   refusals : (n : ℕ) → SameAnswer (Refused n) (Refused n)
   plain : (m n : ℕ) → SameAnswer (Accepted m) (Accepted n)
+  closes : (k m n : ℕ) → SameAnswer (Closed m k) (Closed n k)
   idles : SameAnswer Idle Idle
   sends : (v : ℕ) (k : Kind) (a b m n : ℕ) → SameAnswer (Sent v k a m) (Sent v k b n)
 
@@ -68,6 +69,11 @@ refuse-both r n = record { states = r; answers = refusals n }
 accept-both : (m n : ℕ) {s₁ s₂ : State} → Tables s₁ s₂ → Both (accept m s₁) (accept n s₂)
 unfolding accept
 accept-both m n r = record { states = r; answers = plain m n }
+
+-- as many cells waited in both
+discard-both : (k x y : ℕ) (s₁ s₂ : State) {r₁ r₂ : State} → Tables r₁ r₂ → Both (discard k x s₁ r₁) (discard k y s₂ r₂)
+unfolding discard
+discard-both k x y s₁ s₂ r = record { states = r; answers = closes k _ _ }
 
 -- a test that is the same in both
 require-meets :
@@ -101,8 +107,8 @@ open-meets r vpi vci t p =
     accept-both _ _ (withTime-tables t (inserted-tables (fresh (pairName vpi vci) t p) r))))))))
 
 close-meets : {s₁ s₂ : State} → Tables s₁ s₂ → (v : ℕ) → Meets (closeStep s₁ v) (closeStep s₂ v)
-unfolding closeStep replay
-close-meets r v = ofOpen-meets r (find-lower v r) _ _ λ c a z e l _. accept-both _ _ (put-tables v vacant r)
+unfolding closeStep
+close-meets r v = ofOpen-meets r (find-lower v r) _ _ λ c a z e l _. discard-both (c .queue .cells) _ _ _ _ (put-tables v vacant r)
 
 offer-meets : {s₁ s₂ : State} → Tables s₁ s₂ → (v n : ℕ) → Meets (offerStep s₁ v n) (offerStep s₂ v n)
 unfolding offerStep replay offered

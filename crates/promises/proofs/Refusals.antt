@@ -4,7 +4,7 @@ use mathlib.Core.Path.{_≡_, refl, subst}
 use mathlib.Core.Option.{some}
 use Rattle.model.specs.State.{State, empty}
 use Rattle.model.specs.Call.{Call, Outcome, refusal}
-use Rattle.model.specs.Step.{refuse, accept, replay, sendStep, idleStep, sendOutside}
+use Rattle.model.specs.Step.{refuse, accept, replay, discard, sendStep, idleStep, sendOutside}
 use Rattle.model.specs.Run.{final}
 use Rattle.model.proofs.Effects.{Effect, refuses, begins, ends, offers, marks, works, levels, idles, sends, makes, leaves, effect}
 use Rattle.model.proofs.Reached.{reached-well-formed}
@@ -12,7 +12,7 @@ use Rattle.promises.specs.Refusals.{Unchanged, RefusedUnchanged}
 use Rattle.promises.proofs.Pairs.{none≢some}
 
 effect-refused : {s : State} {c : Call} {o : Outcome} → Effect s c o → (n : ℕ) → refusal (o .answer) ≡ some n → Unchanged s n o
-unfolding refuse accept replay sendStep idleStep sendOutside refusal
+unfolding refuse accept replay discard sendStep idleStep sendOutside refusal
 effect-refused (refuses c m h) n e = let q : m ≡ n = cc in record { table = refl; buffer = refl; number = subst (λ (k : ℕ). 0 < k) q h }
 effect-refused (begins vpi vci t p g) n e = absurd (none≢some e)
 effect-refused (ends vpi vci d f) n e = absurd (none≢some e)

@@ -28,7 +28,7 @@ use Rattle.model.specs.State.{State, Entry, free, taken, empty, find}
 use Rattle.model.specs.Invariant.{WellFormed}
 use Rattle.model.specs.declared.answer.Answer.the-variants.{Refused}
 use Rattle.model.specs.Call.{Call, opening, closing, receiving, offering, levelling, slot, making, outOfRate, Outcome}
-use Rattle.model.specs.Step.{refuse, accept, replay, ofOpen, openStep, closeStep, offerStep, makeStep, outOfRateStep, sendStep, idleStep, sendOutside, step}
+use Rattle.model.specs.Step.{refuse, accept, replay, discard, ofOpen, openStep, closeStep, offerStep, makeStep, outOfRateStep, sendStep, idleStep, sendOutside, step}
 use Rattle.model.specs.Queries.{entryAcr, acrOf, entryContract, contractOf}
 use Rattle.model.specs.Run.{final}
 use Rattle.model.proofs.Frames.{name-of}
@@ -128,7 +128,7 @@ refused-named (making vpi vci t) n = refl
 refused-named (outOfRate vpi vci t room) n = refl
 
 effect-named : {s : State} → WellFormed s → {c : Call} {o : Outcome} → Effect s c o → CarriesName c (o .answer) (o .buffer)
-unfolding refuse accept replay sendStep idleStep sendOutside
+unfolding refuse accept replay discard sendStep idleStep sendOutside
 effect-named w (refuses c n h) = refused-named c n
 effect-named w (begins vpi vci t p g) = refl
 effect-named w (ends vpi vci d f) = refl

@@ -33,7 +33,7 @@ use Rattle.model.specs.declared.answer.Answer.the-variants.{Accepted}
 use Rattle.model.specs.State.{State, Entry, free, taken, empty, find, put, withTime}
 use Rattle.model.specs.Invariant.{OnEntry, NamesUnique}
 use Rattle.model.specs.Call.{Call, opening, closing, receiving, offering, levelling, slot, making, outOfRate, Outcome}
-use Rattle.model.specs.Step.{refuse, accept, replay, step}
+use Rattle.model.specs.Step.{refuse, accept, replay, discard, step}
 use Rattle.model.specs.Queries.{entryAcr, acrOf}
 use Rattle.model.specs.Run.{final, paramsGiven}
 use Rattle.model.proofs.Entries.{find-each, Case, same, other, case}
@@ -125,7 +125,7 @@ sent-kept x Data t d m = m
 
 closed-kept : {s : State} → NamesUnique (s .entries) → {vpi vci : ℕ} {o : Outcome} (v : ℕ) (x : Change) → Effect s (closing vpi vci) o
     → Has (Changed x) (find v (s .entries)) → (b : ℕ) (y : Change) → acrOf (o .state) v ≡ Rate b y → Has (Changed x) (find v (o .state .entries))
-unfolding refuse accept replay acrOf entryAcr
+unfolding refuse discard acrOf entryAcr
 closed-kept u v x (refuses _ n h) m b y e = m
 closed-kept {s} u {vpi} {vci} v x (ends _ _ d f) m b y e = go (case (pairName vpi vci) v)
   where

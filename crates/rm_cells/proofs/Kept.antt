@@ -23,7 +23,7 @@ use Rattle.model.specs.Invariant.{NamesUnique}
 use Rattle.model.specs.declared.answer.Answer.{Answer}
 use Rattle.model.specs.declared.answer.Answer.the-variants.{Sent}
 use Rattle.model.specs.Call.{Call, opening, closing, receiving, offering, levelling, slot, making, outOfRate, Outcome}
-use Rattle.model.specs.Step.{refuse, accept, replay, idleStep, sendStep, sendOutside}
+use Rattle.model.specs.Step.{refuse, accept, replay, discard, idleStep, sendStep, sendOutside}
 use Rattle.model.proofs.Entries.{Case, same, other, case}
 use Rattle.model.proofs.Frames.{put-read, inserted-read, freed-read}
 use Rattle.model.proofs.Effects.{Effect, refuses, begins, ends, offers, marks, works, levels, idles, sends, makes, leaves}
@@ -61,7 +61,7 @@ module _ (P : Connection → Type 0) (v : ℕ) where
   pub effect-kept :
       {s : State} → NamesUnique (s .entries) → {c : Call} {o : Outcome} → Effect s c o → KeptBy P v s c (o .answer) → Has P (find v (s .entries))
       → Has P (find v (o .state .entries))
-  unfolding refuse accept replay sendStep idleStep sendOutside withTime withLevel fresh offered afterDataCell withMade afterOutOfRate
+  unfolding refuse accept replay discard sendStep idleStep sendOutside withTime withLevel fresh offered afterDataCell withMade afterOutOfRate
   effect-kept a (refuses c n h) q m = m
   effect-kept {s} a (begins vpi vci t p g) q m = rw (inserted-read (λ (x : Entry). x) v s (fresh (pairName vpi vci) t p) (g .new) (g .room)) (go (case (pairName vpi vci) v))
     where

@@ -39,7 +39,7 @@ use Rattle.connection.proofs.SendCases.{forward-fits, made-fits}
 use Rattle.model.specs.State.{State, Entry, free, taken, empty, capacity, position, holds, isFree, find, put, inserted, withTime, withLevel}
 use Rattle.model.specs.Invariant.{Each, WellFormed}
 use Rattle.model.specs.Call.{Call, opening, closing, receiving, offering, levelling, slot, making, outOfRate, Outcome}
-use Rattle.model.specs.Step.{refuse, accept, replay, idleStep, sendStep, sendOutside, step}
+use Rattle.model.specs.Step.{refuse, accept, replay, discard, idleStep, sendStep, sendOutside, step}
 use Rattle.model.specs.Run.{final}
 use Rattle.model.proofs.Entries.{each-set, each-free, each-at}
 use Rattle.model.proofs.Preserved.{valid-at, empty-well-formed}
@@ -115,7 +115,7 @@ unfolding put
 changed-clear u s d e f h m = each-set TurnedClear (s .entries) m (position (holds u) (s .entries)) (taken e) (h (each-at TurnedClear u (s .entries) d f m))
 
 effect-clear : {s : State} {c : Call} {o : Outcome} → Effect s c o → OfOctets c → Each TurnedClear (s .entries) → Each TurnedClear (o .state .entries)
-unfolding refuse accept replay idleStep sendStep sendOutside put inserted withTime withLevel fresh offered afterDataCell withMade afterOutOfRate
+unfolding refuse accept replay discard idleStep sendStep sendOutside put inserted withTime withLevel fresh offered afterDataCell withMade afterOutOfRate
 effect-clear (refuses c n h) q m = m
 effect-clear {s} (begins a b t p g) q m = each-set TurnedClear (s .entries) m (position isFree (s .entries)) (taken (fresh (pairName a b) t p)) tt
 effect-clear {s} (ends a b d f) q m = each-set TurnedClear (s .entries) m (position (holds (pairName a b)) (s .entries)) free tt
@@ -160,7 +160,7 @@ unfolding outOfRateCell
 outside-clear last c x = fields-clear 1 _ (lit≤ tt) (forward-fits (c .name) (c .rate) (x .0 .coded) (acr-is-rate (c .rate) (x .1 .rates)))
 
 effect-written : {s : State} → Clear s → {c : Call} {o : Outcome} → Effect s c o → WrittenClear (o .buffer)
-unfolding refuse accept replay idleStep sendStep sendOutside
+unfolding refuse accept replay discard idleStep sendStep sendOutside
 effect-written h (refuses c n p) = tt
 effect-written h (begins a b t p g) = tt
 effect-written h (ends a b d f) = tt

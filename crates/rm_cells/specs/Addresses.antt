@@ -15,7 +15,7 @@ use Rattle.model.specs.State.{State, empty}
 use Rattle.model.specs.declared.acr.Acr.the-variants.{NotOpen}
 use Rattle.model.specs.declared.contract.Contract.the-variants.{NotOpen as NoContract}
 use Rattle.model.specs.declared.answer.Answer.{Answer}
-use Rattle.model.specs.declared.answer.Answer.the-variants.{Refused, Accepted, Idle, Sent}
+use Rattle.model.specs.declared.answer.Answer.the-variants.{Refused, Accepted, Closed, Idle, Sent}
 use Rattle.model.specs.Call.{Call, opening, closing, receiving, offering, levelling, slot, making, outOfRate}
 use Rattle.model.specs.Step.{refuse, step}
 use Rattle.model.specs.Queries.{acrOf, contractOf}
@@ -59,11 +59,13 @@ CarriesName (offering vpi vci n) a b = b ≡ untouched
 CarriesName (levelling l) a b = b ≡ untouched
 CarriesName (slot t room) (Refused n) b = b ≡ untouched
 CarriesName (slot t room) (Accepted n) b = b ≡ untouched
+CarriesName (slot t room) (Closed n k) b = b ≡ untouched
 CarriesName (slot t room) Idle b = b ≡ untouched
 CarriesName (slot t room) (Sent v k acr n) b = SentCarries k v b
 CarriesName (making vpi vci t) a b = b ≡ untouched
 CarriesName (outOfRate vpi vci t room) (Refused n) b = b ≡ untouched
 CarriesName (outOfRate vpi vci t room) (Accepted n) b = Carries (pairName vpi vci) b
+CarriesName (outOfRate vpi vci t room) (Closed n k) b = ⊥
 CarriesName (outOfRate vpi vci t room) Idle b = ⊥
 CarriesName (outOfRate vpi vci t room) (Sent v k acr n) b = ⊥
 

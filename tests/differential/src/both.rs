@@ -1,8 +1,9 @@
-//! One call made on both sides; answer, octets, allowed rate with its last change and
-//! table compared.
+//! One call made on both sides; answer, octets, allowed rate with its last change, waiting
+//! data and table compared.
 
 use reference::{Address, Allowed, Engine};
 
+use crate::accounts::Accounts;
 use crate::call::{Answer, Call, Outcome};
 use crate::expected;
 use crate::library::{Difference, Library};
@@ -11,6 +12,10 @@ use crate::octets::Buffer;
 /// Of the calls that must leave the table as it is, one in so many is compared in
 /// every word. All of them would take longer than the calls: a table is long.
 const LEAVES_TABLE: u64 = 16;
+
+/// After one call in so many the cells that wait in the library's table are read: by a
+/// close of a copy, which is long.
+const READS_WAITING: u64 = 64;
 
 /// Both engines.
 #[derive(Default)]
@@ -25,6 +30,8 @@ pub struct Both {
     fill: u8,
     /// The allowed rates compared.
     pub rates: u64,
+    /// How often the waiting cells were compared.
+    waitings: u64,
 }
 
 impl Both {
@@ -81,6 +88,18 @@ impl Both {
         Err(format!(
             "ACR of {at:?}: library {ours:?}, reference {theirs:?}"
         ))
+    }
+
+    /// Compares the cells that wait under a name with those that must by its account: the
+    /// reference's every time, the library's sometimes.
+    pub fn same_waiting(&mut self, at: Address, accounts: &Accounts) -> Result<(), Difference> {
+        accounts.same(at, self.engine.waiting(at), "in the reference")?;
+        self.waitings += 1;
+        if self.waitings % READS_WAITING != 0 {
+            return Ok(());
+        }
+        self.before.copy(&self.library);
+        accounts.same(at, self.before.drain(at)?, "in the library")
     }
 
     /// The allowed rate and its last change as the reference has them.

@@ -1,7 +1,7 @@
 //! A call with its arguments.
 
 use abr::ffi::{abr_params, abr_rm};
-use reference::{Address, Allowed};
+use reference::{Address, Allowed, Closed};
 
 use crate::demands::Demands;
 use crate::octets::Octets;
@@ -179,6 +179,8 @@ pub enum Answer {
     Done,
     /// The comparisons of a call that replays matches.
     Comparisons(u32),
+    /// The data cells and the comparisons of a close.
+    Closed(Closed),
     /// A slot.
     Sent(abr::ffi::abr_sent),
     /// An allowed rate, and what the last feedback did.
@@ -204,6 +206,7 @@ impl Answer {
     pub fn comparisons(&self) -> u32 {
         match self {
             Answer::Comparisons(comparisons) => *comparisons,
+            Answer::Closed(closed) => closed.comparisons,
             Answer::Sent(sent) => sent.comparisons,
             _ => 0,
         }

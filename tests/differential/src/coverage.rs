@@ -430,6 +430,20 @@ events! {
     TraceFormThenRange,
     /// A cell broke a rule, and a refusal followed.
     TraceRefusedAfterBroken,
+    /// A connection was closed with data on it.
+    ClosedWaiting,
+    /// One with 65,535 data cells on it.
+    ClosedFull,
+    /// One whose data had all been sent.
+    ClosedSent,
+    /// One of whose data nothing had been sent, though a forward cell had.
+    ClosedUnsent,
+    /// One with a turned or a made cell on it, but no data.
+    ClosedBackward,
+    /// One to which an offer had been refused for its cells.
+    ClosedRefused,
+    /// An address was closed with data on it for the second time.
+    ClosedAgain,
     /// Exactly 65,535 cells wait after an offer.
     OfferFills,
     /// An offer of nothing to a full connection.

@@ -16,7 +16,7 @@ pub fn call(engine: &mut Engine, call: &Call, buffer: &mut Buffer) -> Outcome {
         Call::Open { at, time, params } => engine
             .open(at, time, &reference_params(&params))
             .map(Answer::Comparisons),
-        Call::Close { at } => engine.close(at).map(Answer::Comparisons),
+        Call::Close { at } => engine.close(at).map(Answer::Closed),
         Call::Receive { cell } => engine.receive(cell.as_slice()).map(Answer::Comparisons),
         Call::Offer { at, cells } => engine.offer(at, cells).map(Answer::Comparisons),
         Call::SetLevel { level } => done(engine.set_level(level)),

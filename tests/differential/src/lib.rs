@@ -9,6 +9,7 @@
 //!   verdict that they must get;
 //! * [`edges`]: the edges of the rules that the cells of a trace are on;
 //! * [`both`]: one call made on both sides and everything compared;
+//! * [`accounts`]: the data cells of each name, counted from calls and answers;
 //! * [`observation`]: what is known of a list's connections from its calls;
 //! * [`profile`], [`generate`]: lists of calls at the edges;
 //! * [`recorder`]: the traces of a list's connections;
@@ -17,6 +18,7 @@
 //! * [`lists`]: whole lists, each repeatable by its number;
 //! * [`pairs`]: two lists, the second at least as congested.
 
+pub mod accounts;
 pub mod both;
 pub mod call;
 pub mod coverage;

@@ -3,10 +3,10 @@
 use std::fmt::Debug;
 
 use abr::ffi::{
-    self, abr_allowed, abr_answer, abr_cell, abr_coded, abr_imported, abr_rated, abr_sent,
-    abr_share, abr_table, abr_verdict,
+    self, abr_allowed, abr_answer, abr_cell, abr_closed, abr_coded, abr_imported, abr_rated,
+    abr_sent, abr_share, abr_table, abr_verdict,
 };
-use reference::{Address, Allowed};
+use reference::{Address, Allowed, Closed};
 
 use crate::call::{Answer, Call, Outcome};
 use crate::drawn::Drawn;
@@ -75,6 +75,16 @@ impl Library {
     pub fn acr(&self, at: Address) -> Result<Outcome, Difference> {
         // SAFETY: the pointer is live.
         answered(unsafe { ffi::abr_acr(&*self.table, at.vpi, at.vci) })
+    }
+
+    /// Closes an address, open or not, and gives the data cells that waited.
+    pub fn drain(&mut self, at: Address) -> Result<u64, Difference> {
+        let closed = self.call(&Call::Close { at }, &mut Buffer::new(0))?;
+        match closed {
+            Ok(Answer::Closed(closed)) => Ok(closed.cells),
+            Err(11) => Ok(0),
+            other => Err(format!("close of {at:?}: {other:?}")),
+        }
     }
 
     /// The contract of an address, open or not. The refusal is written in every case.
@@ -180,6 +190,10 @@ macro_rules! answers {
 
 answers! {
     abr_answer: |answer: abr_answer| Answer::Comparisons(answer.comparisons);
+    abr_closed: |closed: abr_closed| Answer::Closed(Closed {
+        cells: closed.cells,
+        comparisons: closed.comparisons,
+    });
     abr_sent: Answer::Sent;
     abr_cell: Answer::Cell;
     abr_allowed: |allowed: abr_allowed| Answer::Allowed(Allowed {

@@ -3,6 +3,7 @@
 use abr::ffi::abr_verdict;
 use reference::Address;
 
+use crate::accounts::Accounts;
 use crate::both::Both;
 use crate::call::{Answer, Call, Outcome};
 use crate::coverage::Coverage;
@@ -21,8 +22,8 @@ pub fn length(profile: Profile) -> u64 {
     u64::from(profile.filled) + LIST
 }
 
-/// After so many calls every allowed rate is compared.
-const ALL_RATES: u64 = 16;
+/// After so many calls every connection is compared.
+const EVERYWHERE: u64 = 16;
 
 /// The seed that a run starts from: ABR_SEED, or a fixed one.
 pub fn seed() -> u64 {
@@ -46,6 +47,8 @@ pub struct List {
     pub seen: Observation,
     /// The cells that they sent.
     recorder: Recorder,
+    /// The data cells of each name.
+    accounts: Accounts,
 }
 
 impl List {
@@ -53,6 +56,8 @@ impl List {
     pub fn step(&mut self, call: &Call, coverage: &mut Coverage) -> Result<Outcome, Difference> {
         let outcome = self.both.call(call)?;
         let at = concerned(call, &outcome).unwrap_or_default();
+        self.accounts.add(call, &outcome)?;
+        self.both.same_waiting(at, &self.accounts)?;
         let allowed = self.both.allowed(at);
         let acr = allowed.map(|allowed| allowed.acr);
         self.recorder.add(call, &outcome, at, acr);
@@ -63,11 +68,24 @@ impl List {
         Ok(outcome)
     }
 
-    /// Compares the allowed rates of all open connections, and those of
+    /// Compares the allowed rates and the waiting data of all open connections, and of
     /// addresses that were closed.
-    fn same_rates(&mut self) -> Result<(), Difference> {
+    fn same_everywhere(&mut self) -> Result<(), Difference> {
         let mut addresses = self.seen.connections.keys().chain(&self.seen.closed);
-        addresses.try_for_each(|at| self.both.same_acr(*at))
+        addresses.try_for_each(|at| {
+            self.both.same_acr(*at)?;
+            self.both.same_waiting(*at, &self.accounts)
+        })
+    }
+
+    /// Closes what is still open: then no cell waits, and every account comes out even.
+    pub fn finish(&mut self) -> Result<(), Difference> {
+        for at in self.seen.connections.keys() {
+            let call = Call::Close { at: *at };
+            let outcome = self.both.call(&call)?;
+            self.accounts.add(&call, &outcome)?;
+        }
+        Ok(())
     }
 }
 
@@ -106,11 +124,13 @@ pub fn traces(
         if let (Some(octet), Err(_)) = (generator.damaged, outcome) {
             coverage.damaged[octet] += 1;
         }
-        if index % ALL_RATES == 0 || index == calls - 1 {
-            list.same_rates().map_err(report)?;
+        if index % EVERYWHERE == 0 || index == calls - 1 {
+            list.same_everywhere().map_err(report)?;
         }
     }
     coverage.rates += list.both.rates;
+    let report = |difference| format!("list {seed}, its end: {difference}");
+    list.finish().map_err(report)?;
     Ok(list.recorder.traces())
 }
 

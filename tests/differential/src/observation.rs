@@ -4,6 +4,7 @@
 
 mod address;
 mod change;
+mod closing;
 mod doubles;
 mod made;
 mod outside;
@@ -45,6 +46,9 @@ pub struct Connection {
     change: i64,
     pub sends: Option<Sends>,
     pub data: u64,
+    /// The cells of accepted offers, and whether one was refused for its cells.
+    offered: u64,
+    refused_offer: bool,
     pub turned: Option<Turned>,
     /// Whether the last turned cell that was sent had CI 1.
     sent_ci: bool,
@@ -72,6 +76,8 @@ impl Connection {
             change: 0,
             sends: None,
             data: 0,
+            offered: 0,
+            refused_offer: false,
             turned: None,
             sent_ci: false,
             made: None,
@@ -127,6 +133,8 @@ pub struct Observation {
     pub closed: BTreeSet<Address>,
     /// Closed with data, a backward cell or unanswered cells on them.
     loaded: BTreeSet<Address>,
+    /// Closed with data on them.
+    drained: BTreeSet<Address>,
     /// Closed after a backward cell that changed the rate.
     changed: BTreeSet<Address>,
     /// The last making on each address, also if it was closed since.
@@ -157,6 +165,7 @@ impl Observation {
                 self.refused_change(call, coverage);
                 doubles::refused(call, coverage);
                 ports::refused(call, *number, coverage);
+                self.refused_offer(call, *number);
                 self.refused(call, *number, coverage);
                 return self.refused_outside(call, *number, coverage);
             }
@@ -167,7 +176,7 @@ impl Observation {
             (Call::Open { at, time, params }, _) => {
                 self.opened(at, time, params, acr, coverage);
             }
-            (Call::Close { at }, _) => self.close(at),
+            (Call::Close { at }, _) => self.close(at, coverage),
             (Call::Offer { at, cells }, _) => self.offered(at, cells, coverage),
             (Call::SetLevel { level }, _) => self.level = level,
             (Call::Make { at, time }, _) => self.made(at, time, coverage),
@@ -202,11 +211,12 @@ impl Observation {
         coverage.reach(Event::OpenedAtZero, acr == 0);
     }
 
-    fn close(&mut self, at: Address) {
+    fn close(&mut self, at: Address, coverage: &mut Coverage) {
         self.closed.insert(at);
         let Some(connection) = self.connections.remove(&at) else {
             return;
         };
+        self.closing(at, &connection, coverage);
         if connection.change != 0 {
             self.changed.insert(at);
         }
@@ -223,6 +233,7 @@ impl Observation {
         };
         let full = connection.data == WAITING_MAX;
         connection.data += cells;
+        connection.offered += cells;
         coverage.reach(Event::OfferNothing, full && cells == 0);
         coverage.reach(Event::OfferFills, !full && connection.data == WAITING_MAX);
     }

@@ -5,7 +5,8 @@
 //! and the same in both): as long as the slots go to the same connections, no
 //! allowed rate of the second is above that of the first, and every allowed rate is
 //! between its minimum, which may be 0, and its peak. Refusals and kinds are the same;
-//! comparisons may differ, since ready instants follow the rates. Two out-of-rate
+//! comparisons may differ, since ready instants follow the rates. So the waiting data is the
+//! same too, and what a close answers of it (document 02, L12). Two out-of-rate
 //! cells differ in CCR and CRC-10 only. The change that the last feedback made (document
 //! 02, L9) is never more than from minimum to peak or back; the two lists' changes are in
 //! no order.
@@ -15,6 +16,7 @@ use std::ops::Range;
 use abr::CELL_OCTETS;
 use reference::{Address, Allowed};
 
+use crate::accounts::Accounts;
 use crate::call::{Answer, Call, Outcome};
 use crate::coverage::Coverage;
 use crate::generate::Generator;
@@ -75,6 +77,8 @@ struct Pair {
     first: Library,
     second: Library,
     seen: Observation,
+    /// The data cells of each list.
+    accounts: [Accounts; 2],
 }
 
 /// Runs the pair of a seed, and says where the claim is wrong.
@@ -95,7 +99,8 @@ pub fn run(seed: u64, profile: Profile, tally: &mut Tally) -> Result<(), Differe
             break;
         }
     }
-    Ok(())
+    pair.finish()
+        .map_err(|difference| format!("pair {seed}, its end: {difference}"))
 }
 
 impl Pair {
@@ -105,6 +110,8 @@ impl Pair {
         let mut buffers = [Buffer::new(0); 2];
         let first = self.first.call(call, &mut buffers[0])?;
         let second = self.second.call(worse, &mut buffers[1])?;
+        self.accounts[0].add(call, &first)?;
+        self.accounts[1].add(worse, &second)?;
         if goes_to(&first) != goes_to(&second) {
             return Ok(false);
         }
@@ -124,6 +131,15 @@ impl Pair {
         }
         self.compare(tally)?;
         Ok(true)
+    }
+
+    /// Closes in both lists what is still open: every account comes out even.
+    fn finish(&mut self) -> Result<(), Difference> {
+        for at in self.seen.connections.keys() {
+            self.accounts[0].same(*at, self.first.drain(*at)?, "in the first list")?;
+            self.accounts[1].same(*at, self.second.drain(*at)?, "in the second list")?;
+        }
+        Ok(())
     }
 
     /// Checks the claim for all allowed rates of both lists.
@@ -166,11 +182,12 @@ fn goes_to(outcome: &Outcome) -> Option<Address> {
 }
 
 /// What two calls of a pair must have in common beside the connection: the kind
-/// of cell, 0 if none is sent, or the refusal.
-fn sends(outcome: &Outcome) -> Result<u32, u32> {
+/// of cell, 0 if none is sent; the data cells of a close, 0 of any other; or the refusal.
+fn sends(outcome: &Outcome) -> Result<(u32, u64), u32> {
     match outcome {
-        Ok(Answer::Sent(sent)) => Ok(sent.kind),
-        Ok(_) => Ok(0),
+        Ok(Answer::Sent(sent)) => Ok((sent.kind, 0)),
+        Ok(Answer::Closed(closed)) => Ok((0, closed.cells)),
+        Ok(_) => Ok((0, 0)),
         Err(number) => Err(*number),
     }
 }

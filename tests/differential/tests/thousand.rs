@@ -257,7 +257,8 @@ impl Changing {
         self.every_address()?;
         self.random_calls(200)?;
         let order = closing(&mut self.rng, self.addresses.clone());
-        self.change(0, order)
+        self.change(0, order)?;
+        self.list.finish()
     }
 
     /// To another number of connections. Some are closed first, so that there are
@@ -277,7 +278,8 @@ impl Changing {
         self.rng.shuffle(&mut targets);
         targets
             .into_iter()
-            .try_for_each(|target| self.round(target))
+            .try_for_each(|target| self.round(target))?;
+        self.list.finish()
     }
 }
 

@@ -2,7 +2,9 @@
 //! unanswered cells at the largest CRM, and contracts without a minimum (document
 //! 02, L5) and full addresses (L6).
 
-use abr::{Cell, Kind, Params, Refusal, Rm, Table, CELL_OCTETS, OUT_OF_RATE_INTERVAL, TIME_MAX};
+use abr::{
+    Cell, Closed, Kind, Params, Refusal, Rm, Table, CELL_OCTETS, OUT_OF_RATE_INTERVAL, TIME_MAX,
+};
 
 /// The path of the connections.
 const VPI: u32 = 0xA5;
@@ -184,7 +186,11 @@ fn a_thousand_and_24_open_and_no_more_in_any_order() {
         assert_eq!(table.open(VPI, vci, 0, &params), Ok(1), "{vci}");
     }
     assert_eq!(table.open(VPI, 1_056, 0, &params), Err(Refusal::Full));
-    assert_eq!(table.close(VPI, 50), Ok(1));
+    let closed = Closed {
+        cells: 0,
+        comparisons: 1,
+    };
+    assert_eq!(table.close(VPI, 50), Ok(closed));
     assert_eq!(table.open(VPI, 1_056, 0, &params), Ok(1));
     assert_eq!(table.open(VPI, 50, 0, &params), Err(Refusal::Full));
     let open = || (32..=1_056).filter(|vci| *vci != 50);

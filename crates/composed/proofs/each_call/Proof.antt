@@ -1,7 +1,7 @@
 use mathlib.Core.Path.{refl}
 use borrow.Author.Needs.{needs}
 use Rattle.answers.specs.Calls.{refusalAlone, noCell}
-use Rattle.abr.specs.Exports.{noSlot, opens, closes, receives, offers, levels, makes, leaves, slots, then, ended}
+use Rattle.abr.specs.Exports.{noSlot, afterClose, opens, closes, receives, offers, levels, makes, leaves, slots, then, ended}
 use Rattle.composed.proofs.each_call.Statement.{statement}
 use Rattle.composed.proofs.each_call.Tie as tie
 
@@ -21,15 +21,16 @@ returns c =
       offered = noSlot (f .abr-offer .last .0) (f .abr-offer .result);
       levelled = noSlot (l .abr-set-level .last .0) (refusalAlone (l .abr-set-level .result));
       taken = noSlot (r .abr-receive .last .0) (r .abr-receive .result);
-      sent = record { table = s .abr-slot .last .0; returned = s .abr-slot .result; old = start .args .cell .now; new = s .abr-slot .last .1 .1 .0 };
+      sent = record { table = s .abr-slot .last .0; returned = s .abr-slot .result; cells = 0; old = start .args .cell .now; new = s .abr-slot .last .1 .1 .0 };
       left = record {
         table = u .abr-out-of-rate .last .0;
         returned = noCell (u .abr-out-of-rate .result) 0;
+        cells = 0;
         old = s .abr-slot .last .1 .1 .0;
         new = u .abr-out-of-rate .last .1 .1 .1 .1 .0;
       };
       made = noSlot (m .abr-make .last .0) (m .abr-make .result);
-      closed = noSlot (c .abr-close .last .0) (c .abr-close .result);
+      closed = afterClose (c .abr-close .last .0) (c .abr-close .result);
       rate = a .abr-acr .ensures;
       table = refl;
       buffer = refl;

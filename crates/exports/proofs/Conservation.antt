@@ -1,0 +1,90 @@
+-- No data cell is unaccounted, of exported calls.
+use Prim.Native.Nat.{ℕ, _+_, _≤_}
+use mathlib.Core.Path.{_≡_, refl, sym, ap, _∙_}
+use mathlib.Core.Bool.{cond}
+use mathlib.Core.List.{List, [], _∷_}
+use native.Mathlib.Omega.{arith}
+use lib.Dec.{eqb}
+use Rattle.cell.specs.Name.{pairName}
+use Rattle.connection.specs.declared.parts.Connection.{Connection}
+use Rattle.connection.specs.Parts.{waiting}
+use Rattle.connection.specs.declared.kind.Kind.the-variants.{Forward, Turned, Data}
+use Rattle.model.specs.State.{State, Entry, free, taken, empty, find}
+use Rattle.model.specs.Invariant.{WellFormed}
+use Rattle.model.specs.declared.answer.Answer.{Answer}
+use Rattle.model.specs.declared.answer.Answer.the-variants.{Refused, Accepted, Closed, Idle, Sent}
+use Rattle.model.specs.Call.{Call, Outcome, closedCells}
+use Rattle.model.specs.Step.{refuse, discard, ofOpen, closeStep, step}
+use Rattle.model.specs.Run.{run, final, isAccepted}
+use Rattle.model.specs.Conservation.{offeredTo, closedOn, dataCells, dataSlotOf, sumOver, cellsOffered, dataSlots, cellsClosed, entryCells, cellsWaiting}
+use Rattle.model.proofs.Preserved.{empty-well-formed}
+use Rattle.model.proofs.Effects.{effect}
+use Rattle.model.proofs.Reached.{step-well-formed, reached-well-formed}
+use Rattle.model.proofs.Conservation.{cond-zero, conservation}
+use Rattle.answers.specs.declared.calls.SlotAnswer.{SlotAnswer}
+use Rattle.answers.specs.declared.calls.ClosedAnswer.{ClosedAnswer}
+use Rattle.answers.specs.Calls.{slotAnswer}
+use Rattle.abr.specs.Exports.{Observation, Trace, zeros, Matches, AllMatch, neither, both}
+use Rattle.abr.proofs.Exports.{exports-are-run}
+use Rattle.exports.specs.Conservation.{dataReturned, sumObserved, offersObserved, slotsObserved, closesObserved, ExportsConservation}
+use Rattle.exports.proofs.Exports.{back, effect-accepted}
+
+-- what one call returned says what its answer says
+data-number : (v : ℕ) (a : Answer) → dataReturned v (slotAnswer a) ≡ dataSlotOf v a
+unfolding dataSlotOf dataCells
+data-number v (Refused n) = refl
+data-number v (Accepted n) = refl
+data-number v (Closed n k) = refl
+data-number v Idle = refl
+data-number v (Sent u Forward a n) = sym (cond-zero (eqb u v))
+data-number v (Sent u Turned a n) = sym (cond-zero (eqb u v))
+data-number v (Sent u Data a n) = ap (λ (w : ℕ). cond (eqb w v) 1 0) (back u)
+
+-- each term of one sum is that of the other
+abbrev SameTerm : (Call → Observation → ℕ) → (Call → Answer → ℕ) → Type 0
+SameTerm f g = (s : State) → WellFormed s → (c : Call) (o : Observation) → Matches (step s c) o → f c o ≡ g c (step s c .answer)
+
+observed-sum :
+    (f : Call → Observation → ℕ) (g : Call → Answer → ℕ) → SameTerm f g → (s : State) → WellFormed s → (cs : List Call) (os : List Observation) → AllMatch (run s cs) os
+    → sumObserved f cs os ≡ sumOver g s cs
+observed-sum f g h s w [] [] neither = refl
+observed-sum f g h s w (c ∷ cs) (o ∷ os) (both m ms) = rw (h s w c o m, observed-sum f g h (step s c .state) (step-well-formed w c) cs os ms) refl
+
+module _ (v : ℕ) (cs : List Call) (os : List Observation) (t : Trace cs zeros os) where
+  summed : (f : Call → Observation → ℕ) (g : Call → Answer → ℕ) → SameTerm f g → sumObserved f cs os ≡ sumOver g empty cs
+  summed f g h = observed-sum f g h empty empty-well-formed cs os (exports-are-run .each cs os t)
+
+  offers : offersObserved v cs os ≡ cellsOffered v cs
+  offers =
+      summed (λ c o. offeredTo v c (eqb (o .returned .refusal) 0)) (λ c a. offeredTo v c (isAccepted a))
+      (λ s w c o m. ap (offeredTo v c) (ap (λ (r : SlotAnswer). eqb (r .refusal) 0) (m .returned) ∙ effect-accepted (effect s (w .unique) c)))
+
+  slots : slotsObserved v cs os ≡ dataSlots v cs
+  slots = summed (λ c o. dataReturned v (o .returned)) (λ c a. dataSlotOf v a) (λ s w c o m. ap (dataReturned v) (m .returned) ∙ data-number v (step s c .answer))
+
+  closes : closesObserved v cs os ≡ cellsClosed v cs
+  closes = summed (λ c o. closedOn v c (o .cells)) (λ c a. closedOn v c (closedCells a)) (λ s w c o m. ap (closedOn v c) (m .cells))
+
+  balance : offersObserved v cs os ≡ slotsObserved v cs os + cellsWaiting v (final empty cs) + closesObserved v cs os
+  balance = rw (offers, slots, closes) (conservation .balance cs v)
+
+  at-most : slotsObserved v cs os ≤ offersObserved v cs os
+  at-most = omega (arith, balance)
+
+-- what a close would answer
+entry-closed : (s : State) (f : Connection → Outcome) (x : Entry) → ((c : Connection) → closedCells (f c .answer) ≡ waiting (c .queue)) → closedCells (ofOpen s x f .answer) ≡ entryCells x
+unfolding ofOpen refuse closedCells entryCells
+entry-closed s f free h = refl
+entry-closed s f (taken c) h = h c
+
+closed-next : (s : State) (v : ℕ) → closedCells (closeStep s v .answer) ≡ cellsWaiting v s
+unfolding closeStep discard closedCells
+closed-next s v = entry-closed s _ (find v (s .entries)) (λ c. refl)
+
+pub exports-conservation : ExportsConservation
+exports-conservation = record {
+  balance = λ cs os t v. balance v cs os t;
+  atMostOffered = λ cs os t v. at-most v cs os t;
+  closedNext = λ cs os t vpi vci m r h.
+      ap (λ (x : ClosedAnswer). x .cells) (h .meets (final empty cs) (reached-well-formed cs) (exports-are-run .last cs os t) .1) ∙ closed-next (final empty cs) (pairName vpi vci);
+}

@@ -1,0 +1,47 @@
+-- No data cell is unaccounted, of exported calls: offers, slots and closes are summed from the calls and what they returned. (Document 02, L12.)
+use Prim.Native.Nat.{ℕ, _+_, _≤_}
+use mathlib.Core.Path.{_≡_}
+use mathlib.Core.Bool.{cond, _&&_}
+use mathlib.Core.List.{List, [], _∷_}
+use lib.Dec.{eqb}
+use Rattle.cell.specs.Name.{nameOf, pairName}
+use Rattle.model.specs.State.{empty}
+use Rattle.model.specs.Call.{Call}
+use Rattle.model.specs.Step.{closeStep}
+use Rattle.model.specs.Run.{final}
+use Rattle.model.specs.Conservation.{offeredTo, closedOn, cellsWaiting}
+use Rattle.answers.specs.declared.calls.SlotAnswer.{SlotAnswer}
+use Rattle.answers.specs.declared.calls.ClosedAnswer.{ClosedAnswer}
+use Rattle.abr.specs.Contract.{AnswersClosed}
+use Rattle.abr.specs.Exports.{Observation, Trace, finalWords, zeros}
+
+-- 1 for a slot that returned kind 3, data, with the VPI and VCI of v
+abbrev pub dataReturned : (v : ℕ) → SlotAnswer → ℕ
+dataReturned v r = cond (eqb (r .kind) 3 && eqb (nameOf (r .vpi) (r .vci)) v) 1 0
+
+-- a sum over the calls of a list and what was observed of them
+abbrev pub sumObserved : (Call → Observation → ℕ) → List Call → List Observation → ℕ
+sumObserved f [] os = 0
+sumObserved f (c ∷ cs) [] = 0
+sumObserved f (c ∷ cs) (o ∷ os) = f c o + sumObserved f cs os
+
+-- of the name v: the cells in offers that returned no refusal, the data slots, and the cells that its closes returned
+abbrev pub offersObserved : (v : ℕ) → List Call → List Observation → ℕ
+offersObserved v = sumObserved (λ c o. offeredTo v c (eqb (o .returned .refusal) 0))
+
+abbrev pub slotsObserved : (v : ℕ) → List Call → List Observation → ℕ
+slotsObserved v = sumObserved (λ c o. dataReturned v (o .returned))
+
+abbrev pub closesObserved : (v : ℕ) → List Call → List Observation → ℕ
+closesObserved v = sumObserved (λ c o. closedOn v c (o .cells))
+
+-- after every list of exported calls from the zero table, which then holds the words of `final empty cs` (abr/specs/Exports.antt)
+pub record ExportsConservation : Type 0 where
+  pub balance :
+      (cs : List Call) (os : List Observation) → Trace cs zeros os → (v : ℕ)
+      → offersObserved v cs os ≡ slotsObserved v cs os + cellsWaiting v (final empty cs) + closesObserved v cs os
+  pub atMostOffered : (cs : List Call) (os : List Observation) → Trace cs zeros os → (v : ℕ) → slotsObserved v cs os ≤ offersObserved v cs os
+  -- the cells that wait are those that abr_close returns if it is called next: 0 if it refuses
+  pub closedNext :
+      (cs : List Call) (os : List Observation) → Trace cs zeros os → (vpi vci : ℕ) (m : List ℕ) (r : ClosedAnswer)
+      → AnswersClosed (λ s. closeStep s (pairName vpi vci)) (finalWords zeros os) m r → r .cells ≡ cellsWaiting (pairName vpi vci) (final empty cs)

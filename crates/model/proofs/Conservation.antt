@@ -1,0 +1,181 @@
+-- No data cell is unaccounted: each call keeps the balance of each name, so every list does.
+use Prim.Native.Nat.{ℕ, _+_, _<_}
+use mathlib.Core.Path.{_≡_, refl, _∙_}
+use mathlib.Core.Logic.{_≢_}
+use mathlib.Core.Bool.{Bool, true, false, cond}
+use mathlib.Core.List.{List, [], _∷_}
+use native.Mathlib.Omega.{arith}
+use lib.Dec.{eqb}
+use lib.ListN.{replicate}
+use borrow.Author.Tests.{eq-eqb, ne-eqb}
+use Rattle.params.specs.declared.params.Params.{Params}
+use Rattle.cell.specs.declared.fields.Fields.{Fields}
+use Rattle.cell.specs.Name.{pairName}
+use Rattle.cell.specs.Fields.{cellName}
+use Rattle.connection.specs.declared.parts.Connection.{Connection}
+use Rattle.connection.specs.declared.kind.Kind.{Kind}
+use Rattle.connection.specs.declared.kind.Kind.the-variants.{Forward, Turned, Data}
+use Rattle.connection.specs.Parts.{fresh, waiting}
+use Rattle.connection.specs.Making.{withMade}
+use Rattle.connection.specs.Receiving.{offered, afterDataCell, afterBackwardCell, afterForwardCell, afterResourceCell}
+use Rattle.connection.specs.Kind.{kindAt}
+use Rattle.connection.specs.Sending.{sentForward, sentTurned, sentData, after}
+use Rattle.connection.specs.OutOfRate.{afterOutOfRate}
+use Rattle.connection.proofs.Keeps.{work-same, after-same}
+use Rattle.connection.proofs.Waited.{data-waits}
+use Rattle.model.specs.State.{State, free, taken, capacity, empty, find, put, inserted, withTime, withLevel}
+use Rattle.model.specs.Invariant.{NamesUnique, WellFormed}
+use Rattle.model.specs.Choice.{Chosen}
+use Rattle.model.specs.Call.{Call, opening, closing, receiving, offering, levelling, slot, making, outOfRate, Outcome, closedCells}
+use Rattle.model.specs.Step.{refuse, accept, replay, discard, sendStep, sendOutside, idleStep, step}
+use Rattle.model.specs.Run.{final, isAccepted}
+use Rattle.model.specs.Conservation.{offeredTo, closedOn, dataCells, dataSlotOf, sumOver, cellsOffered, dataSlots, cellsClosed, entryCells, cellsWaiting, Conservation}
+use Rattle.model.proofs.Entries.{Case, same, other, case, absent-find, each-free}
+use Rattle.model.proofs.Frames.{put-read, put-kept, inserted-read, freed-read}
+use Rattle.model.proofs.Preserved.{empty-well-formed}
+use Rattle.model.proofs.Effects.{Enters, Effect, refuses, begins, ends, offers, marks, works, levels, idles, sends, makes, leaves, effect}
+use Rattle.model.proofs.Reached.{step-well-formed}
+
+-- the outcome o of the call c on s keeps the balance of v
+abbrev Balanced : ℕ → State → Call → Outcome → Type 0
+Balanced v s c o =
+    offeredTo v c (isAccepted (o .answer)) + cellsWaiting v s ≡ dataSlotOf v (o .answer) + cellsWaiting v (o .state) + closedOn v c (closedCells (o .answer))
+
+-- Refused, and a call that is no offer, slot or close.
+pub cond-zero : (b : Bool) → _≡_ {A = ℕ} (cond b 0 0) 0
+cond-zero true = refl
+cond-zero false = refl
+
+no-offer : (v : ℕ) (c : Call) → offeredTo v c false ≡ 0
+unfolding offeredTo
+no-offer v (opening a b t p) = refl
+no-offer v (closing a b) = refl
+no-offer v (receiving o) = refl
+no-offer v (offering a b n) = refl
+no-offer v (levelling l) = refl
+no-offer v (slot t room) = refl
+no-offer v (making a b t) = refl
+no-offer v (outOfRate a b t room) = refl
+
+none-closed : (v : ℕ) (c : Call) → closedOn v c 0 ≡ 0
+unfolding closedOn
+none-closed v (opening a b t p) = refl
+none-closed v (closing a b) = cond-zero (eqb (pairName a b) v)
+none-closed v (receiving o) = refl
+none-closed v (offering a b n) = refl
+none-closed v (levelling l) = refl
+none-closed v (slot t room) = refl
+none-closed v (making a b t) = refl
+none-closed v (outOfRate a b t room) = refl
+
+refused-balanced : (v : ℕ) (s : State) (c : Call) (n : ℕ) → Balanced v s c (refuse s n)
+unfolding refuse isAccepted dataSlotOf closedCells
+refused-balanced v s c n = omega (arith, no-offer v c, none-closed v c)
+
+same-cells : (w z : ℕ) → z ≡ w → 0 + w ≡ 0 + z + 0
+same-cells w z h = omega arith
+
+-- a connection in its own entry, with what waits on it
+kept-cells :
+    (v u : ℕ) (s : State) → NamesUnique (s .entries) → (d e : Connection) → find u (s .entries) ≡ taken d → e .name ≡ d .name → waiting (e .queue) ≡ waiting (d .queue)
+    → 0 + cellsWaiting v s ≡ 0 + cellsWaiting v (put u (taken e) s) + 0
+unfolding entryCells
+kept-cells v u s a d e f n h = same-cells _ _ (put-kept entryCells v u s a d e f n h)
+
+-- what waits on one name changes: by cells that come, or by cells that go
+changed-cells :
+    (v u : ℕ) (s : State) → NamesUnique (s .entries) → (d e : Connection) → find u (s .entries) ≡ taken d → e .name ≡ d .name → (come go : ℕ)
+    → come + waiting (d .queue) ≡ go + waiting (e .queue) → cond (eqb u v) come 0 + cellsWaiting v s ≡ cond (eqb u v) go 0 + cellsWaiting v (put u (taken e) s)
+unfolding entryCells
+changed-cells v u s a d e f n come go h = rw (put-read entryCells v u s a d e f n) (by (case u v))
+  where
+    by : Case u v → cond (eqb u v) come 0 + entryCells (find v (s .entries)) ≡ cond (eqb u v) go 0 + cond (eqb u v) (waiting (e .queue)) (entryCells (find v (s .entries)))
+    by (same q) = rw (eq-eqb u v q, ← q, f) h
+    by (other q) = rw (ne-eqb u v q)
+
+-- Open: nothing waits on a fresh connection.
+begun-cells : (v : ℕ) (s : State) (u t : ℕ) (p : Params) → Enters s u t p → cellsWaiting v (inserted (fresh u t p) s) ≡ cellsWaiting v s
+unfolding fresh entryCells
+begun-cells v s u t p g = inserted-read entryCells v s (fresh u t p) (g .new) (g .room) ∙ by (case u v)
+  where
+    by : Case u v → cond (eqb u v) 0 (entryCells (find v (s .entries))) ≡ entryCells (find v (s .entries))
+    by (same q) = rw (eq-eqb u v q, ← q, g .new)
+    by (other q) = rw (ne-eqb u v q)
+
+-- Close: what waited is what is answered.
+ended-cells :
+    (v u : ℕ) (s : State) → NamesUnique (s .entries) → (d : Connection) → find u (s .entries) ≡ taken d
+    → 0 + cellsWaiting v s ≡ 0 + cellsWaiting v (put u free s) + cond (eqb u v) (waiting (d .queue)) 0
+unfolding entryCells
+ended-cells v u s a d f = rw (freed-read entryCells v u s a) (by (case u v))
+  where
+    by : Case u v → 0 + entryCells (find v (s .entries)) ≡ 0 + cond (eqb u v) 0 (entryCells (find v (s .entries))) + cond (eqb u v) (waiting (d .queue)) 0
+    by (same q) = rw (eq-eqb u v q, ← q, f) (omega arith)
+    by (other q) = rw (ne-eqb u v q) (omega arith)
+
+-- Receive: an RM cell leaves the data that waits.
+work-cells : (level : ℕ) (o : List ℕ) (f : Fields) (c : Connection) → waiting (afterResourceCell level o f c .queue) ≡ waiting (c .queue)
+unfolding afterResourceCell afterBackwardCell afterForwardCell
+work-cells level o f c = by (eqb (f .dir) 1)
+  where
+    by : (t : Bool) → waiting (cond t (afterBackwardCell f c) (afterForwardCell level o c) .queue) ≡ waiting (c .queue)
+    by true = refl
+    by false = refl
+
+-- Slot: a data cell is one of those that waited.
+sent-cells : (k : Kind) (t : ℕ) (c : Connection) → (k ≡ Data → 0 < waiting (c .queue)) → 0 + waiting (c .queue) ≡ dataCells k + waiting (after k t c .queue)
+unfolding after sentForward sentTurned sentData dataCells
+sent-cells Forward t c h = refl
+sent-cells Turned t c h = refl
+sent-cells Data t c h = let z = h refl in omega (arith, z)
+
+sent-balanced :
+    (v : ℕ) (s : State) → NamesUnique (s .entries) → (t i u : ℕ) (b : Chosen t i u (s .entries)) → (k : Kind) → kindAt t (b .holder) ≡ k
+    → 0 + cellsWaiting v s ≡ cond (eqb u v) (dataCells k) 0 + cellsWaiting v (put u (taken (after k t (b .holder))) s) + 0
+sent-balanced v s a t i u b k q =
+    omega (
+      arith,
+      cond-zero (eqb u v),
+      changed-cells v u s a (b .holder) (after k t (b .holder)) (b .found) (after-same k t (b .holder) .name) 0 (dataCells k)
+          (sent-cells k t (b .holder) (λ e. data-waits t (b .holder) i (b .readyAt) (b .due) (q ∙ e))),
+    )
+
+-- Every effect.
+effect-balanced : (v : ℕ) {s : State} → NamesUnique (s .entries) → {c : Call} {o : Outcome} → Effect s c o → Balanced v s c o
+unfolding accept replay discard withLevel idleStep sendStep sendOutside withTime isAccepted offeredTo closedOn dataSlotOf closedCells offered afterDataCell withMade afterOutOfRate
+effect-balanced v {s} u (refuses c n h) = refused-balanced v s c n
+effect-balanced v {s} u (begins a b t p g) = same-cells _ _ (begun-cells v s (pairName a b) t p g)
+effect-balanced v {s} u (ends a b d f) = ended-cells v (pairName a b) s u d f
+effect-balanced v {s} u (offers a b n d f h) =
+    omega (arith, cond-zero (eqb (pairName a b) v), changed-cells v (pairName a b) s u d (offered n d) f refl n 0 (omega arith))
+effect-balanced v {s} u (marks o a b e d r f) = kept-cells v (pairName a b) s u d (afterDataCell e d) f refl refl
+effect-balanced v {s} u (works o q d r f) =
+    kept-cells v (cellName q) s u d (afterResourceCell (s .level) o q d) f (work-same (s .level) o q d .name) (work-cells (s .level) o q d)
+effect-balanced v {s} u (levels l h) = same-cells _ _ refl
+effect-balanced v {s} u (idles t room g b) = same-cells _ _ refl
+effect-balanced v {s} u (sends t room i n g b) = sent-balanced v (withTime t s) u t i n b (kindAt t (b .holder)) refl
+effect-balanced v {s} u (makes a b t d f g h m) = kept-cells v (pairName a b) (withTime t s) u d (withMade t (s .level) d) f refl refl
+effect-balanced v {s} u (leaves a b t room d f g h) = kept-cells v (pairName a b) (withTime t s) u d (afterOutOfRate t d) f refl refl
+
+-- Every list.
+chain : (o r w s₁ s₂ z c₁ c₂ w′ : ℕ) → o + w ≡ s₁ + w′ + c₁ → r + w′ ≡ s₂ + z + c₂ → (o + r) + w ≡ (s₁ + s₂) + z + (c₁ + c₂)
+chain o r w s₁ s₂ z c₁ c₂ w′ h k = omega arith
+
+run-balanced :
+    (v : ℕ) (s : State) → WellFormed s → (cs : List Call)
+    → sumOver (λ c a. offeredTo v c (isAccepted a)) s cs + cellsWaiting v s ≡ sumOver (λ c a. dataSlotOf v a) s cs + cellsWaiting v (final s cs) + sumOver (λ c a. closedOn v c (closedCells a)) s cs
+run-balanced v s w [] = omega arith
+run-balanced v s w (c ∷ cs) =
+    chain (offeredTo v c (isAccepted (step s c .answer))) _ _ (dataSlotOf v (step s c .answer)) _ _ (closedOn v c (closedCells (step s c .answer))) _ _
+    (effect-balanced v (w .unique) (effect s (w .unique) c))
+    (run-balanced v (step s c .state) (step-well-formed w c) cs)
+
+none-waits : (v : ℕ) → cellsWaiting v empty ≡ 0
+unfolding entryCells empty
+none-waits v = rw (absent-find v (replicate capacity free) (each-free (λ c. c .name ≢ v) capacity))
+
+balance : (cs : List Call) (v : ℕ) → cellsOffered v cs ≡ dataSlots v cs + cellsWaiting v (final empty cs) + cellsClosed v cs
+balance cs v = omega (arith, none-waits v, run-balanced v empty empty-well-formed cs)
+
+pub conservation : Conservation
+conservation = record { balance = balance; atMostOffered = λ cs v. omega (arith, balance cs v) }
