@@ -4,7 +4,7 @@
  * an end of the directory of names: VPI 0 and VCI 32, or VPI 255 and VCI 65,535. Where the directory moves, it is the
  * highest name, with all other words behind its own, and its ready instant is the earliest; elsewhere the lowest name,
  * and all ready instants are equal. The others are on all VPIs, four to each. A forward cell makes both of its
- * moves, and a received one replaces another. A port has 1,024 demands. A trace has 1,000 cells of fifteen octets. bench/worst.c
+ * moves, and a received one replaces another. A path has all 256 members. A port has 1,024 demands. A trace has 1,000 cells of fifteen octets. bench/worst.c
  * counts the instructions of these calls, tests/c/stack.c measures their stack.
  */
 #ifndef CASES_H
@@ -16,11 +16,17 @@
 
 #define SECOND UINT64_C(1000000000)
 #define OTHERS (ABR_CONNECTIONS_MAX - 1)
+#define MEMBER_VCI 1000u /* of the lowest member; the others follow it */
 #define TRACE_CELLS 1000u
 #define TRACE_CELL 15u /* octets of one of its cells */
 
 /* What a case needs beside the connections. */
-enum need { NOTHING, NRM_2, TURNED_WAITS, MADE_WAITS, OUTSIDE, FORWARD_CELL, BACKWARD_CELL, DATA_CELL, CLOSED, DEMANDS, TRACE };
+enum need {
+    NOTHING, NRM_2, TURNED_WAITS, MADE_WAITS, OUTSIDE, FORWARD_CELL, BACKWARD_CELL, DATA_CELL, CLOSED, DEMANDS, TRACE,
+    /* The one concerned is a path, and each of its members has data; or only the one served last has; or one is missing;
+     * or a data cell of a member is needed; or the path is closed. */
+    MEMBERS, LONE_MEMBER, MISSING_MEMBER, MEMBER_CELL, CLOSED_PATH
+};
 
 /* The connection concerned. */
 enum name { LOWEST, HIGHEST };
@@ -67,6 +73,10 @@ static void call_receive(void) { answer = abr_receive(&table, cell, sizeof cell)
 static void call_open(void) { answer = abr_open(&table, at.vpi, at.vci, 3 * SECOND, params); }
 static void call_close(void) { closed = abr_close(&table, at.vpi, at.vci); }
 static void call_offer(void) { answer = abr_offer(&table, at.vpi, at.vci, 1); }
+static void call_open_path(void) { answer = abr_open_path(&table, at.vpi, 3 * SECOND, params); }
+static void call_add(void) { answer = abr_add(&table, at.vpi, MEMBER_VCI); }
+static void call_offer_member(void) { answer = abr_offer_member(&table, at.vpi, MEMBER_VCI, 1); }
+static void call_remove(void) { closed = abr_remove(&table, at.vpi, MEMBER_VCI); }
 static void call_set_level(void) { refusal = abr_set_level(&table, 2); }
 static void call_make(void) { answer = abr_make(&table, at.vpi, at.vci, 3 * SECOND); }
 static void call_out_of_rate(void)
@@ -98,6 +108,14 @@ static const abr_case cases[] = {
     {"open", CLOSED, HIGHEST, call_open, 0},
     {"close", NOTHING, HIGHEST, call_close, 0},
     {"offer", NOTHING, LOWEST, call_offer, 0},
+    {"slot, next member's data", MEMBERS, LOWEST, call_slot, ABR_SENT_DATA},
+    {"slot, lone member's data", LONE_MEMBER, LOWEST, call_slot, ABR_SENT_DATA},
+    {"receive, member's data", MEMBER_CELL, LOWEST, call_receive, 0},
+    {"open path", CLOSED_PATH, HIGHEST, call_open_path, 0},
+    {"close path", MEMBERS, HIGHEST, call_close, 0},
+    {"add member", MISSING_MEMBER, LOWEST, call_add, 0},
+    {"offer to a member", MEMBERS, LOWEST, call_offer_member, 0},
+    {"remove member", MEMBERS, LOWEST, call_remove, 0},
     {"set level", NOTHING, LOWEST, call_set_level, 0},
     {"make", MADE_WAITS, LOWEST, call_make, 0},
     {"out-of-rate cell", OUTSIDE, LOWEST, call_out_of_rate, 0},
@@ -118,14 +136,34 @@ static const abr_case cases[] = {
 
 #define CASES (sizeof cases / sizeof cases[0])
 
-/* Opens a connection with data. One unanswered cell and 10 ms are enough for the moves of a forward cell. */
-static int open_busy(address other, uint32_t icr, uint32_t n)
+/* One unanswered cell and 10 ms are enough for the moves of a forward cell. */
+static void set_params(uint32_t icr, uint32_t n)
 {
     params = abr_house(ABR_CODE_MAX, 0x4000, icr);
     params.n = n;
     params.crm = params.adtf = 1;
+}
+
+/* Opens a channel with data. */
+static int open_busy(address other, uint32_t icr, uint32_t n)
+{
+    set_params(icr, n);
     return abr_open(&table, other.vpi, other.vci, 0, params).refusal != ABR_OK ||
            abr_offer(&table, other.vpi, other.vci, 100).refusal != ABR_OK;
+}
+
+/* Opens the path concerned, with its members and their data. */
+static int open_busy_path(const abr_case *which, uint32_t icr)
+{
+    int wrong;
+    set_params(icr, 5);
+    wrong = abr_open_path(&table, at.vpi, 0, params).refusal != ABR_OK;
+    for (uint32_t i = which->need == MISSING_MEMBER; i < ABR_MEMBERS_MAX; i++) {
+        uint64_t cells = which->need == LONE_MEMBER && i > 0 ? 0 : 100;
+        wrong |= abr_add(&table, at.vpi, MEMBER_VCI + i).refusal != ABR_OK;
+        wrong |= abr_offer_member(&table, at.vpi, MEMBER_VCI + i, cells).refusal != ABR_OK;
+    }
+    return wrong;
 }
 
 /* The lowest or the highest name, or one that is i names away from it, counted over VCIs that stand on every VPI. */
@@ -136,13 +174,14 @@ static address name_from(enum name end, uint32_t i)
 }
 
 /* The others, and last the one concerned; as the highest name with a higher rate, and so due earlier than all others. */
-static int fill(enum name concerned, uint32_t n)
+static int fill(const abr_case *which)
 {
+    uint32_t n = which->need == NRM_2 ? 1 : 5, icr = which->at == HIGHEST ? 0x6000 : 0x5000;
     int wrong = 0;
     for (uint32_t i = 1; i <= OTHERS; i++) {
-        wrong |= open_busy(name_from(concerned, i), 0x5000, n);
+        wrong |= open_busy(name_from(which->at, i), 0x5000, n);
     }
-    return wrong | open_busy(at, concerned == HIGHEST ? 0x6000 : 0x5000, n);
+    return wrong | (at.vci == ABR_PATH_VCI ? open_busy_path(which, icr) : open_busy(at, icr, n));
 }
 
 /* Every connection sends one cell at this time. */
@@ -156,13 +195,13 @@ static int round_at(uint64_t time)
     return wrong;
 }
 
-/* A data cell for the connection concerned, its octet 5 found by trying all. */
-static int make_data_cell(void)
+/* A data cell for a VCI on the VPI of the connection concerned, its octet 5 found by trying all. */
+static int make_data_cell(uint32_t vci)
 {
     cell[0] = (uint8_t)(at.vpi >> 4);
-    cell[1] = (uint8_t)((at.vpi & 0xF) << 4 | at.vci >> 12);
-    cell[2] = at.vci >> 4 & 0xFF;
-    cell[3] = (uint8_t)((at.vci & 0xF) << 4);
+    cell[1] = (uint8_t)((at.vpi & 0xF) << 4 | vci >> 12);
+    cell[2] = vci >> 4 & 0xFF;
+    cell[3] = (uint8_t)((vci & 0xF) << 4);
     for (unsigned octet = 0; octet < 256; octet++) {
         cell[4] = (uint8_t)octet;
         if (abr_read(cell, sizeof cell).refusal == ABR_OK) {
@@ -228,10 +267,11 @@ static void make_trace(void)
 static int prepare(const abr_case *which)
 {
     at = name_from(which->at, 0);
+    at.vci = which->need >= MEMBERS ? ABR_PATH_VCI : at.vci;
     rm.vpi = at.vpi;
     rm.vci = at.vci;
     memset(&table, 0, sizeof table);
-    if (fill(which->at, which->need == NRM_2 ? 1 : 5) || round_at(0) || round_at(SECOND)) {
+    if (fill(which) || round_at(0) || round_at(SECOND)) {
         return 1;
     }
     switch (which->need) {
@@ -242,10 +282,12 @@ static int prepare(const abr_case *which)
         return abr_out_of_rate(&table, at.vpi, at.vci, SECOND, cell, sizeof cell) != ABR_OK;
     case FORWARD_CELL: return make_rm_cell(0);
     case BACKWARD_CELL: return make_rm_cell(1);
-    case DATA_CELL: return make_data_cell();
+    case DATA_CELL: return make_data_cell(at.vci);
+    case MEMBER_CELL: return make_data_cell(MEMBER_VCI);
     case DEMANDS: make_demands(); return make_rm_cell(1);
     case TRACE: make_trace(); return 0;
-    case CLOSED: return abr_close(&table, at.vpi, at.vci).refusal != ABR_OK;
+    case CLOSED:
+    case CLOSED_PATH: return abr_close(&table, at.vpi, at.vci).refusal != ABR_OK;
     default: return 0;
     }
 }
@@ -254,7 +296,9 @@ static int prepare(const abr_case *which)
 static int accepted(const abr_case *which)
 {
     if (which->call == call_slot) {
-        return sent.refusal == ABR_OK && sent.kind == which->kind && sent.vpi == at.vpi && sent.vci == at.vci;
+        uint32_t member = MEMBER_VCI + (which->need == MEMBERS); /* the lowest had the slot before */
+        uint32_t vci = at.vci == ABR_PATH_VCI ? member : at.vci;
+        return sent.refusal == ABR_OK && sent.kind == which->kind && sent.vpi == at.vpi && sent.vci == vci;
     }
     if (which->call == call_read) {
         return content.refusal == ABR_OK && content.kind == which->kind;

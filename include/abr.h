@@ -8,8 +8,8 @@
  * (marks of a replaced cell), L4 (1,024 connections, comparisons), L5 (no minimum
  * rate, abr_out_of_rate), L6 (full addresses), L7 (the reserved bit of a rate code),
  * L8 (abr_export, abr_import), L9 (what the last feedback did), L10 (abr_port,
- * abr_fair_share, abr_limit), L11 (abr_judge) and L12 (the cells of a close) of
- * document 02.
+ * abr_fair_share, abr_limit), L11 (abr_judge), L12 (the cells of a close) and L13
+ * (abr_open_path and the members of paths) of document 02.
  *
  * Addresses. A connection is named by its VPI and its VCI together, as VPI * 65,536
  * + VCI (document 02, L6): the same VCI on another VPI is another connection. Every
@@ -18,11 +18,20 @@
  * no connection and is refused with 11. Neither is ever cut to the address of
  * another.
  *
+ * Paths. One rate loop may serve many channels (document 02, L13): abr_open_path opens
+ * a connection for a whole VPI, which is named VPI * 65,536 + 6 and whose RM cells have
+ * VCI 6. VCIs on that VPI are made its members by abr_add; each has data of its own,
+ * offered by abr_offer_member, and no rate. The other calls for an open connection
+ * take a path by its VPI and ABR_PATH_VCI as they take a channel, but for abr_offer
+ * (28); a member's pair is no connection to them (11), and none that abr_open could
+ * open (27). A received data cell of a member is one of its path. Channels that are
+ * no members may be open on the same VPI.
+ *
  * Language. C99 or later, C++11 or later, or C++98 with <stdint.h>.
  *
  * Memory. The library has no heap, no globals and no start-up call. All state
  * is in an abr_table that the caller lends. A table of zeros is the empty one,
- * so `static abr_table table;` is ready for use. It has 286,872 octets, too many
+ * so `static abr_table table;` is ready for use. It has 288,920 octets, too many
  * for most stacks. Only these calls may write a table that is in use. One table
  * is used by one thread at a time; different tables are independent of each
  * other. A table may be moved or copied as a whole, octet by octet, between
@@ -45,7 +54,8 @@
  * Comparisons. The ready instants of the connections play a tournament of ten
  * levels, neighbours paired at each (document 02, L4). An accepted open, close,
  * receive, offer or make, and a slot that sends, replays the matches of its own
- * connection upwards, as far as their winners may have changed. It answers how
+ * connection upwards, as far as their winners may have changed; a member's offer,
+ * removal and received data cell replay those of its path. It answers how
  * many it replayed, one comparison each: 1 to 10. Refused calls, idle slots and
  * all other calls replay none.
  *
@@ -87,19 +97,22 @@ extern "C" {
 
 /* ---- Version ------------------------------------------------------------ */
 
-/* 0.13.0: major, minor and patch number, eight bits each. */
-#define ABR_VERSION 0x000d00u
+/* 0.14.0: major, minor and patch number, eight bits each. */
+#define ABR_VERSION 0x000e00u
 
-/* The words of a table, which has 286,872 octets. */
-#define ABR_TABLE_WORDS 35859u
+/* The words of a table, which has 288,920 octets. */
+#define ABR_TABLE_WORDS 36115u
 
 /* ---- Limits ------------------------------------------------------------- */
 
 /* The octets of a cell, the only length that any buffer for a cell may have. */
 #define ABR_CELL_OCTETS 53u
 
-/* The connections that may be open at once. */
+/* The connections that may be open at once, channels and paths. */
 #define ABR_CONNECTIONS_MAX 1024u
+
+/* The members that all paths may have together. */
+#define ABR_MEMBERS_MAX 256u
 
 /* The most comparisons of a call. */
 #define ABR_COMPARISONS_MAX 10u
@@ -107,14 +120,17 @@ extern "C" {
 /* The greatest VPI. A VPI has eight bits here. */
 #define ABR_VPI_MAX 255u
 
-/* The least and the greatest VCI that can be opened, on any VPI. */
+/* The least and the greatest VCI that can be opened or made a member, on any VPI. */
 #define ABR_VCI_MIN 32u
 #define ABR_VCI_MAX 65535u
+
+/* The VCI in the name of a path, and in its RM cells. */
+#define ABR_PATH_VCI 6u
 
 /* The latest time, 2^62 nanoseconds. */
 #define ABR_TIME_MAX UINT64_C(4611686018427387904)
 
-/* The most data cells that wait on one connection. */
+/* The most data cells that wait on one channel, and on one member of a path. */
 #define ABR_WAITING_MAX 65535u
 
 /* The least time from one made cell of a connection to the next, 100 ms. */
@@ -212,6 +228,11 @@ extern "C" {
 #define ABR_REFUSED_TRACE_END 24u    /* trace is empty or ends inside a record */
 #define ABR_REFUSED_TRACE_RANGE 25u  /* n, Trm number, kind, rate or summed time of a trace is out of range */
 
+/* Because of the state, added by document 02. */
+#define ABR_REFUSED_MEMBERS_FULL 26u   /* 256 members are in the engine */
+#define ABR_REFUSED_ALREADY_MEMBER 27u /* pair is already a member of its path */
+#define ABR_REFUSED_NOT_A_MEMBER 28u   /* path is open, but the VCI is no member of it */
+
 /* ---- Types -------------------------------------------------------------- */
 
 /* The state of an engine. Its words have no meaning outside the library. */
@@ -250,17 +271,17 @@ typedef struct {
     uint32_t sn;  /* carried only */
 } abr_rm;
 
-/* The answer of an open, an offer, a received and a made cell. */
+/* The answer of an open, an offer, a received and a made cell, and of adding a member. */
 typedef struct {
     uint32_t refusal;
-    uint32_t comparisons; /* 1 to ABR_COMPARISONS_MAX; 0 if it is refused */
+    uint32_t comparisons; /* 1 to ABR_COMPARISONS_MAX; 0 if it is refused, and of adding a member */
 } abr_answer;
 
-/* The answer of a close. */
+/* The answer of a close and of removing a member. */
 typedef struct {
     uint32_t refusal;
     uint32_t comparisons; /* 1 to ABR_COMPARISONS_MAX; 0 if it is refused */
-    uint64_t cells;       /* the data cells that waited, at most ABR_WAITING_MAX; 0 if it is refused */
+    uint64_t cells;       /* the data cells that waited, of a path those of all members; 0 if it is refused */
 } abr_closed;
 
 /* The answer of a slot. An idle slot has 0 in all six. */
@@ -268,7 +289,7 @@ typedef struct {
     uint32_t refusal;
     uint32_t comparisons; /* ABR_COMPARISONS_MAX if a cell is sent */
     uint32_t kind;        /* ABR_SENT_... */
-    uint32_t vpi;         /* the connection that sends, this and the next */
+    uint32_t vpi;         /* the connection that sends, this and the next; for data of a path its member */
     uint32_t vci;
     uint64_t acr;         /* its allowed rate afterwards */
 } abr_sent;
@@ -344,7 +365,7 @@ static inline int abr_matches(void)
 /* ---- Connections -------------------------------------------------------- */
 
 /*
- * Opens a connection at a time (section "Opening"). It starts at its initial
+ * Opens a channel at a time (section "Opening"). It starts at its initial
  * rate with nothing sent and nothing waiting, also if its address was open before,
  * and takes the lowest free place of the tournament. Nothing waits yet, so that the
  * winners stay and 1 comparison is made.
@@ -356,6 +377,7 @@ static inline int abr_matches(void)
  *       MCR may be 0, and with it ICR (document 02, L5)
  *    8  time over 2^62
  *   12  the connection is open
+ *   27  the pair is a member of a path
  *   13  1,024 connections are open
  *   14  time before that of the last accepted open, slot, made or out-of-rate
  *       cell
@@ -368,18 +390,21 @@ ABR_MUST_USE abr_answer abr_open(abr_table *table, uint32_t vpi, uint32_t vci, u
  * are not counted. So no data cell is unaccounted: at any time, for each VPI and VCI,
  * the cells of all accepted offers are as many as the slots with ABR_SENT_DATA, the
  * cells that its closes answered and those that wait together, however often it was
- * closed and opened anew.
+ * closed and opened anew. A path loses all its members with it and answers the sum of
+ * what waited on them; its data is counted for the path, offers and slots being those of
+ * its members, and removals of members as closes.
  * Comparisons: 1 to 10.
  * Refusal: 11 the connection is not open, vpi over 255 or vci over 65,535.
  */
 ABR_MUST_USE abr_closed abr_close(abr_table *table, uint32_t vpi, uint32_t vci);
 
 /*
- * Adds data cells to those that wait on a connection (section "Opening").
+ * Adds data cells to those that wait on a channel (section "Opening").
  * The cells themselves stay with the caller. Offering 0 is accepted.
  * Comparisons: 1 to 10.
  * Refusals in order:
  *   11  the connection is not open, vpi over 255 or vci over 65,535
+ *   28  it is a path, by its own name: abr_offer_member offers to its members
  *   15  more than 65,535 cells would wait
  */
 ABR_MUST_USE abr_answer abr_offer(abr_table *table, uint32_t vpi, uint32_t vci, uint64_t cells);
@@ -404,6 +429,57 @@ ABR_MUST_USE abr_allowed abr_acr(const abr_table *table, uint32_t vpi, uint32_t 
  */
 ABR_MUST_USE abr_contract abr_export(const abr_table *table, uint32_t vpi, uint32_t vci, uint32_t *refusal);
 
+/* ---- Paths and their members (document 02, L13) ------------------------- */
+
+/*
+ * Opens a path at a time: a connection for a whole VPI, named VPI * 65,536 +
+ * ABR_PATH_VCI, without members. All else is as in abr_open; there is no VCI that
+ * could be too low. 1 comparison is made.
+ * Refusals in order:
+ *   19  bit 15 set in pcr, mcr or icr, if that code has no bit above it
+ *    7  vpi over 255, or a parameter out of its range, as in abr_open
+ *    8  time over 2^62
+ *   12  the path is open
+ *   13  1,024 connections are open
+ *   14  time before that of the last accepted open, slot, made or out-of-rate
+ *       cell
+ */
+ABR_MUST_USE abr_answer abr_open_path(abr_table *table, uint32_t vpi, uint64_t time, abr_params params);
+
+/*
+ * Makes a VCI a member of the path of its VPI, with no data waiting. The path's ready
+ * instant stays, and no comparison is made.
+ * Refusals in order:
+ *   10  vci under 32, whatever vpi is
+ *   11  the path is not open, vpi over 255 or vci over 65,535
+ *   12  the pair is an open channel
+ *   27  the pair is a member already
+ *   26  the paths of this table have 256 members already
+ */
+ABR_MUST_USE abr_answer abr_add(abr_table *table, uint32_t vpi, uint32_t vci);
+
+/*
+ * Adds data cells to those that wait on a member of a path, as abr_offer does on a
+ * channel. The limit of 65,535 cells is each member's own.
+ * Comparisons: 1 to 10.
+ * Refusals in order:
+ *   11  the path is not open, vpi over 255 or vci over 65,535
+ *   28  the VCI is no member of the path
+ *   15  more than 65,535 cells would wait on the member
+ */
+ABR_MUST_USE abr_answer abr_offer_member(abr_table *table, uint32_t vpi, uint32_t vci, uint64_t cells);
+
+/*
+ * Removes a member from its path, drops the data that waits on it and answers how many
+ * cells that were. The turns of the others stay as they are. Removing it counts for the
+ * path as a close does (see abr_close).
+ * Comparisons: 1 to 10.
+ * Refusals in order:
+ *   11  the path is not open, vpi over 255 or vci over 65,535
+ *   28  the VCI is no member of the path
+ */
+ABR_MUST_USE abr_closed abr_remove(abr_table *table, uint32_t vpi, uint32_t vci);
+
 /* ---- The receive path --------------------------------------------------- */
 
 /*
@@ -411,7 +487,9 @@ ABR_MUST_USE abr_contract abr_export(const abr_table *table, uint32_t vpi, uint3
  * round"). A backward RM cell moves the allowed rate of its connection; a
  * forward RM cell is turned round and waits to be sent back, in place of any
  * turned one that waited, and has CI 1 also if that one had (document 02, L2);
- * of a data cell the congestion mark is saved and the payload not used.
+ * of a data cell the congestion mark is saved and the payload not used. A data cell of
+ * a member saves its mark as that of the path, whichever member it is of (document 02,
+ * L13).
  * Comparisons: 1 to 10, for a data cell too.
  * Refusals in order:
  *    1  len is not 53
@@ -420,7 +498,8 @@ ABR_MUST_USE abr_contract abr_export(const abr_table *table, uint32_t vpi, uint3
  *    5  an RM cell with a wrong CRC-10
  *    6  an RM cell with a protocol other than 1
  *   19  an RM cell with bit 15 set in ER, CCR or MCR
- *   11  no connection with its VPI and VCI is open
+ *   11  no connection with its VPI and VCI is open; an RM cell of a member, and a data
+ *       cell with the name of a path itself, are cells of none
  */
 ABR_MUST_USE abr_answer abr_receive(abr_table *table, const uint8_t *cell, size_t len);
 
@@ -461,9 +540,12 @@ ABR_MUST_USE abr_answer abr_make(abr_table *table, uint32_t vpi, uint32_t vci, u
  * 65,536 + VCI, and says which it is, what kind of cell it sends and its
  * allowed rate afterwards. The 53 octets of a forward, a turned or a made cell
  * are written to the buffer. For data the buffer is unchanged and the caller sends
- * a data cell of that address. If no connection is ready, the answer is all 0 and
- * the buffer unchanged; the slot counts as accepted at its time. A connection
- * with an allowed rate of 0 is never ready, whatever waits on it (document 02, L5).
+ * a data cell of that address. Data of a path is that of one of its members, which the
+ * answer names: the first with data above the one served last, in rising VCI and round
+ * to the lowest; before any was served the lowest with data (document 02, L13). If no
+ * connection is ready, the answer is all 0 and the buffer unchanged; the slot counts
+ * as accepted at its time. A connection with an allowed rate of 0 is never ready,
+ * whatever waits on it (document 02, L5).
  * A forward cell carries a minimum of 0 as 0x0000, whatever code the open gave.
  * Comparisons: 10 if a cell is sent, since the connection that sends wins at every
  * level; 0 if the slot is idle.
@@ -652,6 +734,9 @@ static inline const char *abr_refusal_text(uint32_t refusal)
     case ABR_REFUSED_TRACE_NUMBER: return "a number of a trace is not in shortest form or over 64 bits";
     case ABR_REFUSED_TRACE_END: return "trace is empty or ends inside a record";
     case ABR_REFUSED_TRACE_RANGE: return "n, Trm number, kind, rate or summed time of a trace is out of range";
+    case ABR_REFUSED_MEMBERS_FULL: return "256 members are in the engine";
+    case ABR_REFUSED_ALREADY_MEMBER: return "pair is already a member of its path";
+    case ABR_REFUSED_NOT_A_MEMBER: return "path is open, but the VCI is no member of it";
     default: return "not an answer of this library";
     }
 }

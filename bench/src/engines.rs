@@ -24,6 +24,10 @@ pub trait Engine {
     fn open(&mut self, at: Address, time: u64, params: &Self::Params);
     fn close(&mut self, at: Address);
     fn offer(&mut self, at: Address, cells: u64);
+    fn open_path(&mut self, vpi: u32, time: u64, params: &Self::Params);
+    fn add(&mut self, at: Address);
+    fn offer_member(&mut self, at: Address, cells: u64);
+    fn remove(&mut self, at: Address);
     fn receive(&mut self, cell: &Octets);
     fn slot(&mut self, time: u64, buffer: &mut Octets);
     fn set_level(&mut self, level: u32);
@@ -80,6 +84,22 @@ impl Engine for Library {
 
     fn offer(&mut self, at: Address, cells: u64) {
         black_box(unsafe { ffi::abr_offer(&mut *self.table, at.vpi, at.vci, cells) });
+    }
+
+    fn open_path(&mut self, vpi: u32, time: u64, params: &ffi::abr_params) {
+        black_box(unsafe { ffi::abr_open_path(&mut *self.table, vpi, time, *params) });
+    }
+
+    fn add(&mut self, at: Address) {
+        black_box(unsafe { ffi::abr_add(&mut *self.table, at.vpi, at.vci) });
+    }
+
+    fn offer_member(&mut self, at: Address, cells: u64) {
+        black_box(unsafe { ffi::abr_offer_member(&mut *self.table, at.vpi, at.vci, cells) });
+    }
+
+    fn remove(&mut self, at: Address) {
+        black_box(unsafe { ffi::abr_remove(&mut *self.table, at.vpi, at.vci) });
     }
 
     fn receive(&mut self, cell: &Octets) {
@@ -194,6 +214,26 @@ impl Engine for Reference {
     #[inline(never)]
     fn offer(&mut self, at: Address, cells: u64) {
         black_box(&self.engine.offer(at, cells));
+    }
+
+    #[inline(never)]
+    fn open_path(&mut self, vpi: u32, time: u64, params: &Params) {
+        black_box(&self.engine.open_path(vpi, time, params));
+    }
+
+    #[inline(never)]
+    fn add(&mut self, at: Address) {
+        black_box(&self.engine.add(at));
+    }
+
+    #[inline(never)]
+    fn offer_member(&mut self, at: Address, cells: u64) {
+        black_box(&self.engine.offer_member(at, cells));
+    }
+
+    #[inline(never)]
+    fn remove(&mut self, at: Address) {
+        black_box(&self.engine.remove(at));
     }
 
     #[inline(never)]

@@ -12,6 +12,8 @@ use crate::workload::{Sort, Workload};
 const ON_A_PATH: u32 = 4;
 /// The first VCI; one below it can be opened.
 const FIRST: u32 = 33;
+/// The VPI of the path, if there is one.
+const PATH: u32 = 7;
 /// A rate code of about 100,000 cells per second.
 const CODE: u32 = 0x6121;
 /// The rate code of one cell per second.
@@ -66,6 +68,9 @@ impl<E: Engine> Fixture<E> {
             let params = E::params(&params_of(place, workload));
             fixture.engine.open(address(place), 0, &params);
         }
+        if let Some(members) = workload.members() {
+            fixture.open_path(members);
+        }
         if workload.sort() == Some(Sort::Moving) {
             fixture.first_cells();
         }
@@ -76,6 +81,14 @@ impl<E: Engine> Fixture<E> {
             fixture.engine.set_level(2);
         }
         fixture
+    }
+
+    /// Opens a path with so many members.
+    fn open_path(&mut self, members: u32) {
+        self.engine.open_path(PATH, 0, &self.params);
+        for place in 0..members {
+            self.engine.add(member(place));
+        }
     }
 
     /// Every connection has data and sends its first cell.
@@ -113,8 +126,16 @@ impl<E: Engine> Fixture<E> {
         }
     }
 
-    /// Gives every connection data for so many slots.
+    /// Gives every connection data for so many slots, and each member of a path or one.
     pub fn refill(&mut self, slots: u64) {
+        let members = match self.workload {
+            Workload::Members { members } => members,
+            Workload::LoneMember { .. } => 1,
+            _ => 0,
+        };
+        for place in 0..members {
+            self.engine.offer_member(member(place), slots);
+        }
         if self.workload.sends() {
             self.offer_all(slots);
         }
@@ -124,16 +145,21 @@ impl<E: Engine> Fixture<E> {
     pub fn run(&mut self, times: u64) {
         let mut buffer = [0; abr::CELL_OCTETS];
         match self.workload {
-            Workload::Turns { .. } | Workload::Mixed | Workload::LastFirst | Workload::Idle => {
-                repeat(times, |_| {
-                    self.time += self.step;
-                    self.engine.slot(self.time, &mut buffer);
-                })
-            }
+            slot if slot.sends() || slot == Workload::Idle => repeat(times, |_| {
+                self.time += self.step;
+                self.engine.slot(self.time, &mut buffer);
+            }),
             Workload::Receive(_) | Workload::Unknown(_) => repeat(times, |i| {
                 self.engine.receive(black_box(&self.cells[i % 2]));
             }),
             Workload::Offer => repeat(times, |_| self.engine.offer(black_box(self.last), 0)),
+            Workload::OfferMember { members } => repeat(times, |_| {
+                self.engine.offer_member(black_box(member(members - 1)), 0);
+            }),
+            Workload::AddRemove { .. } => repeat(times, |_| {
+                self.engine.add(black_box(below_members()));
+                self.engine.remove(black_box(below_members()));
+            }),
             Workload::OpenClose => self.open_close(times, highest()),
             Workload::OpenCloseLow => self.open_close(times, lowest()),
             Workload::Make => repeat(times, |_| {
@@ -234,6 +260,15 @@ fn lowest() -> Address {
     Address::new(0, FIRST - 1)
 }
 
+/// A member of the path, by its place, and one below them all.
+fn member(place: u32) -> Address {
+    Address::new(PATH, FIRST + place)
+}
+
+fn below_members() -> Address {
+    Address::new(PATH, FIRST - 1)
+}
+
 /// The places in the order in which they are opened. Of those that are due at one
 /// time the lowest name sends first.
 fn order(connections: u32, workload: Workload) -> Vec<u32> {
@@ -267,7 +302,8 @@ fn step(connections: u32, workload: Workload) -> u64 {
     let codes = order(connections, workload)
         .into_iter()
         .map(|place| params_of(place, workload).icr);
-    let total: u64 = codes.map(reference::rate_of).sum();
+    let path = workload.members().map(|_| CODE);
+    let total: u64 = codes.chain(path).map(reference::rate_of).sum();
     let gap = reference::gap(total.max(512)).expect("a rate above 0");
     let step = gap + 1;
     match workload {

@@ -52,6 +52,32 @@ fn forward_cells_are_spread() {
     }
 }
 
+/// The members of a path send in turn, or the only one with data does.
+#[test]
+fn members_take_turns() {
+    for (workload, members) in [
+        (Workload::Members { members: 256 }, 256),
+        (Workload::LoneMember { members: 256 }, 1),
+    ] {
+        let slots = sent(0, workload).into_iter().flatten();
+        let data = slots.filter(|sent| sent.kind == Kind::Data);
+        let turns = (0..members).map(member).cycle();
+        assert!(data
+            .zip(turns)
+            .all(|(sent, member)| sent_by(&sent) == member));
+    }
+}
+
+/// The measured member is added and removed, and the last one is offered to.
+#[test]
+fn members_are_added_and_offered_to() {
+    let mut fixture = Fixture::<Reference>::new(0, Workload::AddRemove { members: 255 });
+    let engine = &mut fixture.engine.engine;
+    assert_eq!(engine.add(below_members()), Ok(()));
+    assert_eq!(engine.remove(below_members()).unwrap().cells, 0);
+    assert_eq!(engine.offer_member(member(254), 0), Ok(1));
+}
+
 /// Where nothing waits, every slot is idle.
 #[test]
 fn idle_slots_are_idle() {

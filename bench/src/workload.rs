@@ -26,6 +26,14 @@ pub enum Workload {
     Mixed,
     /// A slot; all are due, each before those that were opened before it.
     LastFirst,
+    /// A slot; a path is busy, with so many members, all with data.
+    Members { members: u32 },
+    /// A slot; a path is busy, and of so many members one has data.
+    LoneMember { members: u32 },
+    /// No data offered to the last of so many members of a path.
+    OfferMember { members: u32 },
+    /// A member added, below so many others, and removed.
+    AddRemove { members: u32 },
     /// A slot; nothing waits.
     Idle,
     /// A cell for the last connection.
@@ -87,6 +95,17 @@ impl Workload {
         }
     }
 
+    /// The members of the path that it opens; none if it opens no path.
+    pub fn members(self) -> Option<u32> {
+        match self {
+            Workload::Members { members }
+            | Workload::LoneMember { members }
+            | Workload::OfferMember { members }
+            | Workload::AddRemove { members } => Some(members),
+            _ => None,
+        }
+    }
+
     /// The trace that it judges, made by a function of its cells and their numbers.
     pub fn trace(self, octets: impl Fn(u32, Numbers) -> Vec<u8>) -> Vec<u8> {
         match self {
@@ -107,7 +126,11 @@ impl Workload {
     pub fn sends(self) -> bool {
         matches!(
             self,
-            Workload::Turns { .. } | Workload::Mixed | Workload::LastFirst
+            Workload::Turns { .. }
+                | Workload::Mixed
+                | Workload::LastFirst
+                | Workload::Members { .. }
+                | Workload::LoneMember { .. }
         )
     }
 }
@@ -131,7 +154,7 @@ const fn row(name: &'static str, text: &'static str, connections: u32, workload:
 }
 
 /// All rows.
-pub static ROWS: [Row; 61] = [
+pub static ROWS: [Row; 66] = [
     row(
         "slot-1",
         "slot, 1 busy connection",
@@ -179,6 +202,24 @@ pub static ROWS: [Row; 61] = [
         "slot, 64 busy, due from last to first",
         64,
         Workload::LastFirst,
+    ),
+    row(
+        "slot-path-1",
+        "slot, a busy path with 1 member",
+        0,
+        Workload::Members { members: 1 },
+    ),
+    row(
+        "slot-path-256",
+        "slot, a busy path with 256 members",
+        0,
+        Workload::Members { members: 256 },
+    ),
+    row(
+        "slot-path-lone",
+        "slot, a busy path, 1 of 256 members with data",
+        0,
+        Workload::LoneMember { members: 256 },
     ),
     row(
         "slot-idle-1",
@@ -288,6 +329,18 @@ pub static ROWS: [Row; 61] = [
     row("offer-1", "offer, 1 open", 1, Workload::Offer),
     row("offer-64", "offer, last of 64", 64, Workload::Offer),
     row("offer-1024", "offer, last of 1,024", 1_024, Workload::Offer),
+    row(
+        "offer-member-256",
+        "offer to a member, last of 256",
+        0,
+        Workload::OfferMember { members: 256 },
+    ),
+    row(
+        "add-remove-255",
+        "add and remove a member below 255 others",
+        0,
+        Workload::AddRemove { members: 255 },
+    ),
     row(
         "open-close-0",
         "open and close, no other open",

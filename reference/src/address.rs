@@ -1,10 +1,13 @@
-//! The address of a connection, and its name (document 02, L6).
+//! The address of a connection, and its name (document 02, L6; that of a path, L13).
 
 /// The largest VPI.
 pub const VPI_MAX: u32 = 0xFF;
 
 /// The largest VCI.
 pub const VCI_MAX: u32 = 0xFFFF;
+
+/// The VCI in the name of a path, and in its RM cells (document 02, L13).
+pub const PATH_VCI: u32 = 6;
 
 /// A VPI and a VCI, each in its range or not. Of two that are in range the lower one
 /// is that with the lower name.
@@ -20,6 +23,11 @@ impl Address {
     /// The address of these two numbers.
     pub const fn new(vpi: u32, vci: u32) -> Self {
         Address { vpi, vci }
+    }
+
+    /// The address of the path with this VPI.
+    pub const fn of_path(vpi: u32) -> Self {
+        Address::new(vpi, PATH_VCI)
     }
 
     /// Whether both numbers are in their ranges.

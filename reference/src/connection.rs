@@ -2,19 +2,18 @@
 //! moves of the allowed rate"), its waiting data, and when and what it sends
 //! ("Slots"; with document 02's L1 a made cell counts as a turned one, with L5 a
 //! connection with an allowed rate of 0 is never ready, and any may send out-of-rate
-//! forward cells; with L9 it keeps what the last feedback did).
+//! forward cells; with L9 it keeps what the last feedback did; with L13 it is a channel or
+//! a path, whose data is that of its members).
 
 use crate::address::Address;
 use crate::cell::{self, Octets, Rm};
 use crate::destination::Destination;
 use crate::double::{self, Exported};
+use crate::load::{Load, Members};
 use crate::params::{Contract, CDF_ZERO, CRM_MAX, MRM};
 use crate::rate::{code_within, gap, rate_of};
 use crate::refusal::{self, Refusal};
 use crate::spacing::Spacing;
-
-/// The most data cells that may wait on a connection.
-pub const DATA_MAX: u64 = 65_535;
 
 /// The kinds of cell that a slot sends.
 #[derive(Debug, Clone, Copy, PartialEq, Eq)]
@@ -136,7 +135,7 @@ pub struct Connection {
     /// Nothing before the first cell.
     history: Option<History>,
     /// Waiting data cells.
-    data: u64,
+    load: Load,
     /// The receiving side, with the backward cells that wait.
     destination: Destination,
     /// Forward cells sent since the last answer, the document's Y.
@@ -146,15 +145,15 @@ pub struct Connection {
 }
 
 impl Connection {
-    /// A connection as its open makes it.
-    pub fn new(at: Address, time: u64, contract: Contract) -> Self {
+    /// A connection as its open makes it, with nothing in its load.
+    pub fn new(at: Address, time: u64, contract: Contract, load: Load) -> Self {
         Connection {
             at,
             opened: time,
             rate: RateRecord::new(contract),
             change: 0,
             history: None,
-            data: 0,
+            load,
             destination: Destination::default(),
             unanswered: 0,
             out_of_rate: Spacing::default(),
@@ -186,16 +185,25 @@ impl Connection {
 
     /// The data cells that wait.
     pub fn waiting(&self) -> u64 {
-        self.data
+        self.load.waiting()
     }
 
-    /// Adds waiting data. Refusal: 15.
+    /// Adds waiting data. Refusals: 28 on a path, 15.
     pub fn offer(&mut self, cells: u64) -> Result<(), Refusal> {
-        if cells > DATA_MAX - self.data {
-            return Err(refusal::TOO_MUCH_DATA);
+        self.load.offer(cells)
+    }
+
+    /// The members, if it is a path.
+    pub fn members(&self) -> Option<&Members> {
+        self.load.members()
+    }
+
+    /// The members to be changed, if it is a path.
+    pub fn members_mut(&mut self) -> Option<&mut Members> {
+        match &mut self.load {
+            Load::Channel(_) => None,
+            Load::Path(members) => Some(members),
         }
-        self.data += cells;
-        Ok(())
     }
 
     /// A data cell arrived.
@@ -239,7 +247,7 @@ impl Connection {
     /// The ready instant; nothing for never, as at an allowed rate of 0.
     pub fn ready(&self) -> Option<u64> {
         let gap = gap(self.rate.acr)?;
-        let waiting = self.data > 0 || self.destination.waits();
+        let waiting = self.waiting() > 0 || self.destination.waits();
         let Some(history) = self.history else {
             return waiting.then_some(self.opened);
         };
@@ -262,7 +270,7 @@ impl Connection {
         let passed = time - history.last_forward;
         if forward_due(history.k, nrm, passed, trm) {
             Kind::Forward
-        } else if self.destination.waits() && (!history.turned || self.data == 0) {
+        } else if self.destination.waits() && (!history.turned || self.waiting() == 0) {
             Kind::Turned
         } else {
             Kind::Data
@@ -270,9 +278,10 @@ impl Connection {
     }
 
     /// Sends a cell at this time, on a connection that is ready, and says of which
-    /// kind.
-    pub fn send(&mut self, time: u64, buffer: &mut Octets) -> Kind {
+    /// kind and with which address: that of a path's member, if it is a data cell.
+    pub fn send(&mut self, time: u64, buffer: &mut Octets) -> (Kind, Address) {
         let kind = self.next_kind(time);
+        let mut at = self.at;
         match kind {
             Kind::Forward => *buffer = self.forward_cell(time),
             Kind::Turned => {
@@ -280,10 +289,10 @@ impl Connection {
                     *buffer = cell;
                 }
             }
-            Kind::Data => self.data -= 1,
+            Kind::Data => at.vci = self.load.take().unwrap_or(at.vci),
         }
         self.record(kind, time);
-        kind
+        (kind, at)
     }
 
     /// Makes the moves that go before a forward cell, counts the cell as

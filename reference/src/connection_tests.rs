@@ -130,7 +130,7 @@ fn unanswered_at_the_ends_of_c() {
 
 #[test]
 fn the_unanswered_count_stops() {
-    let mut connection = Connection::new(Address::new(0, 32), 0, contract());
+    let mut connection = Connection::new(Address::new(0, 32), 0, contract(), Load::channel());
     connection.unanswered = 8_388_607;
     connection.forward_cell(0);
     assert_eq!(connection.unanswered, 8_388_608);
@@ -140,7 +140,7 @@ fn the_unanswered_count_stops() {
 
 #[test]
 fn only_bn_0_is_an_answer() {
-    let mut connection = Connection::new(Address::new(0, 32), 0, contract());
+    let mut connection = Connection::new(Address::new(0, 32), 0, contract(), Load::channel());
     connection.unanswered = 9;
     let made = Rm {
         dir: 1,

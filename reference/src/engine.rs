@@ -1,15 +1,17 @@
 //! The table of connections and the calls on it (document 01, from "Opening"
 //! to "Slots"; the orders of refusals are in "Refused because of the state", those
 //! of a made cell and an out-of-rate cell in document 02's L1 and L5, and where 19
-//! comes in L7; what an ACR is read with in L9, and what a close answers in L12). Calls that replay matches answer the comparisons (document 02, L4). A
-//! connection is named by its VPI and VCI together (document 02, L6).
+//! comes in L7; what an ACR is read with in L9, what a close answers in L12, and all
+//! of paths and their members in L13). Calls that replay matches answer the comparisons
+//! (document 02, L4). A connection is named by its VPI and VCI together (document 02, L6).
 
 use std::collections::BTreeMap;
 
-use crate::address::Address;
+use crate::address::{Address, PATH_VCI};
 use crate::cell::{self, Cell, Octets};
 use crate::connection::{Allowed, Connection, Kind};
 use crate::double::Exported;
+use crate::load::{Load, Members, MEMBERS_MAX};
 use crate::params::Params;
 use crate::refusal::{self, Refusal};
 use crate::tournament::{Tournament, LEAVES};
@@ -23,13 +25,13 @@ pub const TIME_MAX: u64 = 1 << 62;
 /// The highest congestion level.
 pub const LEVEL_MAX: u32 = 2;
 
-/// The least VCI that may be opened, on any VPI.
+/// The least VCI that may be opened or made a member, on any VPI.
 pub const VCI_MIN: u32 = 32;
 
 /// The answer of a slot that goes to a connection.
 #[derive(Debug, Clone, Copy, PartialEq, Eq)]
 pub struct Sent {
-    /// The connection, by both numbers.
+    /// The connection, by both numbers; for data of a path its member.
     pub vpi: u32,
     pub vci: u32,
     /// What it sends.
@@ -40,7 +42,7 @@ pub struct Sent {
     pub comparisons: u32,
 }
 
-/// The answer of a close (document 02, L12).
+/// The answer of a close (document 02, L12) and of a removed member.
 #[derive(Debug, Clone, Copy, PartialEq, Eq)]
 pub struct Closed {
     /// The data cells that waited.
@@ -74,24 +76,42 @@ impl Engine {
         Self::default()
     }
 
-    /// Opens a connection on the lowest free leaf and answers the comparisons.
-    /// Refusals: 10, 19, 7, 8, 12, 13, 14.
+    /// Opens a channel on the lowest free leaf and answers the comparisons.
+    /// Refusals: 10, 19, 7, 8, 12, 27, 13, 14.
     pub fn open(&mut self, at: Address, time: u64, params: &Params) -> Result<u32, Refusal> {
-        if at.vci < VCI_MIN {
-            return Err(refusal::LOW_VCI);
-        }
+        check_vci(at)?;
+        self.open_with(Load::channel(), at, time, params)
+    }
+
+    /// Opens a path on the lowest free leaf, without members, and answers the
+    /// comparisons. Refusals: 19, 7, 8, 12, 13, 14.
+    pub fn open_path(&mut self, vpi: u32, time: u64, params: &Params) -> Result<u32, Refusal> {
+        self.open_with(Load::path(), Address::of_path(vpi), time, params)
+    }
+
+    /// Opens a connection. Refusals: 19, 7, 8, 12, 27, 13, 14.
+    fn open_with(
+        &mut self,
+        load: Load,
+        at: Address,
+        time: u64,
+        params: &Params,
+    ) -> Result<u32, Refusal> {
         let contract = params.contract()?; // 19 before 7, which the name has too
         let name = at.name().ok_or(refusal::RANGE)?;
         check_range(time)?;
         if self.table.contains_key(&at) {
             return Err(refusal::ALREADY_OPEN);
         }
+        if self.is_member(at) {
+            return Err(refusal::ALREADY_MEMBER);
+        }
         if self.table.len() >= CONNECTIONS_MAX {
             return Err(refusal::FULL);
         }
         self.advance(time)?;
         let leaf = self.tournament.take().ok_or(refusal::FULL)?;
-        let connection = Connection::new(at, time, contract);
+        let connection = Connection::new(at, time, contract, load);
         let entry = Entry {
             name,
             leaf,
@@ -101,8 +121,8 @@ impl Engine {
         self.replay(at)
     }
 
-    /// Closes a connection, drops all that waits on it and answers how many data cells
-    /// that were, and the comparisons. Refusal: 11.
+    /// Closes a connection, a path with all its members, drops all that waits on it and
+    /// answers how many data cells that were, and the comparisons. Refusal: 11.
     pub fn close(&mut self, at: Address) -> Result<Closed, Refusal> {
         let entry = self.table.remove(&at).ok_or(refusal::NOT_OPEN)?;
         Ok(Closed {
@@ -111,13 +131,13 @@ impl Engine {
         })
     }
 
-    /// Receives a cell and answers the comparisons. Refusals: 1, 2, 4, for RM
-    /// cells 5, 6 and 19, then 11.
+    /// Receives a cell and answers the comparisons; a data cell of a member is one of its
+    /// path. Refusals: 1, 2, 4, for RM cells 5, 6 and 19, then 11.
     pub fn receive(&mut self, cell: &[u8]) -> Result<u32, Refusal> {
         let content = cell::read(cell)?;
         let octets: &Octets = cell.try_into().map_err(|_| refusal::LENGTH)?;
         let level = self.level;
-        let at = content.address();
+        let at = self.receiver(&content)?;
         let connection = self.connection(at)?;
         match content {
             Cell::Data { efci, .. } => connection.receive_data(efci),
@@ -127,11 +147,44 @@ impl Engine {
         self.replay(at)
     }
 
-    /// Adds data to what waits on a connection and answers the comparisons.
-    /// Refusals: 11, 15.
+    /// Adds data to what waits on a channel and answers the comparisons.
+    /// Refusals: 11, 28 on a path's own name, 15.
     pub fn offer(&mut self, at: Address, cells: u64) -> Result<u32, Refusal> {
         self.connection(at)?.offer(cells)?;
         self.replay(at)
+    }
+
+    /// Adds a member to its path. The path's ready instant stays, so that no match is
+    /// replayed. Refusals: 10, 11, 12, 27, 26.
+    pub fn add(&mut self, at: Address) -> Result<(), Refusal> {
+        check_vci(at)?;
+        self.members(at)?;
+        if self.table.contains_key(&at) {
+            return Err(refusal::ALREADY_OPEN);
+        }
+        if self.is_member(at) {
+            return Err(refusal::ALREADY_MEMBER);
+        }
+        if self.member_count() >= MEMBERS_MAX {
+            return Err(refusal::MEMBERS_FULL);
+        }
+        self.members(at)?.add(at.vci);
+        Ok(())
+    }
+
+    /// Adds data to what waits on a member and answers the comparisons of its path.
+    /// Refusals: 11, 28, 15.
+    pub fn offer_member(&mut self, at: Address, cells: u64) -> Result<u32, Refusal> {
+        self.members(at)?.offer(at.vci, cells)?;
+        self.replay(Address::of_path(at.vpi))
+    }
+
+    /// Removes a member, drops the data that waits on it and answers how many cells that
+    /// were, and the comparisons of its path. Refusals: 11, 28.
+    pub fn remove(&mut self, at: Address) -> Result<Closed, Refusal> {
+        let cells = self.members(at)?.remove(at.vci)?;
+        let comparisons = self.replay(Address::of_path(at.vpi))?;
+        Ok(Closed { cells, comparisons })
     }
 
     /// Sets the congestion level of the whole engine. Refusal: 9.
@@ -185,12 +238,12 @@ impl Engine {
             return Ok(None);
         };
         let connection = self.connection(at)?;
-        let kind = connection.send(time, buffer);
+        let (kind, sent) = connection.send(time, buffer);
         let acr = connection.acr();
         let comparisons = self.replay(at)?;
         Ok(Some(Sent {
-            vpi: at.vpi,
-            vci: at.vci,
+            vpi: sent.vpi,
+            vci: sent.vci,
             kind,
             acr,
             comparisons,
@@ -214,9 +267,11 @@ impl Engine {
         Ok(self.entry(at)?.connection.export())
     }
 
-    /// The data cells that wait under a name; none if it is not open.
+    /// The data cells that wait on a channel, a path or a member; none if it is not open.
     pub fn waiting(&self, at: Address) -> u64 {
-        self.entry(at).map_or(0, |entry| entry.connection.waiting())
+        let of_member = self.path_of(at).and_then(|path| path.waiting(at.vci).ok());
+        let of_connection = self.entry(at).map(|entry| entry.connection.waiting());
+        of_member.or(of_connection.ok()).unwrap_or(0)
     }
 
     /// Who wins the tournament, whatever the time: ready instant and name.
@@ -234,6 +289,47 @@ impl Engine {
     fn connection(&mut self, at: Address) -> Result<&mut Connection, Refusal> {
         let entry = self.table.get_mut(&at).ok_or(refusal::NOT_OPEN)?;
         Ok(&mut entry.connection)
+    }
+
+    /// The members of the path that an address is on, if it is in range and open.
+    fn path_of(&self, at: Address) -> Option<&Members> {
+        let entry = self.table.get(&Address::of_path(at.vpi))?;
+        entry.connection.members().filter(|_| at.fits())
+    }
+
+    /// The same to be changed. Refusal: 11.
+    fn members(&mut self, at: Address) -> Result<&mut Members, Refusal> {
+        if !at.fits() {
+            return Err(refusal::NOT_OPEN);
+        }
+        let path = self.connection(Address::of_path(at.vpi))?;
+        path.members_mut().ok_or(refusal::NOT_OPEN)
+    }
+
+    /// Whether an address is that of a member.
+    fn is_member(&self, at: Address) -> bool {
+        let path = self.path_of(at);
+        path.is_some_and(|path| path.waiting(at.vci).is_ok())
+    }
+
+    /// The members of all paths.
+    fn member_count(&self) -> usize {
+        let connections = self.table.values().map(|entry| &entry.connection);
+        connections
+            .flat_map(Connection::members)
+            .map(Members::count)
+            .sum()
+    }
+
+    /// The address of the connection that a cell is for: a member's data is its path's,
+    /// and a path has no data under its own name, nor a member RM cells.
+    fn receiver(&self, content: &Cell) -> Result<Address, Refusal> {
+        let at = content.address();
+        match content {
+            Cell::Data { .. } if at.vci == PATH_VCI => Err(refusal::NOT_OPEN),
+            Cell::Data { .. } if self.is_member(at) => Ok(Address::of_path(at.vpi)),
+            _ => Ok(at),
+        }
     }
 
     /// Replays the matches of a connection, whose ready instant may have changed,
@@ -269,6 +365,14 @@ impl Engine {
             .min()
             .map(|(.., at)| at)
     }
+}
+
+/// Refuses a VCI under 32, on any VPI, with 10.
+fn check_vci(at: Address) -> Result<(), Refusal> {
+    if at.vci < VCI_MIN {
+        return Err(refusal::LOW_VCI);
+    }
+    Ok(())
 }
 
 /// Refuses a time over 2^62 with 8.

@@ -12,6 +12,7 @@
 //! * [`cell`]: header check, CRC-10, writing, reading and turning cells;
 //! * [`spacing`]: the 100 ms between made cells, and between out-of-rate cells;
 //! * [`destination`]: the saved EFCI, turned and made cells;
+//! * [`load`]: the waiting data of a channel, and of a path's members in their turns;
 //! * [`connection`]: the four moves of the allowed rate, and pacing;
 //! * [`tournament`]: the matches between ready instants, and their count;
 //! * [`engine`]: the table of connections and the calls on it;
@@ -28,6 +29,7 @@ pub mod destination;
 pub mod double;
 pub mod engine;
 pub mod judge;
+pub mod load;
 pub mod params;
 pub mod port;
 pub mod rate;
@@ -54,6 +56,8 @@ mod make_tests;
 mod no_minimum_tests;
 #[cfg(test)]
 mod out_of_rate_tests;
+#[cfg(test)]
+mod path_tests;
 #[cfg(test)]
 mod reserved_bit_tests;
 

@@ -54,3 +54,9 @@ pub const TRACE_NUMBER: Refusal = 23;
 pub const TRACE_END: Refusal = 24;
 /// n, Trm number, kind, rate or summed time of a trace out of range.
 pub const TRACE_RANGE: Refusal = 25;
+/// The paths of the engine have 256 members already.
+pub const MEMBERS_FULL: Refusal = 26;
+/// The pair is a member of its path already.
+pub const ALREADY_MEMBER: Refusal = 27;
+/// The path is open, but the VCI is no member of it.
+pub const NOT_A_MEMBER: Refusal = 28;

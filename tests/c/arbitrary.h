@@ -22,7 +22,9 @@ enum {
     NAMES = KEYS + LEAVES,              /* the name of each leaf, VPI * 65,536 + VCI */
     LIVE = NAMES + LEAVES,              /* LIVE_WORDS a leaf */
     FIXED = LIVE + LIVE_WORDS * LEAVES, /* 12 words a leaf */
-    LAYOUT_WORDS = FIXED + 12 * LEAVES
+    MEMBER_WORDS = 256,                 /* a member's each: (2^24 - name) * 65,536 + cells, falling, then zeros */
+    MEMBERS = FIXED + 12 * LEAVES,
+    LAYOUT_WORDS = MEMBERS + MEMBER_WORDS
 };
 
 typedef char layout_is_that_of_the_table[LAYOUT_WORDS == ABR_TABLE_WORDS ? 1 : -1];
@@ -33,7 +35,7 @@ typedef struct {
 } part;
 
 static const part parts[] = {{USED, LEAVES / 64}, {DIRECTORY, LEAVES}, {NODES, LEAVES}, {NONE, 1},
-                             {KEYS, LEAVES},      {NAMES, LEAVES},     {LIVE, FIXED - LIVE}};
+                             {KEYS, LEAVES},      {NAMES, LEAVES},     {LIVE, FIXED - LIVE}, {MEMBERS, MEMBER_WORDS}};
 
 static uint64_t state; /* of the generator, xorshift64* (Vigna); never 0 */
 
@@ -82,6 +84,22 @@ static uint64_t name_of(address at)
     return UINT64_C(65536) * at.vpi + at.vci;
 }
 
+/* Paths on some VPIs, each with members whose VCIs are near those of the table, and data on them. */
+static uint32_t open_paths(abr_table *table, abr_params params)
+{
+    uint32_t refused = 0;
+    for (uint64_t i = next() % 5; i > 0; i--) {
+        uint32_t vpi = (uint32_t)next() & (next() % 2 ? 3 : 255);
+        refused |= abr_open_path(table, vpi, 0, params).refusal;
+        for (uint64_t member = next() % 90; member > 0; member--) {
+            uint32_t vci = 32 + (uint32_t)(next() % 200);
+            refused |= abr_add(table, vpi, vci).refusal;
+            refused |= abr_offer_member(table, vpi, vci, next() & 3).refusal;
+        }
+    }
+    return refused;
+}
+
 /* A table that calls made: some open connections, perhaps with free leaves between, data, and cells of every sort. */
 static void reached_table(abr_table *table)
 {
@@ -92,6 +110,7 @@ static void reached_table(abr_table *table)
     falling = next() % 2;
     paths = next() % 2 ? 1 : next() % 2 ? 3 : 256;
     memset(table, 0, sizeof *table);
+    refused |= next() % 2 ? open_paths(table, params) : ABR_OK;
     for (uint32_t i = 0; i < count; i++) {
         address at = address_of(i), other = address_of((uint32_t)(next() % count));
         refused |= abr_open(table, at.vpi, at.vci, i, params).refusal;
@@ -104,7 +123,7 @@ static void reached_table(abr_table *table)
             refused |= abr_close(table, other.vpi, other.vci).refusal;
         }
     }
-    (void)refused; /* more than 1,024 opens, closes of what is not open and makings at level 0 are among them */
+    (void)refused; /* more than 1,024 opens, opens of members, closes of what is not open and makings at level 0 are among them */
 }
 
 /* A word for a place of the directory or of the tournament, in range but by chance only the right one. */

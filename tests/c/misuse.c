@@ -15,7 +15,7 @@
 enum { TABLE, CELL, REFUSAL, DEMANDS, TRACE, OBJECTS };
 enum { TRACE_OCTETS = 48 };
 enum {
-    OPEN, CLOSE, RECEIVE, OFFER, SET_LEVEL, MAKE, SLOT, OUT_OF_RATE, ACR, EXPORT,
+    OPEN, CLOSE, RECEIVE, OFFER, SET_LEVEL, MAKE, SLOT, OUT_OF_RATE, OPEN_PATH, ADD, OFFER_MEMBER, REMOVE, ACR, EXPORT,
     WRITE_RM, READ, CODE, RATE, IMPORT, FAIR_SHARE, LIMIT, PORT, JUDGE, HOUSE, CALLS
 };
 
@@ -47,7 +47,7 @@ static void make_objects(void)
     }
 }
 
-/* One of the table's addresses, or any numbers, sometimes such an address with a number out of its range. */
+/* One of the table's addresses, the path of its VPI, or any numbers, sometimes such an address with a number out of its range. */
 static address any_address(void)
 {
     address at = address_of((uint32_t)(next() % (next() % 4 ? 70 : 1040)));
@@ -56,6 +56,7 @@ static address any_address(void)
     case 0: return any;
     case 1: at.vpi += 256; return at;
     case 2: at.vpi -= 1; at.vci += 65536; return at;
+    case 3: at.vci = ABR_PATH_VCI; return at;
     default: return at;
     }
 }
@@ -198,10 +199,9 @@ static uint32_t without_table(int call)
     }
 }
 
-/* The refusal of a close, which has zeros beside it; ~0 if not. */
-static uint32_t close_call(address to)
+/* The refusal of a close or a removal, which has zeros beside it; ~0 if not. */
+static uint32_t zeros_beside(abr_closed closed)
 {
-    abr_closed closed = abr_close(at(TABLE), to.vpi, to.vci);
     return closed.refusal && (closed.comparisons || closed.cells) ? ~0u : closed.refusal;
 }
 
@@ -211,13 +211,17 @@ static uint32_t one_call(int call)
     address to = any_address();
     switch (call) {
     case OPEN: return abr_open(at(TABLE), to.vpi, to.vci, any_time(), any_params()).refusal;
-    case CLOSE: return close_call(to);
+    case CLOSE: return zeros_beside(abr_close(at(TABLE), to.vpi, to.vci));
     case RECEIVE: return abr_receive(at(TABLE), at(CELL), any_length()).refusal;
     case OFFER: return abr_offer(at(TABLE), to.vpi, to.vci, edge_word()).refusal;
     case SET_LEVEL: return abr_set_level(at(TABLE), (uint32_t)(next() % 4));
     case MAKE: return abr_make(at(TABLE), to.vpi, to.vci, any_time()).refusal;
     case SLOT: return abr_slot(at(TABLE), any_time(), at(CELL), any_length()).refusal;
     case OUT_OF_RATE: return abr_out_of_rate(at(TABLE), to.vpi, to.vci, any_time(), at(CELL), any_length());
+    case OPEN_PATH: return abr_open_path(at(TABLE), to.vpi, any_time(), any_params()).refusal;
+    case ADD: return abr_add(at(TABLE), to.vpi, to.vci).refusal;
+    case OFFER_MEMBER: return abr_offer_member(at(TABLE), to.vpi, to.vci, edge_word()).refusal;
+    case REMOVE: return zeros_beside(abr_remove(at(TABLE), to.vpi, to.vci));
     case ACR: return abr_acr(at(TABLE), to.vpi, to.vci).refusal;
     case EXPORT: return export_call(to);
     default: return without_table(call);

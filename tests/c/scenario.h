@@ -2,8 +2,8 @@
  * A scenario: two connections on one link, VCI 33 on VPI 0 and VCI 32 on VPI 1, at
  * 1,000 cells per second each. The first receives CI once, the second an explicit
  * rate; a cell is turned, and two are made. Then VCI 34 on VPI 255, without a minimum,
- * falls to rate 0 and has out-of-rate cells. The numbers were computed by hand from
- * documents 01 and 02. Valid as C and as C++.
+ * falls to rate 0 and has out-of-rate cells. Last a path on VPI 7 with two members. The
+ * numbers were computed by hand from documents 01 and 02. Valid as C and as C++.
  */
 #ifndef SCENARIO_H
 #define SCENARIO_H
@@ -20,6 +20,9 @@
 #define SECOND 1u, 32u
 #define THIRD 255u, 34u
 #define NOT_OPEN 1u, 33u
+#define PATH 7u, ABR_PATH_VCI
+#define LOWER 7u, 40u
+#define UPPER 7u, 50u
 #define NOBODY 0u, 0u
 
 static const uint32_t thousand = 0x53E8, slowest = 0x4000;
@@ -90,6 +93,9 @@ static void out_of_range(uint32_t vpi, uint32_t vci)
     CHECK(is(abr_open(&table, vpi, vci, 0, abr_house(thousand, slowest, thousand)), ABR_REFUSED_RANGE, 0));
     CHECK(closed_is(abr_close(&table, vpi, vci), ABR_REFUSED_NOT_OPEN, 0, 0));
     CHECK(is(abr_offer(&table, vpi, vci, 1), ABR_REFUSED_NOT_OPEN, 0));
+    CHECK(is(abr_add(&table, vpi, vci), ABR_REFUSED_NOT_OPEN, 0));
+    CHECK(is(abr_offer_member(&table, vpi, vci, 1), ABR_REFUSED_NOT_OPEN, 0));
+    CHECK(closed_is(abr_remove(&table, vpi, vci), ABR_REFUSED_NOT_OPEN, 0, 0));
     CHECK(is(abr_make(&table, vpi, vci, 0), ABR_REFUSED_NOT_OPEN, 0));
     CHECK(abr_out_of_rate(&table, vpi, vci, 0, cell, sizeof cell) == ABR_REFUSED_NOT_OPEN);
     CHECK(abr_acr(&table, vpi, vci).refusal == ABR_REFUSED_NOT_OPEN);
@@ -374,12 +380,63 @@ static void without_a_minimum(void)
     CHECK(closed_is(abr_close(&table, THIRD), ABR_OK, 10, 9));
 }
 
+/* The refusals of adding, in their order, with the path open and UPPER its member; then those of its plain calls. */
+static void members_refused(abr_params params)
+{
+    CHECK(is(abr_add(&table, 256, 31), ABR_REFUSED_LOW_VCI, 0) && is(abr_add(&table, PATH), ABR_REFUSED_LOW_VCI, 0));
+    CHECK(is(abr_add(&table, 7 + 256, 50), ABR_REFUSED_NOT_OPEN, 0));
+    CHECK(is(abr_add(&table, 7, 65536 + 50), ABR_REFUSED_NOT_OPEN, 0));
+    CHECK(is(abr_open(&table, LOWER, 400 * MS, params), ABR_OK, 1));
+    CHECK(is(abr_add(&table, LOWER), ABR_REFUSED_ALREADY_OPEN, 0));
+    CHECK(closed_is(abr_close(&table, LOWER), ABR_OK, 1, 0));
+    CHECK(is(abr_add(&table, UPPER), ABR_REFUSED_ALREADY_MEMBER, 0));
+    CHECK(is(abr_open(&table, UPPER, 400 * MS, params), ABR_REFUSED_ALREADY_MEMBER, 0));
+    CHECK(is(abr_offer(&table, UPPER, 1), ABR_REFUSED_NOT_OPEN, 0));
+    CHECK(is(abr_offer(&table, PATH, 1), ABR_REFUSED_NOT_A_MEMBER, 0));
+    CHECK(is(abr_offer_member(&table, LOWER, 1), ABR_REFUSED_NOT_A_MEMBER, 0));
+    CHECK(is(abr_offer_member(&table, 8, 50, 1), ABR_REFUSED_NOT_OPEN, 0));
+    CHECK(is(abr_offer_member(&table, UPPER, ABR_WAITING_MAX + 1), ABR_REFUSED_TOO_MUCH_DATA, 0));
+    CHECK(closed_is(abr_remove(&table, LOWER), ABR_REFUSED_NOT_A_MEMBER, 0, 0));
+    CHECK(closed_is(abr_remove(&table, 8, 50), ABR_REFUSED_NOT_OPEN, 0, 0));
+    CHECK(closed_is(abr_close(&table, UPPER), ABR_REFUSED_NOT_OPEN, 0, 0));
+    CHECK(is(feedback(UPPER, 1, 0), ABR_REFUSED_NOT_OPEN, 0));
+}
+
+/* One rate for a whole path, whose members take turns (document 02, L13); nothing else is open. */
+static void a_path_with_members(void)
+{
+    abr_params params = abr_house(thousand, slowest, thousand);
+    abr_rm rm;
+    CHECK(is(abr_add(&table, UPPER), ABR_REFUSED_NOT_OPEN, 0));
+    CHECK(is(abr_open_path(&table, 256, 400 * MS, params), ABR_REFUSED_RANGE, 0));
+    CHECK(is(abr_open_path(&table, 7, 400 * MS, params), ABR_OK, 1));
+    CHECK(is(abr_open_path(&table, 7, 0, params), ABR_REFUSED_ALREADY_OPEN, 0));
+    CHECK(is(abr_add(&table, UPPER), ABR_OK, 0));
+    members_refused(params);
+    CHECK(is(abr_add(&table, LOWER), ABR_OK, 0));
+    CHECK(is(abr_offer_member(&table, UPPER, 3), ABR_OK, 10) && is(abr_offer_member(&table, LOWER, 2), ABR_OK, 10));
+    CHECK(slot_is(400 * MS, PATH, ABR_SENT_FORWARD, 512000));
+    rm = rm_in_cell();
+    CHECK(rm.vpi == 7 && rm.vci == 6 && cell[0] == 0 && cell[1] == 0x70 && cell[2] == 0 && cell[3] == 0x6C);
+    CHECK(slot_is(401 * MS, LOWER, ABR_SENT_DATA, 512000) && slot_is(402 * MS, UPPER, ABR_SENT_DATA, 512000));
+    CHECK(slot_is(403 * MS, LOWER, ABR_SENT_DATA, 512000) && slot_is(404 * MS, UPPER, ABR_SENT_DATA, 512000));
+    CHECK(closed_is(abr_remove(&table, LOWER), ABR_OK, 10, 0));
+    CHECK(slot_is(405 * MS, UPPER, ABR_SENT_DATA, 512000));
+    CHECK(is(feedback(PATH, 1, ABR_CODE_MAX), ABR_OK, 10) && acr_is(PATH, 480000, -32000));
+    exports(PATH, ABR_OK);
+    exports(UPPER, ABR_REFUSED_NOT_OPEN);
+    CHECK(is(abr_add(&table, LOWER), ABR_OK, 0));
+    CHECK(is(abr_offer_member(&table, LOWER, 4), ABR_OK, 10) && is(abr_offer_member(&table, UPPER, 5), ABR_OK, 10));
+    CHECK(closed_is(abr_close(&table, PATH), ABR_OK, 10, 9));
+    CHECK(closed_is(abr_remove(&table, UPPER), ABR_REFUSED_NOT_OPEN, 0, 0));
+}
+
 static void nothing_is_left(void)
 {
     CHECK(slot_is(ABR_TIME_MAX, NOBODY, ABR_SENT_IDLE, 0));
     CHECK(strcmp(abr_refusal_text(ABR_OK), "accepted") == 0);
-    CHECK(strcmp(abr_refusal_text(25), abr_refusal_text(26)) != 0);
-    CHECK(strcmp(abr_refusal_text(3), abr_refusal_text(26)) == 0); /* withdrawn (document 02, L6) */
+    CHECK(strcmp(abr_refusal_text(28), abr_refusal_text(29)) != 0);
+    CHECK(strcmp(abr_refusal_text(3), abr_refusal_text(29)) == 0); /* withdrawn (document 02, L6) */
 }
 
 /* The verdict on some octets. */
@@ -445,6 +502,7 @@ static int scenario(const char *name)
     reserved_bit_in_an_open();
     closes();
     without_a_minimum();
+    a_path_with_members();
     nothing_is_left();
     printf("%s: %s\n", name, checks_failed ? "FAILED" : "ok");
     return checks_failed != 0;

@@ -65,7 +65,7 @@ static int measure(const abr_case *which, size_t most)
         }
         used = whole - base > used ? whole - base : used;
     }
-    printf("  %-22s %4zu octets of stack%s\n", which->name, used, used > most ? ": too much" : "");
+    printf("  %-24s %4zu octets of stack%s\n", which->name, used, used > most ? ": too much" : "");
     return used > most;
 }
 

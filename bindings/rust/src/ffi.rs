@@ -4,10 +4,10 @@
 #![allow(non_camel_case_types, missing_docs)]
 
 /// The version of the header: major, minor and patch number, eight bits each.
-pub const ABR_VERSION: u32 = 0x00_0D_00;
+pub const ABR_VERSION: u32 = 0x00_0E_00;
 
 /// The words of a table.
-pub const ABR_TABLE_WORDS: usize = 35_859;
+pub const ABR_TABLE_WORDS: usize = 36_115;
 
 /// The state of an engine; all zero when empty.
 #[repr(C)]
@@ -37,7 +37,7 @@ pub struct abr_rm {
     pub sn: u32,
 }
 
-/// The answer of an open, an offer, a received and a made cell.
+/// The answer of an open, an offer, a received and a made cell, and of adding a member.
 #[repr(C)]
 #[derive(Debug, Clone, Copy, PartialEq, Eq, Default)]
 pub struct abr_answer {
@@ -45,7 +45,7 @@ pub struct abr_answer {
     pub comparisons: u32,
 }
 
-/// The answer of a close.
+/// The answer of a close and of removing a member.
 #[repr(C)]
 #[derive(Debug, Clone, Copy, PartialEq, Eq, Default)]
 pub struct abr_closed {
@@ -142,6 +142,15 @@ extern "C" {
         params: abr_params,
     ) -> abr_answer;
     pub fn abr_close(table: *mut abr_table, vpi: u32, vci: u32) -> abr_closed;
+    pub fn abr_open_path(
+        table: *mut abr_table,
+        vpi: u32,
+        time: u64,
+        params: abr_params,
+    ) -> abr_answer;
+    pub fn abr_add(table: *mut abr_table, vpi: u32, vci: u32) -> abr_answer;
+    pub fn abr_offer_member(table: *mut abr_table, vpi: u32, vci: u32, cells: u64) -> abr_answer;
+    pub fn abr_remove(table: *mut abr_table, vpi: u32, vci: u32) -> abr_closed;
     pub fn abr_receive(table: *mut abr_table, cell: *const u8, len: usize) -> abr_answer;
     pub fn abr_offer(table: *mut abr_table, vpi: u32, vci: u32, cells: u64) -> abr_answer;
     pub fn abr_set_level(table: *mut abr_table, level: u32) -> u32;

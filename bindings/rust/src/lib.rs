@@ -6,7 +6,8 @@
 //! times are nanoseconds. An accepted open, close, receive, offer or make answers
 //! the comparisons that it made between ready instants, 1 to [`COMPARISONS_MAX`], and a
 //! close the data cells that waited. A connection is named by its VPI and its VCI
-//! together.
+//! together, a path, which serves many channels at one rate, by its VPI and
+//! [`PATH_VCI`].
 //!
 //! ```
 //! use abr::{Kind, Params, Table, CELL_OCTETS};
@@ -50,5 +51,5 @@ pub use rate::{code, rate, RATE_MAX, RATE_ONE};
 pub use refusal::Refusal;
 pub use table::{
     Allowed, Closed, Kind, Sent, Table, COMPARISONS_MAX, CONNECTIONS_MAX, LEVEL_MAX, MAKE_INTERVAL,
-    OUT_OF_RATE_INTERVAL, TIME_MAX, VCI_MAX, VCI_MIN, VPI_MAX, WAITING_MAX,
+    MEMBERS_MAX, OUT_OF_RATE_INTERVAL, PATH_VCI, TIME_MAX, VCI_MAX, VCI_MIN, VPI_MAX, WAITING_MAX,
 };

@@ -7,17 +7,21 @@ use crate::{Contract, Params, Refusal};
 
 /// The connections that may be open at once.
 pub const CONNECTIONS_MAX: usize = 1_024;
+/// The members that all paths may have together.
+pub const MEMBERS_MAX: usize = 256;
 /// The most comparisons of a call.
 pub const COMPARISONS_MAX: u32 = 10;
 /// The greatest VPI.
 pub const VPI_MAX: u32 = 255;
+/// The VCI in the name of a path, and in its RM cells.
+pub const PATH_VCI: u32 = 6;
 /// The least VCI that can be opened.
 pub const VCI_MIN: u32 = 32;
 /// The greatest VCI that can be opened.
 pub const VCI_MAX: u32 = 65_535;
 /// The latest time.
 pub const TIME_MAX: u64 = 1 << 62;
-/// The most data cells that wait on one connection.
+/// The most data cells that wait on one channel, and on one member of a path.
 pub const WAITING_MAX: u64 = 65_535;
 /// The least time from one made cell of a connection to the next, 100 ms.
 pub const MAKE_INTERVAL: u64 = 100_000_000;
@@ -43,7 +47,7 @@ pub enum Kind {
 pub struct Sent {
     /// The virtual path of the connection.
     pub vpi: u32,
-    /// Its virtual channel.
+    /// Its virtual channel; for data of a path that of the member.
     pub vci: u32,
     /// The kind of cell.
     pub kind: Kind,
@@ -53,7 +57,7 @@ pub struct Sent {
     pub comparisons: u32,
 }
 
-/// What a close answers.
+/// What a close answers, and removing a member.
 #[derive(Debug, Clone, Copy, PartialEq, Eq, Hash)]
 pub struct Closed {
     /// The data cells that waited.
@@ -98,12 +102,13 @@ impl Table {
         self.words.as_mut_ptr().cast()
     }
 
-    /// Opens a connection and answers the comparisons.
+    /// Opens a channel and answers the comparisons.
     ///
     /// # Errors
     /// In this order: [`Refusal::LowVci`], [`Refusal::ReservedBit`] in one of the
     /// three rate codes, [`Refusal::Range`], [`Refusal::Time`],
-    /// [`Refusal::AlreadyOpen`], [`Refusal::Full`], [`Refusal::TimeBackward`].
+    /// [`Refusal::AlreadyOpen`], [`Refusal::AlreadyMember`] of a path,
+    /// [`Refusal::Full`], [`Refusal::TimeBackward`].
     ///
     /// ```
     /// use abr::{Params, Refusal, Table};
@@ -126,7 +131,8 @@ impl Table {
 
     /// Closes a connection, drops all that waits on it and answers how many data cells
     /// that were, and the comparisons. With the data slots and what still waits they are
-    /// the cells of all accepted offers to this name, however often it was opened.
+    /// the cells of all accepted offers to this name, however often it was opened. A path
+    /// loses its members with it, and answers the sum of what waited on them.
     ///
     /// # Errors
     /// [`Refusal::NotOpen`].
@@ -146,9 +152,117 @@ impl Table {
         closed(unsafe { ffi::abr_close(self.raw(), vpi, vci) })
     }
 
+    /// Opens a path, a connection for a whole VPI, without members, and answers the
+    /// comparisons. The other calls take it by its VPI and [`PATH_VCI`].
+    ///
+    /// # Errors
+    /// In this order: [`Refusal::ReservedBit`] in one of the three rate codes,
+    /// [`Refusal::Range`], [`Refusal::Time`], [`Refusal::AlreadyOpen`],
+    /// [`Refusal::Full`], [`Refusal::TimeBackward`].
+    ///
+    /// ```
+    /// use abr::{Kind, Params, Refusal, Table, CELL_OCTETS, PATH_VCI};
+    /// let mut table = Table::new();
+    /// let params = Params::house(0x53E8, 0x4000, 0x53E8);
+    /// assert_eq!(table.open_path(3, 0, &params), Ok(1));
+    /// assert_eq!(table.open_path(3, 0, &params), Err(Refusal::AlreadyOpen));
+    /// assert_eq!(table.open_path(256, 0, &params), Err(Refusal::Range));
+    /// for vci in [40, 50] {
+    ///     table.add(3, vci)?;
+    ///     table.offer_member(3, vci, 2)?;
+    /// }
+    /// let mut cell = [0; CELL_OCTETS];
+    /// let forward = table.slot(0, &mut cell)?.expect("data waits");
+    /// assert_eq!((forward.vci, forward.kind), (PATH_VCI, Kind::Forward));
+    /// for (ms, vci) in [(1, 40), (2, 50), (3, 40), (4, 50)] {
+    ///     let data = table.slot(ms * 1_000_000, &mut cell)?.expect("data waits");
+    ///     assert_eq!((data.vpi, data.vci, data.kind), (3, vci, Kind::Data));
+    /// }
+    /// assert_eq!(table.acr(3, PATH_VCI), Ok(512_000)); // one rate for both
+    /// # Ok::<(), Refusal>(())
+    /// ```
+    pub fn open_path(&mut self, vpi: u32, time: u64, params: &Params) -> Result<u32, Refusal> {
+        // SAFETY: the pointer is live for the call.
+        comparisons(unsafe { ffi::abr_open_path(self.raw(), vpi, time, *params) })
+    }
+
+    /// Makes a VCI a member of the path of its VPI, with no data waiting.
+    ///
+    /// # Errors
+    /// In this order: [`Refusal::LowVci`], [`Refusal::NotOpen`],
+    /// [`Refusal::AlreadyOpen`] as a channel, [`Refusal::AlreadyMember`],
+    /// [`Refusal::MembersFull`] with [`MEMBERS_MAX`] in the whole table.
+    ///
+    /// ```
+    /// # use abr::{Params, Refusal, Table};
+    /// # let mut table = Table::new();
+    /// # let params = Params::house(0x53E8, 0x4000, 0x53E8);
+    /// table.open_path(3, 0, &params)?;
+    /// assert_eq!(table.add(3, 31), Err(Refusal::LowVci));
+    /// assert_eq!(table.add(4, 40), Err(Refusal::NotOpen));
+    /// assert_eq!(table.add(3, 40), Ok(()));
+    /// assert_eq!(table.add(3, 40), Err(Refusal::AlreadyMember));
+    /// assert_eq!(table.open(3, 40, 0, &params), Err(Refusal::AlreadyMember));
+    /// # Ok::<(), Refusal>(())
+    /// ```
+    pub fn add(&mut self, vpi: u32, vci: u32) -> Result<(), Refusal> {
+        // SAFETY: the pointer is live for the call.
+        Refusal::outcome(unsafe { ffi::abr_add(self.raw(), vpi, vci) }.refusal)
+    }
+
+    /// Adds data cells to those that wait on a member of a path, and answers the
+    /// comparisons; 0 is accepted.
+    ///
+    /// # Errors
+    /// In this order: [`Refusal::NotOpen`], [`Refusal::NotAMember`],
+    /// [`Refusal::TooMuchData`] on this member.
+    ///
+    /// ```
+    /// # use abr::{Params, Refusal, Table, COMPARISONS_MAX, PATH_VCI, WAITING_MAX};
+    /// # let mut table = Table::new();
+    /// # table.open_path(3, 0, &Params::house(0x53E8, 0x4000, 0x53E8)).unwrap();
+    /// table.add(3, 40)?;
+    /// assert_eq!(table.offer_member(3, 40, WAITING_MAX), Ok(COMPARISONS_MAX));
+    /// assert_eq!(table.offer_member(3, 40, 1), Err(Refusal::TooMuchData));
+    /// assert_eq!(table.offer_member(3, 41, 1), Err(Refusal::NotAMember));
+    /// assert_eq!(table.offer(3, PATH_VCI, 1), Err(Refusal::NotAMember));
+    /// assert_eq!(table.offer(3, 40, 1), Err(Refusal::NotOpen)); // no channel
+    /// # Ok::<(), Refusal>(())
+    /// ```
+    pub fn offer_member(&mut self, vpi: u32, vci: u32, cells: u64) -> Result<u32, Refusal> {
+        // SAFETY: the pointer is live for the call.
+        comparisons(unsafe { ffi::abr_offer_member(self.raw(), vpi, vci, cells) })
+    }
+
+    /// Removes a member from its path, drops the data that waits on it and answers how
+    /// many cells that were, and the comparisons.
+    ///
+    /// # Errors
+    /// In this order: [`Refusal::NotOpen`], [`Refusal::NotAMember`].
+    ///
+    /// ```
+    /// # use abr::{Params, Refusal, Table, PATH_VCI};
+    /// # let mut table = Table::new();
+    /// # table.open_path(3, 0, &Params::house(0x53E8, 0x4000, 0x53E8)).unwrap();
+    /// for vci in [40, 50] {
+    ///     table.add(3, vci)?;
+    ///     table.offer_member(3, vci, 7)?;
+    /// }
+    /// assert_eq!(table.remove(3, 40)?.cells, 7);
+    /// assert_eq!(table.remove(3, 40), Err(Refusal::NotAMember));
+    /// assert_eq!(table.close(3, PATH_VCI)?.cells, 7); // with the other member
+    /// assert_eq!(table.remove(3, 50), Err(Refusal::NotOpen));
+    /// # Ok::<(), Refusal>(())
+    /// ```
+    pub fn remove(&mut self, vpi: u32, vci: u32) -> Result<Closed, Refusal> {
+        // SAFETY: the pointer is live for the call.
+        closed(unsafe { ffi::abr_remove(self.raw(), vpi, vci) })
+    }
+
     /// Receives a cell: a backward RM cell moves the rate of its connection, a
     /// forward one is turned and waits in place of any turned one, whose CI it
-    /// keeps, the congestion mark of a data cell is saved. Answers the comparisons.
+    /// keeps, the congestion mark of a data cell is saved, for its path if it is of a
+    /// member. Answers the comparisons.
     ///
     /// # Errors
     /// In this order: [`Refusal::Length`], [`Refusal::HeaderCheck`],
@@ -171,11 +285,12 @@ impl Table {
         comparisons(unsafe { ffi::abr_receive(self.raw(), cell.as_ptr(), cell.len()) })
     }
 
-    /// Adds data cells to those that wait on a connection, and answers the
+    /// Adds data cells to those that wait on a channel, and answers the
     /// comparisons; 0 is accepted.
     ///
     /// # Errors
-    /// In this order: [`Refusal::NotOpen`], [`Refusal::TooMuchData`].
+    /// In this order: [`Refusal::NotOpen`], [`Refusal::NotAMember`] for a path's own
+    /// name, [`Refusal::TooMuchData`].
     ///
     /// ```
     /// # use abr::{Params, Refusal, Table, COMPARISONS_MAX, WAITING_MAX};
@@ -245,7 +360,8 @@ impl Table {
     /// Gives the slot at a time to the connection with the earliest ready
     /// instant, of several with the same one to that with the lowest VPI × 65,536 +
     /// VCI, if one is ready; one with an allowed rate of 0 never is. A forward,
-    /// turned or made cell is written to the buffer.
+    /// turned or made cell is written to the buffer. The data of a path is that of its
+    /// members in turn.
     ///
     /// # Errors
     /// In this order: [`Refusal::Length`], [`Refusal::Time`],

@@ -40,6 +40,8 @@ fn the_limits_are_those_of_the_header() {
     assert_eq!(value("ABR_TABLE_WORDS"), ffi::ABR_TABLE_WORDS as u64);
     assert_eq!(value("ABR_CELL_OCTETS"), abr::CELL_OCTETS as u64);
     assert_eq!(value("ABR_CONNECTIONS_MAX"), abr::CONNECTIONS_MAX as u64);
+    assert_eq!(value("ABR_MEMBERS_MAX"), abr::MEMBERS_MAX as u64);
+    assert_eq!(value("ABR_PATH_VCI"), u64::from(abr::PATH_VCI));
     assert_eq!(value("ABR_COMPARISONS_MAX"), abr::COMPARISONS_MAX.into());
     assert_eq!(value("ABR_VPI_MAX"), u64::from(abr::VPI_MAX));
     assert_eq!(value("ABR_VCI_MIN"), u64::from(abr::VCI_MIN));
@@ -99,7 +101,7 @@ fn the_refusals_are_those_of_the_header() {
         .filter_map(|rest| rest.split(' ').next())
         .collect();
     assert_eq!(names.len(), Refusal::ALL.len());
-    for (name, refusal) in names.into_iter().zip(Refusal::ALL) {
+    for (name, refusal) in names.into_iter().zip(Refusal::ALL.iter().copied()) {
         let name = format!("ABR_REFUSED_{name}");
         let (number, comment) = defined(&name);
         assert_eq!(number, u64::from(refusal.number()), "{name}");
@@ -111,7 +113,7 @@ fn the_refusals_are_those_of_the_header() {
     assert_eq!(defined("ABR_OK"), (0, "accepted"));
     assert_eq!(Refusal::try_from(0), Err(0));
     assert_eq!(Refusal::try_from(3), Err(3)); // withdrawn by document 02's L6
-    assert_eq!(Refusal::try_from(26), Err(26));
+    assert_eq!(Refusal::try_from(29), Err(29));
 }
 
 #[test]
@@ -198,5 +200,5 @@ fn every_prototype_of_the_header_is_declared_and_no_other() {
     let ffi = include_str!("../src/ffi.rs");
     let foreign = |line: &&str| line.starts_with("    pub fn ");
     assert_eq!(header, names(ffi.lines().filter(foreign)));
-    assert_eq!(header.len(), 22);
+    assert_eq!(header.len(), 26);
 }

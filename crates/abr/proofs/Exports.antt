@@ -6,11 +6,11 @@ use lib.ListN.{length}
 use Rattle.connection.specs.Sending.{Buffer, untouched}
 use Rattle.model.specs.State.{State, empty}
 use Rattle.model.specs.Invariant.{WellFormed}
-use Rattle.model.specs.Call.{Call, opening, closing, receiving, offering, levelling, slot, making, outOfRate, Outcome, closedCells}
-use Rattle.model.specs.Step.{refuse, accept, replay, discard, idleStep, sendStep, sendOutside, step}
+use Rattle.model.specs.Call.{Call, opening, closing, receiving, offering, levelling, slot, making, outOfRate, openingPath, adding, offeringMember, removing, Outcome, closedCells}
+use Rattle.model.specs.Step.{refuse, accept, replay, discard, idleStep, sendStep, sendFrom, sendOutside, step}
 use Rattle.model.specs.Run.{run, final}
 use Rattle.model.proofs.Preserved.{empty-well-formed}
-use Rattle.model.proofs.Effects.{Effect, refuses, begins, ends, offers as offersTo, marks, works, levels as levelsTo, idles, sends, makes as makesAt, leaves as leavesAt, effect}
+use Rattle.model.proofs.Effects.{Effect, refuses, begins, ends, offers as offersTo, marks, works, levels as levelsTo, idles, sends, makes as makesAt, leaves as leavesAt, beginsPath, adds as addsTo, offersMember as offersToMember, removes as removesAt, effect}
 use Rattle.model.proofs.Reached.{step-well-formed, reached-well-formed}
 use Rattle.table.specs.Layout.{words}
 use Rattle.table.proofs.Words.{empty-words}
@@ -18,7 +18,7 @@ use Rattle.engine.specs.Contract.{bufferContent}
 use Rattle.answers.specs.declared.calls.CallAnswer.{CallAnswer}
 use Rattle.answers.specs.declared.calls.ClosedAnswer.{ClosedAnswer}
 use Rattle.answers.specs.Calls.{refusalAlone, callAnswer, closedAnswer, noCell, slotAnswer}
-use Rattle.abr.specs.Exports.{Observation, noSlot, afterClose, Performs, opens, closes, receives, offers, levels, makes, leaves, slots, Trace, ended, then, finalWords, zeros, Matches, AllMatch, neither, both, ExportsAreRun}
+use Rattle.abr.specs.Exports.{Observation, noSlot, afterClose, Performs, opens, closes, receives, offers, levels, makes, leaves, slots, opensPath, adds, offersMember, removes, Trace, ended, then, finalWords, zeros, Matches, AllMatch, neither, both, ExportsAreRun}
 
 -- a call that is no slot
 abbrev NoSlot : Call → Type 0
@@ -30,6 +30,10 @@ NoSlot (levelling l) = Unit
 NoSlot (slot t room) = ⊥
 NoSlot (making a b t) = Unit
 NoSlot (outOfRate a b t room) = Unit
+NoSlot (openingPath a t p) = Unit
+NoSlot (adding a b) = Unit
+NoSlot (offeringMember a b n) = Unit
+NoSlot (removing a b) = Unit
 
 -- a call that is lent no buffer
 abbrev WithoutBuffer : Call → Type 0
@@ -41,6 +45,10 @@ WithoutBuffer (levelling l) = Unit
 WithoutBuffer (slot t room) = ⊥
 WithoutBuffer (making a b t) = Unit
 WithoutBuffer (outOfRate a b t room) = ⊥
+WithoutBuffer (openingPath a t p) = Unit
+WithoutBuffer (adding a b) = Unit
+WithoutBuffer (offeringMember a b n) = Unit
+WithoutBuffer (removing a b) = Unit
 
 -- a call that discards no data cells
 abbrev NoClose : Call → Type 0
@@ -52,20 +60,28 @@ NoClose (levelling l) = Unit
 NoClose (slot t room) = Unit
 NoClose (making a b t) = Unit
 NoClose (outOfRate a b t room) = Unit
+NoClose (openingPath a t p) = Unit
+NoClose (adding a b) = Unit
+NoClose (offeringMember a b n) = Unit
+NoClose (removing a b) = ⊥
 
 effect-no-cells : {s : State} {c : Call} {o : Outcome} → Effect s c o → NoClose c → 0 ≡ closedCells (o .answer)
-unfolding refuse accept replay idleStep sendStep sendOutside closedCells
+unfolding refuse accept replay idleStep sendStep sendFrom sendOutside closedCells
 effect-no-cells (refuses c n h) u = refl
 effect-no-cells (begins a b t p g) u = refl
 effect-no-cells (ends a b d f) u = absurd u
-effect-no-cells (offersTo a b n d f h) u = refl
-effect-no-cells (marks o a b e d r f) u = refl
+effect-no-cells (offersTo a b n d f i h) u = refl
+effect-no-cells (marks o a b e v d r i z f) u = refl
 effect-no-cells (works o q d r f) u = refl
 effect-no-cells (levelsTo l h) u = refl
 effect-no-cells (idles t room g b) u = refl
 effect-no-cells (sends t room i v g b) u = refl
 effect-no-cells (makesAt a b t d f g h m) u = refl
 effect-no-cells (leavesAt a b t room d f g h) u = refl
+effect-no-cells (beginsPath a t p g) u = refl
+effect-no-cells (addsTo a b d f j) u = refl
+effect-no-cells (offersToMember a b n d f i h) u = refl
+effect-no-cells (removesAt a b d f i) u = absurd u
 
 no-cells : {s : State} → WellFormed s → (c : Call) → NoClose c → 0 ≡ closedCells (step s c .answer)
 no-cells {s} w c u = effect-no-cells (effect s (w .unique) c) u
@@ -80,14 +96,18 @@ unfolding refuse accept replay discard sendOutside
 effect-plain (refuses c n h) u = record { buffer = λ _. refl; answer = refl }
 effect-plain (begins a b t p g) u = record { buffer = λ _. refl; answer = refl }
 effect-plain (ends a b d f) u = record { buffer = λ _. refl; answer = refl }
-effect-plain (offersTo a b n d f h) u = record { buffer = λ _. refl; answer = refl }
-effect-plain (marks o a b e d r f) u = record { buffer = λ _. refl; answer = refl }
+effect-plain (offersTo a b n d f i h) u = record { buffer = λ _. refl; answer = refl }
+effect-plain (marks o a b e v d r i z f) u = record { buffer = λ _. refl; answer = refl }
 effect-plain (works o q d r f) u = record { buffer = λ _. refl; answer = refl }
 effect-plain (levelsTo l h) u = record { buffer = λ _. refl; answer = refl }
 effect-plain (idles t room g b) u = absurd u
 effect-plain (sends t room i v g b) u = absurd u
 effect-plain (makesAt a b t d f g h m) u = record { buffer = λ _. refl; answer = refl }
 effect-plain (leavesAt a b t room d f g h) u = record { buffer = λ l. absurd l; answer = refl }
+effect-plain (beginsPath a t p g) u = record { buffer = λ _. refl; answer = refl }
+effect-plain (addsTo a b d f j) u = record { buffer = λ _. refl; answer = refl }
+effect-plain (offersToMember a b n d f i h) u = record { buffer = λ _. refl; answer = refl }
+effect-plain (removesAt a b d f i) u = record { buffer = λ _. refl; answer = refl }
 
 nothing-written : (b : Buffer) → b ≡ untouched → [] ≡ bufferContent b []
 nothing-written b e = rw e refl
@@ -102,20 +122,20 @@ plain-matches :
 plain-matches {s} w c u b k m r h =
     record { table = h .0; returned = returned-plain w c u r (h .1); cells = no-cells w c k; buffer = nothing-written (step s c .buffer) (effect-plain (effect s (w .unique) c) u .buffer b) }
 
-close-matches :
-    {s : State} → WellFormed s → (vpi vci : ℕ) (m : List ℕ) (r : ClosedAnswer) → (m ≡ words (step s (closing vpi vci) .state)) × (r ≡ closedAnswer (step s (closing vpi vci) .answer))
-    → Matches (step s (closing vpi vci)) (afterClose m r)
-close-matches {s} w a b m r h = record {
+discards-matches :
+    {s : State} → WellFormed s → (c : Call) → NoSlot c → WithoutBuffer c → (m : List ℕ) (r : ClosedAnswer) → (m ≡ words (step s c .state)) × (r ≡ closedAnswer (step s c .answer))
+    → Matches (step s c) (afterClose m r)
+discards-matches {s} w c u b m r h = record {
   table = h .0;
-  returned = returned-plain w (closing a b) tt (record { refusal = r .refusal; comparisons = r .comparisons }) (ap (λ (x : ClosedAnswer). record { refusal = x .refusal; comparisons = x .comparisons }) (h .1));
+  returned = returned-plain w c u (record { refusal = r .refusal; comparisons = r .comparisons }) (ap (λ (x : ClosedAnswer). record { refusal = x .refusal; comparisons = x .comparisons }) (h .1));
   cells = ap (λ (x : ClosedAnswer). x .cells) (h .1);
-  buffer = nothing-written (step s (closing a b) .buffer) (effect-plain (effect s (w .unique) (closing a b)) tt .buffer tt);
+  buffer = nothing-written (step s c .buffer) (effect-plain (effect s (w .unique) c) u .buffer b);
 }
 
 performs-matches : {s : State} → WellFormed s → {c : Call} {l : List ℕ} {o : Observation} → Performs c l o → l ≡ words s → Matches (step s c) o
 unfolding step
 performs-matches {s} w (opens {vpi} {vci} {t} {p} {l} {m} {r} h) e = plain-matches w (opening vpi vci t p) tt tt tt m r (h .meets s w e)
-performs-matches {s} w (closes {vpi} {vci} {l} {m} {r} h) e = close-matches w vpi vci m r (h .meets s w e)
+performs-matches {s} w (closes {vpi} {vci} {l} {m} {r} h) e = discards-matches w (closing vpi vci) tt tt m r (h .meets s w e)
 performs-matches {s} w (receives {o} {l} {m} {r} h) e = plain-matches w (receiving o) tt tt tt m r (h .meets s w e)
 performs-matches {s} w (offers {vpi} {vci} {n} {l} {m} {r} h) e = plain-matches w (offering vpi vci n) tt tt tt m r (h .meets s w e)
 performs-matches {s} w (levels {k} {l} {m} {r} h) e = plain-matches w (levelling k) tt tt tt m (refusalAlone r) (h .meets s w e)
@@ -124,6 +144,10 @@ performs-matches {s} w (leaves {vpi} {vci} {t} {l} {m} {old} {new} {r} h) e =
     let g = h .meets s w e in record { table = g .0; returned = returned-plain w (outOfRate vpi vci t (length old)) tt (refusalAlone r) (g .1); cells = no-cells w (outOfRate vpi vci t (length old)) tt; buffer = g .2 }
 performs-matches {s} w (slots {t} {l} {m} {old} h) e =
     let g = h .meets s w e in record { table = g .0; returned = g .1; cells = no-cells w (slot t (length old)) tt; buffer = g .2 }
+performs-matches {s} w (opensPath {vpi} {t} {p} {l} {m} {r} h) e = plain-matches w (openingPath vpi t p) tt tt tt m r (h .meets s w e)
+performs-matches {s} w (adds {vpi} {vci} {l} {m} {r} h) e = plain-matches w (adding vpi vci) tt tt tt m r (h .meets s w e)
+performs-matches {s} w (offersMember {vpi} {vci} {n} {l} {m} {r} h) e = plain-matches w (offeringMember vpi vci n) tt tt tt m r (h .meets s w e)
+performs-matches {s} w (removes {vpi} {vci} {l} {m} {r} h) e = discards-matches w (removing vpi vci) tt tt m r (h .meets s w e)
 
 onward :
     (s : State) → WellFormed s → (cs : List Call) (l : List ℕ) (os : List Observation) → Trace cs l os → l ≡ words s

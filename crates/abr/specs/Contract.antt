@@ -20,7 +20,7 @@ use Rattle.answers.specs.Planning.{ExportedAs}
 pub record Answers (f : State → Outcome) (before after : List ℕ) (r : CallAnswer) : Type 0 where
   pub meets : (s : State) → WellFormed s → before ≡ words s → (after ≡ words (f s .state)) × (r ≡ callAnswer (f s .answer))
 
--- a close, which returns the data cells that waited besides (document 02, L12)
+-- a close or the removal of a member, which returns the data cells that waited besides (document 02, L12 and L13)
 pub record AnswersClosed (f : State → Outcome) (before after : List ℕ) (r : ClosedAnswer) : Type 0 where
   pub meets : (s : State) → WellFormed s → before ≡ words s → (after ≡ words (f s .state)) × (r ≡ closedAnswer (f s .answer))
 

@@ -1,5 +1,5 @@
 -- What lists of exported calls do to one lent table, as C sees it: numbers, structs, octets and words. (Document 01, "What the library commits to", 1, and
--- "The lists of demand 3"; document 02, L6 and L12.)
+-- "The lists of demand 3"; document 02, L6, L12 and L13.)
 use Prim.Native.Nat.{ℕ}
 use mathlib.Core.Path.{_≡_}
 use mathlib.Core.List.{List, [], _∷_}
@@ -8,8 +8,8 @@ use Rattle.params.specs.declared.params.Params.{Params}
 use Rattle.cell.specs.Name.{pairName}
 use Rattle.model.specs.State.{State, empty}
 use Rattle.model.specs.Invariant.{WellFormed}
-use Rattle.model.specs.Call.{Call, opening, closing, receiving, offering, levelling, slot, making, outOfRate, Outcome, closedCells}
-use Rattle.model.specs.Step.{openStep, closeStep, receiveStep, offerStep, levelStep, slotStep, makeStep, outOfRateStep}
+use Rattle.model.specs.Call.{Call, opening, closing, receiving, offering, levelling, slot, making, outOfRate, openingPath, adding, offeringMember, removing, Outcome, closedCells}
+use Rattle.model.specs.Step.{openStep, closeStep, receiveStep, offerStep, levelStep, slotStep, makeStep, outOfRateStep, openPathStep, addStep, offerMemberStep, removeStep}
 use Rattle.model.specs.Queries.{acrOf, contractOf}
 use Rattle.model.specs.Run.{run, final}
 use Rattle.table.specs.Layout.{words, size}
@@ -23,7 +23,7 @@ use Rattle.doubles.specs.declared.export.Exported.{Exported}
 use Rattle.answers.specs.Planning.{ExportedAs}
 use Rattle.abr.specs.Contract.{Answers, AnswersClosed, Numbered, NumberedWriting, AnswersSlot, AnswersAcr, AnswersExport}
 
--- what a caller sees of one call: the words of the table after it, what it returned, with the data cells of a close, and the lent buffer before and after it
+-- what a caller sees of one call: the words of the table after it, what it returned, with the data cells of a close or a removal, and the lent buffer before and after it
 pub record Observation : Type 0 where
   pub table : List ℕ
   pub returned : SlotAnswer
@@ -38,8 +38,8 @@ noSlot l r = record { table = l; returned = noCell (r .refusal) (r .comparisons)
 abbrev pub afterClose : (table : List ℕ) → ClosedAnswer → Observation
 afterClose l r = record { table = l; returned = noCell (r .refusal) (r .comparisons); cells = r .cells; old = []; new = [] }
 
--- One exported call on these words. What each case holds is the ensures of abr_open, abr_close, abr_receive, abr_offer, abr_set_level, abr_make, abr_out_of_rate or abr_slot, so that
--- every such call makes one of these.
+-- One exported call on these words. What each case holds is the ensures of abr_open, abr_close, abr_receive, abr_offer, abr_set_level, abr_make, abr_out_of_rate, abr_slot, abr_open_path,
+-- abr_add, abr_offer_member or abr_remove, so that every such call makes one of these.
 pub data Performs : Call → (before : List ℕ) → Observation → Type 0 where
   opens : {vpi vci t : ℕ} {p : Params} {l m : List ℕ} {r : CallAnswer} → Answers (λ s. openStep s vpi vci t p) l m r → Performs (opening vpi vci t p) l (noSlot m r)
   closes : {vpi vci : ℕ} {l m : List ℕ} {r : ClosedAnswer} → AnswersClosed (λ s. closeStep s (pairName vpi vci)) l m r → Performs (closing vpi vci) l (afterClose m r)
@@ -53,6 +53,11 @@ pub data Performs : Call → (before : List ℕ) → Observation → Type 0 wher
   slots :
       {t : ℕ} {l m old new : List ℕ} {r : SlotAnswer} → AnswersSlot (λ s. slotStep s t (length old)) l m r old new
       → Performs (slot t (length old)) l (record { table = m; returned = r; cells = 0; old = old; new = new })
+  opensPath : {vpi t : ℕ} {p : Params} {l m : List ℕ} {r : CallAnswer} → Answers (λ s. openPathStep s vpi t p) l m r → Performs (openingPath vpi t p) l (noSlot m r)
+  adds : {vpi vci : ℕ} {l m : List ℕ} {r : CallAnswer} → Answers (λ s. addStep s vpi vci) l m r → Performs (adding vpi vci) l (noSlot m r)
+  offersMember :
+      {vpi vci n : ℕ} {l m : List ℕ} {r : CallAnswer} → Answers (λ s. offerMemberStep s (pairName vpi vci) n) l m r → Performs (offeringMember vpi vci n) l (noSlot m r)
+  removes : {vpi vci : ℕ} {l m : List ℕ} {r : ClosedAnswer} → AnswersClosed (λ s. removeStep s (pairName vpi vci)) l m r → Performs (removing vpi vci) l (afterClose m r)
 
 -- calls in a row, each on the words that the call before it left
 pub data Trace : List Call → (first : List ℕ) → List Observation → Type 0 where

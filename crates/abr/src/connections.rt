@@ -19,7 +19,7 @@ use params::params::Params;
 use slots::out_of_rate::out_of_rate;
 use table::layout::WORDS;
 
-// Refusals 10, 19, 7, 8, 12, 13, 14.
+// Refusals 10, 19, 7, 8, 12, 27, 13, 14.
 #[no_mangle]
 pub extern "C" fn abr_open(
     table: &mut [u64; WORDS],
@@ -42,7 +42,7 @@ pub extern "C" fn abr_close(table: &mut [u64; WORDS], vpi: u32, vci: u32) -> Clo
     closed_answer(close(table, name))
 }
 
-// Refusals 11, 15.
+// Refusals 11, 28, 15.
 #[no_mangle]
 pub extern "C" fn abr_offer(table: &mut [u64; WORDS], vpi: u32, vci: u32, cells: u64) -> CallAnswer
     ensures { λ r. ⌜ Answers (λ s. offerStep s (pairName vpi vci) cells) (now (table .entry)) (now (table .exit)) r ⌝ }

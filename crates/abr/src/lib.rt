@@ -4,6 +4,7 @@ pub mod cells;
 pub mod codes;
 pub mod connections;
 pub mod link;
+pub mod path;
 pub mod planning;
 pub mod ports;
 pub mod traces;

@@ -3,12 +3,12 @@ ghost use mathlib.Core.Path.{_≡_};
 ghost use Rattle.table.specs.Layout.{size};
 use table::layout::WORDS;
 
-// 0.13.0: major, minor and patch number, eight bits each.
-const VERSION: u32 = 0x000d00;
+// 0.14.0: major, minor and patch number, eight bits each.
+const VERSION: u32 = 0x000e00;
 
 #[no_mangle]
 pub extern "C" fn abr_version() -> u32
-    ensures { λ r. ⌜ r ≡ 0x000d00 ⌝ }
+    ensures { λ r. ⌜ r ≡ 0x000e00 ⌝ }
 {
     VERSION
 }

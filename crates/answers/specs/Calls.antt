@@ -25,7 +25,7 @@ callAnswer (Refused n) = refusalAlone n
 callAnswer (Accepted n) = record { refusal = 0; comparisons = n }
 callAnswer (Closed n k) = record { refusal = 0; comparisons = n }
 callAnswer Idle = refusalAlone 0
-callAnswer (Sent v k a n) = record { refusal = 0; comparisons = n }
+callAnswer (Sent v x k a n) = record { refusal = 0; comparisons = n }
 
 -- a close: the data cells that waited beside them
 abbrev pub closedAnswer : Answer → ClosedAnswer
@@ -35,13 +35,13 @@ closedAnswer a = record { refusal = callAnswer a .refusal; comparisons = callAns
 abbrev pub noCell : (refusal comparisons : ℕ) → SlotAnswer
 noCell n k = record { refusal = n; comparisons = k; kind = 0; vpi = 0; vci = 0; acr = 0 }
 
--- no slot answers Accepted or Closed
+-- the name that the slot tells: of a data cell of a path the member's (document 02, L13); no slot answers Accepted or Closed
 abbrev pub slotAnswer : Answer → SlotAnswer
 slotAnswer (Refused n) = noCell n 0
 slotAnswer (Accepted n) = noCell 0 n
 slotAnswer (Closed n k) = noCell 0 n
 slotAnswer Idle = noCell 0 0
-slotAnswer (Sent v k a n) = record { refusal = 0; comparisons = n; kind = kindNumber k; vpi = vpiIn v; vci = vciIn v; acr = a }
+slotAnswer (Sent v x k a n) = record { refusal = 0; comparisons = n; kind = kindNumber k; vpi = vpiIn x; vci = vciIn x; acr = a }
 
 -- the allowed rate, and what the last backward cell changed of it
 abbrev pub acrAnswer : Acr → AcrAnswer

@@ -1,4 +1,4 @@
-// What the calls on a table return (document 01, "Slots"; document 02, L4, L6, L9 and L12).
+// What the calls on a table return (document 01, "Slots"; document 02, L4, L6, L9, L12 and L13).
 ghost use mathlib.Core.Path.{_≡_};
 ghost use Rattle.answers.specs.Calls.{callAnswer, closedAnswer, acrAnswer, ofRates, noCell, slotAnswer};
 ghost use Rattle.connection.specs.Kind.{kindNumber};
@@ -37,6 +37,7 @@ pub fn call_answer(a: Answer) -> CallAnswer
             comparisons: 0,
         },
         Answer::Sent {
+            connection: _,
             name: _,
             kind: _,
             acr: _,
@@ -81,6 +82,7 @@ pub fn closed_answer(a: Answer) -> ClosedAnswer
             cells: 0,
         },
         Answer::Sent {
+            connection: _,
             name: _,
             kind: _,
             acr: _,
@@ -165,6 +167,7 @@ pub fn slot_answer(a: Answer) -> SlotAnswer
         } => no_cell(0, comparisons),
         Answer::Idle => no_cell(0, 0),
         Answer::Sent {
+            connection: _,
             name,
             kind,
             acr,

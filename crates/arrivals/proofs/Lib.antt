@@ -1,2 +1,3 @@
 -- What a received cell does to the words of a table: one lemma for each way out.
+pub mod Owners
 pub mod ReceiveCases

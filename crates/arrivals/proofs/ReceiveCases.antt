@@ -1,7 +1,7 @@
 -- What a received cell makes of a table: the ways out of receiving.
 use Prim.Native.Nat.{ℕ, _%_, _<_}
 use mathlib.Core.Path.{_≡_, refl, sym, ap, subst, _∙_}
-use mathlib.Core.Bool.{Bool}
+use mathlib.Core.Bool.{Bool, true, false}
 use mathlib.Core.List.{List, []}
 use native.Mathlib.Omega.{arith}
 use lib.ListN.{length, getD}
@@ -14,6 +14,9 @@ use Rattle.cell.specs.Octets.{payload}
 use Rattle.cell.specs.Name.{pairName}
 use Rattle.cell.specs.Fields.{cellName}
 use Rattle.cell.specs.Reading.{reading}
+use Rattle.members.specs.Path.{isPath}
+use Rattle.members.specs.Members.{owner}
+use Rattle.laws.specs.Require.{require}
 use Rattle.connection.specs.declared.parts.Connection.{Connection}
 use Rattle.connection.specs.Receiving.{afterDataCell, afterBackwardCell, afterForwardCell, afterForwardPayload, afterResourceCell}
 use Rattle.connection.specs.Ready.{readyInstant}
@@ -26,17 +29,16 @@ use Rattle.table.specs.Layout.{sourceWords, words, levelAt}
 use Rattle.table.specs.Loading.{connectionAt}
 use Rattle.table.specs.Storing.{efciUpdated}
 use Rattle.storing.specs.Updates.{Updates, SourceMoved, DestinationMoved}
-use Rattle.tournament.specs.Replaying.{Leads}
+use Rattle.tournament.specs.Replaying.{Ordered, Leads}
 use Rattle.model.specs.Tournament.{replayed}
-use Rattle.model.proofs.Preserved.{put-well-formed}
 use Rattle.names.specs.Finding.{Located}
 use Rattle.names.proofs.Found.{found-at}
 use Rattle.model.specs.declared.answer.Answer.{Answer}
 use Rattle.model.specs.declared.answer.Answer.the-variants.{Accepted}
 use Rattle.model.specs.Call.{Outcome}
-use Rattle.model.specs.Step.{refuse, replay, ofOpen, readStep, receiveStep}
+use Rattle.model.specs.Step.{refuse, replay, ofOpen, dataCellStep, readStep, receiveStep}
 use Rattle.engine.specs.Contract.{Meets}
-use Rattle.engine.proofs.Outcomes.{replayed-out, level-of, valid-in, loaded-is, updated-is, efci-is}
+use Rattle.engine.proofs.Outcomes.{replayed-out, put-ordered, level-of, valid-in, loaded-is, updated-is, efci-is}
 
 -- The connection: a backward cell moves the rate, a forward one is turned round from the words of its payload.
 module _ (level : ℕ) (o : List ℕ) (f : Fields) (c : Connection) where
@@ -63,9 +65,9 @@ after-data-cell-same e c = record { name = refl; opened = refl; trm = refl; para
 abbrev changing : State → ℕ → (Connection → Connection) → Outcome
 changing s v g = ofOpen s (find v (s .entries)) λ c. replay (leafOf v s) s (put v (taken (g c)) s)
 
-data-step : (s : State) (a b : ℕ) (e : Bool) → readStep s [] (User a b e) ≡ changing s (pairName a b) (afterDataCell e)
-unfolding readStep
-data-step s a b e = refl
+data-step : (s : State) (a b : ℕ) (e : Bool) → isPath (pairName a b) ≡ false → readStep s [] (User a b e) ≡ changing s (owner (pairName a b) (s .members)) (afterDataCell e)
+unfolding readStep dataCellStep require
+data-step s a b e i = rw i
 
 work-step : (s : State) (o : List ℕ) (f : Fields) → readStep s o (Resource f) ≡ changing s (cellName f) (afterResourceCell (s .level) o f)
 unfolding readStep
@@ -79,8 +81,13 @@ met : (s : State) (v : ℕ) (g : Connection → Connection) (c : Connection) →
 unfolding ofOpen
 met s v g c q = rw q
 
-pub data-missing : (s : State) (a b : ℕ) (e : Bool) → find (pairName a b) (s .entries) ≡ free → readStep s [] (User a b e) ≡ refuse s 11
-data-missing s a b e q = data-step s a b e ∙ missed s (pairName a b) (afterDataCell e) q
+pub data-on-path : (s : State) (a b : ℕ) (e : Bool) → isPath (pairName a b) ≡ true → readStep s [] (User a b e) ≡ refuse s 11
+unfolding readStep dataCellStep require
+data-on-path s a b e i = rw i
+
+pub data-missing :
+    (s : State) (a b : ℕ) (e : Bool) → isPath (pairName a b) ≡ false → find (owner (pairName a b) (s .members)) (s .entries) ≡ free → readStep s [] (User a b e) ≡ refuse s 11
+data-missing s a b e i q = data-step s a b e i ∙ missed s (owner (pairName a b) (s .members)) (afterDataCell e) q
 
 pub work-missing : (s : State) (o : List ℕ) (f : Fields) → find (cellName f) (s .entries) ≡ free → readStep s o (Resource f) ≡ refuse s 11
 work-missing s o f q = work-step s o f ∙ missed s (cellName f) (afterResourceCell (s .level) o f) q
@@ -90,11 +97,11 @@ changed : (s : State) {v i : ℕ} (p : Located (s .entries) v i) {m : List ℕ} 
     → (m ≡ words (put v (taken (g (p .holder))) s)) × (n ≡ replayed (leafOf v s) (s .entries) (put v (taken (g (p .holder))) s .entries)) → (m ≡ words (o .state)) × (Accepted n ≡ o .answer)
 changed s {v} p g r q = replayed-out (leafOf v s) s (put v (taken (g (p .holder))) s) q (r ∙ met s v g (p .holder) (found-at p))
 
--- a connection whose name and validity stay leaves a well-formed table
-work-well-formed :
-    (s : State) (w : WellFormed s) {v i : ℕ} (p : Located (s .entries) v i) (o : List ℕ) (f : Fields) → cellName f ≡ v → WellFormed (put v (taken (afterResourceCell (s .level) o f (p .holder))) s)
-work-well-formed s w {v} p o f q =
-    put-well-formed w v (taken (afterResourceCell (s .level) o f (p .holder))) (work-valid (s .level) o f (p .holder) (valid-in s w p)) (work-same (s .level) o f (p .holder) .name ∙ p .named)
+-- a connection whose name and validity stay leaves entries that a tournament orders
+work-ordered :
+    (s : State) (w : WellFormed s) {v i : ℕ} (p : Located (s .entries) v i) (o : List ℕ) (f : Fields) → cellName f ≡ v → Ordered (put v (taken (afterResourceCell (s .level) o f (p .holder))) s .entries)
+work-ordered s w {v} p o f q =
+    put-ordered w v (taken (afterResourceCell (s .level) o f (p .holder))) (work-valid (s .level) o f (p .holder) (valid-in s w p)) (work-same (s .level) o f (p .holder) .name ∙ p .named)
 
 -- the saved EFCI moves no ready instant, and nothing else of the connection
 after-data-cell-kept :
@@ -118,13 +125,13 @@ unfolding afterForwardCell
 after-forward-cell-moved level o c = (refl, refl)
 
 -- the entry's connection, as it was loaded
-module _ (s : State) (w : WellFormed s) {l : List ℕ} (e : l ≡ words s) (a b i : ℕ) (h : i < capacity) (p : Located (s .entries) (pairName a b) i) (d : Connection) (q : d ≡ connectionAt l i) (x : Connection) where
+module _ (s : State) (w : WellFormed s) {l : List ℕ} (e : l ≡ words s) (a b i : ℕ) (h : i < capacity) (p : Located (s .entries) (owner (pairName a b) (s .members)) i) (d : Connection) (q : d ≡ connectionAt l i) (x : Connection) (z : isPath (pairName a b) ≡ false) where
   pub data-done :
       {m : List ℕ} {n : ℕ} → m ≡ efciUpdated l i (x .destination) → Leads l i n → (t : Bool) → x ≡ afterDataCell t d
       → (m ≡ words (readStep s [] (User a b t) .state)) × (Accepted n ≡ readStep s [] (User a b t) .answer)
   data-done g u t y =
       let k = after-data-cell-kept t (p .holder) in
-      changed s p (afterDataCell t) (data-step s a b t)
+      changed s p (afterDataCell t) (data-step s a b t z)
       (efci-is s w e h p (afterDataCell t (p .holder)) (after-data-cell-same t (p .holder)) (k .0) (k .1) (k .2) (k .3) (after-data-cell-ready t (p .holder))
       (g ∙ ap (λ (z : Connection). efciUpdated l i (z .destination)) (y ∙ ap (afterDataCell t) (loaded-is s w p e h q))) u)
 
@@ -136,9 +143,9 @@ module _ (s : State) (w : WellFormed s) {l : List ℕ} (e : l ≡ words s) (o : 
       let work : Connection = afterResourceCell (s .level) o f (p .holder) in
       let y : x ≡ work = work-answers (s .level) o f (p .holder) c (a ∙ ap (afterBackwardCell f) (loaded-is s w p e h q)) in
       changed s p (afterResourceCell (s .level) o f) (work-step s o f)
-      (updated-is s w e h p work (work-same (s .level) o f (p .holder)) (subst (λ (z : Connection). Updates SourceMoved l m i z n) y u)
+      (updated-is s (w .size) e p work (work-same (s .level) o f (p .holder)) (subst (λ (z : Connection). Updates SourceMoved l m i z n) y u)
       (subst (SourceMoved (p .holder)) (work-answers (s .level) o f (p .holder) c refl) (after-backward-cell-moved f (p .holder)))
-      (work-well-formed s w p o f refl))
+      (work-ordered s w p o f refl))
 
   pub turn-done :
       {m : List ℕ} {k : ℕ} → (f .dir ≡ 1 → ⊥) → length o ≡ 53 → ((k : ℕ) → getD o k 0 < 256) → (g : Payload) → g ≡ payloadOf (payload o) → x ≡ afterForwardPayload (getD l levelAt 0 % 4294967296) g d
@@ -150,8 +157,8 @@ module _ (s : State) (w : WellFormed s) {l : List ℕ} (e : l ≡ words s) (o : 
       (a ∙ ap (λ (u : ℕ). afterForwardPayload u g d) (level-of s w e) ∙ ap (afterForwardPayload (s .level) g) (loaded-is s w p e h q)) in
       let t : work ≡ afterForwardCell (s .level) o (p .holder) = is-turning (s .level) o f (p .holder) c in
       changed s p (afterResourceCell (s .level) o f) (work-step s o f)
-      (updated-is s w e h p work (work-same (s .level) o f (p .holder)) (subst (λ (z : Connection). Updates DestinationMoved l m i z k) y u)
-      (subst (DestinationMoved (p .holder)) (sym t) (after-forward-cell-moved (s .level) o (p .holder))) (work-well-formed s w p o f refl))
+      (updated-is s (w .size) e p work (work-same (s .level) o f (p .holder)) (subst (λ (z : Connection). Updates DestinationMoved l m i z k) y u)
+      (subst (DestinationMoved (p .holder)) (sym t) (after-forward-cell-moved (s .level) o (p .holder))) (work-ordered s w p o f refl))
 
 -- What was read: a refusal, or a cell of 53 octets whose step is the rest.
 pub unread : (s : State) (o : List ℕ) (n : ℕ) → reading o ≡ Unread n → receiveStep s o ≡ refuse s n
@@ -165,6 +172,3 @@ user-read o a b e q s = rw q
 pub resource-read : (o : List ℕ) (f : Fields) → reading o ≡ Resource f → (s : State) → receiveStep s o ≡ readStep s o (Resource f)
 unfolding receiveStep
 resource-read o f q s = rw q
-
-pub same-meets : {f g : State → Outcome} {l m : List ℕ} {r : Answer} → ((s : State) → g s ≡ f s) → Meets f l m r → Meets g l m r
-same-meets h k = record { meets = λ s w e. rw (h s) (k .meets s w e) }

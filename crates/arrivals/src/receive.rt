@@ -1,4 +1,4 @@
-// Receiving a cell (document 01, "Refused because of the input", "Four moves of the allowed rate" and "Turning cells round").
+// Receiving a cell (document 01, "Refused because of the input", "Four moves of the allowed rate" and "Turning cells round"; document 02, L13).
 ghost use mathlib.Core.Path.{_≡_};
 ghost use mathlib.Core.List.{[]};
 ghost use lib.ListN.{length};
@@ -8,6 +8,7 @@ ghost use Rattle.cell.specs.Octets.{payload};
 ghost use Rattle.cell.specs.declared.read.Reading.the-variants.{User, Resource};
 ghost use Rattle.model.specs.Step.{readStep, receiveStep};
 ghost use Rattle.engine.specs.Contract.{Meets};
+use crate::owner::find_owner;
 use cell::fields::Fields;
 use cell::name::pair_name;
 use crc::payload::payload_at;
@@ -32,12 +33,15 @@ use table::layout::LEVEL;
 use table::layout::WORDS;
 use tournament::replay::levels_led;
 
-// A data cell, whose octets no longer count: refusal 11.
+// A data cell, whose octets no longer count: refusal 11, on a path's own name too.
 fn receive_data(t: &mut [u64; WORDS], vpi: u32, vci: u32, efci: bool) -> Answer
     ensures { λ r. ⌜ Meets (λ s. readStep s [] (User vpi vci efci)) (now (t .entry)) (now (t .exit)) r ⌝ }
 {
     let name = pair_name(vpi, vci);
-    let Found::At(i) = find(t, name) else {
+    if name % 65536 == 6 {
+        return Answer::Refused(11);
+    }
+    let Found::At(i) = find_owner(t, name) else {
         return Answer::Refused(11);
     };
     let c = load(t, i);

@@ -1,2 +1,3 @@
 pub mod EachCall
+pub mod PathCalls
 pub mod Planning

@@ -14,6 +14,7 @@ use answers::calls::AcrAnswer;
 use params::params::Params;
 use table::layout::WORDS;
 
+pub mod path;
 pub mod planning;
 
 pub struct Arguments {

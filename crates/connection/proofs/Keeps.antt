@@ -1,9 +1,10 @@
 -- What each call makes of a connection keeps what the invariant says of it, and its name, opening time, Trm and parameters.
-use Prim.Native.Nat.{ℕ, _+_, _-_, _≤_, _<_}
+use Prim.Native.Nat.{ℕ, _+_, _-_, _*_, _≤_, _<_}
 use mathlib.Core.Path.{_≡_, refl, sym, ap, _∙_}
 use mathlib.Core.Logic.{_≢_}
 use mathlib.Core.Bool.{Bool, true, false, cond, _||_}
 use mathlib.Core.List.{List}
+use mathlib.Core.Option.{Option, none, some}
 use native.Mathlib.Nat.{le-refl, le-trans}
 use native.Mathlib.Omega.{arith}
 use lib.Dec.{eqb}
@@ -18,14 +19,17 @@ use Rattle.moves.specs.Bounds.{RateInBounds}
 use Rattle.moves.proofs.FourMoves.{opened-in-bounds, firstCell-in-bounds, firstCell-mono, idle-in-bounds, idle-mono, unanswered-in-bounds, unanswered-mono, feedback-in-bounds}
 use Rattle.cell.specs.declared.fields.Fields.{Fields}
 use Rattle.cell.specs.Name.{vciIn, noName}
-use Rattle.connection.specs.Parts.{Connection, Pace, Unsent, Running, waiting, fresh, Instant, Never, At, Waiting, Nothing, Cell, Made}
+use Rattle.members.specs.Path.{isPath, firstVci}
+use Rattle.members.specs.Members.{memberCapacity}
+use Rattle.members.specs.Turn.{lastAfter}
+use Rattle.connection.specs.Parts.{Connection, Pace, Unsent, Running, Queue, waiting, dequeued, withQueue, fresh, Instant, Never, At, Waiting, Nothing, Cell, Made}
 use Rattle.connection.specs.Making.{withMade}
 use Rattle.connection.specs.Receiving.{offered, afterDataCell, afterBackwardCell, afterForwardCell, afterResourceCell}
 use Rattle.connection.specs.Ready.{lastBefore}
 use Rattle.connection.specs.Kind.{Kind, Forward, Turned, Data, isForward, isTurned, kindAt}
-use Rattle.connection.specs.Sending.{movedBy, paced, sentForward, sentTurned, sentData, after, madeLeft}
+use Rattle.connection.specs.Sending.{movedBy, paced, sentForward, sentTurned, sentData, after, withServed, madeLeft}
 use Rattle.connection.specs.OutOfRate.{afterOutOfRate}
-use Rattle.connection.specs.Invariant.{InBounds, PaceFits, ValidAt, MadeValidAt, NotAfter}
+use Rattle.connection.specs.Invariant.{InBounds, PaceFits, ValidAt, MadeValidAt, NotAfter, QueueFits}
 
 -- The moves before a forward cell.
 movedBy-in-bounds : (t y : ℕ) (p : Pace) (q : Rate) → RateInBounds q → RateInBounds (movedBy t y p q)
@@ -74,11 +78,7 @@ after-same Data t c = record { name = refl; opened = refl; trm = refl; params = 
 -- Whatever the time.
 fresh-in-bounds : (v t : ℕ) (p : Params) → paramsFit p ≡ true → InBounds (fresh v t p)
 unfolding fresh
-fresh-in-bounds v t p e = let h = opened-in-bounds p e in record { rates = h; before = h; after = h; counted = omega arith; queued = omega arith }
-
-offered-in-bounds : (n : ℕ) (c : Connection) → waiting (c .queue) + n ≤ 65535 → InBounds c → InBounds (offered n c)
-unfolding offered
-offered-in-bounds n c h s = record { rates = s .rates; before = s .before; after = s .after; counted = s .counted; queued = h }
+fresh-in-bounds v t p e = let h = opened-in-bounds p e in record { rates = h; before = h; after = h; counted = omega arith }
 
 cleared : (t : Bool) {y : ℕ} → y ≤ 8_388_608 → cond t 0 y ≤ 8_388_608
 cleared true h = omega arith
@@ -92,7 +92,6 @@ after-backward-cell-in-bounds f c s =
       before = s .rates;
       after = h;
       counted = cleared (eqb (f .bn) 0) (s .counted);
-      queued = s .queued;
     }
 
 work-in-bounds : (level : ℕ) (o : List ℕ) (f : Fields) (c : Connection) → InBounds c → InBounds (afterResourceCell level o f c)
@@ -111,10 +110,9 @@ after-in-bounds Forward t c s =
       before = rw p (s .before);
       after = rw p (s .after);
       counted = omega arith;
-      queued = s .queued;
     }
 after-in-bounds Turned t c s = s
-after-in-bounds Data t c s = record { rates = s .rates; before = s .before; after = s .after; counted = s .counted; queued = omega (arith, s .queued) }
+after-in-bounds Data t c s = s
 
 -- At a time.
 pace-later : (now later n : ℕ) (p : Pace) → now ≤ later → PaceFits now n p → PaceFits later n p
@@ -138,17 +136,24 @@ valid-later now later h c p = (
   p .1,
   record { level = p .2 .level; past = not-after-later now later h (c .destination .made .last) (p .2 .past) },
   not-after-later now later h (c .outside) (p .3),
+  p .4,
 )
 
-pub fresh-valid : (v t : ℕ) (p : Params) → 32 ≤ vciIn v → v < noName → paramsFit p ≡ true → ValidAt t (fresh v t p)
+pub fresh-valid : (v t : ℕ) (p : Params) → (isPath v ≡ false → firstVci ≤ vciIn v) → v < noName → paramsFit p ≡ true → ValidAt t (fresh v t p)
 unfolding fresh
-fresh-valid v t p l u e = (record { assigned = l; coded = u; fits = e; trmTime = refl; past = le-refl t; paced = tt }, fresh-in-bounds v t p e, record { level = omega arith; past = tt }, tt)
+fresh-valid v t p l u e = (
+  record { assigned = l; coded = u; fits = e; trmTime = refl; past = le-refl t; paced = tt },
+  fresh-in-bounds v t p e,
+  record { level = omega arith; past = tt },
+  tt,
+  record { channel = λ i. omega arith; path = omega arith; served = omega arith },
+)
 
 -- the same fixed parts, with this pace
 same-parts-valid :
     {now : ℕ} (c d : Connection) → Same c d → ValidAt now c → PaceFits now (nrm (c .rate .params)) (d .pace) → InBounds d → MadeValidAt now (d .destination .made)
-    → d .outside ≡ c .outside → ValidAt now d
-same-parts-valid {now} c d s p h g m o = (
+    → d .outside ≡ c .outside → QueueFits (c .name) (d .queue) → ValidAt now d
+same-parts-valid {now} c d s p h g m o q = (
   record {
     assigned = rw (s .name) (p .0 .assigned);
     coded = rw (s .name) (p .0 .coded);
@@ -160,11 +165,36 @@ same-parts-valid {now} c d s p h g m o = (
   g,
   m,
   rw o (p .3),
+  rw (s .name) q,
 )
 
-pub offered-valid : {now : ℕ} (n : ℕ) (c : Connection) → waiting (c .queue) + n ≤ 65535 → ValidAt now c → ValidAt now (offered n c)
+-- an offer within the bounds of a channel, or of a path
+pub offered-valid :
+    {now : ℕ} (n : ℕ) (c : Connection) → (isPath (c .name) ≡ false → waiting (c .queue) + n ≤ 65535) → waiting (c .queue) + n ≤ memberCapacity * 65535
+    → ValidAt now c → ValidAt now (offered n c)
 unfolding offered
-offered-valid n c h p = (p .0, offered-in-bounds n c h (p .1), p .2, p .3)
+offered-valid n c h k p = (p .0, p .1, p .2, p .3, record { channel = h; path = k; served = p .4 .served })
+
+-- fewer cells wait
+less-fits : (n v : ℕ) (l : Queue) → QueueFits v l → QueueFits v (dequeued n l)
+less-fits n v l h = record { channel = λ e. omega (arith, h .channel e); path = omega (arith, h .path); served = h .served }
+
+pub less-valid : {now : ℕ} (n : ℕ) (c : Connection) → ValidAt now c → ValidAt now (withQueue c (dequeued n (c .queue)))
+less-valid n c p = (p .0, p .1, p .2, p .3, less-fits n (c .name) (c .queue) (p .4))
+
+-- another member was served last
+pub served-same : (x : Option ℕ) (c : Connection) → Same c (withServed x c)
+unfolding withServed
+served-same x c = record { name = refl; opened = refl; trm = refl; params = refl }
+
+last-fits : (x : Option ℕ) (q : ℕ) → q ≤ 65535 → lastAfter x q ≤ 65535
+unfolding lastAfter
+last-fits none q h = h
+last-fits (some x) q h = omega arith
+
+pub served-valid : {now : ℕ} (x : Option ℕ) (c : Connection) → ValidAt now c → ValidAt now (withServed x c)
+unfolding withServed
+served-valid x c p = (p .0, p .1, p .2, p .3, record { channel = p .4 .channel; path = p .4 .path; served = last-fits x (c .queue .served) (p .4 .served) })
 
 pub after-data-cell-valid : {now : ℕ} (e : Bool) (c : Connection) → ValidAt now c → ValidAt now (afterDataCell e c)
 unfolding afterDataCell
@@ -201,7 +231,7 @@ made-same t level c = record { name = refl; opened = refl; trm = refl; params = 
 
 pub made-valid : (t level : ℕ) (c : Connection) → level ≤ 2 → ValidAt t c → ValidAt t (withMade t level c)
 unfolding withMade
-made-valid t level c h p = (p .0, p .1, record { level = h; past = le-refl t }, p .3)
+made-valid t level c h p = (p .0, p .1, record { level = h; past = le-refl t }, p .3, p .4)
 
 -- a cell outside the rate now
 pub out-of-rate-same : (t : ℕ) (c : Connection) → Same c (afterOutOfRate t c)
@@ -210,11 +240,19 @@ out-of-rate-same t c = record { name = refl; opened = refl; trm = refl; params =
 
 pub out-of-rate-valid : (t : ℕ) (c : Connection) → ValidAt t c → ValidAt t (afterOutOfRate t c)
 unfolding afterOutOfRate
-out-of-rate-valid t c p = (p .0, p .1, p .2, le-refl t)
+out-of-rate-valid t c p = (p .0, p .1, p .2, le-refl t, p .4)
+
+pub work-queue : (level : ℕ) (o : List ℕ) (f : Fields) (c : Connection) → afterResourceCell level o f c .queue ≡ c .queue
+unfolding afterResourceCell afterBackwardCell afterForwardCell
+work-queue level o f c = go (eqb (f .dir) 1)
+  where
+    go : (t : Bool) → cond t (afterBackwardCell f c) (afterForwardCell level o c) .queue ≡ c .queue
+    go true = refl
+    go false = refl
 
 pub work-valid : {now : ℕ} (level : ℕ) (o : List ℕ) (f : Fields) (c : Connection) → ValidAt now c → ValidAt now (afterResourceCell level o f c)
 work-valid level o f c p =
-    same-parts-valid c (afterResourceCell level o f c) (work-same level o f c) p (rw (work-pace level o f c) (p .0 .paced)) (work-in-bounds level o f c (p .1)) (rw (work-made level o f c) (p .2)) (work-out-of-rate level o f c)
+    same-parts-valid c (afterResourceCell level o f c) (work-same level o f c) p (rw (work-pace level o f c) (p .0 .paced)) (work-in-bounds level o f c (p .1)) (rw (work-made level o f c) (p .2)) (work-out-of-rate level o f c) (rw (work-queue level o f c) (p .4))
 
 -- A cell that is no forward cell leaves k below Nrm.
 pub not-forward : (k : Kind) (t : ℕ) (c : Connection) → kindAt t c ≡ k → k ≢ Forward → isForward t c (c .pace) ≡ false
@@ -271,6 +309,12 @@ after-out-of-rate Forward t c = refl
 after-out-of-rate Turned t c = refl
 after-out-of-rate Data t c = refl
 
+after-queue : (k : Kind) (t : ℕ) (c : Connection) → QueueFits (c .name) (c .queue) → QueueFits (c .name) (after k t c .queue)
+unfolding after sentForward sentTurned sentData
+after-queue Forward t c h = h
+after-queue Turned t c h = h
+after-queue Data t c h = less-fits 1 (c .name) (c .queue) h
+
 pub after-valid : (k : Kind) (t : ℕ) (c : Connection) → kindAt t c ≡ k → ValidAt t c → ValidAt t (after k t c)
 after-valid k t c e p =
-    same-parts-valid c (after k t c) (after-same k t c) p (after-pace k t c e (p .0 .paced)) (after-in-bounds k t c (p .1)) (after-made k t c (p .2)) (after-out-of-rate k t c)
+    same-parts-valid c (after k t c) (after-same k t c) p (after-pace k t c e (p .0 .paced)) (after-in-bounds k t c (p .1)) (after-made k t c (p .2)) (after-out-of-rate k t c) (after-queue k t c (p .4))

@@ -3,11 +3,13 @@ use Prim.Native.Nat.{ℕ, _<_}
 use mathlib.Core.Path.{_≡_, refl, ap, ap₂, _∙_}
 use mathlib.Core.Logic.{_≢_}
 use mathlib.Core.Bool.{Bool, true, false, cond}
+use mathlib.Core.Option.{Option}
 use native.Mathlib.Omega.{arith}
 use lib.Dec.{eqb}
 use borrow.Author.Tests.{eq-eqb, ne-eqb, eqb-false}
 use Rattle.moves.specs.declared.moves.Rate.{Rate}
-use Rattle.connection.specs.Parts.{Connection, Pace, Unsent, Running}
+use Rattle.connection.specs.Parts.{Connection, Pace, Unsent, Running, waiting}
+use Rattle.connection.specs.Sending.{withServed}
 use Rattle.connection.specs.OutOfRate.{afterOutOfRate}
 use Rattle.connection.specs.Ready.{Instant, Never, At, backwardWaits, anyWaits, lastBefore, readyFrom, readyInstant}
 
@@ -36,12 +38,12 @@ unfolding readyFrom lastBefore anyWaits
 from-same c d o t q a Unsent = rw (o, a)
 from-same c d o t q a (Running sent forward k turned) = rw (t, q, a)
 
-waits-same : (c d : Connection) → d .queue ≡ c .queue → d .destination .turned ≡ c .destination .turned → d .destination .made ≡ c .destination .made → anyWaits d ≡ anyWaits c
+waits-same : (c d : Connection) → waiting (d .queue) ≡ waiting (c .queue) → d .destination .turned ≡ c .destination .turned → d .destination .made ≡ c .destination .made → anyWaits d ≡ anyWaits c
 unfolding anyWaits backwardWaits
 waits-same c d l t m = rw (l, t, m)
 
 pub ready-same :
-    (c d : Connection) → d .opened ≡ c .opened → d .trm ≡ c .trm → d .rate ≡ c .rate → d .pace ≡ c .pace → d .queue ≡ c .queue → d .destination .turned ≡ c .destination .turned
+    (c d : Connection) → d .opened ≡ c .opened → d .trm ≡ c .trm → d .rate ≡ c .rate → d .pace ≡ c .pace → waiting (d .queue) ≡ waiting (c .queue) → d .destination .turned ≡ c .destination .turned
     → d .destination .made ≡ c .destination .made → readyInstant d ≡ readyInstant c
 unfolding readyInstant
 ready-same c d o t q p l u m =
@@ -52,3 +54,8 @@ ready-same c d o t q p l u m =
 pub ready-outside : (t : ℕ) (c : Connection) → readyInstant (afterOutOfRate t c) ≡ readyInstant c
 unfolding afterOutOfRate
 ready-outside t c = ready-same c (afterOutOfRate t c) refl refl refl refl refl refl refl
+
+-- nor does the member that was served last
+pub ready-served : (x : Option ℕ) (c : Connection) → readyInstant (withServed x c) ≡ readyInstant c
+unfolding withServed
+ready-served x c = ready-same c (withServed x c) refl refl refl refl refl refl refl

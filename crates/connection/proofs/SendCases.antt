@@ -51,7 +51,7 @@ module _ (x : ℕ) (c : Connection) {a r : Connection} where
   unfolding sentTurned
   turned-is p a m r = rw (r, a, p, m)
 
-  pub data-is : {p : Pace} {n : ℕ} → n ≡ c .queue .cells - 1 → p ≡ paced x false (c .pace) → a ≡ withPace c p → r ≡ withQueue a (record { cells = n }) → r ≡ sentData x c
+  pub data-is : {p : Pace} {n : ℕ} → n ≡ c .queue .cells - 1 → p ≡ paced x false (c .pace) → a ≡ withPace c p → r ≡ withQueue a (record { cells = n; served = c .queue .served }) → r ≡ sentData x c
   unfolding sentData
   data-is n p a r = rw (r, a, p, n)
 

@@ -1,34 +1,41 @@
 -- What holds of each open connection in every table that the calls make from an empty one.
 -- It is said of the parts, so that it goes over by itself to a connection with the same parts.
-use Prim.Native.Nat.{ℕ, _≤_, _<_}
+use Prim.Native.Nat.{ℕ, _*_, _≤_, _<_}
 use mathlib.Core.Path.{_≡_}
-use mathlib.Core.Bool.{true}
+use mathlib.Core.Bool.{true, false}
 use Rattle.params.specs.declared.params.Params.{Params}
 use Rattle.moves.specs.declared.moves.Rate.{Rate}
 use Rattle.params.specs.Params.{nrm, paramsFit, trmTime}
 use Rattle.moves.specs.Bounds.{Between, RateInBounds}
 use Rattle.cell.specs.Name.{vciIn, noName}
+use Rattle.members.specs.Path.{isPath, firstVci}
+use Rattle.members.specs.Members.{memberCapacity}
 use Rattle.connection.specs.Parts.{Connection, Pace, Unsent, Running, Queue, Change, Made, Instant, Never, At, waiting}
 
--- whatever the time: the rate between its bounds, and so those before and after the last backward cell; Y and the waiting data within theirs
-pub record PartsInBounds (q : Rate) (y : ℕ) (l : Queue) (x : Change) : Type 0 where
+-- whatever the time: the rate between its bounds, and so those before and after the last backward cell; Y within its own
+pub record PartsInBounds (q : Rate) (y : ℕ) (x : Change) : Type 0 where
   pub rates : RateInBounds q
   pub before : Between (q .params) (x .before)
   pub after : Between (q .params) (x .after)
   pub counted : y ≤ 8_388_608
-  pub queued : waiting l ≤ 65535
 
 abbrev pub InBounds : Connection → Type 0
-InBounds c = PartsInBounds (c .rate) (c .unacked) (c .queue) (c .change)
+InBounds c = PartsInBounds (c .rate) (c .unacked) (c .change)
+
+-- the data of a channel is at most 65,535 cells, that of a path at most as much for each of its members (document 02, L13)
+pub record QueueFits (name : ℕ) (l : Queue) : Type 0 where
+  pub channel : isPath name ≡ false → waiting l ≤ 65535
+  pub path : waiting l ≤ memberCapacity * 65535
+  pub served : l .served ≤ 65535
 
 -- no cell was sent after now, no forward cell after the last cell, and k is below Nrm
 abbrev pub PaceFits : (now nrm : ℕ) → Pace → Type 0
 PaceFits now n Unsent = Unit
 PaceFits now n (Running sent forward k turned) = (forward ≤ sent) × (sent ≤ now) × (k < n)
 
--- a connection's name, of 24 bits and a VCI from 32 on, parameters and instants, at the time of the last accepted open, slot, making or cell outside the rate
+-- a connection's name, of 24 bits, with a path's VCI or one from 32 on, parameters and instants, at the time of the last accepted open, slot, making or cell outside the rate
 pub record PartsValidAt (now name opened trm : ℕ) (p : Params) (pace : Pace) : Type 0 where
-  pub assigned : 32 ≤ vciIn name
+  pub assigned : isPath name ≡ false → firstVci ≤ vciIn name
   pub coded : name < noName
   pub fits : paramsFit p ≡ true
   pub trmTime : trm ≡ trmTime (p .trm)
@@ -48,3 +55,4 @@ pub record MadeValidAt (now : ℕ) (m : Made) : Type 0 where
 abbrev pub ValidAt : (now : ℕ) → Connection → Type 0
 ValidAt now c =
     PartsValidAt now (c .name) (c .opened) (c .trm) (c .rate .params) (c .pace) × InBounds c × MadeValidAt now (c .destination .made) × NotAfter now (c .outside)
+    × QueueFits (c .name) (c .queue)

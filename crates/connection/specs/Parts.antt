@@ -1,4 +1,4 @@
--- A connection, its parts, and the same connection with one part changed. (Document 01, "Opening"; document 02, L9.)
+-- A connection, its parts, and the same connection with one part changed. (Document 01, "Opening"; document 02, L9 and L13.)
 use Prim.Native.Nat.{ℕ, _+_, _-_}
 use mathlib.Core.Bool.{false}
 use Rattle.params.specs.declared.params.Params.{Params}
@@ -39,15 +39,15 @@ withDestination c b = record { name = c .name; opened = c .opened; trm = c .trm;
 abbrev pub withOutside : Connection → Instant → Connection
 withOutside c i = record { name = c .name; opened = c .opened; trm = c .trm; rate = c .rate; pace = c .pace; unacked = c .unacked; queue = c .queue; change = c .change; destination = c .destination; outside = i }
 
--- the data cells that wait; n more; one less
+-- the data cells that wait; n more; n less
 abbrev pub waiting : Queue → ℕ
 waiting l = l .cells
 
 abbrev pub enqueued : ℕ → Queue → Queue
-enqueued n l = record { cells = l .cells + n }
+enqueued n l = record { cells = l .cells + n; served = l .served }
 
-abbrev pub dequeued : Queue → Queue
-dequeued l = record { cells = l .cells - 1 }
+abbrev pub dequeued : ℕ → Queue → Queue
+dequeued n l = record { cells = l .cells - n; served = l .served }
 
 -- no cell waits, none was made, and no EFCI is saved
 abbrev pub freshDestination : Destination
@@ -66,7 +66,7 @@ fresh v t p = record {
   rate = opened p;
   pace = Unsent;
   unacked = 0;
-  queue = record { cells = 0 };
+  queue = record { cells = 0; served = 0 };
   change = changed (initial p) (initial p);
   destination = freshDestination;
   outside = Never;

@@ -1,7 +1,8 @@
--- What a slot at t makes of the connection that it goes to, and what it writes. (Document 01, "Slots"; document 02, L6.)
+-- What a slot at t makes of the connection that it goes to, and what it writes. (Document 01, "Slots"; document 02, L6 and L13.)
 use Prim.Native.Nat.{ℕ, _+_, _-_, min}
 use mathlib.Core.Bool.{Bool, true, false, _||_}
 use mathlib.Core.List.{List}
+use mathlib.Core.Option.{Option, none}
 use Rattle.moves.specs.declared.moves.Rate.{Rate}
 use Rattle.params.specs.declared.params.Params.{Params}
 use Rattle.rate.specs.Code.{codeOf}
@@ -11,6 +12,8 @@ use Rattle.cell.specs.declared.fields.Fields.{Fields}
 use Rattle.cell.specs.Name.{vpiIn, vciIn}
 use Rattle.cell.specs.Fields.{resourceCell}
 use Rattle.cell.specs.Turning.{turnedCell}
+use Rattle.members.specs.Members.{Member}
+use Rattle.members.specs.Turn.{turn, lastAfter}
 use Rattle.connection.specs.Parts.{Connection, Pace, Unsent, Running, Waiting, Nothing, Cell, Made, withRate, withPace, withUnacked, withQueue, withDestination, dequeued}
 use Rattle.connection.specs.Kind.{Kind, Forward, Turned, Data}
 use Rattle.connection.specs.Making.{madeFields}
@@ -41,12 +44,22 @@ sentTurned t c =
     (record { efci = c .destination .efci; turned = Nothing; made = madeLeft (c .destination .turned) (c .destination .made) })
 
 unfoldable pub sentData : ℕ → Connection → Connection
-sentData t c = withQueue (withPace c (paced t false (c .pace))) (dequeued (c .queue))
+sentData t c = withQueue (withPace c (paced t false (c .pace))) (dequeued 1 (c .queue))
 
 unfoldable pub after : Kind → ℕ → Connection → Connection
 after Forward t c = sentForward t c
 after Turned t c = sentTurned t c
 after Data t c = sentData t c
+
+-- the member that a cell is taken from: a data cell of a path from the one whose turn it is; a channel has none
+unfoldable pub memberServed : Kind → Connection → List Member → Option ℕ
+memberServed Forward c ms = none
+memberServed Turned c ms = none
+memberServed Data c ms = turn (c .name) (c .queue .served) ms
+
+-- a path keeps the VCI of the member that was served last
+unfoldable pub withServed : Option ℕ → Connection → Connection
+withServed x c = withQueue c (record { cells = c .queue .cells; served = lastAfter x (c .queue .served) })
 
 -- a forward cell: its connection's VPI and VCI; the codes of PCR as ER, of ACR as CCR, and of MCR; the five bits, QL and SN 0
 unfoldable pub forwardFields : (name : ℕ) → Rate → Fields

@@ -1,4 +1,4 @@
-// The parts of a connection (document 01, "Opening", "Turning cells round" and "Slots"; document 02, L9).
+// The parts of a connection (document 01, "Opening", "Turning cells round" and "Slots"; document 02, L9 and L13).
 ghost use mathlib.Core.Path.{_≡_};
 ghost use Rattle.connection.specs.Parts.{fresh, withRate, withPace, withUnacked, withQueue, withChange, withDestination, withOutside};
 use crate::ready::Instant;
@@ -19,9 +19,10 @@ pub enum Pace {
     },
 }
 
-// The data cells that wait.
+// The data cells that wait: on a path those of all its members. Of a path also the VCI of the member that was served last, 0 before any (document 02, L13).
 pub struct Queue {
     pub cells: u32,
+    pub served: u32,
 }
 
 // The allowed rate before the last backward cell and after it; before the first one both are the initial rate (document 02, L9).
@@ -78,7 +79,10 @@ impl Connection {
             rate,
             pace: Pace::Unsent,
             unacked: 0,
-            queue: Queue { cells: 0 },
+            queue: Queue {
+                cells: 0,
+                served: 0,
+            },
             change: Change {
                 before: rate.acr,
                 after: rate.acr,

@@ -3,12 +3,14 @@ use mathlib.Core.Path.{refl}
 use Rattle.model.specs.State.{withLevel}
 use Rattle.model.specs.Tournament.{instantLead, leafLead, first, winnerAt, leadWord, ends, replayedFrom, replayed}
 use Rattle.model.specs.Call.{comparisons}
-use Rattle.model.specs.Step.{refuse, discard, closeStep, levelStep, idleStep}
+use Rattle.members.specs.Members.{cellsWhere, without, withMember, withCells, owner}
+use Rattle.connection.specs.Receiving.{afterDataCell}
+use Rattle.model.specs.Step.{refuse, discard, openPathStep, closeStep, withOffer, withoutOne, addStep, offerMemberStep, removeStep, dataCellStep, levelStep, idleStep}
 use Rattle.counts.specs.Counts.{Counts}
 use Rattle.examples.proofs.Witness.{computing}
 
 pub counts : Counts
-unfolding computing withLevel instantLead leafLead first winnerAt leadWord ends replayedFrom replayed comparisons refuse discard closeStep levelStep idleStep
+unfolding computing cellsWhere withMember withCells owner afterDataCell openPathStep withOffer withoutOne addStep offerMemberStep removeStep dataCellStep withLevel instantLead leafLead first winnerAt leadWord ends replayedFrom replayed comparisons refuse discard without closeStep levelStep idleStep
 counts = record {
   opened = refl;
   openedBeside = refl;
@@ -24,4 +26,10 @@ counts = record {
   idleSlot = refl;
   levelSet = refl;
   notOpen = refl;
+  pathOpened = refl;
+  memberAdded = refl;
+  memberOffered = refl;
+  memberRemoved = refl;
+  idleRemoved = refl;
+  memberMarked = refl;
 }

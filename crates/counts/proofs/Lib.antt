@@ -1,2 +1,3 @@
 -- Each computed.
 pub mod Counts
+pub mod Crowded

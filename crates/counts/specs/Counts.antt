@@ -1,13 +1,14 @@
 -- The comparisons of single calls, computed from the empty table: 1 where the leaf wins nothing, up to the first match that it does not win, and 10 up to the root.
--- (Document 02, L4.)
+-- (Document 02, L4 and L13.)
 use Prim.Native.Nat.{ℕ}
 use mathlib.Core.Path.{_≡_}
 use mathlib.Core.List.{List, [], _∷_}
 use Rattle.model.specs.State.{empty}
-use Rattle.model.specs.Call.{Call, opening, closing, offering, levelling, slot, comparisons}
+use Rattle.model.specs.Call.{Call, opening, closing, offering, levelling, slot, openingPath, adding, offeringMember, removing, comparisons}
 use Rattle.model.specs.Step.{step}
 use Rattle.model.specs.Run.{final}
 use Rattle.examples.specs.Unstarred.{house}
+use Rattle.path_calls.specs.PathRefusals.{dataCell}
 
 -- the comparisons of a call after these calls from the empty table
 abbrev pub counted : List Call → Call → ℕ
@@ -31,6 +32,13 @@ pairs = opening 0 33 0 house ∷ opening 0 34 0 house ∷ opening 0 35 0 house �
 abbrev pub crossed : List Call
 crossed = opening 0 34 0 house ∷ opening 0 33 0 house ∷ offering 0 34 1 ∷ []
 
+-- the path of VPI 1 in leaf 0 with the member VCI 40; and data on it
+abbrev pub path : List Call
+path = openingPath 1 0 house ∷ adding 1 40 ∷ []
+
+abbrev pub pathReady : List Call
+pathReady = openingPath 1 0 house ∷ adding 1 40 ∷ offeringMember 1 40 2 ∷ []
+
 pub record Counts : Type 0 where
   pub opened : counted [] (opening 0 33 0 house) ≡ 1
   pub openedBeside : counted oneReady (opening 0 34 0 house) ≡ 1
@@ -53,3 +61,10 @@ pub record Counts : Type 0 where
   pub idleSlot : counted one (slot 0 53) ≡ 0
   pub levelSet : counted oneReady (levelling 1) ≡ 0
   pub notOpen : counted oneReady (closing 0 34) ≡ 0
+  -- a member's calls replay its path's leaf, and adding replays none
+  pub pathOpened : counted [] (openingPath 1 0 house) ≡ 1
+  pub memberAdded : counted path (adding 1 50) ≡ 0
+  pub memberOffered : counted path (offeringMember 1 40 1) ≡ 10
+  pub memberRemoved : counted pathReady (removing 1 40) ≡ 10
+  pub idleRemoved : counted path (removing 1 40) ≡ 1
+  pub memberMarked : counted pathReady (dataCell 1 40 1) ≡ 10

@@ -1,2 +1,3 @@
--- The comparisons that some calls make.
+-- The comparisons that some calls make, and as many members as there can be.
 pub mod Counts
+pub mod Crowded

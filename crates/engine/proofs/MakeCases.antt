@@ -69,7 +69,7 @@ make-out s w e {v} {i} h p t done u =
     let z = replay-well-formed w (making (vpiIn v) (vciIn v) t) (leafOf v s) (put v (taken d) (withTime t s)) (ap (λ (u : ℕ). makeStep s u t) (pair-of s w p) ∙ done) in
     let b =
     put-becomes s v (p .place) (taken d)
-    (u .is s w e (p .holder) (p .here) (made-same t (s .level) (p .holder) .name) (same-fixed (p .holder) d (made-same t (s .level) (p .holder))) (made-moved t (s .level) (p .holder))
+    (u .is s (w .size) e (p .holder) (p .here) (made-same t (s .level) (p .holder) .name) (same-fixed (p .holder) d (made-same t (s .level) (p .holder))) (made-moved t (s .level) (p .holder))
     (subst (λ (r : State). Ordered (r .entries)) (put-at s v (p .place) (taken d)) (ordered z))) in
     replayed-out (leafOf v s) s (put v (taken d) (withTime t s))
     (ap (λ (x : List ℕ). set x lastAt t) (b .0) ∙ time-word (put v (taken d) s) t ∙ ap words (later-put s v t d), b .1) done

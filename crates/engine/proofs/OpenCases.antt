@@ -1,63 +1,73 @@
--- One lemma for each way out of an open.
-use Prim.Native.Nat.{ℕ, _≤_, _<_}
+-- One lemma for each way out of an open, of a channel or of a path.
+use Prim.Native.Nat.{ℕ, _^_, _≤_, _<_}
 use mathlib.Core.Path.{_≡_, sym, ap, subst, _∙_}
-use mathlib.Core.Bool.{true, false}
+use mathlib.Core.Logic.{_≢_}
+use mathlib.Core.Bool.{true, false, not}
 use mathlib.Core.List.{List}
+use native.Mathlib.Omega.{arith}
 use lib.Dec.{leb}
-use lib.ListN.{getD, set}
+use lib.ListN.{getD, set, length-set}
 use borrow.Author.Tests.{le-leb, lt-leb}
 use Rattle.params.specs.declared.params.Params.{Params}
 use Rattle.rate.specs.Units.{latestTime}
 use Rattle.rate.specs.Code.{codesClear}
 use Rattle.params.specs.Params.{paramsFit}
 use Rattle.cell.specs.Name.{pairName}
+use Rattle.members.specs.Path.{firstVci}
+use Rattle.members.specs.Members.{isMember}
 use Rattle.connection.specs.declared.parts.Connection.{Connection}
 use Rattle.connection.specs.Parts.{fresh}
+use Rattle.connection.specs.Range.{InstantBelow}
+use Rattle.connection.specs.Ready.{readyInstant}
+use Rattle.connection.proofs.Ranged.{fresh-ranged}
+use Rattle.connection.proofs.Reached.{ready-below}
 use Rattle.model.specs.State.{State, Entry, free, taken, find, inserted, roomLeft, withTime, isFree, position, capacity}
 use Rattle.model.specs.Invariant.{WellFormed}
 use Rattle.table.specs.Layout.{words, lastAt}
 use Rattle.names.specs.Finding.{FoundInRange, Vacant, FindsFree}
 use Rattle.names.specs.declared.find.Found.{Found}
 use Rattle.names.specs.declared.find.Found.the-variants.{At, Nothing}
-use Rattle.model.proofs.Entries.{lowest-free}
-use Rattle.model.specs.Call.{opening}
-use Rattle.model.specs.Step.{refuse, replay, openStep, step}
+use Rattle.model.proofs.Entries.{lowest-free, each-set, unique-set, find-absent}
+use Rattle.model.specs.Step.{refuse, replay, admit, openStep}
 use Rattle.model.specs.Tournament.{replayed}
 use Rattle.model.specs.declared.answer.Answer.the-variants.{Accepted}
 use Rattle.storing.specs.Updates.{withEntry, Takes}
 use Rattle.tournament.specs.Replaying.{Ordered}
-use Rattle.engine.proofs.Outcomes.{replayed-out, replay-well-formed, ordered, time-word, last-word}
+use Rattle.engine.proofs.Outcomes.{replayed-out, ordered, time-word, last-word}
 use Rattle.laws.specs.Require.{require}
 
 module _ (s : State) (a b t : ℕ) (p : Params) where
-  pub open-low : b < 32 → openStep s a b t p ≡ refuse s 10
+  pub open-low : b < firstVci → openStep s a b t p ≡ refuse s 10
   unfolding openStep require
-  open-low h = rw (lt-leb 32 b h)
+  open-low h = rw (lt-leb firstVci b h)
 
-  pub open-reserved : 32 ≤ b → codesClear (p .pcr) (p .mcr) (p .icr) ≡ false → openStep s a b t p ≡ refuse s 19
+  pub open-high : firstVci ≤ b → openStep s a b t p ≡ admit s a b t p
   unfolding openStep require
-  open-reserved l k = rw (le-leb 32 b l, k)
+  open-high h = rw (le-leb firstVci b h)
 
-  module _ (l : 32 ≤ b) (k : codesClear (p .pcr) (p .mcr) (p .icr) ≡ true) where
-    pub open-far : 255 < a → openStep s a b t p ≡ refuse s 7
-    unfolding openStep require
-    open-far h = rw (le-leb 32 b l, k, lt-leb a 255 h)
+  pub open-reserved : codesClear (p .pcr) (p .mcr) (p .icr) ≡ false → admit s a b t p ≡ refuse s 19
+  unfolding admit require
+  open-reserved k = rw k
 
-    pub open-wide : a ≤ 255 → 65535 < b → openStep s a b t p ≡ refuse s 7
-    unfolding openStep require
-    open-wide g h = rw (le-leb 32 b l, k, le-leb a 255 g, lt-leb b 65535 h)
+  module _ (k : codesClear (p .pcr) (p .mcr) (p .icr) ≡ true) where
+    pub open-far : 255 < a → admit s a b t p ≡ refuse s 7
+    unfolding admit require
+    open-far h = rw (k, lt-leb a 255 h)
 
-    pub open-unfit : a ≤ 255 → b ≤ 65535 → paramsFit p ≡ false → openStep s a b t p ≡ refuse s 7
-    unfolding openStep require
-    open-unfit g h f = rw (le-leb 32 b l, k, le-leb a 255 g, le-leb b 65535 h, f)
+    pub open-wide : a ≤ 255 → 65535 < b → admit s a b t p ≡ refuse s 7
+    unfolding admit require
+    open-wide g h = rw (k, le-leb a 255 g, lt-leb b 65535 h)
 
-    pub open-late : a ≤ 255 → b ≤ 65535 → paramsFit p ≡ true → latestTime < t → openStep s a b t p ≡ refuse s 8
-    unfolding openStep require
-    open-late g h f y = rw (le-leb 32 b l, k, le-leb a 255 g, le-leb b 65535 h, f, lt-leb t latestTime y)
+    pub open-unfit : a ≤ 255 → b ≤ 65535 → paramsFit p ≡ false → admit s a b t p ≡ refuse s 7
+    unfolding admit require
+    open-unfit g h f = rw (k, le-leb a 255 g, le-leb b 65535 h, f)
+
+    pub open-late : a ≤ 255 → b ≤ 65535 → paramsFit p ≡ true → latestTime < t → admit s a b t p ≡ refuse s 8
+    unfolding admit require
+    open-late g h f y = rw (k, le-leb a 255 g, le-leb b 65535 h, f, lt-leb t latestTime y)
 
 -- the tests of the input that an open has passed
 pub record Passed (a b t : ℕ) (p : Params) : Type 0 where
-  pub low : 32 ≤ b
   pub clear : codesClear (p .pcr) (p .mcr) (p .icr) ≡ true
   pub near : a ≤ 255
   pub high : b ≤ 65535
@@ -66,28 +76,33 @@ pub record Passed (a b t : ℕ) (p : Params) : Type 0 where
 
 module _ (s : State) {a b t : ℕ} {p : Params} (i : Passed a b t p) where
   rest :
-      openStep s a b t p
+      admit s a b t p
       ≡ require (refuse s 12) (isFree (find (pairName a b) (s .entries)))
-      (require (refuse s 13) (roomLeft s) (require (refuse s 14) (leb (s .last) t) (replay (position isFree (s .entries)) s (withTime t (inserted (fresh (pairName a b) t p) s)))))
-  unfolding openStep require
-  rest = rw (le-leb 32 b (i .low), i .clear, le-leb a 255 (i .near), le-leb b 65535 (i .high), i .fits, le-leb t latestTime (i .timely))
+      (require (refuse s 27) (not (isMember (pairName a b) (s .members)))
+      (require (refuse s 13) (roomLeft s) (require (refuse s 14) (leb (s .last) t) (replay (position isFree (s .entries)) s (withTime t (inserted (fresh (pairName a b) t p) s))))))
+  unfolding admit require
+  rest = rw (i .clear, le-leb a 255 (i .near), le-leb b 65535 (i .high), i .fits, le-leb t latestTime (i .timely))
 
-  pub open-taken : (c : Connection) → find (pairName a b) (s .entries) ≡ taken c → openStep s a b t p ≡ refuse s 12
+  pub open-taken : (c : Connection) → find (pairName a b) (s .entries) ≡ taken c → admit s a b t p ≡ refuse s 12
   unfolding require isFree
   open-taken c e = rest ∙ rw e
 
-  module _ (new : find (pairName a b) (s .entries) ≡ free) where
-    pub open-full : roomLeft s ≡ false → openStep s a b t p ≡ refuse s 13
-    unfolding require isFree
-    open-full e = rest ∙ rw (new, e)
+  pub open-member : find (pairName a b) (s .entries) ≡ free → isMember (pairName a b) (s .members) ≡ true → admit s a b t p ≡ refuse s 27
+  unfolding require isFree
+  open-member new e = rest ∙ rw (new, e)
 
-    pub open-early : roomLeft s ≡ true → t < s .last → openStep s a b t p ≡ refuse s 14
+  module _ (new : find (pairName a b) (s .entries) ≡ free) (apart : isMember (pairName a b) (s .members) ≡ false) where
+    pub open-full : roomLeft s ≡ false → admit s a b t p ≡ refuse s 13
     unfolding require isFree
-    open-early e h = rest ∙ rw (new, e, lt-leb (s .last) t h)
+    open-full e = rest ∙ rw (new, apart, e)
 
-    pub open-done : roomLeft s ≡ true → s .last ≤ t → openStep s a b t p ≡ replay (position isFree (s .entries)) s (withTime t (inserted (fresh (pairName a b) t p) s))
+    pub open-early : roomLeft s ≡ true → t < s .last → admit s a b t p ≡ refuse s 14
     unfolding require isFree
-    open-done e h = rest ∙ rw (new, e, le-leb (s .last) t h)
+    open-early e h = rest ∙ rw (new, apart, e, lt-leb (s .last) t h)
+
+    pub open-done : roomLeft s ≡ true → s .last ≤ t → admit s a b t p ≡ replay (position isFree (s .entries)) s (withTime t (inserted (fresh (pairName a b) t p) s))
+    unfolding require isFree
+    open-done e h = rest ∙ rw (new, apart, e, le-leb (s .last) t h)
 
 -- the lowest free entry, as it was found
 module _ {l : List ℕ} {r : Found} (h : FindsFree l r) where
@@ -109,6 +124,18 @@ inserted-at : (s : State) (c : Connection) {i : ℕ} → position isFree (s .ent
 unfolding inserted
 inserted-at s c q = rw q
 
+-- with a new connection the entries are again those that a tournament orders
+inserted-ordered : (s : State) → WellFormed s → (v t : ℕ) (p : Params) → t < 2 ^ 63 → find v (s .entries) ≡ free → Ordered (inserted (fresh v t p) s .entries)
+unfolding inserted fresh
+inserted-ordered s w v t p h e =
+    let c : Connection = fresh v t p in
+    let at : ℕ = position isFree (s .entries) in
+    record {
+      size = length-set (s .entries) at (taken c) ∙ w .size;
+      unique = unique-set (s .entries) at (taken c) (w .unique) (each-set (λ d. d .name ≢ v) (s .entries) (find-absent v (s .entries) e) at free tt);
+      below = each-set (λ d. InstantBelow (readyInstant d)) (s .entries) (ordered w .below) at (taken c) (ready-below c (fresh-ranged v t p h));
+    }
+
 later : (t : ℕ) (s r : State) → s ≡ r → withTime t s .entries ≡ r .entries
 unfolding withTime
 later t s r q = rw q
@@ -116,16 +143,15 @@ later t s r q = rw q
 -- the entry stored, then the time
 pub open-out :
     (s : State) → WellFormed s → {l m : List ℕ} {n : ℕ} → l ≡ words s → (a b t : ℕ) (p : Params) (i : ℕ) → position isFree (s .entries) ≡ i
-    → openStep s a b t p ≡ replay (position isFree (s .entries)) s (withTime t (inserted (fresh (pairName a b) t p) s)) → Takes l m i (fresh (pairName a b) t p) n
-    → (set m lastAt t ≡ words (openStep s a b t p .state)) × (Accepted n ≡ openStep s a b t p .answer)
-unfolding step
-open-out s w e a b t p i q done u =
+    → t ≤ latestTime → find (pairName a b) (s .entries) ≡ free
+    → admit s a b t p ≡ replay (position isFree (s .entries)) s (withTime t (inserted (fresh (pairName a b) t p) s)) → Takes l m i (fresh (pairName a b) t p) n
+    → (set m lastAt t ≡ words (admit s a b t p .state)) × (Accepted n ≡ admit s a b t p .answer)
+open-out s w e a b t p i q h new done u =
     let c : Connection = fresh (pairName a b) t p in
     let at : inserted c s ≡ withEntry s i (taken c) = inserted-at s c q in
-    let z = replay-well-formed w (opening a b t p) (position isFree (s .entries)) (withTime t (inserted c s)) done in
     let y =
-    u .is s w e (ap (λ (k : ℕ). getD (s .entries) k free) (sym q) ∙ lowest-free (s .entries))
-    (subst Ordered (later t (inserted c s) (withEntry s i (taken c)) at) (ordered z)) in
+    u .is s (w .size) e (ap (λ (k : ℕ). getD (s .entries) k free) (sym q) ∙ lowest-free (s .entries))
+    (subst (λ (r : State). Ordered (r .entries)) at (inserted-ordered s w (pairName a b) t p (omega (arith, h)) new)) in
     replayed-out (position isFree (s .entries)) s (withTime t (inserted c s)) (
       ap (λ (x : List ℕ). set x lastAt t) (y .0 ∙ ap words (sym at)) ∙ time-word (inserted c s) t,
       y .1 ∙ ap (λ (k : ℕ). replayed k (s .entries) (set (s .entries) i (taken c))) (sym q)

@@ -1,9 +1,10 @@
 -- What a call on the words of a reached state finds and leaves: shared by the calls' proofs.
-use Prim.Native.Nat.{ℕ, _<_, _%_}
+use Prim.Native.Nat.{ℕ, _≤_, _<_, _%_}
 use mathlib.Core.Path.{_≡_, refl, sym, ap, subst, _∙_}
 use mathlib.Core.List.{List}
 use native.Mathlib.Omega.{arith}
-use lib.ListN.{getD, set}
+use lib.ListN.{length, getD, set, length-set}
+use Rattle.rate.specs.Units.{latestTime}
 use Rattle.cell.specs.Name.{vpiIn, vciIn, noName, pairName}
 use Rattle.cell.proofs.Names.{pair-back}
 use Rattle.connection.specs.declared.parts.Connection.{Connection}
@@ -14,23 +15,29 @@ use Rattle.connection.proofs.Keeps.{Same}
 use Rattle.names.specs.declared.find.Found.{Found}
 use Rattle.names.specs.declared.find.Found.the-variants.{At, Nothing}
 use Rattle.model.specs.State.{State, Entry, free, taken, find, leafOf, put, position, holds, withTime, withLevel, capacity}
-use Rattle.model.specs.Invariant.{WellFormed, OnEntry}
+use Rattle.model.specs.Invariant.{WellFormed, OnEntry, Each, NamesUnique}
 use Rattle.table.specs.Layout.{words, sourceWords, fixedWords, levelAt, lastAt}
 use Rattle.table.specs.Loading.{connectionAt}
 use Rattle.table.specs.Storing.{efciUpdated, outsideUpdated}
 use Rattle.names.specs.Finding.{FoundInRange, Located, Names, Finds}
-use Rattle.model.proofs.Entries.{each-get, each-map}
+use Rattle.model.proofs.Entries.{each-get, each-map, each-set, entry-map, unique-set, freed-absent}
 use Rattle.connection.proofs.Reached.{in-range, ready-below}
 use Rattle.table.proofs.Loaded.{load-ranged, load-room}
 use Rattle.table.proofs.Words.{lead-same, load-at, efci-at, outside-at}
+use Rattle.model.specs.declared.answer.Answer.{Answer}
 use Rattle.model.specs.declared.answer.Answer.the-variants.{Refused, Accepted, Closed}
 use Rattle.model.specs.Call.{Call, Outcome}
 use Rattle.model.specs.Step.{refuse, accept, replay, discard, step}
 use Rattle.model.specs.Tournament.{leafLead, replayed}
 use Rattle.model.proofs.Replays.{replayed-same}
 use Rattle.model.proofs.Reached.{step-well-formed}
-use Rattle.storing.specs.Updates.{Becomes, Updates}
+use Rattle.engine.specs.Contract.{Meets}
+use Rattle.storing.specs.Updates.{Sized, Becomes, Updates}
 use Rattle.tournament.specs.Replaying.{Ordered, Leads}
+
+-- a call whose step is another's on every state
+pub same-meets : {f g : State → Outcome} {l m : List ℕ} {r : Answer} → ((s : State) → g s ≡ f s) → Meets f l m r → Meets g l m r
+same-meets h k = record { meets = λ s w e. rw (h s) (k .meets s w e) }
 
 -- The two plain ways out.
 pub refused-out : {l : List ℕ} {o : Outcome} (s : State) (n : ℕ) → l ≡ words s → o ≡ refuse s n → (l ≡ words (o .state)) × (Refused n ≡ o .answer)
@@ -61,12 +68,20 @@ unfolding replay accept
 replay-well-formed w c x r q = subst (λ (o : Outcome). WellFormed (o .state)) q (step-well-formed w c)
 
 -- its entries are those that a tournament orders
+entries-ordered : (now : ℕ) (ss : List Entry) → now ≤ latestTime → length ss ≡ capacity → NamesUnique ss → Each (ValidAt now) ss → Ordered ss
+entries-ordered now ss h g u v =
+    record { size = g; unique = u; below = each-map (ValidAt now) _ (λ c p. ready-below c (in-range now c h p)) ss v }
+
 pub ordered : {r : State} → WellFormed r → Ordered (r .entries)
-ordered {r} w = record {
-  size = w .size;
-  unique = w .unique;
-  below = each-map (ValidAt (r .last)) _ (λ c v. ready-below c (in-range (r .last) c (w .timely) v)) (r .entries) (w .each);
-}
+ordered {r} w = entries-ordered (r .last) (r .entries) (w .timely) (w .size) (w .unique) (w .each)
+
+-- so are those with a valid connection in the entry of its name, or with none there
+pub put-ordered : {s : State} → WellFormed s → (v : ℕ) (x : Entry) → OnEntry (ValidAt (s .last)) x → OnEntry (λ c. c .name ≡ v) x → Ordered (put v x s .entries)
+unfolding put
+put-ordered {s} w v x p q =
+    entries-ordered (s .last) _ (w .timely) (length-set (s .entries) (position (holds v) (s .entries)) x ∙ w .size)
+    (unique-set (s .entries) (position (holds v) (s .entries)) x (w .unique) (entry-map (λ c. c .name ≡ v) _ (λ c e. rw e (freed-absent v (s .entries) (w .unique))) x q))
+    (each-set (ValidAt (s .last)) (s .entries) (w .each) (position (holds v) (s .entries)) x p)
 
 -- The header's first two words: the level and the last accepted time.
 pub level-word : (s : State) (l : ℕ) → set (words s) levelAt l ≡ words (withLevel l s)
@@ -125,7 +140,7 @@ module _ (s : State) (w : WellFormed s) {v i : ℕ} (p : Located (s .entries) v 
       q ∙ ap (λ (x : List ℕ). connectionAt x i) e ∙ load-at s (w .size) i h (p .holder) (p .here) (w .timely) valid-in
 
 -- The words with one entry changed are those of the state with the name's entry changed.
-pub put-at : (s : State) (v : ℕ) {i : ℕ} → position (holds v) (s .entries) ≡ i → (x : Entry) → put v x s ≡ record { level = s .level; last = s .last; entries = set (s .entries) i x }
+pub put-at : (s : State) (v : ℕ) {i : ℕ} → position (holds v) (s .entries) ≡ i → (x : Entry) → put v x s ≡ record { level = s .level; last = s .last; entries = set (s .entries) i x; members = s .members }
 unfolding put
 put-at s v q x = rw q
 
@@ -140,15 +155,16 @@ put-becomes s v {i} q x {m} {n} h =
     let e = put-at s v q x in
     (h .0 ∙ ap words (sym e), h .1 ∙ ap (λ (k : ℕ). replayed k (s .entries) (set (s .entries) i x)) (sym q) ∙ ap (λ (r : State). replayed (leafOf v s) (s .entries) (r .entries)) (sym e))
 
-module _ (s : State) (w : WellFormed s) {l : List ℕ} (e : l ≡ words s) {v i : ℕ} (h : i < capacity) (p : Located (s .entries) v i) (d : Connection) (k : Same (p .holder) d) where
-  -- a connection that keeps its entry, with what was stored of it
-  pub updated-is :
-      {Moved : Connection → Connection → Type 0} {m : List ℕ} {n : ℕ} → Updates Moved l m i d n → Moved (p .holder) d → WellFormed (put v (taken d) s)
-      → (m ≡ words (put v (taken d) s)) × (n ≡ replayed (leafOf v s) (s .entries) (put v (taken d) s .entries))
-  updated-is u b z =
-      put-becomes s v (p .place) (taken d)
-      (u .is s w e (p .holder) (p .here) (k .name) (same-fixed (p .holder) d k) b (subst (λ (r : State). Ordered (r .entries)) (put-at s v (p .place) (taken d)) (ordered z)))
+-- a connection that keeps its entry, with what was stored of it
+pub updated-is :
+    (s : State) → Sized s → {l : List ℕ} → l ≡ words s → {v i : ℕ} (p : Located (s .entries) v i) (d : Connection) → Same (p .holder) d
+    → {Moved : Connection → Connection → Type 0} {m : List ℕ} {n : ℕ} → Updates Moved l m i d n → Moved (p .holder) d → Ordered (put v (taken d) s .entries)
+    → (m ≡ words (put v (taken d) s)) × (n ≡ replayed (leafOf v s) (s .entries) (put v (taken d) s .entries))
+updated-is s g e {v} p d k u b z =
+    put-becomes s v (p .place) (taken d)
+    (u .is s g e (p .holder) (p .here) (k .name) (same-fixed (p .holder) d k) b (subst (λ (r : State). Ordered (r .entries)) (put-at s v (p .place) (taken d)) z))
 
+module _ (s : State) (w : WellFormed s) {l : List ℕ} (e : l ≡ words s) {v i : ℕ} (h : i < capacity) (p : Located (s .entries) v i) (d : Connection) (k : Same (p .holder) d) where
   pub efci-is :
       {m : List ℕ} {n : ℕ} → sourceWords d ≡ sourceWords (p .holder) → d .destination .turned ≡ p .holder .destination .turned → d .destination .made ≡ p .holder .destination .made
       → d .outside ≡ p .holder .outside → readyInstant d ≡ readyInstant (p .holder) → m ≡ efciUpdated l i (d .destination) → Leads l i n

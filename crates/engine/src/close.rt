@@ -1,7 +1,8 @@
-// Closing a connection, with all that waits on it (document 01, "Opening"; document 02, L12).
+// Closing a connection, with all that waits on it, and with the members of a path (document 01, "Opening"; document 02, L12 and L13).
 ghost use Rattle.model.specs.Step.{closeStep};
 ghost use Rattle.engine.specs.Contract.{Meets};
 use loading::load::load;
+use member_words::change::remove_path;
 use model::answer::Answer;
 use names::find::Found;
 use names::find::find;
@@ -18,5 +19,6 @@ pub fn close(t: &mut [u64; WORDS], name: u32) -> Answer
     let c = load(t, i);
     let cells = c.queue.cells as u64;
     let comparisons = clear(t, i, name);
+    remove_path(t, name);
     Answer::Closed { comparisons, cells }
 }

@@ -1,8 +1,9 @@
-// Opening a connection (document 01, "Opening"; document 02, L6 and L7).
-ghost use Rattle.model.specs.Step.{openStep};
+// Opening a channel or a path (document 01, "Opening"; document 02, L6, L7 and L13).
+ghost use Rattle.model.specs.Step.{admit, openStep, openPathStep};
 ghost use Rattle.engine.specs.Contract.{Meets};
 use cell::name::pair_name;
 use connection::parts::Connection;
+use member_words::find::find as find_member;
 use model::answer::Answer;
 use names::find::Found;
 use names::find::find;
@@ -14,13 +15,10 @@ use storing::store::store;
 use table::layout::LAST;
 use table::layout::WORDS;
 
-// Refusals 10, which looks at the VCI alone, 19, 7, 8, 12, 13, 14.
-pub fn open(t: &mut [u64; WORDS], vpi: u32, vci: u32, time: u64, params: Params) -> Answer
-    ensures { λ r. ⌜ Meets (λ s. openStep s vpi vci time params) (now (t .entry)) (now (t .exit)) r ⌝ }
+// What every open refuses: 19, 7, 8, 12, 27, 13, 14.
+fn admit(t: &mut [u64; WORDS], vpi: u32, vci: u32, time: u64, params: Params) -> Answer
+    ensures { λ r. ⌜ Meets (λ s. admit s vpi vci time params) (now (t .entry)) (now (t .exit)) r ⌝ }
 {
-    if vci < 32 {
-        return Answer::Refused(10);
-    }
     if !codes_clear(params.pcr, params.mcr, params.icr) {
         return Answer::Refused(19);
     }
@@ -40,6 +38,9 @@ pub fn open(t: &mut [u64; WORDS], vpi: u32, vci: u32, time: u64, params: Params)
     let Found::Nothing = find(t, name) else {
         return Answer::Refused(12);
     };
+    let Found::Nothing = find_member(t, name) else {
+        return Answer::Refused(27);
+    };
     let Found::At(i) = find_free(t) else {
         return Answer::Refused(13);
     };
@@ -49,4 +50,21 @@ pub fn open(t: &mut [u64; WORDS], vpi: u32, vci: u32, time: u64, params: Params)
     let comparisons = store(t, i, Connection::fresh(name, time, params));
     t[LAST] = time;
     Answer::Accepted { comparisons }
+}
+
+// Opening a channel: 10 before all that, which looks at the VCI alone.
+pub fn open(t: &mut [u64; WORDS], vpi: u32, vci: u32, time: u64, params: Params) -> Answer
+    ensures { λ r. ⌜ Meets (λ s. openStep s vpi vci time params) (now (t .entry)) (now (t .exit)) r ⌝ }
+{
+    if vci < 32 {
+        return Answer::Refused(10);
+    }
+    admit(t, vpi, vci, time, params)
+}
+
+// Opening the path of a VPI: without 10.
+pub fn open_path(t: &mut [u64; WORDS], vpi: u32, time: u64, params: Params) -> Answer
+    ensures { λ r. ⌜ Meets (λ s. openPathStep s vpi time params) (now (t .entry)) (now (t .exit)) r ⌝ }
+{
+    admit(t, vpi, 6, time, params)
 }

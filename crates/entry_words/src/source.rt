@@ -3,9 +3,10 @@ ghost use mathlib.Core.Path.{_≡_};
 ghost use mathlib.Core.Bool.{cond};
 ghost use Prim.Native.Nat.{_+_, _≤_};
 ghost use Rattle.laws.specs.Blocks.{put};
-ghost use Rattle.table.specs.Layout.{paceTag, paceSent, paceForward, paceK, sourceWords, size};
+ghost use Rattle.table.specs.Layout.{paceTag, paceSent, paceForward, paceK, queueWord, sourceWords, size};
 use connection::parts::Connection;
 use connection::parts::Pace;
+use connection::parts::Queue;
 use table::layout::WORDS;
 
 struct PaceWords {
@@ -45,6 +46,13 @@ fn pace_words(p: Pace) -> PaceWords
     }
 }
 
+// The data that waits, and the VCI served last.
+fn queue_word(q: Queue) -> u64
+    ensures { λ r. ⌜ r ≡ queueWord q ⌝ }
+{
+    q.served as u64 * 4294967296 + q.cells as u64
+}
+
 // The words of the sending side, from index b on.
 pub fn put_source(t: &mut [u64; WORDS], b: usize, c: Connection)
     requires { ⌜ b + 9 ≤ size ⌝ }
@@ -53,10 +61,11 @@ pub fn put_source(t: &mut [u64; WORDS], b: usize, c: Connection)
     let pace = c.pace;
     let p = pace_words(pace);
     let unacked = c.unacked as u64;
-    let cells = c.queue.cells as u64;
+    let queue = c.queue;
+    let waiting = queue_word(queue);
     t[b] = c.rate.acr;
     t[b + 1] = unacked;
-    t[b + 2] = cells;
+    t[b + 2] = waiting;
     t[b + 3] = p.tag;
     t[b + 4] = p.sent;
     t[b + 5] = p.forward;

@@ -7,13 +7,14 @@ use Rattle.connection.specs.OutOfRate.{afterOutOfRate}
 use Rattle.connection.specs.Receiving.{waitingCi, markKept, afterForwardCell}
 use Rattle.connection.specs.Sending.{madeLeft, sentTurned, forwardFields, backwardCell, bufferAfter}
 use Rattle.model.specs.State.{withLevel}
+use Rattle.members.specs.Members.{without}
 use Rattle.model.specs.Step.{refuse, discard, closeStep, levelStep, makeStep, sendOutside, outOfRateStep}
 use Rattle.model.specs.Queries.{entryAcr, acrOf}
 use Rattle.examples.specs.AddressCalls.{AddressCalls}
 use Rattle.examples.proofs.Witness.{computing}
 
 pub address-calls : AddressCalls
-unfolding computing turnedMarks turnedPayload turnedCell rested withMade madeFields afterOutOfRate waitingCi markKept afterForwardCell madeLeft sentTurned forwardFields backwardCell bufferAfter withLevel refuse discard closeStep levelStep makeStep sendOutside outOfRateStep entryAcr acrOf
+unfolding computing turnedMarks turnedPayload turnedCell rested withMade madeFields afterOutOfRate waitingCi markKept afterForwardCell madeLeft sentTurned forwardFields backwardCell bufferAfter withLevel refuse discard without closeStep levelStep makeStep sendOutside outOfRateStep entryAcr acrOf
 address-calls = record {
   reserved = refl;
   reservedFirst = refl;

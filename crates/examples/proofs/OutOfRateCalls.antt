@@ -3,12 +3,13 @@ use mathlib.Core.Path.{refl}
 use Rattle.connection.specs.Interval.{rested}
 use Rattle.connection.specs.OutOfRate.{afterOutOfRate, outOfRateCell}
 use Rattle.connection.specs.Sending.{forwardFields, bufferAfter}
+use Rattle.members.specs.Members.{without}
 use Rattle.model.specs.Step.{refuse, discard, closeStep, idleStep, sendOutside, outOfRateStep}
 use Rattle.examples.specs.OutOfRateCalls.{OutOfRateCalls}
 use Rattle.examples.proofs.Witness.{computing}
 
 pub out-of-rate-calls : OutOfRateCalls
-unfolding computing rested afterOutOfRate outOfRateCell forwardFields bufferAfter refuse discard closeStep idleStep sendOutside outOfRateStep
+unfolding computing rested afterOutOfRate outOfRateCell forwardFields bufferAfter refuse discard without closeStep idleStep sendOutside outOfRateStep
 out-of-rate-calls = record {
   atZero = (refl, refl);
   atRate = (refl, refl);

@@ -76,10 +76,10 @@ verdict cs = judgedOctets (traceOctets 5 7 cs)
 
 pub record OwnTrace : Type 0 where
   pub opens : isAccepted (step (final empty idleFirst) (opening 0 33 1000 slow) .answer) ≡ true
-  pub cells : ownCells idleFirst 0 33 1000 slow mixed ≡ recorded
+  pub cells : ownCells idleFirst (opening 0 33 1000 slow) 33 mixed ≡ recorded
   pub octets : traceOctets 5 7 recorded ≡ recordedOctets
   pub passes : judgedOctets recordedOctets ≡ Passes
-  pub zeroCells : ownCells [] 0 33 0 noMinimum fromZero ≡ cell 0 1 32_000 ∷ cell 29_999_995 3 32_000 ∷ []
+  pub zeroCells : ownCells [] (opening 0 33 0 noMinimum) 33 fromZero ≡ cell 0 1 32_000 ∷ cell 29_999_995 3 32_000 ∷ []
   pub zeroPasses : verdict (cell 0 1 32_000 ∷ cell 29_999_995 3 32_000 ∷ []) ≡ Passes
   -- data before any forward cell
   pub dataFirst : verdict (cell 0 3 16_384 ∷ []) ≡ Breaks 1 1

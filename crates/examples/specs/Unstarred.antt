@@ -31,7 +31,7 @@ result (Refused n) = refused n
 result (Accepted n) = accepted
 result (Closed n k) = closedWith k
 result Idle = idle
-result (Sent v k a n) = sent v k a
+result (Sent v x k a n) = sent x k a
 
 -- what a call answers after these calls from the empty table
 abbrev pub next : List Call → Call → Result

@@ -9,6 +9,7 @@ use lib.ListN.{length}
 use borrow.Author.Tests.{ltb-true}
 use Rattle.params.specs.declared.params.Params.{Params}
 use Rattle.cell.specs.Name.{pairName}
+use Rattle.members.specs.Path.{pathVci}
 use Rattle.connection.specs.declared.parts.Connection.{Connection}
 use Rattle.connection.specs.declared.kind.Kind.the-variants.{Forward, Turned, Data}
 use Rattle.connection.specs.Parts.{fresh}
@@ -20,8 +21,8 @@ use Rattle.model.specs.Choice.{Winner, noneReady, wins, candidateFrom, winner, 
 use Rattle.model.specs.Tournament.{levels, Lead, noLead, leads, instantLead, leafLead, winnerAt, inTime, leadWord, replayed}
 use Rattle.model.specs.declared.answer.Answer.{Answer}
 use Rattle.model.specs.declared.answer.Answer.the-variants.{Refused, Accepted, Closed, Idle, Sent}
-use Rattle.model.specs.Call.{Call, opening, closing, receiving, offering, levelling, slot, making, outOfRate, Outcome, comparisons}
-use Rattle.model.specs.Step.{refuse, accept, replay, discard, sendStep, idleStep, sendOutside, step}
+use Rattle.model.specs.Call.{Call, opening, closing, receiving, offering, levelling, slot, making, outOfRate, openingPath, adding, offeringMember, removing, Outcome, comparisons}
+use Rattle.model.specs.Step.{refuse, accept, replay, discard, sendStep, sendFrom, idleStep, sendOutside, step}
 use Rattle.model.specs.Run.{run, final, isAccepted}
 use Rattle.model.proofs.Entries.{each-at, taken-in, lowest-free, entry-place}
 use Rattle.model.proofs.Frames.{name-of}
@@ -30,7 +31,7 @@ use Rattle.model.proofs.Places.{OnLead, Comes, root-stands, lead-entry}
 use Rattle.model.proofs.Scanned.{root-winner}
 use Rattle.model.proofs.Replays.{replayed-most, replayed-least, replayed-one, replayed-all}
 use Rattle.model.proofs.Preserved.{empty-well-formed}
-use Rattle.model.proofs.Effects.{Effect, refuses, begins, ends, offers, marks, works, levels as levelsTo, idles, sends, makes, leaves, effect}
+use Rattle.model.proofs.Effects.{Effect, refuses, begins, ends, offers, marks, works, levels as levelsTo, idles, sends, makes, leaves, beginsPath, adds, offersMember, removes, effect}
 use Rattle.model.proofs.Reached.{step-well-formed, reached-well-formed}
 use Rattle.answers.specs.Calls.{slotAnswer}
 use Rattle.abr.specs.Exports.{Observation, Matches, AllMatch, neither, both}
@@ -84,6 +85,10 @@ opened-replays (levelling l) sent e = absurd (false≢true e)
 opened-replays (slot t room) sent e = absurd (false≢true e)
 opened-replays (making vpi vci t) sent e = refl
 opened-replays (outOfRate vpi vci t room) sent e = absurd (false≢true e)
+opened-replays (openingPath vpi t p) sent e = refl
+opened-replays (adding vpi vci) sent e = absurd (false≢true e)
+opened-replays (offeringMember vpi vci n) sent e = refl
+opened-replays (removing vpi vci) sent e = refl
 
 none-counted : (c : Call) (accepted : Bool) → (accepted ≡ true → replays c false ≡ true → ⊥) → Counted c accepted false 0
 none-counted c accepted h = record {
@@ -132,12 +137,12 @@ opened-counted {s} w u t p r =
     (ap (leafLead (position isFree (s .entries))) (lowest-free (s .entries))) (ap (instantLead (fresh u t p .name) (position isFree (s .entries))) (fresh-never u t p))
 
 effect-counted : {s : State} → WellFormed s → {c : Call} {o : Outcome} → Effect s c o → CountedAnswer c (o .answer)
-unfolding refuse accept replay discard sendStep idleStep sendOutside withTime isAccepted comparisons
+unfolding refuse accept replay discard sendStep sendFrom idleStep sendOutside withTime isAccepted comparisons
 effect-counted w (refuses c n h) = none-counted c false (λ e _. false≢true e)
 effect-counted w (begins vpi vci t p g) = leaf-counted _ refl _ _ _ (λ _. opened-counted w (pairName vpi vci) t p (g .room))
 effect-counted w (ends vpi vci d f) = leaf-counted _ refl _ _ _ (λ e. absurd (false≢true e))
-effect-counted w (offers vpi vci n d f h) = leaf-counted _ refl _ _ _ (λ e. absurd (false≢true e))
-effect-counted w (marks o vpi vci e d r f) = leaf-counted _ refl _ _ _ (λ e. absurd (false≢true e))
+effect-counted w (offers vpi vci n d f i h) = leaf-counted _ refl _ _ _ (λ e. absurd (false≢true e))
+effect-counted w (marks o vpi vci e v d r i z f) = leaf-counted _ refl _ _ _ (λ e. absurd (false≢true e))
 effect-counted w (works o q d r f) = leaf-counted _ refl _ _ _ (λ e. absurd (false≢true e))
 effect-counted w (levelsTo l h) = none-counted _ true (λ _ e. false≢true e)
 effect-counted w (idles t room g b) = none-counted _ true (λ _ e. false≢true e)
@@ -146,6 +151,10 @@ effect-counted {s} w (sends t room i u g b) =
     (replayed-all (position (holds u) (s .entries)) (omega (arith, found-in u (s .entries) (b .holder) (b .found), w .size)) (s .entries) (w .unique) _ (root-leaf w b))
 effect-counted w (makes vpi vci t d f g b m) = leaf-counted _ refl _ _ _ (λ e. absurd (false≢true e))
 effect-counted w (leaves vpi vci t room d f g b) = none-counted _ true (λ _ e. false≢true e)
+effect-counted w (beginsPath vpi t p g) = leaf-counted _ refl _ _ _ (λ _. opened-counted w (pairName vpi pathVci) t p (g .room))
+effect-counted w (adds vpi vci d f j) = none-counted _ true (λ _ e. false≢true e)
+effect-counted w (offersMember vpi vci n d f i h) = leaf-counted _ refl _ _ _ (λ e. absurd (false≢true e))
+effect-counted w (removes vpi vci d f i) = leaf-counted _ refl _ _ _ (λ e. absurd (false≢true e))
 
 pub comparisons-counted : Comparisons
 comparisons-counted cs c = let w = reached-well-formed cs in effect-counted w (effect (final empty cs) (w .unique) c)
@@ -159,9 +168,9 @@ sent-number (Refused n) = refl
 sent-number (Accepted n) = refl
 sent-number (Closed n k) = refl
 sent-number Idle = refl
-sent-number (Sent v Forward a n) = refl
-sent-number (Sent v Turned a n) = refl
-sent-number (Sent v Data a n) = refl
+sent-number (Sent v x Forward a n) = refl
+sent-number (Sent v x Turned a n) = refl
+sent-number (Sent v x Data a n) = refl
 
 comparisons-number : (a : Answer) → slotAnswer a .comparisons ≡ comparisons a
 unfolding comparisons
@@ -169,7 +178,7 @@ comparisons-number (Refused n) = refl
 comparisons-number (Accepted n) = refl
 comparisons-number (Closed n k) = refl
 comparisons-number Idle = refl
-comparisons-number (Sent v k a n) = refl
+comparisons-number (Sent v x k a n) = refl
 
 observed-counted : {s : State} → WellFormed s → (c : Call) (o : Observation) → Matches (step s c) o → CountedObserved c o
 observed-counted {s} w c o g =

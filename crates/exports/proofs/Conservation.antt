@@ -1,7 +1,7 @@
 -- No data cell is unaccounted, of exported calls.
 use Prim.Native.Nat.{ℕ, _+_, _≤_}
 use mathlib.Core.Path.{_≡_, refl, sym, ap, _∙_}
-use mathlib.Core.Bool.{cond}
+use mathlib.Core.Bool.{Bool, cond}
 use mathlib.Core.List.{List, [], _∷_}
 use native.Mathlib.Omega.{arith}
 use lib.Dec.{eqb}
@@ -9,36 +9,43 @@ use Rattle.cell.specs.Name.{pairName}
 use Rattle.connection.specs.declared.parts.Connection.{Connection}
 use Rattle.connection.specs.Parts.{waiting}
 use Rattle.connection.specs.declared.kind.Kind.the-variants.{Forward, Turned, Data}
-use Rattle.model.specs.State.{State, Entry, free, taken, empty, find}
+use Rattle.model.specs.State.{State, Entry, free, taken, empty, find, entryCells}
 use Rattle.model.specs.Invariant.{WellFormed}
 use Rattle.model.specs.declared.answer.Answer.{Answer}
 use Rattle.model.specs.declared.answer.Answer.the-variants.{Refused, Accepted, Closed, Idle, Sent}
 use Rattle.model.specs.Call.{Call, Outcome, closedCells}
 use Rattle.model.specs.Step.{refuse, discard, ofOpen, closeStep, step}
 use Rattle.model.specs.Run.{run, final, isAccepted}
-use Rattle.model.specs.Conservation.{offeredTo, closedOn, dataCells, dataSlotOf, sumOver, cellsOffered, dataSlots, cellsClosed, entryCells, cellsWaiting}
+use Rattle.model.specs.Conservation.{offeredTo, closedOn, dataCells, dataSlotOf, sumOver, cellsOffered, dataSlots, cellsClosed, cellsWaiting}
 use Rattle.model.proofs.Preserved.{empty-well-formed}
-use Rattle.model.proofs.Effects.{effect}
 use Rattle.model.proofs.Reached.{step-well-formed, reached-well-formed}
 use Rattle.model.proofs.Conservation.{cond-zero, conservation}
-use Rattle.answers.specs.declared.calls.SlotAnswer.{SlotAnswer}
 use Rattle.answers.specs.declared.calls.ClosedAnswer.{ClosedAnswer}
 use Rattle.answers.specs.Calls.{slotAnswer}
 use Rattle.abr.specs.Exports.{Observation, Trace, zeros, Matches, AllMatch, neither, both}
 use Rattle.abr.proofs.Exports.{exports-are-run}
-use Rattle.exports.specs.Conservation.{dataReturned, sumObserved, offersObserved, slotsObserved, closesObserved, ExportsConservation}
-use Rattle.exports.proofs.Exports.{back, effect-accepted}
+use Rattle.exports.specs.Conservation.{dataReturned, sumObserved, slotsFrom, offersObserved, slotsObserved, closesObserved, ExportsConservation}
+use Rattle.exports.specs.Told.{noMember, memberSeen}
+use Rattle.exports.proofs.Told.{Knows, none-known, knows-after, Tells, tells, told}
+use Rattle.exports.proofs.Exports.{accepted-seen}
 
 -- what one call returned says what its answer says
-data-number : (v : ℕ) (a : Answer) → dataReturned v (slotAnswer a) ≡ dataSlotOf v a
+data-number : (v : ℕ) (f : ℕ → Bool) (a : Answer) → Tells f a → dataReturned v f (slotAnswer a) ≡ dataSlotOf v a
 unfolding dataSlotOf dataCells
-data-number v (Refused n) = refl
-data-number v (Accepted n) = refl
-data-number v (Closed n k) = refl
-data-number v Idle = refl
-data-number v (Sent u Forward a n) = sym (cond-zero (eqb u v))
-data-number v (Sent u Turned a n) = sym (cond-zero (eqb u v))
-data-number v (Sent u Data a n) = ap (λ (w : ℕ). cond (eqb w v) 1 0) (back u)
+data-number v f (Refused n) h = refl
+data-number v f (Accepted n) h = refl
+data-number v f (Closed n k) h = refl
+data-number v f Idle h = refl
+data-number v f (Sent u x Forward a n) h = sym (cond-zero (eqb u v))
+data-number v f (Sent u x Turned a n) h = sym (cond-zero (eqb u v))
+data-number v f (Sent u x Data a n) h = ap (λ (w : ℕ). cond (eqb w v) 1 0) (told f u x h)
+
+slots-from :
+    (v : ℕ) (s : State) → WellFormed s → (f : ℕ → Bool) → Knows f s → (cs : List Call) (os : List Observation) → AllMatch (run s cs) os → slotsFrom v f cs os ≡ sumOver (λ c a. dataSlotOf v a) s cs
+slots-from v s w f k [] [] neither = refl
+slots-from v s w f k (c ∷ cs) (o ∷ os) (both m ms) =
+    ap (λ (n : ℕ). n + slotsFrom v (memberSeen c o f) cs os) (ap (dataReturned v f) (m .returned) ∙ data-number v f (step s c .answer) (tells w f k c))
+    ∙ ap (λ (n : ℕ). dataSlotOf v (step s c .answer) + n) (slots-from v (step s c .state) (step-well-formed w c) (memberSeen c o f) (knows-after w c f k _ (accepted-seen w c m)) cs os ms)
 
 -- each term of one sum is that of the other
 abbrev SameTerm : (Call → Observation → ℕ) → (Call → Answer → ℕ) → Type 0
@@ -57,10 +64,10 @@ module _ (v : ℕ) (cs : List Call) (os : List Observation) (t : Trace cs zeros 
   offers : offersObserved v cs os ≡ cellsOffered v cs
   offers =
       summed (λ c o. offeredTo v c (eqb (o .returned .refusal) 0)) (λ c a. offeredTo v c (isAccepted a))
-      (λ s w c o m. ap (offeredTo v c) (ap (λ (r : SlotAnswer). eqb (r .refusal) 0) (m .returned) ∙ effect-accepted (effect s (w .unique) c)))
+      (λ s w c o m. ap (offeredTo v c) (accepted-seen w c m))
 
   slots : slotsObserved v cs os ≡ dataSlots v cs
-  slots = summed (λ c o. dataReturned v (o .returned)) (λ c a. dataSlotOf v a) (λ s w c o m. ap (dataReturned v) (m .returned) ∙ data-number v (step s c .answer))
+  slots = slots-from v empty empty-well-formed noMember none-known cs os (exports-are-run .each cs os t)
 
   closes : closesObserved v cs os ≡ cellsClosed v cs
   closes = summed (λ c o. closedOn v c (o .cells)) (λ c a. closedOn v c (closedCells a)) (λ s w c o m. ap (closedOn v c) (m .cells))

@@ -9,20 +9,20 @@ use native.Mathlib.Omega.{arith}
 use lib.Dec.{eqb}
 use borrow.Author.Tests.{ne-eqb}
 use Rattle.params.specs.declared.params.Params.{Params}
-use Rattle.cell.specs.Name.{nameOf, vpiIn, vciIn}
 use Rattle.connection.specs.declared.kind.Kind.{Kind}
 use Rattle.connection.specs.declared.kind.Kind.the-variants.{Forward, Turned, Data}
 use Rattle.model.specs.State.{State, Entry, free, taken, empty, find}
 use Rattle.model.specs.Invariant.{WellFormed}
 use Rattle.model.specs.declared.answer.Answer.{Answer}
 use Rattle.model.specs.declared.answer.Answer.the-variants.{Refused, Accepted, Closed, Idle, Sent}
-use Rattle.model.specs.Call.{Call, Outcome, refusal, goesTo, kindSent}
-use Rattle.model.specs.Step.{refuse, accept, replay, discard, idleStep, sendStep, sendOutside, step}
+use Rattle.model.specs.Call.{Call, Outcome, refusal, kindSent}
+use Rattle.model.specs.Step.{refuse, accept, replay, discard, idleStep, sendStep, sendFrom, sendOutside, step}
 use Rattle.model.specs.Queries.{entryAcr, acrOf}
 use Rattle.model.specs.Run.{run, final, isAccepted, given, givenFrom, entryRate, allowed}
 use Rattle.model.proofs.Preserved.{empty-well-formed}
-use Rattle.model.proofs.Effects.{Effect, refuses, begins, ends, offers, marks, works, levels, idles, sends, makes, leaves, effect}
+use Rattle.model.proofs.Effects.{Effect, refuses, begins, ends, offers, marks, works, levels, idles, sends, makes, leaves, beginsPath, adds, offersMember, removes, effect}
 use Rattle.model.proofs.Reached.{step-well-formed}
+use Rattle.answers.specs.declared.calls.SlotAnswer.{SlotAnswer}
 use Rattle.answers.specs.declared.calls.AcrAnswer.{AcrAnswer}
 use Rattle.answers.specs.Calls.{slotAnswer, acrAnswer}
 use Rattle.abr.specs.Contract.{AnswersAcr}
@@ -32,23 +32,29 @@ use Rattle.table.specs.Layout.{words}
 use Rattle.engine.specs.Contract.{bufferContent}
 use Rattle.abr.proofs.Exports.{zeros-words, exports-are-run}
 use Rattle.promises.specs.Demand3.{Bounded, InPlace, SamePlace, NotAbove, neither as noneOpen, both as bothOpen, Agree}
-use Rattle.exports.specs.Exports.{paramsObserved, rateReturned, wentTo, ObservedSamePlace, RateNotAbove, ObservedAgree, RefusedLeave, ExportsDemand1, ExportsDemand3}
+use Rattle.exports.specs.Exports.{paramsObserved, rateReturned, SameConnection, RateNotAbove, ObservedAgree, RefusedLeave, ExportsDemand1, ExportsDemand3}
+use Rattle.exports.specs.Told.{noMember, wentTo, placesSeen}
+use Rattle.exports.proofs.Told.{Knows, none-known, knows-after, tells, went-to}
 use Rattle.promises.proofs.Demand3.{demand3}
 
 -- What the numbers say of the answers: 0 of an accepted call alone.
 pub effect-accepted : {s : State} {c : Call} {o : Outcome} → Effect s c o → eqb (slotAnswer (o .answer) .refusal) 0 ≡ isAccepted (o .answer)
-unfolding refuse accept replay discard idleStep sendStep sendOutside isAccepted
+unfolding refuse accept replay discard idleStep sendStep sendFrom sendOutside isAccepted
 effect-accepted (refuses c n h) = ne-eqb n 0 (λ e. omega (arith, h, e))
 effect-accepted (begins vpi vci t p g) = refl
 effect-accepted (ends vpi vci d f) = refl
-effect-accepted (offers vpi vci n d f h) = refl
-effect-accepted (marks o vpi vci e d r f) = refl
+effect-accepted (offers vpi vci n d f i h) = refl
+effect-accepted (marks o vpi vci e v d r i y f) = refl
 effect-accepted (works o q d r f) = refl
 effect-accepted (levels l h) = refl
 effect-accepted (idles t room g b) = refl
 effect-accepted (sends t room i u g b) = refl
 effect-accepted (makes vpi vci t d f g b m) = refl
 effect-accepted (leaves vpi vci t room d f g b) = refl
+effect-accepted (beginsPath vpi t p g) = refl
+effect-accepted (adds vpi vci d f j) = refl
+effect-accepted (offersMember vpi vci n d f i h) = refl
+effect-accepted (removes vpi vci d f i) = refl
 
 -- the kind and the connection of a slot, and a refusal's number
 orZero : Option ℕ → ℕ
@@ -61,7 +67,7 @@ refusal-number (Refused n) = refl
 refusal-number (Accepted n) = refl
 refusal-number (Closed n k) = refl
 refusal-number Idle = refl
-refusal-number (Sent v k a n) = refl
+refusal-number (Sent v x k a n) = refl
 
 kindOrZero : Option Kind → ℕ
 kindOrZero none = 0
@@ -75,38 +81,28 @@ kind-number (Refused n) = refl
 kind-number (Accepted n) = refl
 kind-number (Closed n k) = refl
 kind-number Idle = refl
-kind-number (Sent v Forward a n) = refl
-kind-number (Sent v Turned a n) = refl
-kind-number (Sent v Data a n) = refl
-
--- the pair that a slot returned makes the name again
-pub back : (v : ℕ) → nameOf (vpiIn v) (vciIn v) ≡ v
-back v = omega arith
-
-went-to : (a : Answer) → wentTo (slotAnswer a) ≡ goesTo a
-unfolding goesTo
-went-to (Refused n) = refl
-went-to (Accepted n) = refl
-went-to (Closed n k) = refl
-went-to Idle = refl
-went-to (Sent v Forward a n) = ap some (back v)
-went-to (Sent v Turned a n) = ap some (back v)
-went-to (Sent v Data a n) = ap some (back v)
+kind-number (Sent v x Forward a n) = refl
+kind-number (Sent v x Turned a n) = refl
+kind-number (Sent v x Data a n) = refl
 
 -- Refusals.
 effect-leaves : {s : State} {c : Call} {o : Outcome} → Effect s c o → (slotAnswer (o .answer) .refusal ≡ 0 → ⊥) → (o .state ≡ s) × (o .buffer ≡ untouched)
-unfolding refuse accept replay discard idleStep sendStep sendOutside
+unfolding refuse accept replay discard idleStep sendStep sendFrom sendOutside
 effect-leaves (refuses c n h) z = (refl, refl)
 effect-leaves (begins vpi vci t p g) z = absurd (z refl)
 effect-leaves (ends vpi vci d f) z = absurd (z refl)
-effect-leaves (offers vpi vci n d f h) z = absurd (z refl)
-effect-leaves (marks o vpi vci e d r f) z = absurd (z refl)
+effect-leaves (offers vpi vci n d f i h) z = absurd (z refl)
+effect-leaves (marks o vpi vci e v d r i y f) z = absurd (z refl)
 effect-leaves (works o q d r f) z = absurd (z refl)
 effect-leaves (levels l h) z = absurd (z refl)
 effect-leaves (idles t room g b) z = absurd (z refl)
 effect-leaves (sends t room i u g b) z = absurd (z refl)
 effect-leaves (makes vpi vci t d f g b m) z = absurd (z refl)
 effect-leaves (leaves vpi vci t room d f g b) z = absurd (z refl)
+effect-leaves (beginsPath vpi t p g) z = absurd (z refl)
+effect-leaves (adds vpi vci d f j) z = absurd (z refl)
+effect-leaves (offersMember vpi vci n d f i h) z = absurd (z refl)
+effect-leaves (removes vpi vci d f i) z = absurd (z refl)
 
 leave-from : (s : State) → WellFormed s → (cs : List Call) (l : List ℕ) (os : List Observation) → AllMatch (run s cs) os → l ≡ words s → RefusedLeave l os
 leave-from s w [] l [] neither e = tt
@@ -145,15 +141,19 @@ bounds cs os t v a h =
     rw (params-observed v empty empty-well-formed none cs os (exports-are-run .each cs os t), exports-are-run .acr cs os t v a h, acr-rate (final empty cs) v) (demand3 .bounds cs v)
 
 -- Pairs.
-observed-place : {x y : Outcome} {o p : Observation} → Matches x o → Matches y p → ObservedSamePlace o p → SamePlace x y
-observed-place {x} {y} g h e = sym (went-to (x .answer)) ∙ ap wentTo (sym (g .returned)) ∙ e ∙ ap wentTo (h .returned) ∙ went-to (y .answer)
+pub accepted-seen : {s : State} → WellFormed s → (c : Call) {o : Observation} → Matches (step s c) o → eqb (o .returned .refusal) 0 ≡ isAccepted (step s c .answer)
+accepted-seen {s} w c g = ap (λ (r : SlotAnswer). eqb (r .refusal) 0) (g .returned) ∙ effect-accepted (effect s (w .unique) c)
 
 place-from :
-    {xs ys : List Outcome} {os ps : List Observation} → AllMatch xs os → AllMatch ys ps → InPlace ObservedSamePlace os ps → InPlace SamePlace xs ys
-place-from neither neither e = tt
-place-from neither (both h hs) e = absurd e
-place-from (both g gs) neither e = absurd e
-place-from (both g gs) (both h hs) e = (observed-place g h (e .0), place-from gs hs (e .1))
+    {s₁ s₂ : State} → WellFormed s₁ → WellFormed s₂ → (f g : ℕ → Bool) → Knows f s₁ → Knows g s₂ → (xs ys : List Call) {os ps : List Observation} → AllMatch (run s₁ xs) os
+    → AllMatch (run s₂ ys) ps → InPlace SameConnection (placesSeen f xs os) (placesSeen g ys ps) → InPlace SamePlace (run s₁ xs) (run s₂ ys)
+place-from w z f g k l [] [] neither neither e = tt
+place-from w z f g k l [] (y ∷ ys) neither (both h hs) e = absurd e
+place-from w z f g k l (x ∷ xs) [] (both m ms) neither e = absurd e
+place-from {s₁} {s₂} w z f g k l (x ∷ xs) (y ∷ ys) (both m ms) (both h hs) e = (
+  sym (went-to f (step s₁ x .answer) (tells w f k x)) ∙ ap (wentTo f) (sym (m .returned)) ∙ e .0 ∙ ap (wentTo g) (h .returned) ∙ went-to g (step s₂ y .answer) (tells z g l y),
+  place-from (step-well-formed w x) (step-well-formed z y) _ _ (knows-after w x f k _ (accepted-seen w x m)) (knows-after z y g l _ (accepted-seen z y h)) xs ys ms hs (e .1),
+)
 
 rate-not-above : (x y : Entry) → NotAbove (entryRate x) (entryRate y) → RateNotAbove (acrAnswer (entryAcr x)) (acrAnswer (entryAcr y))
 unfolding entryAcr entryRate
@@ -187,5 +187,5 @@ exports-demand3 = record {
   pairs = λ xs ys os ps t u c e.
       let g = exports-are-run .each xs os t in
       let h = exports-are-run .each ys ps u in
-      agree-from empty-well-formed empty-well-formed xs ys g h (demand3 .pairs xs ys c (place-from g h e));
+      agree-from empty-well-formed empty-well-formed xs ys g h (demand3 .pairs xs ys c (place-from empty-well-formed empty-well-formed noMember noMember none-known none-known xs ys g h e));
 }

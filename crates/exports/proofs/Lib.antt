@@ -1,4 +1,5 @@
 -- They hold.
+pub mod Told
 pub mod Exports
 pub mod Comparisons
 pub mod Planning

@@ -1,5 +1,5 @@
 -- The work of a call is bounded: the comparisons that it makes in the tournament of ready instants, and returns. The winner of the tournament is the connection that
--- a scan of all entries picks. (Document 02, L4.)
+-- a scan of all entries picks. (Document 02, L4 and L13.)
 use Prim.Native.Nat.{ℕ, _≤_}
 use mathlib.Core.Path.{_≡_}
 use mathlib.Core.Bool.{Bool, true, false, not}
@@ -10,7 +10,7 @@ use Rattle.model.specs.Choice.{winner}
 use Rattle.model.specs.Tournament.{levels, winnerAt, inTime}
 use Rattle.model.specs.declared.answer.Answer.{Answer}
 use Rattle.model.specs.declared.answer.Answer.the-variants.{Refused, Accepted, Closed, Idle, Sent}
-use Rattle.model.specs.Call.{Call, opening, closing, receiving, offering, levelling, slot, making, outOfRate, comparisons}
+use Rattle.model.specs.Call.{Call, opening, closing, receiving, offering, levelling, slot, making, outOfRate, openingPath, adding, offeringMember, removing, comparisons}
 use Rattle.model.specs.Step.{step}
 use Rattle.model.specs.Run.{final, isAccepted}
 use Rattle.abr.specs.Exports.{Observation, Trace, zeros}
@@ -26,6 +26,10 @@ replays (levelling l) sent = false
 replays (slot t room) sent = sent
 replays (making vpi vci t) sent = true
 replays (outOfRate vpi vci t room) sent = false
+replays (openingPath vpi t p) sent = true
+replays (adding vpi vci) sent = false
+replays (offeringMember vpi vci n) sent = true
+replays (removing vpi vci) sent = true
 
 abbrev pub opensOne : Call → Bool
 opensOne (opening vpi vci t p) = true
@@ -36,6 +40,10 @@ opensOne (levelling l) = false
 opensOne (slot t room) = false
 opensOne (making vpi vci t) = false
 opensOne (outOfRate vpi vci t room) = false
+opensOne (openingPath vpi t p) = true
+opensOne (adding vpi vci) = false
+opensOne (offeringMember vpi vci n) = false
+opensOne (removing vpi vci) = false
 
 -- the comparisons n of a call, which was accepted or not, and sent a cell or not
 pub record Counted (c : Call) (accepted sent : Bool) (n : ℕ) : Type 0 where
@@ -44,7 +52,7 @@ pub record Counted (c : Call) (accepted sent : Bool) (n : ℕ) : Type 0 where
   pub least : accepted ≡ true → replays c sent ≡ true → 1 ≤ n
   -- a connection is not ready when it is opened: its leaf wins nothing, and no winner changes
   pub begins : accepted ≡ true → opensOne c ≡ true → n ≡ 1
-  -- an idle slot, a level that is set and a cell outside the rate make none, nor does a refused call
+  -- an idle slot, a level that is set, a cell outside the rate and a new member make none, nor does a refused call
   pub noReplay : replays c sent ≡ false → n ≡ 0
   pub refused : accepted ≡ false → n ≡ 0
 
@@ -53,7 +61,7 @@ isSent (Refused n) = false
 isSent (Accepted n) = false
 isSent (Closed n k) = false
 isSent Idle = false
-isSent (Sent v k a n) = true
+isSent (Sent v x k a n) = true
 
 abbrev pub CountedAnswer : Call → Answer → Type 0
 CountedAnswer c a = Counted c (isAccepted a) (isSent a) (comparisons a)

@@ -1,10 +1,10 @@
--- No data cell is unaccounted, of exported calls: offers, slots and closes are summed from the calls and what they returned. (Document 02, L12.)
+-- No data cell is unaccounted, of exported calls: offers, slots and closes are summed from the calls and what they returned. (Document 02, L12 and L13.)
 use Prim.Native.Nat.{ℕ, _+_, _≤_}
 use mathlib.Core.Path.{_≡_}
-use mathlib.Core.Bool.{cond, _&&_}
+use mathlib.Core.Bool.{Bool, cond, _&&_}
 use mathlib.Core.List.{List, [], _∷_}
 use lib.Dec.{eqb}
-use Rattle.cell.specs.Name.{nameOf, pairName}
+use Rattle.cell.specs.Name.{pairName}
 use Rattle.model.specs.State.{empty}
 use Rattle.model.specs.Call.{Call}
 use Rattle.model.specs.Step.{closeStep}
@@ -14,10 +14,11 @@ use Rattle.answers.specs.declared.calls.SlotAnswer.{SlotAnswer}
 use Rattle.answers.specs.declared.calls.ClosedAnswer.{ClosedAnswer}
 use Rattle.abr.specs.Contract.{AnswersClosed}
 use Rattle.abr.specs.Exports.{Observation, Trace, finalWords, zeros}
+use Rattle.exports.specs.Told.{noMember, memberSeen, connectionTold}
 
--- 1 for a slot that returned kind 3, data, with the VPI and VCI of v
-abbrev pub dataReturned : (v : ℕ) → SlotAnswer → ℕ
-dataReturned v r = cond (eqb (r .kind) 3 && eqb (nameOf (r .vpi) (r .vci)) v) 1 0
+-- 1 for a slot that returned kind 3, data, and a pair of the connection v
+abbrev pub dataReturned : (v : ℕ) → (member : ℕ → Bool) → SlotAnswer → ℕ
+dataReturned v f r = cond (eqb (r .kind) 3 && eqb (connectionTold f r) v) 1 0
 
 -- a sum over the calls of a list and what was observed of them
 abbrev pub sumObserved : (Call → Observation → ℕ) → List Call → List Observation → ℕ
@@ -25,12 +26,17 @@ sumObserved f [] os = 0
 sumObserved f (c ∷ cs) [] = 0
 sumObserved f (c ∷ cs) (o ∷ os) = f c o + sumObserved f cs os
 
--- of the name v: the cells in offers that returned no refusal, the data slots, and the cells that its closes returned
+-- of the name v: the cells in offers that returned no refusal, the data slots, and the cells that its closes, and the removals of its members, returned
 abbrev pub offersObserved : (v : ℕ) → List Call → List Observation → ℕ
 offersObserved v = sumObserved (λ c o. offeredTo v c (eqb (o .returned .refusal) 0))
 
+abbrev pub slotsFrom : (v : ℕ) → (member : ℕ → Bool) → List Call → List Observation → ℕ
+slotsFrom v f [] os = 0
+slotsFrom v f (c ∷ cs) [] = 0
+slotsFrom v f (c ∷ cs) (o ∷ os) = dataReturned v f (o .returned) + slotsFrom v (memberSeen c o f) cs os
+
 abbrev pub slotsObserved : (v : ℕ) → List Call → List Observation → ℕ
-slotsObserved v = sumObserved (λ c o. dataReturned v (o .returned))
+slotsObserved v = slotsFrom v noMember
 
 abbrev pub closesObserved : (v : ℕ) → List Call → List Observation → ℕ
 closesObserved v = sumObserved (λ c o. closedOn v c (o .cells))

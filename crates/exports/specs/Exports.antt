@@ -1,5 +1,5 @@
 -- Demands 1 and 3 of exported calls, as C sees them: said of the numbers and structs that calls from the zero table return, and of the rates that abr_acr returns.
--- (Document 01, "The lists of demand 3" and "What the library commits to", 1.)
+-- (Document 01, "The lists of demand 3" and "What the library commits to", 1; document 02, L13.)
 use Prim.Native.Nat.{ℕ, _≤_}
 use mathlib.Core.Path.{_≡_}
 use mathlib.Core.Bool.{cond}
@@ -7,14 +7,13 @@ use mathlib.Core.List.{List, [], _∷_}
 use mathlib.Core.Option.{Option, none, some}
 use lib.Dec.{eqb}
 use Rattle.params.specs.declared.params.Params.{Params}
-use Rattle.cell.specs.Name.{nameOf}
 use Rattle.model.specs.Call.{Call}
 use Rattle.model.specs.Run.{given}
-use Rattle.answers.specs.declared.calls.SlotAnswer.{SlotAnswer}
 use Rattle.answers.specs.declared.calls.AcrAnswer.{AcrAnswer}
 use Rattle.abr.specs.Contract.{AnswersAcr}
 use Rattle.abr.specs.Exports.{Observation, Trace, finalWords, zeros}
 use Rattle.promises.specs.Demand3.{Bounded, InPlace, Comparable}
+use Rattle.exports.specs.Told.{noMember, placesSeen}
 
 -- the parameters under which a name is open, from the calls and the numbers that they returned: 0 is no refusal
 abbrev pub paramsObserved : ℕ → Option Params → List Call → List Observation → Option Params
@@ -26,13 +25,9 @@ paramsObserved v before (c ∷ cs) (o ∷ os) = paramsObserved v (given v c (eqb
 abbrev pub rateReturned : AcrAnswer → Option ℕ
 rateReturned a = cond (eqb (a .refusal) 0) (some (a .acr)) none
 
--- the name of the connection that a slot went to, of the VPI and VCI that it returned: none of an idle or refused slot, and of a call that is no slot
-abbrev pub wentTo : SlotAnswer → Option ℕ
-wentTo r = cond (eqb (r .kind) 0) none (some (nameOf (r .vpi) (r .vci)))
-
--- slots go to the same connection in both, or to none in both
-abbrev pub ObservedSamePlace : Observation → Observation → Type 0
-ObservedSamePlace o p = wentTo (o .returned) ≡ wentTo (p .returned)
+-- slots go to the same connection in both, a member's to its path, or to none in both
+abbrev pub SameConnection : Option ℕ → Option ℕ → Type 0
+SameConnection a b = a ≡ b
 
 -- abr_acr answers alike, with a rate in the second at most that in the first
 pub record RateNotAbove (a b : AcrAnswer) : Type 0 where
@@ -59,5 +54,6 @@ pub record ExportsDemand3 : Type 0 where
       (cs : List Call) (os : List Observation) → Trace cs zeros os → (v : ℕ) (a : AcrAnswer) → AnswersAcr v (finalWords zeros os) a
       → Bounded (paramsObserved v none cs os) (rateReturned a)
   pub pairs :
-      (xs ys : List Call) (os ps : List Observation) → Trace xs zeros os → Trace ys zeros ps → InPlace Comparable xs ys → InPlace ObservedSamePlace os ps
+      (xs ys : List Call) (os ps : List Observation) → Trace xs zeros os → Trace ys zeros ps → InPlace Comparable xs ys
+      → InPlace SameConnection (placesSeen noMember xs os) (placesSeen noMember ys ps)
       → InPlace ObservedAgree os ps

@@ -1,13 +1,12 @@
--- The trace that a caller records of its own cells passes the judge: said of the numbers and structs that exported calls from the zero table return. (Document 02, L11.)
+-- The trace that a caller records of its own cells passes the judge: said of the numbers and structs that exported calls from the zero table return. (Document 02, L11 and L13.)
 use Prim.Native.Nat.{ℕ}
 use mathlib.Core.Path.{_≡_}
-use mathlib.Core.Bool.{cond, _&&_, not}
+use mathlib.Core.Bool.{Bool, cond, _&&_, not}
 use mathlib.Core.List.{List, [], _∷_, _++_}
 use lib.Dec.{eqb}
 use Rattle.params.specs.declared.params.Params.{Params}
-use Rattle.cell.specs.Name.{nameOf, pairName}
 use Rattle.judge.specs.Octets.{judgedOctets}
-use Rattle.model.specs.Call.{Call, opening}
+use Rattle.model.specs.Call.{Call}
 use Rattle.answers.specs.declared.calls.SlotAnswer.{SlotAnswer}
 use Rattle.answers.specs.declared.calls.AcrAnswer.{AcrAnswer}
 use Rattle.answers.specs.declared.traces.VerdictAnswer.{VerdictAnswer}
@@ -16,28 +15,29 @@ use Rattle.abr.specs.Contract.{AnswersAcr}
 use Rattle.abr.specs.Exports.{Observation, Trace, finalWords, zeros}
 use Rattle.own_traces.specs.InRate.{SentCell, atSlot, closes}
 use Rattle.own_traces.specs.Written.{traceOctets}
-use Rattle.own_traces.specs.Traces.{cellsOf}
+use Rattle.own_traces.specs.Traces.{Opening, cellsOf}
+use Rattle.exports.specs.Told.{noMember, memberSeen, membersSeen, connectionTold}
 
 -- the cell that a slot at this time returned, if it is one of v: kind 0 is none
-abbrev pub cellReturned : (v time rate : ℕ) → SlotAnswer → List SentCell
-cellReturned v t rate r = cond (not (eqb (r .kind) 0) && eqb (nameOf (r .vpi) (r .vci)) v) (record { time = t; kind = r .kind; rate = rate } ∷ []) []
+abbrev pub cellReturned : (v : ℕ) → (member : ℕ → Bool) → (time rate : ℕ) → SlotAnswer → List SentCell
+cellReturned v f t rate r = cond (not (eqb (r .kind) 0) && eqb (connectionTold f r) v) (record { time = t; kind = r .kind; rate = rate } ∷ []) []
 
 -- the cells of v, from the calls, what they returned and the rate that was read before each of them, until v is closed: 0 is no refusal
-abbrev pub recorded : (v : ℕ) → List Call → List Observation → List AcrAnswer → List SentCell
-recorded v [] os rs = []
-recorded v (c ∷ cs) [] rs = []
-recorded v (c ∷ cs) (o ∷ os) [] = []
-recorded v (c ∷ cs) (o ∷ os) (a ∷ rs) =
-    cond (closes v c (eqb (o .returned .refusal) 0)) [] (atSlot c (λ t. cellReturned v t (a .acr) (o .returned)) ++ recorded v cs os rs)
+abbrev pub recorded : (v : ℕ) → (member : ℕ → Bool) → List Call → List Observation → List AcrAnswer → List SentCell
+recorded v f [] os rs = []
+recorded v f (c ∷ cs) [] rs = []
+recorded v f (c ∷ cs) (o ∷ os) [] = []
+recorded v f (c ∷ cs) (o ∷ os) (a ∷ rs) =
+    cond (closes v c (eqb (o .returned .refusal) 0)) [] (atSlot c (λ t. cellReturned v f t (a .acr) (o .returned)) ++ recorded v (memberSeen c o f) cs os rs)
 
 -- what abr_acr returns for v before each call, the first being on these words
 pub data RatesRead (v : ℕ) : (first : List ℕ) → List Observation → List AcrAnswer → Type 0 where
   noCall : {l : List ℕ} → RatesRead v l [] []
   readThen : {l : List ℕ} {a : AcrAnswer} {rs : List AcrAnswer} {o : Observation} {os : List Observation} → AnswersAcr v l a → RatesRead v (o .table) os rs → RatesRead v l (o ∷ os) (a ∷ rs)
 
--- After any exported calls, an open that returned 0, and any further ones: for the octets of the trace abr_judge returns neither a refusal nor a broken rule.
+-- After any exported calls, an open of a channel or of a path that returned 0, and any further ones: for the octets of the trace abr_judge returns neither a refusal nor a broken rule.
 abbrev pub RecordedPasses : Type 0
 RecordedPasses =
-    (before after : List Call) (vpi vci t : ℕ) (p : Params) (os ps : List Observation) (o : Observation) (rs : List AcrAnswer) (r : VerdictAnswer) → Trace before zeros os
-    → Trace (opening vpi vci t p ∷ after) (finalWords zeros os) (o ∷ ps) → o .returned .refusal ≡ 0 → RatesRead (pairName vpi vci) (o .table) ps rs
-    → r ≡ verdictAnswer (judgedOctets (traceOctets (p .n) (p .trm) (cellsOf (recorded (pairName vpi vci) after ps rs)))) → (r .refusal ≡ 0) × (r .rule ≡ 0)
+    (before after : List Call) (c : Call) (v : ℕ) (p : Params) (os ps : List Observation) (o : Observation) (rs : List AcrAnswer) (r : VerdictAnswer) → Opening c v p → Trace before zeros os
+    → Trace (c ∷ after) (finalWords zeros os) (o ∷ ps) → o .returned .refusal ≡ 0 → RatesRead v (o .table) ps rs
+    → r ≡ verdictAnswer (judgedOctets (traceOctets (p .n) (p .trm) (cellsOf (recorded v (memberSeen c o (membersSeen noMember before os)) after ps rs)))) → (r .refusal ≡ 0) × (r .rule ≡ 0)

@@ -1,7 +1,7 @@
 // An entry's connection out of its words.
 ghost use mathlib.Core.Path.{_≡_};
 ghost use Prim.Native.Nat.{_<_, _+_, _≤_};
-ghost use Rattle.table.specs.Loading.{paceOf, paceAt, waitingOf, waitingAt, instantOf, madeAt, paramsAt, connectionAt};
+ghost use Rattle.table.specs.Loading.{paceOf, paceAt, waitingOf, waitingAt, instantOf, queueOf, madeAt, paramsAt, connectionAt};
 ghost use Rattle.table.specs.Layout.{size};
 ghost use Rattle.model.specs.State.{capacity};
 use connection::parts::Change;
@@ -77,6 +77,16 @@ fn instant_of(word: u64) -> Instant
     Instant::At((word - 1) % 9223372036854775808)
 }
 
+// The data that waits, and the VCI served last.
+fn queue_of(word: u64) -> Queue
+    ensures { λ q. ⌜ q ≡ queueOf word ⌝ }
+{
+    Queue {
+        cells: (word % 16777216) as u32,
+        served: (word / 4294967296 % 65536) as u32,
+    }
+}
+
 fn made_at(t: &[u64; WORDS], b: usize) -> Made
     requires { ⌜ b + 2 ≤ size ⌝ }
     ensures { λ m. ⌜ m ≡ madeAt (now (t .entry)) b ⌝ }
@@ -116,6 +126,7 @@ pub fn load(t: &[u64; WORDS], i: usize) -> Connection
     let turned = waiting_at(t, a + 9);
     let made = made_at(t, a + 16);
     let outside = instant_of(t[a + 18]);
+    let queue = queue_of(t[a + 2]);
     Connection {
         name: (t[NAMES + i] % 16777216) as u32,
         opened: t[b] % 9223372036854775808,
@@ -123,9 +134,7 @@ pub fn load(t: &[u64; WORDS], i: usize) -> Connection
         rate: Rate { acr: t[a], params },
         pace,
         unacked: (t[a + 1] % 4294967296) as u32,
-        queue: Queue {
-            cells: (t[a + 2] % 4294967296) as u32,
-        },
+        queue,
         change: Change {
             before: t[a + 7],
             after: t[a + 8],

@@ -4,6 +4,7 @@ use mathlib.Core.Path.{_≡_, refl, _∙_}
 use mathlib.Core.Logic.{_≢_}
 use mathlib.Core.Bool.{Bool, true, false, cond}
 use mathlib.Core.List.{List, [], _∷_}
+use mathlib.Core.Option.{Option}
 use native.Mathlib.Omega.{arith}
 use lib.Dec.{eqb}
 use lib.ListN.{replicate}
@@ -12,28 +13,31 @@ use Rattle.params.specs.declared.params.Params.{Params}
 use Rattle.cell.specs.declared.fields.Fields.{Fields}
 use Rattle.cell.specs.Name.{pairName}
 use Rattle.cell.specs.Fields.{cellName}
+use Rattle.members.specs.Path.{pathVci, pathOf}
+use Rattle.members.specs.Members.{cellsOf}
 use Rattle.connection.specs.declared.parts.Connection.{Connection}
 use Rattle.connection.specs.declared.kind.Kind.{Kind}
 use Rattle.connection.specs.declared.kind.Kind.the-variants.{Forward, Turned, Data}
-use Rattle.connection.specs.Parts.{fresh, waiting}
+use Rattle.connection.specs.Parts.{fresh, waiting, withQueue, dequeued}
 use Rattle.connection.specs.Making.{withMade}
 use Rattle.connection.specs.Receiving.{offered, afterDataCell, afterBackwardCell, afterForwardCell, afterResourceCell}
 use Rattle.connection.specs.Kind.{kindAt}
-use Rattle.connection.specs.Sending.{sentForward, sentTurned, sentData, after}
+use Rattle.connection.specs.Sending.{sentForward, sentTurned, sentData, after, withServed}
 use Rattle.connection.specs.OutOfRate.{afterOutOfRate}
 use Rattle.connection.proofs.Keeps.{work-same, after-same}
 use Rattle.connection.proofs.Waited.{data-waits}
-use Rattle.model.specs.State.{State, free, taken, capacity, empty, find, put, inserted, withTime, withLevel}
+use Rattle.model.specs.State.{State, Entry, free, taken, capacity, empty, find, put, inserted, withTime, withLevel, withMembers, entryCells}
 use Rattle.model.specs.Invariant.{NamesUnique, WellFormed}
 use Rattle.model.specs.Choice.{Chosen}
-use Rattle.model.specs.Call.{Call, opening, closing, receiving, offering, levelling, slot, making, outOfRate, Outcome, closedCells}
-use Rattle.model.specs.Step.{refuse, accept, replay, discard, sendStep, sendOutside, idleStep, step}
+use Rattle.model.specs.Call.{Call, opening, closing, receiving, offering, levelling, slot, making, outOfRate, openingPath, adding, offeringMember, removing, Outcome, closedCells}
+use Rattle.model.specs.Step.{refuse, accept, replay, discard, withOffer, withoutOne, sendFrom, sendStep, sendOutside, idleStep, step}
 use Rattle.model.specs.Run.{final, isAccepted}
-use Rattle.model.specs.Conservation.{offeredTo, closedOn, dataCells, dataSlotOf, sumOver, cellsOffered, dataSlots, cellsClosed, entryCells, cellsWaiting, Conservation}
+use Rattle.model.specs.Conservation.{offeredTo, closedOn, dataCells, dataSlotOf, sumOver, cellsOffered, dataSlots, cellsClosed, cellsWaiting, Conservation}
 use Rattle.model.proofs.Entries.{Case, same, other, case, absent-find, each-free}
 use Rattle.model.proofs.Frames.{put-read, put-kept, inserted-read, freed-read}
+use Rattle.model.proofs.Members.{member-waits}
 use Rattle.model.proofs.Preserved.{empty-well-formed}
-use Rattle.model.proofs.Effects.{Enters, Effect, refuses, begins, ends, offers, marks, works, levels, idles, sends, makes, leaves, effect}
+use Rattle.model.proofs.Effects.{Enters, Effect, refuses, begins, ends, offers, marks, works, levels, idles, sends, makes, leaves, beginsPath, adds, offersMember, removes, effect}
 use Rattle.model.proofs.Reached.{step-well-formed}
 
 -- the outcome o of the call c on s keeps the balance of v
@@ -56,6 +60,10 @@ no-offer v (levelling l) = refl
 no-offer v (slot t room) = refl
 no-offer v (making a b t) = refl
 no-offer v (outOfRate a b t room) = refl
+no-offer v (openingPath a t p) = refl
+no-offer v (adding a b) = refl
+no-offer v (offeringMember a b n) = refl
+no-offer v (removing a b) = refl
 
 none-closed : (v : ℕ) (c : Call) → closedOn v c 0 ≡ 0
 unfolding closedOn
@@ -67,6 +75,10 @@ none-closed v (levelling l) = refl
 none-closed v (slot t room) = refl
 none-closed v (making a b t) = refl
 none-closed v (outOfRate a b t room) = refl
+none-closed v (openingPath a t p) = refl
+none-closed v (adding a b) = refl
+none-closed v (offeringMember a b n) = refl
+none-closed v (removing a b) = cond-zero (eqb (pathOf (pairName a b)) v)
 
 refused-balanced : (v : ℕ) (s : State) (c : Call) (n : ℕ) → Balanced v s c (refuse s n)
 unfolding refuse isAccepted dataSlotOf closedCells
@@ -130,32 +142,42 @@ sent-cells Turned t c h = refl
 sent-cells Data t c h = let z = h refl in omega (arith, z)
 
 sent-balanced :
-    (v : ℕ) (s : State) → NamesUnique (s .entries) → (t i u : ℕ) (b : Chosen t i u (s .entries)) → (k : Kind) → kindAt t (b .holder) ≡ k
-    → 0 + cellsWaiting v s ≡ cond (eqb u v) (dataCells k) 0 + cellsWaiting v (put u (taken (after k t (b .holder))) s) + 0
-sent-balanced v s a t i u b k q =
+    (v : ℕ) (s : State) → NamesUnique (s .entries) → (t i u : ℕ) (b : Chosen t i u (s .entries)) → (k : Kind) (x : Option ℕ) → kindAt t (b .holder) ≡ k
+    → 0 + cellsWaiting v s ≡ cond (eqb u v) (dataCells k) 0 + cellsWaiting v (put u (taken (withServed x (after k t (b .holder)))) s) + 0
+unfolding withServed
+sent-balanced v s a t i u b k x q =
     omega (
       arith,
       cond-zero (eqb u v),
-      changed-cells v u s a (b .holder) (after k t (b .holder)) (b .found) (after-same k t (b .holder) .name) 0 (dataCells k)
+      changed-cells v u s a (b .holder) (withServed x (after k t (b .holder))) (b .found) (after-same k t (b .holder) .name) 0 (dataCells k)
           (sent-cells k t (b .holder) (λ e. data-waits t (b .holder) i (b .readyAt) (b .due) (q ∙ e))),
     )
 
 -- Every effect.
-effect-balanced : (v : ℕ) {s : State} → NamesUnique (s .entries) → {c : Call} {o : Outcome} → Effect s c o → Balanced v s c o
-unfolding accept replay discard withLevel idleStep sendStep sendOutside withTime isAccepted offeredTo closedOn dataSlotOf closedCells offered afterDataCell withMade afterOutOfRate
-effect-balanced v {s} u (refuses c n h) = refused-balanced v s c n
-effect-balanced v {s} u (begins a b t p g) = same-cells _ _ (begun-cells v s (pairName a b) t p g)
-effect-balanced v {s} u (ends a b d f) = ended-cells v (pairName a b) s u d f
-effect-balanced v {s} u (offers a b n d f h) =
-    omega (arith, cond-zero (eqb (pairName a b) v), changed-cells v (pairName a b) s u d (offered n d) f refl n 0 (omega arith))
-effect-balanced v {s} u (marks o a b e d r f) = kept-cells v (pairName a b) s u d (afterDataCell e d) f refl refl
-effect-balanced v {s} u (works o q d r f) =
-    kept-cells v (cellName q) s u d (afterResourceCell (s .level) o q d) f (work-same (s .level) o q d .name) (work-cells (s .level) o q d)
-effect-balanced v {s} u (levels l h) = same-cells _ _ refl
-effect-balanced v {s} u (idles t room g b) = same-cells _ _ refl
-effect-balanced v {s} u (sends t room i n g b) = sent-balanced v (withTime t s) u t i n b (kindAt t (b .holder)) refl
-effect-balanced v {s} u (makes a b t d f g h m) = kept-cells v (pairName a b) (withTime t s) u d (withMade t (s .level) d) f refl refl
-effect-balanced v {s} u (leaves a b t room d f g h) = kept-cells v (pairName a b) (withTime t s) u d (afterOutOfRate t d) f refl refl
+effect-balanced : (v : ℕ) {s : State} → WellFormed s → {c : Call} {o : Outcome} → Effect s c o → Balanced v s c o
+unfolding accept replay discard withLevel withMembers withOffer withoutOne idleStep sendStep sendFrom sendOutside withTime isAccepted offeredTo closedOn dataSlotOf closedCells offered afterDataCell withMade afterOutOfRate
+effect-balanced v {s} w (refuses c n h) = refused-balanced v s c n
+effect-balanced v {s} w (begins a b t p g) = same-cells _ _ (begun-cells v s (pairName a b) t p g)
+effect-balanced v {s} w (ends a b d f) = ended-cells v (pairName a b) s (w .unique) d f
+effect-balanced v {s} w (offers a b n d f c h) =
+    omega (arith, cond-zero (eqb (pairName a b) v), changed-cells v (pairName a b) s (w .unique) d (offered n d) f refl n 0 (omega arith))
+effect-balanced v {s} w (marks o a b e u d r c z f) = kept-cells v u s (w .unique) d (afterDataCell e d) f refl refl
+effect-balanced v {s} w (works o q d r f) =
+    kept-cells v (cellName q) s (w .unique) d (afterResourceCell (s .level) o q d) f (work-same (s .level) o q d .name) (work-cells (s .level) o q d)
+effect-balanced v {s} w (levels l h) = same-cells _ _ refl
+effect-balanced v {s} w (idles t room g b) = same-cells _ _ refl
+effect-balanced v {s} w (sends t room i n g b) = sent-balanced v (withTime t s) (w .unique) t i n b (kindAt t (b .holder)) _ refl
+effect-balanced v {s} w (makes a b t d f g h m) = kept-cells v (pairName a b) (withTime t s) (w .unique) d (withMade t (s .level) d) f refl refl
+effect-balanced v {s} w (leaves a b t room d f g h) = kept-cells v (pairName a b) (withTime t s) (w .unique) d (afterOutOfRate t d) f refl refl
+effect-balanced v {s} w (beginsPath a t p g) = same-cells _ _ (begun-cells v s (pairName a pathVci) t p g)
+effect-balanced v {s} w (adds a b d f j) = same-cells _ _ refl
+effect-balanced v {s} w (offersMember a b n d f i h) =
+    omega (arith, cond-zero (eqb (pathOf (pairName a b)) v), changed-cells v (pathOf (pairName a b)) s (w .unique) d (offered n d) f refl n 0 (omega arith))
+effect-balanced v {s} w (removes a b d f i) =
+    let x = pairName a b in
+    let n = cellsOf x (s .members) in
+    let e = changed-cells v (pathOf x) s (w .unique) d (withQueue d (dequeued n (d .queue))) f refl 0 n (omega (arith, member-waits s (w .unique) (w .members) x d f)) in
+    omega (arith, cond-zero (eqb (pathOf x) v), e)
 
 -- Every list.
 chain : (o r w s₁ s₂ z c₁ c₂ w′ : ℕ) → o + w ≡ s₁ + w′ + c₁ → r + w′ ≡ s₂ + z + c₂ → (o + r) + w ≡ (s₁ + s₂) + z + (c₁ + c₂)
@@ -167,7 +189,7 @@ run-balanced :
 run-balanced v s w [] = omega arith
 run-balanced v s w (c ∷ cs) =
     chain (offeredTo v c (isAccepted (step s c .answer))) _ _ (dataSlotOf v (step s c .answer)) _ _ (closedOn v c (closedCells (step s c .answer))) _ _
-    (effect-balanced v (w .unique) (effect s (w .unique) c))
+    (effect-balanced v w (effect s (w .unique) c))
     (run-balanced v (step s c .state) (step-well-formed w c) cs)
 
 none-waits : (v : ℕ) → cellsWaiting v empty ≡ 0

@@ -1,11 +1,12 @@
 -- What a call can do to a table, with what is then known: one walk through the refusals of each call, for every theorem about one table.
 use Prim.Native.Nat.{ℕ, _<_, _+_, _≤_}
-use mathlib.Core.Path.{_≡_, refl}
-use mathlib.Core.Bool.{Bool, true, false, _&&_}
+use mathlib.Core.Path.{_≡_, refl, sym, ap, _∙_}
+use mathlib.Core.Bool.{Bool, true, false, _&&_, not, true≢false}
 use mathlib.Core.List.{List}
 use native.Mathlib.Omega.{arith}
 use lib.Dec.{leb, T, lit<, ltb}
-use borrow.Author.Tests.{leb-true, ltb-true}
+use lib.ListN.{length}
+use borrow.Author.Tests.{leb-true, ltb-true, eq-eqb}
 use Rattle.params.specs.declared.params.Params.{Params}
 use Rattle.rate.specs.Units.{latestTime}
 use Rattle.params.specs.Params.{paramsFit}
@@ -17,18 +18,20 @@ use Rattle.cell.specs.Fields.{cellName}
 use Rattle.cell.specs.Reading.{reading}
 use Rattle.cell.proofs.Names.{name-lt, Named, pair-named}
 use Rattle.cell.proofs.Readings.{refusal-number}
+use Rattle.members.specs.Path.{isPath, pathVci, firstVci, pathOf}
+use Rattle.members.specs.Members.{memberCapacity, isMember, cellsOf, withMember, withoutPath, owner}
 use Rattle.connection.specs.declared.parts.Connection.{Connection}
 use Rattle.connection.specs.Parts.{fresh, waiting}
 use Rattle.connection.specs.Interval.{rested}
 use Rattle.connection.specs.Making.{withMade}
 use Rattle.connection.specs.Receiving.{offered, afterDataCell, afterResourceCell}
 use Rattle.connection.specs.Kind.{kindAt}
-use Rattle.model.specs.State.{State, Entry, free, taken, position, isFree, find, leafOf, put, inserted, roomLeft, withTime, withLevel}
+use Rattle.model.specs.State.{State, Entry, free, taken, position, isFree, find, leafOf, put, inserted, roomLeft, withTime, withLevel, withMembers}
 use Rattle.model.specs.Invariant.{NamesUnique}
 use Rattle.model.specs.Choice.{Winner, noneReady, wins, winner, Chosen, Best}
 use Rattle.model.proofs.Winners.{winner-best}
-use Rattle.model.specs.Call.{Call, opening, closing, receiving, offering, levelling, slot, making, outOfRate, Outcome}
-use Rattle.model.specs.Step.{refuse, accept, replay, discard, ofOpen, openStep, closeStep, offerStep, readStep, receiveStep, levelStep, sendStep, idleStep, serveEntry, serve, slotStep, makeStep, sendOutside, outOfRateStep, step}
+use Rattle.model.specs.Call.{Call, opening, closing, receiving, offering, levelling, slot, making, outOfRate, openingPath, adding, offeringMember, removing, Outcome}
+use Rattle.model.specs.Step.{refuse, accept, replay, discard, ofOpen, admit, openStep, openPathStep, closeStep, offerStep, withOffer, withoutOne, addStep, offerMemberStep, removeStep, dataCellStep, readStep, receiveStep, levelStep, sendStep, idleStep, serveEntry, serve, slotStep, makeStep, sendOutside, outOfRateStep, step}
 use Rattle.laws.specs.Require.{require}
 
 -- an instant that does not lie before the last accepted one
@@ -38,12 +41,20 @@ pub record Timely (s : State) (t : ℕ) : Type 0 where
 
 -- what an open of a name has passed
 pub record Enters (s : State) (u t : ℕ) (p : Params) : Type 0 where
-  pub assigned : 32 ≤ vciIn u
+  pub assigned : isPath u ≡ false → firstVci ≤ vciIn u
   pub coded : u < noName
   pub fits : paramsFit p ≡ true
   pub new : find u (s .entries) ≡ free
+  pub noMember : isMember u (s .members) ≡ false
   pub room : roomLeft s ≡ true
   pub timely : Timely s t
+
+-- what the adding of a member has passed
+pub record Joins (s : State) (b x : ℕ) : Type 0 where
+  pub high : firstVci ≤ b
+  pub noChannel : find x (s .entries) ≡ free
+  pub noMember : isMember x (s .members) ≡ false
+  pub room : length (s .members) < memberCapacity
 
 pub data Effect (s : State) : Call → Outcome → Type 0 where
   refuses : (c : Call) (n : ℕ) → 0 < n → Effect s c (refuse s n)
@@ -52,13 +63,14 @@ pub data Effect (s : State) : Call → Outcome → Type 0 where
       → Effect s (opening a b t p) (replay (position isFree (s .entries)) s (withTime t (inserted (fresh (pairName a b) t p) s)))
   ends :
       (a b : ℕ) (d : Connection) → find (pairName a b) (s .entries) ≡ taken d
-      → Effect s (closing a b) (discard (waiting (d .queue)) (leafOf (pairName a b) s) s (put (pairName a b) free s))
+      → Effect s (closing a b) (discard (waiting (d .queue)) (leafOf (pairName a b) s) s (withMembers (withoutPath (pairName a b) (s .members)) (put (pairName a b) free s)))
   offers :
-      (a b n : ℕ) (d : Connection) → find (pairName a b) (s .entries) ≡ taken d → waiting (d .queue) + n ≤ 65535
+      (a b n : ℕ) (d : Connection) → find (pairName a b) (s .entries) ≡ taken d → isPath (pairName a b) ≡ false → waiting (d .queue) + n ≤ 65535
       → Effect s (offering a b n) (replay (leafOf (pairName a b) s) s (put (pairName a b) (taken (offered n d)) s))
   marks :
-      (o : List ℕ) (a b : ℕ) (e : Bool) (d : Connection) → reading o ≡ User a b e → find (pairName a b) (s .entries) ≡ taken d
-      → Effect s (receiving o) (replay (leafOf (pairName a b) s) s (put (pairName a b) (taken (afterDataCell e d)) s))
+      (o : List ℕ) (a b : ℕ) (e : Bool) (u : ℕ) (d : Connection) → reading o ≡ User a b e → isPath (pairName a b) ≡ false
+      → owner (pairName a b) (s .members) ≡ u → find u (s .entries) ≡ taken d
+      → Effect s (receiving o) (replay (leafOf u s) s (put u (taken (afterDataCell e d)) s))
   works :
       (o : List ℕ) (f : Fields) (d : Connection) → reading o ≡ Resource f → find (cellName f) (s .entries) ≡ taken d
       → Effect s (receiving o) (replay (leafOf (cellName f) s) s (put (cellName f) (taken (afterResourceCell (s .level) o f d)) s))
@@ -73,6 +85,19 @@ pub data Effect (s : State) : Call → Outcome → Type 0 where
   leaves :
       (a b t room : ℕ) (d : Connection) → find (pairName a b) (s .entries) ≡ taken d → Timely s t → rested t (d .outside) ≡ true
       → Effect s (outOfRate a b t room) (sendOutside (withTime t s) t (pairName a b) d)
+  beginsPath :
+      (a t : ℕ) (p : Params) → Enters s (pairName a pathVci) t p
+      → Effect s (openingPath a t p) (replay (position isFree (s .entries)) s (withTime t (inserted (fresh (pairName a pathVci) t p) s)))
+  adds :
+      (a b : ℕ) (d : Connection) → find (pathOf (pairName a b)) (s .entries) ≡ taken d → Joins s b (pairName a b)
+      → Effect s (adding a b) (accept 0 (withMembers (withMember (pairName a b) (s .members)) s))
+  offersMember :
+      (a b n : ℕ) (d : Connection) → find (pathOf (pairName a b)) (s .entries) ≡ taken d → isMember (pairName a b) (s .members) ≡ true
+      → cellsOf (pairName a b) (s .members) + n ≤ 65535
+      → Effect s (offeringMember a b n) (replay (leafOf (pathOf (pairName a b)) s) s (withOffer (pairName a b) n d s))
+  removes :
+      (a b : ℕ) (d : Connection) → find (pathOf (pairName a b)) (s .entries) ≡ taken d → isMember (pairName a b) (s .members) ≡ true
+      → Effect s (removing a b) (discard (cellsOf (pairName a b) (s .members)) (leafOf (pathOf (pairName a b)) s) s (withoutOne (pairName a b) d s))
 
 module _ {s : State} (c : Call) where
   require-effect : (n : ℕ) → T (ltb 0 n) → (t : Bool) (o : Outcome) → (t ≡ true → Effect s c o) → Effect s c (require (refuse s n) t o)
@@ -89,7 +114,7 @@ module _ {s : State} (c : Call) where
 timely : (s : State) (t : ℕ) → leb (s .last) t ≡ true → leb t latestTime ≡ true → Timely s t
 timely s t a b = record { since = leb-true _ _ a; until = leb-true _ _ b }
 
-is-free : (x : Entry) → isFree x ≡ true → x ≡ free
+pub is-free : (x : Entry) → isFree x ≡ true → x ≡ free
 unfolding isFree
 is-free free e = refl
 is-free (taken c) e = cc
@@ -98,31 +123,57 @@ both : (a b : Bool) → (a && b) ≡ true → (a ≡ true) × (b ≡ true)
 both true b e = (refl, e)
 both false b e = (e, cc)
 
-open-effect : (s : State) (a b t : ℕ) (p : Params) → Effect s (opening a b t p) (openStep s a b t p)
-unfolding openStep
-open-effect s a b t p =
-    require-effect (opening a b t p) 10 tt _ _ λ low.
-    require-effect (opening a b t p) 19 tt _ _ λ clear.
-    require-effect (opening a b t p) 7 tt _ _ λ fit.
-    require-effect (opening a b t p) 8 tt _ _ λ until.
-    require-effect (opening a b t p) 12 tt _ _ λ new.
-    require-effect (opening a b t p) 13 tt _ _ λ room.
-    require-effect (opening a b t p) 14 tt _ _ λ since.
-    begins a b t p (record {
-      assigned = omega (arith, leb-true 32 b low, named fit .vciBack);
+not-true : (b : Bool) → not b ≡ true → b ≡ false
+not-true true e = sym e
+not-true false e = refl
+
+-- what every open has passed, if its VCI is assigned
+admit-effect :
+    (s : State) (c : Call) (a b t : ℕ) (p : Params) → (a ≤ 255 → isPath (pairName a b) ≡ false → firstVci ≤ b)
+    → (Enters s (pairName a b) t p → Effect s c (replay (position isFree (s .entries)) s (withTime t (inserted (fresh (pairName a b) t p) s))))
+    → Effect s c (admit s a b t p)
+unfolding admit
+admit-effect s c a b t p assigned f =
+    require-effect c 19 tt _ _ λ clear.
+    require-effect c 7 tt _ _ λ fit.
+    require-effect c 8 tt _ _ λ until.
+    require-effect c 12 tt _ _ λ new.
+    require-effect c 27 tt _ _ λ noMember.
+    require-effect c 13 tt _ _ λ room.
+    require-effect c 14 tt _ _ λ since.
+    f (record {
+      assigned = λ i. omega (arith, assigned (ranges fit .0) i, named fit .vciBack);
       coded = in-range fit;
       fits = both (pairFits a b) (paramsFit p) fit .1;
       new = is-free (find (pairName a b) (s .entries)) new;
+      noMember = not-true _ noMember;
       room = room;
       timely = timely s t since until;
     })
   where
+    ranges : (pairFits a b && paramsFit p) ≡ true → (a ≤ 255) × (b ≤ 65535)
+    ranges fit = let z = both (leb a 255) (leb b 65535) (both (pairFits a b) (paramsFit p) fit .0) in (leb-true _ _ (z .0), leb-true _ _ (z .1))
+
     in-range : (pairFits a b && paramsFit p) ≡ true → pairName a b < noName
-    in-range fit =
-        let z = both (leb a 255) (leb b 65535) (both (pairFits a b) (paramsFit p) fit .0) in name-lt a b (leb-true _ _ (z .0)) (leb-true _ _ (z .1))
+    in-range fit = name-lt a b (ranges fit .0) (ranges fit .1)
 
     named : (pairFits a b && paramsFit p) ≡ true → Named a b (pairName a b)
     named fit = pair-named a b (in-range fit)
+
+open-effect : (s : State) (a b t : ℕ) (p : Params) → Effect s (opening a b t p) (openStep s a b t p)
+unfolding openStep
+open-effect s a b t p =
+    require-effect (opening a b t p) 10 tt _ _ λ low.
+    admit-effect s (opening a b t p) a b t p (λ _ _. leb-true firstVci b low) (begins a b t p)
+
+-- a VPI of eight bits makes a path's name
+pub path-is : (a : ℕ) → a ≤ 255 → isPath (pairName a pathVci) ≡ true
+unfolding isPath
+path-is a h = eq-eqb _ pathVci (pair-named a pathVci (name-lt a pathVci h (omega arith)) .vciBack)
+
+open-path-effect : (s : State) (a t : ℕ) (p : Params) → Effect s (openingPath a t p) (openPathStep s a t p)
+unfolding openPathStep
+open-path-effect s a t p = admit-effect s (openingPath a t p) a pathVci t p (λ h i. absurd (true≢false (sym (path-is a h) ∙ i))) (beginsPath a t p)
 
 close-effect : (s : State) (a b : ℕ) → Effect s (closing a b) (closeStep s (pairName a b))
 unfolding closeStep
@@ -132,13 +183,44 @@ offer-effect : (s : State) (a b n : ℕ) → Effect s (offering a b n) (offerSte
 unfolding offerStep
 offer-effect s a b n =
     ofOpen-effect (offering a b n) (find (pairName a b) (s .entries)) _ λ d e.
+    require-effect (offering a b n) 28 tt _ _ λ channel.
     require-effect (offering a b n) 15 tt _ _ λ fit.
-    offers a b n d e (leb-true _ _ fit)
+    offers a b n d e (not-true _ channel) (leb-true _ _ fit)
+
+-- the calls on members
+add-effect : (s : State) (a b : ℕ) → Effect s (adding a b) (addStep s a b)
+unfolding addStep
+add-effect s a b =
+    require-effect (adding a b) 10 tt _ _ λ low.
+    ofOpen-effect (adding a b) (find (pathOf (pairName a b)) (s .entries)) _ λ d e.
+    require-effect (adding a b) 12 tt _ _ λ new.
+    require-effect (adding a b) 27 tt _ _ λ noMember.
+    require-effect (adding a b) 26 tt _ _ λ room.
+    adds a b d e
+    (record { high = leb-true _ _ low; noChannel = is-free (find (pairName a b) (s .entries)) new; noMember = not-true _ noMember; room = ltb-true _ _ room })
+
+offer-member-effect : (s : State) (a b n : ℕ) → Effect s (offeringMember a b n) (offerMemberStep s (pairName a b) n)
+unfolding offerMemberStep
+offer-member-effect s a b n =
+    ofOpen-effect (offeringMember a b n) (find (pathOf (pairName a b)) (s .entries)) _ λ d e.
+    require-effect (offeringMember a b n) 28 tt _ _ λ member.
+    require-effect (offeringMember a b n) 15 tt _ _ λ fit.
+    offersMember a b n d e member (leb-true _ _ fit)
+
+remove-effect : (s : State) (a b : ℕ) → Effect s (removing a b) (removeStep s (pairName a b))
+unfolding removeStep
+remove-effect s a b =
+    ofOpen-effect (removing a b) (find (pathOf (pairName a b)) (s .entries)) _ λ d e.
+    require-effect (removing a b) 28 tt _ _ λ member.
+    removes a b d e member
 
 read-effect : (s : State) (o : List ℕ) (r : Reading) → reading o ≡ r → Effect s (receiving o) (readStep s o r)
-unfolding readStep
+unfolding readStep dataCellStep
 read-effect s o (Unread n) q = refuses (receiving o) n (refusal-number o n q)
-read-effect s o (User a b e) q = ofOpen-effect (receiving o) (find (pairName a b) (s .entries)) _ λ d h. marks o a b e d q h
+read-effect s o (User a b e) q =
+    require-effect (receiving o) 11 tt _ _ λ channel.
+    ofOpen-effect (receiving o) (find (owner (pairName a b) (s .members)) (s .entries)) _ λ d h.
+    marks o a b e _ d q (not-true _ channel) refl h
 read-effect s o (Resource f) q = ofOpen-effect (receiving o) (find (cellName f) (s .entries)) _ λ d h. works o f d q h
 
 level-effect : (s : State) (l : ℕ) → Effect s (levelling l) (levelStep s l)
@@ -189,3 +271,7 @@ effect s u (levelling l) = level-effect s l
 effect s u (slot t room) = slot-effect s t room u
 effect s u (making a b t) = make-effect s a b t
 effect s u (outOfRate a b t room) = out-of-rate-effect s a b t room
+effect s u (openingPath a t p) = open-path-effect s a t p
+effect s u (adding a b) = add-effect s a b
+effect s u (offeringMember a b n) = offer-member-effect s a b n
+effect s u (removing a b) = remove-effect s a b

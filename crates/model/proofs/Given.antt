@@ -10,23 +10,25 @@ use lib.ListN.{replicate}
 use Rattle.params.specs.declared.params.Params.{Params}
 use Rattle.cell.specs.Name.{pairName}
 use Rattle.cell.specs.Fields.{cellName}
+use Rattle.members.specs.Path.{pathVci, pathOf}
+use Rattle.members.specs.Members.{cellsOf}
 use Rattle.connection.specs.declared.parts.Connection.{Connection}
-use Rattle.connection.specs.Parts.{fresh}
+use Rattle.connection.specs.Parts.{fresh, withQueue, dequeued}
 use Rattle.connection.specs.Making.{withMade}
 use Rattle.connection.specs.Receiving.{offered, afterDataCell, afterResourceCell}
 use Rattle.connection.specs.Kind.{kindAt}
-use Rattle.connection.specs.Sending.{after}
+use Rattle.connection.specs.Sending.{after, withServed}
 use Rattle.connection.specs.OutOfRate.{afterOutOfRate}
 use Rattle.connection.proofs.Keeps.{work-same, after-same}
-use Rattle.model.specs.State.{State, Entry, free, taken, capacity, empty, find, put, inserted, withTime, withLevel}
+use Rattle.model.specs.State.{State, Entry, free, taken, capacity, empty, find, put, inserted, withTime, withLevel, withMembers}
 use Rattle.model.specs.Invariant.{NamesUnique, WellFormed}
 use Rattle.model.proofs.Entries.{absent-find, each-free}
 use Rattle.model.proofs.Frames.{put-kept, inserted-read, freed-read}
 use Rattle.model.proofs.Preserved.{empty-well-formed}
-use Rattle.model.specs.Call.{Call, opening, closing, receiving, offering, levelling, slot, making, outOfRate, Outcome}
-use Rattle.model.specs.Step.{refuse, accept, replay, discard, sendStep, sendOutside, idleStep, step}
+use Rattle.model.specs.Call.{Call, opening, closing, receiving, offering, levelling, slot, making, outOfRate, openingPath, adding, offeringMember, removing, Outcome}
+use Rattle.model.specs.Step.{refuse, accept, replay, discard, withOffer, withoutOne, sendFrom, sendStep, sendOutside, idleStep, step}
 use Rattle.model.specs.Run.{final, isAccepted, given, givenFrom, paramsGiven}
-use Rattle.model.proofs.Effects.{Enters, Effect, refuses, begins, ends, offers, marks, works, levels, idles, sends, makes, leaves, effect}
+use Rattle.model.proofs.Effects.{Enters, Effect, refuses, begins, ends, offers, marks, works, levels, idles, sends, makes, leaves, beginsPath, adds, offersMember, removes, effect}
 use Rattle.model.proofs.Reached.{step-well-formed}
 
 unfoldable pub entryParams : Entry → Option Params
@@ -47,6 +49,10 @@ refused-given v (levelling l) s n p = refl
 refused-given v (slot t room) s n p = refl
 refused-given v (making a b t) s n p = refl
 refused-given v (outOfRate a b t room) s n p = refl
+refused-given v (openingPath a t q) s n p = refl
+refused-given v (adding a b) s n p = refl
+refused-given v (offeringMember a b k) s n p = refl
+refused-given v (removing a b) s n p = refl
 
 begun-params :
     (v : ℕ) (s : State) (u t : ℕ) (p : Params) → Enters s u t p → paramsAt v (inserted (fresh u t p) s) ≡ cond (eqb u v) (some p) (paramsAt v s)
@@ -64,12 +70,12 @@ unfolding entryParams
 kept-params v u s a d e f n h = put-kept entryParams v u s a d e f n (ap some h)
 
 effect-given : (v : ℕ) {s : State} → NamesUnique (s .entries) → {c : Call} {o : Outcome} → Effect s c o → paramsAt v (o .state) ≡ given v c (isAccepted (o .answer)) (paramsAt v s)
-unfolding refuse accept replay discard withLevel idleStep sendStep sendOutside withTime given isAccepted offered afterDataCell withMade afterOutOfRate
+unfolding refuse accept replay discard withLevel withMembers idleStep sendStep sendFrom sendOutside withTime given isAccepted offered withOffer withoutOne afterDataCell withMade withServed afterOutOfRate
 effect-given v {s} u (refuses c n h) = refused-given v c s n (paramsAt v s)
 effect-given v {s} u (begins a b t p g) = begun-params v s (pairName a b) t p g
 effect-given v {s} u (ends a b d f) = ended-params v (pairName a b) s u
-effect-given v {s} u (offers a b n d f h) = kept-params v (pairName a b) s u d (offered n d) f refl refl
-effect-given v {s} u (marks o a b e d r f) = kept-params v (pairName a b) s u d (afterDataCell e d) f refl refl
+effect-given v {s} u (offers a b n d f c h) = kept-params v (pairName a b) s u d (offered n d) f refl refl
+effect-given v {s} u (marks o a b e i d r c z f) = kept-params v i s u d (afterDataCell e d) f refl refl
 effect-given v {s} u (works o q d r f) =
     let same = work-same (s .level) o q d in
     kept-params v (cellName q) s u d (afterResourceCell (s .level) o q d) f (same .name) (same .params)
@@ -77,9 +83,13 @@ effect-given v {s} u (levels l h) = refl
 effect-given v {s} u (idles t room g b) = refl
 effect-given v {s} u (sends t room i n g b) =
     let same = after-same (kindAt t (b .holder)) t (b .holder) in
-    kept-params v n (withTime t s) u (b .holder) (after (kindAt t (b .holder)) t (b .holder)) (b .found) (same .name) (same .params)
+    kept-params v n (withTime t s) u (b .holder) (withServed _ (after (kindAt t (b .holder)) t (b .holder))) (b .found) (same .name) (same .params)
 effect-given v {s} u (makes a b t d f g h m) = kept-params v (pairName a b) (withTime t s) u d (withMade t (s .level) d) f refl refl
 effect-given v {s} u (leaves a b t room d f g h) = kept-params v (pairName a b) (withTime t s) u d (afterOutOfRate t d) f refl refl
+effect-given v {s} u (beginsPath a t p g) = begun-params v s (pairName a pathVci) t p g
+effect-given v {s} u (adds a b d f j) = refl
+effect-given v {s} u (offersMember a b n d f i h) = kept-params v (pathOf (pairName a b)) s u d (offered n d) f refl refl
+effect-given v {s} u (removes a b d f i) = kept-params v (pathOf (pairName a b)) s u d (withQueue d (dequeued (cellsOf (pairName a b) (s .members)) (d .queue))) f refl refl
 
 run-given : (v : ℕ) (s : State) → WellFormed s → (before : Option Params) → paramsAt v s ≡ before → (cs : List Call) → paramsAt v (final s cs) ≡ givenFrom v s before cs
 run-given v s w b e [] = e

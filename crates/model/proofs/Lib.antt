@@ -5,6 +5,7 @@ pub mod Winners
 pub mod Places
 pub mod Scanned
 pub mod Replays
+pub mod Members
 pub mod Preserved
 pub mod Counts
 pub mod Effects

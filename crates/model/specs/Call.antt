@@ -19,6 +19,10 @@ pub data Call : Type 0 where
   slot : (time room : ℕ) → Call
   making : (vpi vci time : ℕ) → Call
   outOfRate : (vpi vci time room : ℕ) → Call
+  openingPath : (vpi time : ℕ) → Params → Call
+  adding : (vpi vci : ℕ) → Call
+  offeringMember : (vpi vci cells : ℕ) → Call
+  removing : (vpi vci : ℕ) → Call
 
 -- the table that a call leaves, its answer, and what it writes
 pub record Outcome : Type 0 where
@@ -32,22 +36,22 @@ refusal (Refused n) = some n
 refusal (Accepted n) = none
 refusal (Closed n k) = none
 refusal Idle = none
-refusal (Sent v k a n) = none
+refusal (Sent v x k a n) = none
 
--- the connection that a slot goes to, and the kind of cell it sends: none of an idle or refused slot
+-- the connection that a slot goes to, of a member's data cell its path, and the kind of cell it sends: none of an idle or refused slot
 unfoldable pub goesTo : Answer → Option ℕ
 goesTo (Refused n) = none
 goesTo (Accepted n) = none
 goesTo (Closed n k) = none
 goesTo Idle = none
-goesTo (Sent v k a n) = some v
+goesTo (Sent v x k a n) = some v
 
 unfoldable pub kindSent : Answer → Option Kind
 kindSent (Refused n) = none
 kindSent (Accepted n) = none
 kindSent (Closed n k) = none
 kindSent Idle = none
-kindSent (Sent v k a n) = some k
+kindSent (Sent v x k a n) = some k
 
 -- the comparisons that a call made in the tournament: none of a refused or idle one (document 02, L4)
 unfoldable pub comparisons : Answer → ℕ
@@ -55,12 +59,12 @@ comparisons (Refused n) = 0
 comparisons (Accepted n) = n
 comparisons (Closed n k) = n
 comparisons Idle = 0
-comparisons (Sent v k a n) = n
+comparisons (Sent v x k a n) = n
 
--- the data cells that waited on what a call closed: none of another call (document 02, L12)
+-- the data cells that waited on what a call closed or removed: none of another call (document 02, L12)
 unfoldable pub closedCells : Answer → ℕ
 closedCells (Refused n) = 0
 closedCells (Accepted n) = 0
 closedCells (Closed n k) = k
 closedCells Idle = 0
-closedCells (Sent v k a n) = 0
+closedCells (Sent v x k a n) = 0

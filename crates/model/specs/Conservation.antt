@@ -1,16 +1,16 @@
 -- No data cell is unaccounted: for each connection name, what was offered is what slots sent, what waits, and what waited at its closes. A name is a number, so that one
--- that was closed and opened again is one name. (Document 02, L12.)
+-- that was closed and opened again is one name. The data of members is counted by path, and the removal of a member is one of its path's closes. (Document 02, L12 and L13.)
 use Prim.Native.Nat.{ℕ, _+_, _≤_}
 use mathlib.Core.Path.{_≡_}
 use mathlib.Core.Bool.{Bool, cond, _&&_}
 use mathlib.Core.List.{List, [], _∷_}
 use lib.Dec.{eqb}
 use Rattle.cell.specs.Name.{pairName}
+use Rattle.members.specs.Path.{pathOf}
 use Rattle.connection.specs.declared.kind.Kind.{Kind}
 use Rattle.connection.specs.declared.kind.Kind.the-variants.{Forward, Turned, Data}
-use Rattle.connection.specs.Parts.{waiting}
-use Rattle.model.specs.State.{State, Entry, free, taken, empty, find}
-use Rattle.model.specs.Call.{Call, opening, closing, receiving, offering, levelling, slot, making, outOfRate, Answer, Refused, Accepted, Closed, Idle, Sent, closedCells}
+use Rattle.model.specs.State.{State, empty, find, entryCells}
+use Rattle.model.specs.Call.{Call, opening, closing, receiving, offering, levelling, slot, making, outOfRate, openingPath, adding, offeringMember, removing, Answer, Refused, Accepted, Closed, Idle, Sent, closedCells}
 use Rattle.model.specs.Step.{step}
 use Rattle.model.specs.Run.{final, isAccepted}
 
@@ -24,8 +24,12 @@ offeredTo v (levelling l) a = 0
 offeredTo v (slot t room) a = 0
 offeredTo v (making vpi vci t) a = 0
 offeredTo v (outOfRate vpi vci t room) a = 0
+offeredTo v (openingPath vpi t p) a = 0
+offeredTo v (adding vpi vci) a = 0
+offeredTo v (offeringMember vpi vci n) a = cond (a && eqb (pathOf (pairName vpi vci)) v) n 0
+offeredTo v (removing vpi vci) a = 0
 
--- the cells that a close of v answered
+-- the cells that a close of v, or the removal of one of its members, answered
 unfoldable pub closedOn : (v : ℕ) → Call → (answered : ℕ) → ℕ
 closedOn v (opening vpi vci t p) n = 0
 closedOn v (closing vpi vci) n = cond (eqb (pairName vpi vci) v) n 0
@@ -35,6 +39,10 @@ closedOn v (levelling l) n = 0
 closedOn v (slot t room) n = 0
 closedOn v (making vpi vci t) n = 0
 closedOn v (outOfRate vpi vci t room) n = 0
+closedOn v (openingPath vpi t p) n = 0
+closedOn v (adding vpi vci) n = 0
+closedOn v (offeringMember vpi vci k) n = 0
+closedOn v (removing vpi vci) n = cond (eqb (pathOf (pairName vpi vci)) v) n 0
 
 -- the data cells of a cell that a slot sends
 unfoldable pub dataCells : Kind → ℕ
@@ -48,7 +56,7 @@ dataSlotOf v (Refused n) = 0
 dataSlotOf v (Accepted n) = 0
 dataSlotOf v (Closed n k) = 0
 dataSlotOf v Idle = 0
-dataSlotOf v (Sent u k a n) = cond (eqb u v) (dataCells k) 0
+dataSlotOf v (Sent u x k a n) = cond (eqb u v) (dataCells k) 0
 
 -- a sum over the calls of a list and their answers
 abbrev pub sumOver : (Call → Answer → ℕ) → State → List Call → ℕ
@@ -66,10 +74,6 @@ abbrev pub cellsClosed : (v : ℕ) → List Call → ℕ
 cellsClosed v cs = sumOver (λ c a. closedOn v c (closedCells a)) empty cs
 
 -- the cells that wait in the table
-unfoldable pub entryCells : Entry → ℕ
-entryCells free = 0
-entryCells (taken c) = waiting (c .queue)
-
 abbrev pub cellsWaiting : (v : ℕ) → State → ℕ
 cellsWaiting v s = entryCells (find v (s .entries))
 

@@ -7,8 +7,9 @@ use mathlib.Core.Option.{Option, none, some}
 use lib.Dec.{eqb}
 use Rattle.params.specs.declared.params.Params.{Params}
 use Rattle.cell.specs.Name.{pairName}
+use Rattle.members.specs.Path.{pathVci}
 use Rattle.model.specs.State.{State, Entry, free, taken, empty, find}
-use Rattle.model.specs.Call.{Call, opening, closing, receiving, offering, levelling, slot, making, outOfRate, Answer, Refused, Accepted, Closed, Idle, Sent, Outcome}
+use Rattle.model.specs.Call.{Call, opening, closing, receiving, offering, levelling, slot, making, outOfRate, openingPath, adding, offeringMember, removing, Answer, Refused, Accepted, Closed, Idle, Sent, Outcome}
 use Rattle.model.specs.Step.{step}
 
 -- the outcome of each call, in order
@@ -26,7 +27,7 @@ isAccepted (Refused n) = false
 isAccepted (Accepted n) = true
 isAccepted (Closed n k) = true
 isAccepted Idle = true
-isAccepted (Sent v k a n) = true
+isAccepted (Sent v x k a n) = true
 
 -- the parameters under which a name is open: an accepted open gives them, an accepted close takes them away
 unfoldable pub given : ℕ → Call → (accepted : Bool) → Option Params → Option Params
@@ -38,6 +39,10 @@ given v (levelling l) a before = before
 given v (slot t room) a before = before
 given v (making vpi vci t) a before = before
 given v (outOfRate vpi vci t room) a before = before
+given v (openingPath vpi t p) a before = cond (a && eqb (pairName vpi pathVci) v) (some p) before
+given v (adding vpi vci) a before = before
+given v (offeringMember vpi vci n) a before = before
+given v (removing vpi vci) a before = before
 
 abbrev pub givenFrom : ℕ → State → Option Params → List Call → Option Params
 givenFrom v s before [] = before

@@ -1,8 +1,10 @@
 -- What each call does to a table, its refusals in their order. (Document 01, "Refused because of the state"; document 02.)
 use Prim.Native.Nat.{ℕ, _+_}
-use mathlib.Core.Bool.{Bool, true, false, _&&_}
+use mathlib.Core.Bool.{Bool, true, false, _&&_, not}
 use mathlib.Core.List.{List}
+use mathlib.Core.Option.{Option, none, some}
 use lib.Dec.{leb, ltb, eqb}
+use lib.ListN.{length}
 use Rattle.params.specs.declared.params.Params.{Params}
 use Rattle.rate.specs.Units.{latestTime}
 use Rattle.rate.specs.Code.{codesClear}
@@ -12,19 +14,22 @@ use Rattle.cell.specs.declared.read.Reading.the-variants.{Refused as Unread, Us
 use Rattle.cell.specs.Name.{pairFits, pairName}
 use Rattle.cell.specs.Fields.{cellName}
 use Rattle.cell.specs.Reading.{reading}
+use Rattle.members.specs.Path.{isPath, pathVci, firstVci, pathOf}
+use Rattle.members.specs.Members.{memberCapacity, isMember, cellsOf, withMember, withoutMember, withoutPath, withCells, owner}
+use Rattle.members.specs.Turn.{afterServing}
 use Rattle.connection.specs.declared.parts.Connection.{Connection}
 use Rattle.connection.specs.declared.kind.Kind.{Kind}
-use Rattle.connection.specs.Parts.{fresh, waiting}
+use Rattle.connection.specs.Parts.{fresh, waiting, withQueue, dequeued}
 use Rattle.connection.specs.Receiving.{offered, afterDataCell, afterResourceCell}
 use Rattle.connection.specs.Interval.{rested}
 use Rattle.connection.specs.Making.{withMade}
 use Rattle.connection.specs.Kind.{kindAt}
-use Rattle.connection.specs.Sending.{untouched, written, after, bufferAfter}
+use Rattle.connection.specs.Sending.{untouched, written, after, memberServed, withServed, bufferAfter}
 use Rattle.connection.specs.OutOfRate.{afterOutOfRate, outOfRateCell}
-use Rattle.model.specs.State.{State, Entry, free, taken, position, isFree, find, leafOf, put, inserted, roomLeft, withTime, withLevel}
+use Rattle.model.specs.State.{State, Entry, free, taken, position, isFree, find, leafOf, put, inserted, roomLeft, withTime, withLevel, withMembers}
 use Rattle.model.specs.Choice.{Winner, noneReady, wins, winner}
 use Rattle.model.specs.Tournament.{replayed}
-use Rattle.model.specs.Call.{Call, opening, closing, receiving, offering, levelling, slot, making, outOfRate, Refused, Accepted, Closed, Idle, Sent, Outcome}
+use Rattle.model.specs.Call.{Call, opening, closing, receiving, offering, levelling, slot, making, outOfRate, openingPath, adding, offeringMember, removing, Refused, Accepted, Closed, Idle, Sent, Outcome}
 use Rattle.laws.specs.Require.{require}
 
 -- a refusal leaves table and buffer
@@ -47,34 +52,84 @@ unfoldable pub ofOpen : State → Entry → (Connection → Outcome) → Outcome
 ofOpen s free f = refuse s 11
 ofOpen s (taken c) f = f c
 
--- Open: 10, which looks at the VCI alone, 19, 7, 8, 12, 13, 14.
-unfoldable pub openStep : State → (vpi vci time : ℕ) → Params → Outcome
-openStep s vpi vci t p =
-    require (refuse s 10) (leb 32 vci)
-    (require (refuse s 19) (codesClear (p .pcr) (p .mcr) (p .icr))
+-- What every open refuses: 19, 7, 8, 12, 27, 13, 14. 27 is a member's pair, so that a path's name never meets it. (Document 02, L13.)
+unfoldable pub admit : State → (vpi vci time : ℕ) → Params → Outcome
+admit s vpi vci t p =
+    require (refuse s 19) (codesClear (p .pcr) (p .mcr) (p .icr))
     (require (refuse s 7) (pairFits vpi vci && paramsFit p)
     (require (refuse s 8) (leb t latestTime)
     (require (refuse s 12) (isFree (find (pairName vpi vci) (s .entries)))
+    (require (refuse s 27) (not (isMember (pairName vpi vci) (s .members)))
     (require (refuse s 13) (roomLeft s)
     (require (refuse s 14) (leb (s .last) t)
     (replay (position isFree (s .entries)) s (withTime t (inserted (fresh (pairName vpi vci) t p) s)))))))))
 
--- Close: 11. All that waits on the connection goes with it, and the answer counts the data cells.
-unfoldable pub closeStep : State → (name : ℕ) → Outcome
-closeStep s v = ofOpen s (find v (s .entries)) λ c. discard (waiting (c .queue)) (leafOf v s) s (put v free s)
+-- Opening a channel: 10 before all that, which looks at the VCI alone.
+unfoldable pub openStep : State → (vpi vci time : ℕ) → Params → Outcome
+openStep s vpi vci t p = require (refuse s 10) (leb firstVci vci) (admit s vpi vci t p)
 
--- Offer: 11, 15.
+-- Opening the path of a VPI: without 10. (Document 02, L13.)
+unfoldable pub openPathStep : State → (vpi time : ℕ) → Params → Outcome
+openPathStep s vpi t p = admit s vpi pathVci t p
+
+-- Close: 11. All that waits on the connection goes with it, and the answer counts the data cells; a path's members go too.
+unfoldable pub closeStep : State → (name : ℕ) → Outcome
+closeStep s v =
+    ofOpen s (find v (s .entries)) λ c. discard (waiting (c .queue)) (leafOf v s) s (withMembers (withoutPath v (s .members)) (put v free s))
+
+-- Offer: 11, 28 on a path's own name, 15.
 unfoldable pub offerStep : State → (name cells : ℕ) → Outcome
 offerStep s v n =
     ofOpen s (find v (s .entries)) λ c.
-    require (refuse s 15) (leb (waiting (c .queue) + n) 65535)
-    (replay (leafOf v s) s (put v (taken (offered n c)) s))
+    require (refuse s 28) (not (isPath v))
+    (require (refuse s 15) (leb (waiting (c .queue) + n) 65535)
+    (replay (leafOf v s) s (put v (taken (offered n c)) s)))
+
+-- The calls on the members of paths. (Document 02, L13.) A pair outside the ranges has no open path.
+-- n more cells wait on the member x, and so on its path; and the member x goes with its cells
+unfoldable pub withOffer : (x n : ℕ) → Connection → State → State
+withOffer x n c s = withMembers (withCells x (cellsOf x (s .members) + n) (s .members)) (put (pathOf x) (taken (offered n c)) s)
+
+unfoldable pub withoutOne : (x : ℕ) → Connection → State → State
+withoutOne x c s =
+    withMembers (withoutMember x (s .members)) (put (pathOf x) (taken (withQueue c (dequeued (cellsOf x (s .members)) (c .queue)))) s)
+
+-- Adding: 10, which looks at the VCI alone, 11, 12, 27, 26. It replays no match.
+unfoldable pub addStep : State → (vpi vci : ℕ) → Outcome
+addStep s vpi vci =
+    require (refuse s 10) (leb firstVci vci)
+    (ofOpen s (find (pathOf (pairName vpi vci)) (s .entries)) λ c.
+    require (refuse s 12) (isFree (find (pairName vpi vci) (s .entries)))
+    (require (refuse s 27) (not (isMember (pairName vpi vci) (s .members)))
+    (require (refuse s 26) (ltb (length (s .members)) memberCapacity)
+    (accept 0 (withMembers (withMember (pairName vpi vci) (s .members)) s)))))
+
+-- A member's offer: 11, 28, 15, which looks at that member alone.
+unfoldable pub offerMemberStep : State → (x cells : ℕ) → Outcome
+offerMemberStep s x n =
+    ofOpen s (find (pathOf x) (s .entries)) λ c.
+    require (refuse s 28) (isMember x (s .members))
+    (require (refuse s 15) (leb (cellsOf x (s .members) + n) 65535)
+    (replay (leafOf (pathOf x) s) s (withOffer x n c s)))
+
+-- Removing: 11, 28. It answers like a close.
+unfoldable pub removeStep : State → (x : ℕ) → Outcome
+removeStep s x =
+    ofOpen s (find (pathOf x) (s .entries)) λ c.
+    require (refuse s 28) (isMember x (s .members))
+    (discard (cellsOf x (s .members)) (leafOf (pathOf x) s) s (withoutOne x c s))
+
+-- a data cell: its EFCI is its channel's, or that of the path that it is a member of; 11 on a path's own name (document 02, L13)
+unfoldable pub dataCellStep : State → (name : ℕ) → (efci : Bool) → Outcome
+dataCellStep s x e =
+    require (refuse s 11) (not (isPath x))
+    (ofOpen s (find (owner x (s .members)) (s .entries)) λ c.
+    replay (leafOf (owner x (s .members)) s) s (put (owner x (s .members)) (taken (afterDataCell e c)) s))
 
 -- Receive: the refusals of reading, then 11.
 unfoldable pub readStep : State → List ℕ → Reading → Outcome
 readStep s o (Unread n) = refuse s n
-readStep s o (User vpi vci e) =
-    ofOpen s (find (pairName vpi vci) (s .entries)) λ c. replay (leafOf (pairName vpi vci) s) s (put (pairName vpi vci) (taken (afterDataCell e c)) s)
+readStep s o (User vpi vci e) = dataCellStep s (pairName vpi vci) e
 readStep s o (Resource f) =
     ofOpen s (find (cellName f) (s .entries)) λ c. replay (leafOf (cellName f) s) s (put (cellName f) (taken (afterResourceCell (s .level) o f c)) s)
 
@@ -85,13 +140,23 @@ receiveStep s o = readStep s o (reading o)
 unfoldable pub levelStep : State → (level : ℕ) → Outcome
 levelStep s l = require (refuse s 9) (leb l 2) (accept 0 (withLevel l s))
 
--- a slot's cell of this kind, from the connection c of the name v
+-- the name that a slot tells: the member's, if its cell is taken from one (document 02, L13)
+unfoldable pub nameTold : (connection : ℕ) → Option ℕ → ℕ
+nameTold v none = v
+nameTold v (some x) = x
+
+-- a slot's cell of this kind, from the connection c of the name v and, of a path's data, from this member
+unfoldable pub sendFrom : State → (t v : ℕ) → Connection → Kind → (member : Option ℕ) → Outcome
+sendFrom s t v c k x =
+    let r = put v (taken (withServed x (after k t c))) s in
+    record {
+      state = withMembers (afterServing x (s .members)) r;
+      answer = Sent v (nameTold v x) k (after k t c .rate .acr) (replayed (leafOf v s) (s .entries) (r .entries));
+      buffer = bufferAfter k c (after k t c);
+    }
+
 unfoldable pub sendStep : State → (t v : ℕ) → Connection → Kind → Outcome
-sendStep s t v c k = record {
-  state = put v (taken (after k t c)) s;
-  answer = Sent v k (after k t c .rate .acr) (replayed (leafOf v s) (s .entries) (put v (taken (after k t c)) s .entries));
-  buffer = bufferAfter k c (after k t c);
-}
+sendStep s t v c k = sendFrom s t v c k (memberServed k c (s .members))
 
 -- a cell outside the rate at t, from the connection c of the name v
 unfoldable pub sendOutside : State → (t v : ℕ) → Connection → Outcome
@@ -146,3 +211,7 @@ step s (levelling l) = levelStep s l
 step s (slot t room) = slotStep s t room
 step s (making vpi vci t) = makeStep s (pairName vpi vci) t
 step s (outOfRate vpi vci t room) = outOfRateStep s (pairName vpi vci) t room
+step s (openingPath vpi t p) = openPathStep s vpi t p
+step s (adding vpi vci) = addStep s vpi vci
+step s (offeringMember vpi vci n) = offerMemberStep s (pairName vpi vci) n
+step s (removing vpi vci) = removeStep s (pairName vpi vci)

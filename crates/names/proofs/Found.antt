@@ -12,16 +12,17 @@ use Rattle.connection.specs.declared.parts.Connection.{Connection}
 use Rattle.model.specs.State.{State, Entry, free, taken, position, isFree, holds, find, roomLeft, capacity}
 use Rattle.model.specs.Invariant.{OnEntry, NamesUnique, WellFormed}
 use Rattle.table.specs.Layout.{words, used, bitmap, isTaken, group, directory, directoryWord, directoryWords, usedFrom, groups, directoryFrom}
-use Rattle.names.specs.Directory.{atLeast, InTable, AtLeast}
+use Rattle.falling.specs.Falling.{atLeast}
+use Rattle.falling.specs.Column.{InColumn, AtLeast}
 use Rattle.names.specs.Finding.{Located, Finds, FindsFree}
 use Rattle.names.specs.declared.find.Found.the-variants.{At, Nothing}
 use Rattle.model.proofs.Entries.{entry-place, find-name, taken-in}
 use Rattle.table.proofs.Directory.{length-words, length-directory}
 use Rattle.table.proofs.Splits.{length-before-directory, beforeDirectory, behindDirectory, directory-split}
 use Rattle.table.proofs.Used.{length-used, used-at, Past, past-start, past-full, past-vacant, past-all}
-use Rattle.names.proofs.Falling.{Reach, above, below, reach, Among, at-least-among, at-least-drops, at-least-most, at-least-in, at-least-out, at-least-self}
+use Rattle.falling.proofs.Falling.{Reach, above, below, reach, Among, at-least-among, at-least-drops, at-least-most, at-least-in, at-least-out, at-least-self}
 use Rattle.names.proofs.Directories.{falling-directory, directory-count}
-use Rattle.names.proofs.Halving.{in-table}
+use Rattle.falling.proofs.Halving.{in-column}
 
 pub found-at : {ss : List Entry} {v i : ℕ} → (l : Located ss v i) → find v ss ≡ taken (l .holder)
 unfolding find
@@ -31,7 +32,7 @@ found-at {ss} l = ap (λ (k : ℕ). getD ss k free) (l .place) ∙ l .here
 
 -- the directory in the words of a state
 pub in-state : (s : State) → WellFormed s → (l : List ℕ) → l ≡ words s
-    → InTable l (beforeDirectory s) (directory (s .entries)) (behindDirectory s)
+    → InColumn directoryFrom capacity l (beforeDirectory s) (directory (s .entries)) (behindDirectory s)
 in-state s w l e = (e ∙ directory-split s, length-before-directory (s .level) (s .last) (used (s .entries)) (length-used (s .entries)), length-directory (s .entries) ∙ w .size, falling-directory (s .entries))
 
 words-at : (k : ℕ) (ss : List Entry) (j : ℕ) → j < length ss → getD (directoryWords k ss) j 0 ≡ directoryWord (k + j) (getD ss j free)
@@ -95,9 +96,9 @@ module _ (ss : List Entry) (i v : ℕ) (c : Connection) (here : getD ss i free �
       at-least-out ((v + 2) * capacity) (directory ss) (falling-directory ss) p (omega (arith, q)) (omega (arith, e, length-directory ss, size)) in
       omega (arith, lo, hi)
 
-module _ (l : List ℕ) (v p : ℕ) (a : AtLeast l ((v + 2) * capacity) p) where
+module _ (l : List ℕ) (v p : ℕ) (a : AtLeast directoryFrom capacity l ((v + 2) * capacity) p) where
   word-is : (s : State) → WellFormed s → l ≡ words s → getD l (directoryFrom + p) 0 ≡ getD (directory (s .entries)) p 0
-  word-is s w q = in-table l (beforeDirectory s) (directory (s .entries)) (behindDirectory s) (in-state s w l q) p (a .inside)
+  word-is s w q = in-column directoryFrom capacity l (beforeDirectory s) (directory (s .entries)) (behindDirectory s) (in-state s w l q) p (a .inside)
 
   place-is : (s : State) → WellFormed s → l ≡ words s → p ≡ min (atLeast ((v + 2) * capacity) (directory (s .entries))) (capacity - 1)
   place-is s w q = a .is (beforeDirectory s) (directory (s .entries)) (behindDirectory s) (in-state s w l q)

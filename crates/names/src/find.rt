@@ -1,6 +1,6 @@
 // A name's entry, by the directory.
 ghost use Rattle.names.specs.Finding.{Finds};
-use crate::directory::at_least;
+use falling::column::at_least;
 use table::layout::CAPACITY;
 use table::layout::DIRECTORY;
 use table::layout::WORDS;
@@ -14,7 +14,7 @@ pub enum Found {
 pub fn find(t: &[u64; WORDS], name: u32) -> Found
     ensures { λ r. ⌜ Finds (now (t .entry)) name r ⌝ }
 {
-    let p = at_least(t, (name as u64 + 2) * CAPACITY as u64);
+    let p = at_least(t, DIRECTORY, CAPACITY, (name as u64 + 2) * CAPACITY as u64);
     let word = t[DIRECTORY + p];
     if word / CAPACITY as u64 != name as u64 + 1 {
         return Found::Nothing;

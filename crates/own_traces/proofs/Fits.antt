@@ -8,14 +8,12 @@ use native.Mathlib.Omega.{arith}
 use Rattle.rate.specs.Units.{largestRate, latestTime}
 use Rattle.rate.proofs.Codes.{rate-le}
 use Rattle.params.proofs.Ranges.{fits}
-use Rattle.cell.specs.Name.{pairName}
 use Rattle.judge.specs.Octets.{mostSince}
 use Rattle.connection.specs.declared.kind.Kind.{Kind}
 use Rattle.connection.specs.declared.kind.Kind.the-variants.{Forward, Turned, Data}
 use Rattle.connection.specs.Parts.{fresh}
 use Rattle.connection.specs.Kind.{kindNumber, kindAt}
 use Rattle.model.specs.State.{State, empty}
-use Rattle.model.specs.Call.{opening}
 use Rattle.model.specs.Step.{step}
 use Rattle.model.specs.Run.{final}
 use Rattle.model.proofs.Reached.{step-well-formed, reached-well-formed}
@@ -69,12 +67,11 @@ fitting = record {
 }
 
 pub own-trace-passes : OwnTracePasses
-own-trace-passes before vpi vci t p after a =
-    let s : State = step (final empty before) (opening vpi vci t p) .state in
-    let v : ℕ = pairName vpi vci in
-    let o = opened-at before vpi vci t p a in
+own-trace-passes before c v p after g a =
+    let s : State = step (final empty before) c .state in
+    let o = opened-at before c v p g a in
     let r = fits p (o .fits) in
-    let w = step-well-formed (reached-well-formed before) (opening vpi vci t p) in
-    written-is-judged (p .n) (p .trm) (ownCells before vpi vci t p after) (r .nLeast) (r .nMost) (r .trmMost)
-    (cells-fit (s .last) (sentFrom v s after) (each-cell fitting v after s w (fresh v t p) (o .found)))
-    ∙ own-cells-pass before vpi vci t p after a
+    let w = step-well-formed (reached-well-formed before) c in
+    written-is-judged (p .n) (p .trm) (ownCells before c v after) (r .nLeast) (r .nMost) (r .trmMost)
+    (cells-fit (s .last) (sentFrom v s after) (each-cell fitting v after s w (fresh v (o .time) p) (o .found)))
+    ∙ own-cells-pass before c v p after g a

@@ -5,6 +5,7 @@ use mathlib.Core.Path.{_≡_, refl, sym, ap, subst, _∙_}
 use mathlib.Core.Logic.{_≢_}
 use mathlib.Core.Bool.{Bool, true, false, cond}
 use mathlib.Core.List.{List, [], _∷_}
+use mathlib.Core.Option.{Option}
 use native.Mathlib.Nat.{le-refl}
 use native.Mathlib.Omega.{arith}
 use lib.Dec.{eqb}
@@ -13,25 +14,27 @@ use Rattle.params.specs.declared.params.Params.{Params}
 use Rattle.cell.specs.Name.{pairName}
 use Rattle.cell.specs.declared.fields.Fields.{Fields}
 use Rattle.cell.specs.Fields.{cellName}
+use Rattle.members.specs.Path.{pathVci, pathOf}
+use Rattle.members.specs.Members.{Member, cellsOf}
 use Rattle.connection.specs.declared.parts.Connection.{Connection}
 use Rattle.connection.specs.declared.ready.Instant.the-variants.{At}
-use Rattle.connection.specs.Parts.{fresh}
+use Rattle.connection.specs.Parts.{fresh, withQueue, dequeued}
 use Rattle.connection.specs.Making.{withMade}
 use Rattle.connection.specs.Receiving.{offered, afterDataCell, afterBackwardCell, afterForwardCell, afterResourceCell}
 use Rattle.connection.specs.Ready.{readyInstant}
 use Rattle.connection.specs.Kind.{kindNumber, kindAt}
-use Rattle.connection.specs.Sending.{after}
+use Rattle.connection.specs.Sending.{after, memberServed, withServed}
 use Rattle.connection.specs.OutOfRate.{afterOutOfRate}
 use Rattle.connection.proofs.Keeps.{Same, work-same, made-same, out-of-rate-same, after-same}
-use Rattle.model.specs.State.{State, Entry, free, taken, find, put, inserted, withTime, withLevel}
+use Rattle.model.specs.State.{State, Entry, free, taken, find, put, inserted, withTime, withLevel, withMembers}
 use Rattle.model.specs.Invariant.{NamesUnique}
-use Rattle.model.specs.Call.{Call, opening, closing, receiving, offering, levelling, slot, making, outOfRate, Outcome}
-use Rattle.model.specs.Step.{refuse, accept, replay, discard, sendStep, sendOutside, idleStep}
+use Rattle.model.specs.Call.{Call, opening, closing, receiving, offering, levelling, slot, making, outOfRate, openingPath, adding, offeringMember, removing, Outcome}
+use Rattle.model.specs.Step.{refuse, accept, replay, discard, withOffer, withoutOne, sendFrom, sendStep, sendOutside, idleStep}
 use Rattle.model.specs.Queries.{entryAcr, acrOf}
 use Rattle.model.specs.Run.{isAccepted}
 use Rattle.model.proofs.Entries.{Case, same, other, case, taken≢free}
 use Rattle.model.proofs.Frames.{put-read, inserted-read, freed-read}
-use Rattle.model.proofs.Effects.{Timely, Enters, Effect, refuses, begins, ends, offers, marks, works, levels, idles, sends, makes, leaves}
+use Rattle.model.proofs.Effects.{Timely, Enters, Effect, refuses, begins, ends, offers, marks, works, levels, idles, sends, makes, leaves, beginsPath, adds, offersMember, removes}
 use Rattle.own_traces.specs.InRate.{SentCell, acrIn, cellIn, atSlot, sentBy, closes}
 
 -- d as it is later, without a cell of its own in between
@@ -55,7 +58,7 @@ pub data Next (v : ℕ) (s : State) (d : Connection) (c : Call) (o : Outcome) : 
   quiet : closes v c (isAccepted (o .answer)) ≡ false → sentBy v s c (o .answer) ≡ [] → s .last ≤ o .state .last → StillOpen v (o .state .entries) d → Next v s d c o
   goes :
       (t i : ℕ) → closes v c (isAccepted (o .answer)) ≡ false → sentBy v s c (o .answer) ≡ cellAt t d ∷ [] → Timely s t → o .state .last ≡ t
-      → readyInstant d ≡ At i → i ≤ t → find v (o .state .entries) ≡ taken (after (kindAt t d) t d) → Next v s d c o
+      → readyInstant d ≡ At i → i ≤ t → StillOpen v (o .state .entries) (after (kindAt t d) t d) → Next v s d c o
 
 unchanged : (d : Connection) → Stays d d
 unchanged d = record { kept = record { name = refl; opened = refl; trm = refl; params = refl }; pace = refl }
@@ -75,6 +78,15 @@ work-stays level o f d = record { kept = work-same level o f d; pace = go (eqb (
     go : (b : Bool) → cond b (afterBackwardCell f d) (afterForwardCell level o d) .pace ≡ d .pace
     go true = refl
     go false = refl
+
+-- some of its data goes without being sent
+less-stays : (n : ℕ) (d : Connection) → Stays d (withQueue d (dequeued n (d .queue)))
+less-stays n d = record { kept = record { name = refl; opened = refl; trm = refl; params = refl }; pace = refl }
+
+-- another member was served last
+served-stays : (x : Option ℕ) (d : Connection) → Stays d (withServed x d)
+unfolding withServed
+served-stays x d = record { kept = record { name = refl; opened = refl; trm = refl; params = refl }; pace = refl }
 
 made-stays : (t level : ℕ) (d : Connection) → Stays d (withMade t level d)
 unfolding withMade
@@ -98,6 +110,10 @@ refused-closes v (levelling l) s n = refl
 refused-closes v (slot t room) s n = refl
 refused-closes v (making a b t) s n = refl
 refused-closes v (outOfRate a b t room) s n = refl
+refused-closes v (openingPath a t p) s n = refl
+refused-closes v (adding a b) s n = refl
+refused-closes v (offeringMember a b k) s n = refl
+refused-closes v (removing a b) s n = refl
 
 refused-sends : (v : ℕ) (c : Call) (s : State) (n : ℕ) → sentBy v s c (refuse s n .answer) ≡ []
 unfolding refuse sentBy atSlot cellIn
@@ -109,6 +125,10 @@ refused-sends v (levelling l) s n = refl
 refused-sends v (slot t room) s n = refl
 refused-sends v (making a b t) s n = refl
 refused-sends v (outOfRate a b t room) s n = refl
+refused-sends v (openingPath a t p) s n = refl
+refused-sends v (adding a b) s n = refl
+refused-sends v (offeringMember a b k) s n = refl
+refused-sends v (removing a b) s n = refl
 
 module _ (v : ℕ) (s : State) (d : Connection) (e : find v (s .entries) ≡ taken d) where
   still : StillOpen v (s .entries) d
@@ -158,26 +178,29 @@ module _ (v : ℕ) (s : State) (d : Connection) (e : find v (s .entries) ≡ tak
   abbrev cellOf : (t : ℕ) → Connection → (rate : ℕ) → SentCell
   cellOf t x r = record { time = t; kind = kindNumber (kindAt t x); rate = r }
 
-  ends-next : (a b : ℕ) → NamesUnique (s .entries) → (k x : ℕ) → Next v s d (closing a b) (discard k x s (put (pairName a b) free s))
-  unfolding discard closes sentBy atSlot isAccepted put
-  ends-next a b u k x = go (case (pairName a b) v)
+  ends-next : (a b : ℕ) → NamesUnique (s .entries) → (k x : ℕ) (ms : List Member) → Next v s d (closing a b) (discard k x s (withMembers ms (put (pairName a b) free s)))
+  unfolding discard closes sentBy atSlot isAccepted put withMembers
+  ends-next a b u k x ms = go (case (pairName a b) v)
     where
-      go : Case (pairName a b) v → Next v s d (closing a b) (discard k x s (put (pairName a b) free s))
+      go : Case (pairName a b) v → Next v s d (closing a b) (discard k x s (withMembers ms (put (pairName a b) free s)))
       go (same q) = closed (eq-eqb (pairName a b) v q)
       go (other q) = quiet (ne-eqb (pairName a b) v q) refl (le-refl (s .last)) (ended (pairName a b) u q)
 
   sends-next :
       (t room i u : ℕ) → NamesUnique (s .entries) → Timely s t → (x : Connection) → find u (s .entries) ≡ taken x → readyInstant x ≡ At i → i ≤ t
       → Next v s d (slot t room) (sendStep (withTime t s) t u x (kindAt t x))
-  unfolding sendStep closes sentBy atSlot cellIn withTime put
+  unfolding sendStep sendFrom closes sentBy atSlot cellIn withTime withMembers put
   sends-next t room i u a g x f r l = go (case u v)
     where
+      m : Option ℕ
+      m = memberServed (kindAt t x) x (s .members)
+
       y : Connection
-      y = after (kindAt t x) t x
+      y = withServed m (after (kindAt t x) t x)
 
       read : (b : Bool) → eqb u v ≡ b → find v (put u (taken y) (withTime t s) .entries) ≡ cond b (taken y) (find v (s .entries))
       read b h =
-          put-read (λ (z : Entry). z) v u (withTime t s) a x y f (after-same (kindAt t x) t x .name) ∙ ap (λ (z : Bool). cond z (taken y) (find v (s .entries))) h
+          put-read (λ (z : Entry). z) v u (withTime t s) a x y f (served-stays m (after (kindAt t x) t x) .kept .name ∙ after-same (kindAt t x) t x .name) ∙ ap (λ (z : Bool). cond z (taken y) (find v (s .entries))) h
 
       cells : (b : Bool) → eqb u v ≡ b → cond (eqb u v) (cellOf t x (acrIn (acrOf s v)) ∷ []) [] ≡ cond b (cellOf t x (d .rate .acr) ∷ []) []
       cells b h = ap (λ (z : Bool). cond z (cellOf t x (acrIn (acrOf s v)) ∷ []) []) h ∙ ap (λ (z : ℕ). cond b (cellOf t x z ∷ []) []) rate-before
@@ -186,18 +209,22 @@ module _ (v : ℕ) (s : State) (d : Connection) (e : find v (s .entries) ≡ tak
       go (same q) =
           let z : x ≡ d = holder u x f q in
           goes t i refl (cells true (eq-eqb u v q) ∙ ap (λ (w : Connection). cellOf t w (d .rate .acr) ∷ []) z) g refl (ap readyInstant (sym z) ∙ r) l
-          (read true (eq-eqb u v q) ∙ ap (λ (w : Connection). taken (after (kindAt t w) t w)) z)
+          (record {
+            now = y;
+            found = read true (eq-eqb u v q);
+            stays = subst (λ (w : Connection). Stays (after (kindAt t w) t w) y) z (served-stays m (after (kindAt t x) t x));
+          })
       go (other q) = quiet refl (cells false (ne-eqb u v q)) (g .since) (record { now = d; found = read false (ne-eqb u v q) ∙ e; stays = unchanged d })
 
 -- every call
 pub effect-next :
     (v : ℕ) {s : State} (d : Connection) → find v (s .entries) ≡ taken d → NamesUnique (s .entries) → {c : Call} {o : Outcome} → Effect s c o → Next v s d c o
-unfolding accept replay idleStep sendOutside withTime withLevel put inserted closes sentBy atSlot cellIn
+unfolding accept replay discard idleStep sendOutside withTime withLevel withMembers withOffer withoutOne put inserted closes sentBy atSlot cellIn isAccepted
 effect-next v {s} d e a (refuses c n h) = refuse-next v s d e n c
 effect-next v {s} d e a (begins i j t p g) = quiet refl refl (g .timely .since) (begun v s d e (pairName i j) t p g)
-effect-next v {s} d e a (ends i j x f) = ends-next v s d e i j a _ _
-effect-next v {s} d e a (offers i j n x f h) = quiet refl refl (le-refl (s .last)) (changed v s d e (pairName i j) a x (offered n x) f (offered-stays n x))
-effect-next v {s} d e a (marks o i j b x r f) = quiet refl refl (le-refl (s .last)) (changed v s d e (pairName i j) a x (afterDataCell b x) f (marked-stays b x))
+effect-next v {s} d e a (ends i j x f) = ends-next v s d e i j a _ _ _
+effect-next v {s} d e a (offers i j n x f _ h) = quiet refl refl (le-refl (s .last)) (changed v s d e (pairName i j) a x (offered n x) f (offered-stays n x))
+effect-next v {s} d e a (marks o i j b u x r _ _ f) = quiet refl refl (le-refl (s .last)) (changed v s d e u a x (afterDataCell b x) f (marked-stays b x))
 effect-next v {s} d e a (works o q x r f) =
     quiet refl refl (le-refl (s .last)) (changed v s d e (cellName q) a x (afterResourceCell (s .level) o q x) f (work-stays (s .level) o q x))
 effect-next v {s} d e a (levels l h) = quiet refl refl (le-refl (s .last)) (still v (withLevel l s) d e)
@@ -207,3 +234,10 @@ effect-next v {s} d e a (makes i j t x f g h m) =
     quiet refl refl (g .since) (changed v (withTime t s) d e (pairName i j) a x (withMade t (s .level) x) f (made-stays t (s .level) x))
 effect-next v {s} d e a (leaves i j t room x f g h) =
     quiet refl refl (g .since) (changed v (withTime t s) d e (pairName i j) a x (afterOutOfRate t x) f (outside-stays t x))
+effect-next v {s} d e a (beginsPath i t p g) = quiet refl refl (g .timely .since) (begun v s d e (pairName i pathVci) t p g)
+effect-next v {s} d e a (adds i j x f g) = quiet refl refl (le-refl (s .last)) (still v s d e)
+effect-next v {s} d e a (offersMember i j n x f g h) =
+    quiet refl refl (le-refl (s .last)) (changed v s d e (pathOf (pairName i j)) a x (offered n x) f (offered-stays n x))
+effect-next v {s} d e a (removes i j x f g) =
+    quiet refl refl (le-refl (s .last))
+    (changed v s d e (pathOf (pairName i j)) a x (withQueue x (dequeued (cellsOf (pairName i j) (s .members)) (x .queue))) f (less-stays (cellsOf (pairName i j) (s .members)) x))

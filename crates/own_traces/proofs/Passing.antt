@@ -11,6 +11,7 @@ use Rattle.params.specs.declared.params.Params.{Params}
 use Rattle.params.specs.Params.{nrm, paramsFit}
 use Rattle.params.specs.Forward.{forwardDue}
 use Rattle.cell.specs.Name.{pairName}
+use Rattle.members.specs.Path.{pathVci}
 use Rattle.judge.specs.declared.judge.Verdict.the-variants.{Passes}
 use Rattle.judge.specs.Rules.{judgedCells}
 use Rattle.connection.specs.declared.parts.Connection.{Connection}
@@ -27,15 +28,15 @@ use Rattle.connection.specs.Invariant.{PaceFits}
 use Rattle.connection.proofs.Keeps.{Same, after-same}
 use Rattle.connection.proofs.Readiness.{ready-some}
 use Rattle.connection.proofs.Spaced.{dueFrom, ready-due}
-use Rattle.model.specs.State.{State, Entry, taken, empty, find, withTime}
-use Rattle.model.specs.Call.{Call, opening, Outcome}
+use Rattle.model.specs.State.{State, Entry, taken, empty, find, inserted, withTime}
+use Rattle.model.specs.Call.{Call, Outcome}
 use Rattle.model.specs.Step.{refuse, accept, replay, step}
 use Rattle.model.specs.Run.{final, isAccepted}
 use Rattle.model.proofs.Frames.{inserted-read}
-use Rattle.model.proofs.Effects.{Effect, refuses, begins, effect}
+use Rattle.model.proofs.Effects.{Enters, Effect, refuses, begins, beginsPath, effect}
 use Rattle.model.proofs.Reached.{step-well-formed, reached-well-formed}
 use Rattle.own_traces.specs.InRate.{SentCell, sentFrom}
-use Rattle.own_traces.specs.Traces.{cellsOf, OwnCellsPass}
+use Rattle.own_traces.specs.Traces.{cellsOf, Opening, channel, path, OwnCellsPass}
 use Rattle.own_traces.proofs.Next.{Stays, cellAt}
 use Rattle.own_traces.proofs.Walk.{CellByCell, each-cell}
 use Rattle.own_traces.proofs.OneCell.{Passing, none-passes, first-passes, later-forward, later-other}
@@ -105,30 +106,42 @@ passing = record {
 }
 
 -- From the opening on.
-pub record Opened (v t : ℕ) (p : Params) (ss : List Entry) : Type 0 where
-  pub found : find v ss ≡ taken (fresh v t p)
+pub record Opened (v : ℕ) (p : Params) (ss : List Entry) : Type 0 where
+  pub time : ℕ
+  pub found : find v ss ≡ taken (fresh v time p)
   pub fits : paramsFit p ≡ true
 
-accepted-opens : {s : State} (vpi vci t : ℕ) (p : Params) {o : Outcome} → Effect s (opening vpi vci t p) o → isAccepted (o .answer) ≡ true → Opened (pairName vpi vci) t p (o .state .entries)
-unfolding refuse accept replay isAccepted withTime fresh
-accepted-opens vpi vci t p (refuses _ n h) a = let z : _≡_ {A = ℕ} 0 1 = cc in absurd (omega arith)
-accepted-opens {s} vpi vci t p (begins _ _ _ _ g) a = record {
-  found = inserted-read (λ (x : Entry). x) (pairName vpi vci) s (fresh (pairName vpi vci) t p) (g .new) (g .room) ∙ rw (eq-eqb (pairName vpi vci) (pairName vpi vci) refl) refl;
+entered : {s : State} (u t : ℕ) (p : Params) → Enters s u t p → Opened u p (inserted (fresh u t p) s .entries)
+unfolding fresh
+entered {s} u t p g = record {
+  time = t;
+  found = inserted-read (λ (x : Entry). x) u s (fresh u t p) (g .new) (g .room) ∙ rw (eq-eqb u u refl) refl;
   fits = g .fits;
 }
 
+refused-opens : {A : Type 0} (s : State) (n : ℕ) → isAccepted (refuse s n .answer) ≡ true → A
+unfolding refuse isAccepted
+refused-opens s n e = let z : _≡_ {A = ℕ} 0 1 = cc in absurd (omega arith)
+
+accepted-opens : {s : State} {c : Call} {v : ℕ} {p : Params} {o : Outcome} → Opening c v p → Effect s c o → isAccepted (o .answer) ≡ true → Opened v p (o .state .entries)
+unfolding accept replay withTime
+accepted-opens {s} (channel a b t p) (refuses _ n h) e = refused-opens s n e
+accepted-opens (channel a b t p) (begins _ _ _ _ g) e = entered (pairName a b) t p g
+accepted-opens {s} (path a t p) (refuses _ n h) e = refused-opens s n e
+accepted-opens (path a t p) (beginsPath _ _ _ g) e = entered (pairName a pathVci) t p g
+
 pub opened-at :
-    (before : List Call) (vpi vci t : ℕ) (p : Params) → isAccepted (step (final empty before) (opening vpi vci t p) .answer) ≡ true
-    → Opened (pairName vpi vci) t p (step (final empty before) (opening vpi vci t p) .state .entries)
-opened-at before vpi vci t p a = accepted-opens vpi vci t p (effect (final empty before) (reached-well-formed before .unique) (opening vpi vci t p)) a
+    (before : List Call) (c : Call) (v : ℕ) (p : Params) → Opening c v p → isAccepted (step (final empty before) c .answer) ≡ true
+    → Opened v p (step (final empty before) c .state .entries)
+opened-at before c v p g a = accepted-opens g (effect (final empty before) (reached-well-formed before .unique) c) a
 
 fresh-passes : (v t : ℕ) (p : Params) (xs : List SentCell) → PassingOf (fresh v t p) xs → judgedCells (p .n) (p .trm) (cellsOf xs) ≡ Passes
 unfolding fresh
 fresh-passes v t p xs h = h
 
 pub own-cells-pass : OwnCellsPass
-own-cells-pass before vpi vci t p after a =
-    let s : State = step (final empty before) (opening vpi vci t p) .state in
-    let v : ℕ = pairName vpi vci in
-    fresh-passes v t p (sentFrom v s after)
-    (each-cell passing v after s (step-well-formed (reached-well-formed before) (opening vpi vci t p)) (fresh v t p) (opened-at before vpi vci t p a .found))
+own-cells-pass before c v p after g a =
+    let s : State = step (final empty before) c .state in
+    let o = opened-at before c v p g a in
+    fresh-passes v (o .time) p (sentFrom v s after)
+    (each-cell passing v after s (step-well-formed (reached-well-formed before) c) (fresh v (o .time) p) (o .found))

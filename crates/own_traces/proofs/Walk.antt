@@ -3,6 +3,7 @@ use Prim.Native.Nat.{ℕ, _≤_}
 use mathlib.Core.Path.{_≡_, refl, sym, subst}
 use mathlib.Core.Bool.{Bool, true, false, cond}
 use mathlib.Core.List.{List, [], _∷_, _++_}
+use native.Mathlib.Nat.{le-refl}
 use Rattle.rate.specs.Units.{latestTime}
 use Rattle.connection.specs.declared.parts.Connection.{Connection}
 use Rattle.connection.specs.declared.ready.Instant.the-variants.{At}
@@ -52,4 +53,4 @@ module _ {Q : ℕ → Connection → List SentCell → Type 0} (q : CellByCell Q
       go (goes t i h g l n r due f) ih =
           with false (cellAt t d ∷ []) h g
           (q .sends (s .last) t i d rest (valid-at w v d e) (l .since) (l .until) r due
-          (subst (λ (z : ℕ). Q z (after (kindAt t d) t d) rest) n (ih (after (kindAt t d) t d) f)))
+          (q .waits t t (after (kindAt t d) t d) (f .now) rest (le-refl t) (f .stays) (subst (λ (z : ℕ). Q z (f .now) rest) n (ih (f .now) (f .found)))))

@@ -1,4 +1,4 @@
--- The cells that slots send on one connection, from its opening to its close. A cell outside the rate is none of them: no slot sends it. (Document 02, L11.)
+-- The cells that slots send on one connection, from its opening to its close. A cell outside the rate is none of them: no slot sends it. (Document 02, L11 and L13.)
 use Prim.Native.Nat.{ℕ}
 use mathlib.Core.Bool.{Bool, false, cond, _&&_}
 use mathlib.Core.List.{List, [], _∷_, _++_}
@@ -10,7 +10,7 @@ use Rattle.model.specs.declared.acr.Acr.{Acr}
 use Rattle.model.specs.declared.acr.Acr.the-variants.{NotOpen, Rate}
 use Rattle.model.specs.declared.answer.Answer.{Answer}
 use Rattle.model.specs.declared.answer.Answer.the-variants.{Refused, Accepted, Closed, Idle, Sent}
-use Rattle.model.specs.Call.{Call, opening, closing, receiving, offering, levelling, slot, making, outOfRate}
+use Rattle.model.specs.Call.{Call, opening, closing, receiving, offering, levelling, slot, making, outOfRate, openingPath, adding, offeringMember, removing}
 use Rattle.model.specs.Step.{step}
 use Rattle.model.specs.Queries.{acrOf}
 use Rattle.model.specs.Run.{isAccepted}
@@ -26,13 +26,13 @@ unfoldable pub acrIn : Acr → ℕ
 acrIn NotOpen = 0
 acrIn (Rate a x) = a
 
--- the cell of v, at that time and rate, if the answer names one
+-- the cell of v, at that time and rate, if the answer goes to it: of a path also a member's data cell
 unfoldable pub cellIn : (v time rate : ℕ) → Answer → List SentCell
 cellIn v t rate (Refused n) = []
 cellIn v t rate (Accepted n) = []
 cellIn v t rate (Closed n k) = []
 cellIn v t rate Idle = []
-cellIn v t rate (Sent u k a n) = cond (eqb u v) (record { time = t; kind = kindNumber k; rate = rate } ∷ []) []
+cellIn v t rate (Sent u x k a n) = cond (eqb u v) (record { time = t; kind = kindNumber k; rate = rate } ∷ []) []
 
 -- a slot sends this, by its time; no other call sends at the rate
 unfoldable pub atSlot : Call → ((time : ℕ) → List SentCell) → List SentCell
@@ -44,6 +44,10 @@ atSlot (levelling l) f = []
 atSlot (slot t room) f = f t
 atSlot (making vpi vci t) f = []
 atSlot (outOfRate vpi vci t room) f = []
+atSlot (openingPath vpi t p) f = []
+atSlot (adding vpi vci) f = []
+atSlot (offeringMember vpi vci n) f = []
+atSlot (removing vpi vci) f = []
 
 -- what a call on the table s sends on v, the rate being the one that reading it just before gives
 unfoldable pub sentBy : (v : ℕ) → State → Call → Answer → List SentCell
@@ -59,6 +63,10 @@ closes v (levelling l) a = false
 closes v (slot t room) a = false
 closes v (making vpi vci t) a = false
 closes v (outOfRate vpi vci t room) a = false
+closes v (openingPath vpi t p) a = false
+closes v (adding vpi vci) a = false
+closes v (offeringMember vpi vci n) a = false
+closes v (removing vpi vci) a = false
 
 -- the cells that these calls send on v, until it is closed: a later opening begins another trace
 unfoldable pub sentFrom : (v : ℕ) → State → List Call → List SentCell

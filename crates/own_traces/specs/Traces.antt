@@ -1,16 +1,17 @@
--- The in-rate cells that the engine sends on one connection, from its opening on, make a trace that passes the judge. (Document 02, L11.)
+-- The in-rate cells that the engine sends on one connection, from its opening on, make a trace that passes the judge. (Document 02, L11 and L13.)
 use Prim.Native.Nat.{ℕ, _-_}
 use mathlib.Core.Path.{_≡_}
 use mathlib.Core.Bool.{true}
 use mathlib.Core.List.{List, [], _∷_}
 use Rattle.params.specs.declared.params.Params.{Params}
 use Rattle.cell.specs.Name.{pairName}
+use Rattle.members.specs.Path.{pathVci}
 use Rattle.judge.specs.declared.cells.Cell.{Cell}
 use Rattle.judge.specs.declared.judge.Verdict.the-variants.{Passes}
 use Rattle.judge.specs.Rules.{judgedCells}
 use Rattle.judge.specs.Octets.{judgedOctets}
 use Rattle.model.specs.State.{empty}
-use Rattle.model.specs.Call.{Call, opening}
+use Rattle.model.specs.Call.{Call, opening, openingPath}
 use Rattle.model.specs.Step.{step}
 use Rattle.model.specs.Run.{final, isAccepted}
 use Rattle.own_traces.specs.InRate.{SentCell, sentFrom}
@@ -29,18 +30,23 @@ unfoldable pub cellsOf : List SentCell → List Cell
 cellsOf [] = []
 cellsOf (x ∷ xs) = cellOf 0 x ∷ laterCells (x .time) xs
 
--- the cells sent on a pair that is opened after the calls `before`, by the calls `after`
-abbrev pub ownCells : (before : List Call) → (vpi vci t : ℕ) → Params → (after : List Call) → List Cell
-ownCells before vpi vci t p after = cellsOf (sentFrom (pairName vpi vci) (step (final empty before) (opening vpi vci t p) .state) after)
+-- a call that opens the connection v with these parameters, a channel or a path
+pub data Opening : Call → (v : ℕ) → Params → Type 0 where
+  channel : (vpi vci t : ℕ) (p : Params) → Opening (opening vpi vci t p) (pairName vpi vci) p
+  path : (vpi t : ℕ) (p : Params) → Opening (openingPath vpi t p) (pairName vpi pathVci) p
+
+-- the cells sent on v, which the call c opens after the calls `before`, by the calls `after`
+abbrev pub ownCells : (before : List Call) → (c : Call) → (v : ℕ) → (after : List Call) → List Cell
+ownCells before c v after = cellsOf (sentFrom v (step (final empty before) c .state) after)
 
 -- after any list of calls from the empty table, an accepted opening, and any further list of calls: the cells break no rule,
 abbrev pub OwnCellsPass : Type 0
 OwnCellsPass =
-    (before : List Call) (vpi vci t : ℕ) (p : Params) (after : List Call) → isAccepted (step (final empty before) (opening vpi vci t p) .answer) ≡ true
-    → judgedCells (p .n) (p .trm) (ownCells before vpi vci t p after) ≡ Passes
+    (before : List Call) (c : Call) (v : ℕ) (p : Params) (after : List Call) → Opening c v p → isAccepted (step (final empty before) c .answer) ≡ true
+    → judgedCells (p .n) (p .trm) (ownCells before c v after) ≡ Passes
 
 -- and so their octets pass
 abbrev pub OwnTracePasses : Type 0
 OwnTracePasses =
-    (before : List Call) (vpi vci t : ℕ) (p : Params) (after : List Call) → isAccepted (step (final empty before) (opening vpi vci t p) .answer) ≡ true
-    → judgedOctets (traceOctets (p .n) (p .trm) (ownCells before vpi vci t p after)) ≡ Passes
+    (before : List Call) (c : Call) (v : ℕ) (p : Params) (after : List Call) → Opening c v p → isAccepted (step (final empty before) c .answer) ≡ true
+    → judgedOctets (traceOctets (p .n) (p .trm) (ownCells before c v after)) ≡ Passes

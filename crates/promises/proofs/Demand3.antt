@@ -34,7 +34,7 @@ same-refusal (refusals n) = refl
 same-refusal (plain m n) = refl
 same-refusal (closes k m n) = refl
 same-refusal idles = refl
-same-refusal (sends v k a b m n) = refl
+same-refusal (sends v x k a b m n) = refl
 
 same-kind : {a b : Answer} → SameAnswer a b → kindSent a ≡ kindSent b
 unfolding kindSent
@@ -42,7 +42,7 @@ same-kind (refusals n) = refl
 same-kind (plain m n) = refl
 same-kind (closes k m n) = refl
 same-kind idles = refl
-same-kind (sends v k a b m n) = refl
+same-kind (sends v x k a b m n) = refl
 
 not-above : {x y : Entry} → Lower x y → NotAbove (entryRate x) (entryRate y)
 unfolding entryRate

@@ -1,30 +1,39 @@
 -- No call touches a connection that it does not name.
 use Prim.Native.Nat.{ℕ}
-use mathlib.Core.Path.{_≡_, refl, ap, _∙_}
+use mathlib.Core.Path.{_≡_, refl, sym, ap, _∙_}
 use mathlib.Core.Logic.{_≢_}
-use mathlib.Core.Bool.{cond}
-use mathlib.Core.Option.{some}
+use mathlib.Core.Bool.{Bool, true, false, cond, _&&_, not}
+use mathlib.Core.List.{List}
+use mathlib.Core.Option.{Option, none, some}
 use lib.Dec.{eqb}
-use borrow.Author.Tests.{ne-eqb}
+use borrow.Author.Tests.{eqb-false, ne-eqb}
 use Rattle.cell.specs.Name.{pairName}
 use Rattle.cell.specs.Fields.{cellName}
+use Rattle.members.specs.Path.{pathVci, pathOf}
+use Rattle.members.specs.Members.{Member, named, onPath, isMember, without, withMember, withCells}
+use Rattle.members.specs.Turn.{turn, afterServing}
+use Rattle.members.specs.Invariant.{Rising}
+use Rattle.members.proofs.Lists.{without-member, without-cells-of, with-member-any, with-member-cells, with-cells-any, with-cells-of}
+use Rattle.members.proofs.Turns.{turn-picks}
 use Rattle.connection.specs.declared.parts.Connection.{Connection}
+use Rattle.connection.specs.declared.kind.Kind.{Kind}
+use Rattle.connection.specs.declared.kind.Kind.the-variants.{Forward, Turned, Data}
 use Rattle.connection.specs.Parts.{fresh}
 use Rattle.connection.specs.Making.{withMade}
 use Rattle.connection.specs.Receiving.{offered, afterDataCell, afterResourceCell}
 use Rattle.connection.specs.OutOfRate.{afterOutOfRate}
 use Rattle.connection.specs.Kind.{kindAt}
-use Rattle.connection.specs.Sending.{after}
+use Rattle.connection.specs.Sending.{after, memberServed, withServed}
 use Rattle.connection.proofs.Keeps.{work-same, after-same}
-use Rattle.model.specs.State.{State, Entry, taken, empty, find, put, withTime, withLevel}
-use Rattle.model.specs.Invariant.{NamesUnique}
+use Rattle.model.specs.State.{State, Entry, taken, empty, find, put, inserted, withTime, withLevel, withMembers}
+use Rattle.model.specs.Invariant.{NamesUnique, WellFormed}
 use Rattle.model.proofs.Frames.{put-read, inserted-read, freed-read}
 use Rattle.model.specs.Call.{Call, Outcome, goesTo}
-use Rattle.model.specs.Step.{refuse, accept, replay, discard, sendStep, idleStep, sendOutside}
+use Rattle.model.specs.Step.{refuse, accept, replay, discard, withOffer, withoutOne, nameTold, sendFrom, sendStep, idleStep, sendOutside}
 use Rattle.model.specs.Run.{final}
-use Rattle.model.proofs.Effects.{Effect, refuses, begins, ends, offers, marks, works, levels, idles, sends, makes, leaves, effect}
+use Rattle.model.proofs.Effects.{Effect, refuses, begins, ends, offers, marks, works, levels, idles, sends, makes, leaves, beginsPath, adds, offersMember, removes, effect}
 use Rattle.model.proofs.Reached.{reached-well-formed}
-use Rattle.promises.specs.Interference.{readName, names, NoInterference}
+use Rattle.promises.specs.Interference.{readName, names, tells, touches, SameMember, NoInterference}
 
 same : Entry → Entry
 same x = x
@@ -40,23 +49,83 @@ unfolding same
 put-other v u s a d e f n h = put-read same v u s a d e f n ∙ other u v _ _ h
 
 effect-other :
-    (v : ℕ) {s : State} → NamesUnique (s .entries) → {c : Call} {o : Outcome} → Effect s c o → names c (o .answer) ≢ some v
+    (v : ℕ) {s : State} → NamesUnique (s .entries) → {c : Call} {o : Outcome} → Effect s c o → names (s .members) c (o .answer) ≢ some v
     → find v (o .state .entries) ≡ find v (s .entries)
-unfolding same names readName refuse accept replay discard sendStep idleStep sendOutside withTime withLevel goesTo fresh offered afterDataCell withMade afterOutOfRate
+unfolding same names readName refuse accept replay discard sendFrom sendStep idleStep sendOutside withTime withLevel withMembers withOffer withoutOne withServed goesTo fresh offered afterDataCell withMade afterOutOfRate
 effect-other v a (refuses c n z) h = refl
 effect-other v {s} a (begins vpi vci t p g) h = inserted-read same v s (fresh (pairName vpi vci) t p) (g .new) (g .room) ∙ other (pairName vpi vci) v _ _ h
 effect-other v {s} a (ends vpi vci d f) h = freed-read same v (pairName vpi vci) s a ∙ other (pairName vpi vci) v _ _ h
-effect-other v {s} a (offers vpi vci n d f b) h = put-other v (pairName vpi vci) s a d (offered n d) f refl h
-effect-other v {s} a (marks o vpi vci e d r f) h = put-other v (pairName vpi vci) s a d (afterDataCell e d) f refl (rw r at h)
+effect-other v {s} a (offers vpi vci n d f i b) h = put-other v (pairName vpi vci) s a d (offered n d) f refl h
+effect-other v {s} a (marks o vpi vci e u d r i z f) h = put-other v u s a d (afterDataCell e d) f refl (rw (r, z) at h)
 effect-other v {s} a (works o q d r f) h =
     put-other v (cellName q) s a d (afterResourceCell (s .level) o q d) f (work-same (s .level) o q d .name) (rw r at h)
 effect-other v a (levels l b) h = refl
 effect-other v a (idles t room g b) h = refl
 effect-other v {s} a (sends t room i u g b) h =
     let k = kindAt t (b .holder) in
-    put-other v u (withTime t s) a (b .holder) (after k t (b .holder)) (b .found) (after-same k t (b .holder) .name) h
+    put-other v u (withTime t s) a (b .holder) (withServed _ (after k t (b .holder))) (b .found) (after-same k t (b .holder) .name) h
 effect-other v {s} a (makes vpi vci t d f g b m) h = put-other v (pairName vpi vci) (withTime t s) a d (withMade t (s .level) d) f refl h
 effect-other v {s} a (leaves vpi vci t room d f g b) h = put-other v (pairName vpi vci) (withTime t s) a d (afterOutOfRate t d) f refl h
+effect-other v {s} a (beginsPath vpi t p g) h = inserted-read same v s (fresh (pairName vpi pathVci) t p) (g .new) (g .room) ∙ other (pairName vpi pathVci) v _ _ h
+effect-other v {s} a (adds vpi vci d f j) h = refl
+effect-other v {s} a (offersMember vpi vci n d f i b) h = put-other v (pathOf (pairName vpi vci)) s a d (offered n d) f refl h
+effect-other v {s} a (removes vpi vci d f i) h = put-other v (pathOf (pairName vpi vci)) s a d _ f refl h
+
+-- Members.
+kept : (x : ℕ) (ms : List Member) → SameMember x ms ms
+kept x ms = record { member = refl; cells = refl }
+
+without-kept : (x : ℕ) (f : ℕ → Bool) (ms : List Member) → f x ≡ false → SameMember x ms (without f ms)
+without-kept x f ms e =
+    record { member = without-member x f ms ∙ rw e (and-true (isMember x ms)); cells = without-cells-of x f ms ∙ rw e }
+  where
+    and-true : (b : Bool) → (b && not false) ≡ b
+    and-true true = refl
+    and-true false = refl
+
+with-cells-kept : (x y n : ℕ) (ms : List Member) → Rising ms → isMember y ms ≡ true → eqb y x ≡ false → SameMember x ms (withCells y n ms)
+with-cells-kept x y n ms r i e = record { member = with-cells-any (named x) y n ms; cells = with-cells-of x y n ms r i ∙ rw e }
+
+with-member-kept : (x y : ℕ) (ms : List Member) → eqb y x ≡ false → SameMember x ms (withMember y ms)
+with-member-kept x y ms e = record { member = with-member-any (named x) y ms ∙ rw e; cells = with-member-cells (named x) y ms }
+
+swapped : (x y : ℕ) → eqb x y ≡ false → eqb y x ≡ false
+swapped x y e = ne-eqb y x (λ q. eqb-false x y e (sym q))
+
+-- a slot takes from no other member than the one it names
+served-kept :
+    (x u : ℕ) (k : Kind) (c : Connection) (ms : List Member) → Rising ms → eqb (nameTold u (memberServed k c ms)) x ≡ false
+    → SameMember x ms (afterServing (memberServed k c ms) ms)
+unfolding memberServed nameTold afterServing
+served-kept x u Forward c ms r e = kept x ms
+served-kept x u Turned c ms r e = kept x ms
+served-kept x u Data c ms r e = go (turn (c .name) (c .queue .served) ms) refl e
+  where
+    go : (o : Option ℕ) → turn (c .name) (c .queue .served) ms ≡ o → eqb (nameTold u o) x ≡ false → SameMember x ms (afterServing o ms)
+    go none q e = kept x ms
+    go (some y) q e = with-cells-kept x y _ ms r (turn-picks (c .name) (c .queue .served) ms y q .member) e
+
+effect-member :
+    (x : ℕ) {s : State} → WellFormed s → {c : Call} {o : Outcome} → Effect s c o → touches x c (o .answer) ≡ false → SameMember x (s .members) (o .state .members)
+unfolding touches tells refuse accept replay discard sendFrom sendStep idleStep sendOutside put inserted withTime withLevel withMembers withOffer withoutOne
+effect-member x {s} w (refuses c n z) h = kept x (s .members)
+effect-member x {s} w (begins a b t p g) h = kept x (s .members)
+effect-member x {s} w (ends a b d f) h = without-kept x (onPath (pairName a b)) (s .members) (swapped (pairName a b) (pathOf x) h)
+effect-member x {s} w (offers a b n d f i z) h = kept x (s .members)
+effect-member x {s} w (marks o a b e u d r i z f) h = kept x (s .members)
+effect-member x {s} w (works o q d r f) h = kept x (s .members)
+effect-member x {s} w (levels l z) h = kept x (s .members)
+effect-member x {s} w (idles t room g b) h = kept x (s .members)
+effect-member x {s} w (sends t room i u g b) h = served-kept x u (kindAt t (b .holder)) (b .holder) (s .members) (w .members .valid .rising) h
+effect-member x {s} w (makes a b t d f g z m) h = kept x (s .members)
+effect-member x {s} w (leaves a b t room d f g z) h = kept x (s .members)
+effect-member x {s} w (beginsPath a t p g) h = kept x (s .members)
+effect-member x {s} w (adds a b d f j) h = with-member-kept x (pairName a b) (s .members) h
+effect-member x {s} w (offersMember a b n d f i z) h = with-cells-kept x (pairName a b) _ (s .members) (w .members .valid .rising) i h
+effect-member x {s} w (removes a b d f i) h = without-kept x (named (pairName a b)) (s .members) (swapped (pairName a b) x h)
 
 pub no-interference : NoInterference
-no-interference cs c u h = let a = reached-well-formed cs .unique in effect-other u a (effect (final empty cs) a c) h
+no-interference = record {
+  connections = λ cs c u h. let a = reached-well-formed cs .unique in effect-other u a (effect (final empty cs) a c) h;
+  members = λ cs c x h. let w = reached-well-formed cs in effect-member x w (effect (final empty cs) (w .unique) c) h;
+}

@@ -7,3 +7,5 @@ pub mod Demand3
 pub mod Refusals
 pub mod Interference
 pub mod Moves
+pub mod NotOpen
+pub mod Paths

@@ -10,6 +10,8 @@ use Rattle.cell.specs.declared.read.Reading.the-variants.{Resource}
 use Rattle.cell.specs.Name.{pairName}
 use Rattle.cell.specs.Fields.{cellName}
 use Rattle.cell.specs.Reading.{reading}
+use Rattle.members.specs.Path.{pathVci, pathOf}
+use Rattle.members.specs.Members.{Member}
 use Rattle.connection.specs.declared.parts.Connection.{Connection}
 use Rattle.connection.specs.declared.parts.Pace.{Pace}
 use Rattle.connection.specs.declared.parts.Pace.the-variants.{Unsent, Running}
@@ -20,18 +22,18 @@ use Rattle.connection.specs.Making.{withMade}
 use Rattle.connection.specs.Receiving.{offered, afterDataCell, afterBackwardCell, afterForwardCell, afterResourceCell}
 use Rattle.connection.specs.OutOfRate.{afterOutOfRate}
 use Rattle.connection.specs.Kind.{kindAt}
-use Rattle.connection.specs.Sending.{movedBy, sentForward, sentTurned, sentData, after}
+use Rattle.connection.specs.Sending.{movedBy, sentForward, sentTurned, sentData, after, memberServed, withServed}
 use Rattle.connection.proofs.Keeps.{work-same, after-same}
-use Rattle.model.specs.State.{State, Entry, free, taken, empty, find, put, withTime, withLevel}
+use Rattle.model.specs.State.{State, Entry, free, taken, empty, find, put, withTime, withLevel, withMembers}
 use Rattle.model.specs.Invariant.{NamesUnique}
 use Rattle.model.proofs.Entries.{Case, same, other, case}
 use Rattle.model.proofs.Frames.{put-read, inserted-read, freed-read}
 use Rattle.model.specs.declared.answer.Answer.{Answer}
 use Rattle.model.specs.declared.answer.Answer.the-variants.{Refused, Accepted, Idle, Sent}
-use Rattle.model.specs.Call.{Call, opening, closing, receiving, offering, levelling, slot, making, outOfRate, Outcome}
-use Rattle.model.specs.Step.{refuse, accept, replay, discard, sendStep, idleStep, sendOutside}
+use Rattle.model.specs.Call.{Call, opening, closing, receiving, offering, levelling, slot, making, outOfRate, openingPath, adding, offeringMember, removing, Outcome}
+use Rattle.model.specs.Step.{refuse, accept, replay, discard, withOffer, withoutOne, nameTold, sendFrom, sendStep, idleStep, sendOutside}
 use Rattle.model.specs.Run.{final}
-use Rattle.model.proofs.Effects.{Effect, refuses, begins, ends, offers, marks, works, levels, idles, sends, makes, leaves, effect}
+use Rattle.model.proofs.Effects.{Effect, refuses, begins, ends, offers, marks, works, levels, idles, sends, makes, leaves, beginsPath, adds, offersMember, removes, effect}
 use Rattle.model.proofs.Reached.{reached-well-formed}
 use Rattle.promises.specs.Moves.{Moves, stays, first, later, fed, FourMoves}
 
@@ -78,36 +80,43 @@ works-move v level n o f d r h = go (eqb (f .dir) 1) refl
     go true e = fed f r h (eqb-true _ _ e)
     go false e = stays
 
-forward-moves : (v t room acr n : ℕ) (d : Connection) (p : Pace) → d .pace ≡ p → Moves v d (slot t room) (Sent v Forward acr n) (movedBy t (d .unacked) p (d .rate))
+forward-moves : (v t room acr n : ℕ) (d : Connection) (p : Pace) → d .pace ≡ p → Moves v d (slot t room) (Sent v v Forward acr n) (movedBy t (d .unacked) p (d .rate))
 unfolding movedBy
 forward-moves v t room acr n d Unsent e = first e
 forward-moves v t room acr n d (Running sent forward k turned) e = later e
 
-sent-moves : (v t room acr n : ℕ) (k : Kind) (d : Connection) → Moves v d (slot t room) (Sent v k acr n) (after k t d .rate)
-unfolding after sentForward sentTurned sentData
-sent-moves v t room acr n Forward d = forward-moves v t room acr n d (d .pace) refl
-sent-moves v t room acr n Turned d = stays
-sent-moves v t room acr n Data d = stays
+sent-moves :
+    (v t room acr n : ℕ) (k : Kind) (d : Connection) (ms : List Member) → Moves v d (slot t room) (Sent v (nameTold v (memberServed k d ms)) k acr n) (after k t d .rate)
+unfolding after sentForward sentTurned sentData memberServed nameTold
+sent-moves v t room acr n Forward d ms = forward-moves v t room acr n d (d .pace) refl
+sent-moves v t room acr n Turned d ms = stays
+sent-moves v t room acr n Data d ms = stays
 
 effect-moves : (v : ℕ) {s : State} → NamesUnique (s .entries) → {c : Call} {o : Outcome} → Effect s c o → MovesTo v c (o .answer) (find v (s .entries)) (find v (o .state .entries))
-unfolding self refuse accept replay discard sendStep idleStep sendOutside withTime withLevel fresh offered afterDataCell withMade afterOutOfRate
+unfolding self refuse accept replay discard sendFrom sendStep idleStep sendOutside withTime withLevel withMembers withOffer withoutOne withServed fresh offered afterDataCell withMade afterOutOfRate
 effect-moves v {s} a (refuses c n h) = rests v c (Refused n) (find v (s .entries))
 effect-moves v {s} a (begins vpi vci t p g) =
     rw (inserted-read self v s (fresh (pairName vpi vci) t p) (g .new) (g .room))
     (read-moves v (pairName vpi vci) s (opening vpi vci t p) _ (taken (fresh (pairName vpi vci) t p)) (λ h. rw (ap (λ w. find w (s .entries)) (sym h) ∙ g .new) tt))
 effect-moves v {s} a (ends vpi vci d f) = rw (freed-read self v (pairName vpi vci) s a) (read-moves v (pairName vpi vci) s (closing vpi vci) _ free (λ _. closed v (closing vpi vci) _ (find v (s .entries))))
-effect-moves v {s} a (offers vpi vci n d f b) = changes v (pairName vpi vci) s a d (offered n d) f refl (offering vpi vci n) _ (λ _. stays)
-effect-moves v {s} a (marks o vpi vci e d r f) = changes v (pairName vpi vci) s a d (afterDataCell e d) f refl (receiving o) _ (λ _. stays)
+effect-moves v {s} a (offers vpi vci n d f i b) = changes v (pairName vpi vci) s a d (offered n d) f refl (offering vpi vci n) _ (λ _. stays)
+effect-moves v {s} a (marks o vpi vci e u d r i z f) = changes v u s a d (afterDataCell e d) f refl (receiving o) _ (λ _. stays)
 effect-moves v {s} a (works o q d r f) =
     changes v (cellName q) s a d (afterResourceCell (s .level) o q d) f (work-same (s .level) o q d .name) (receiving o) _ (works-move v (s .level) _ o q d r)
 effect-moves v {s} a (levels l b) = rests v (levelling l) (Accepted 0) (find v (s .entries))
 effect-moves v {s} a (idles t room g b) = rests v (slot t room) Idle (find v (s .entries))
 effect-moves v {s} a (sends t room i u g b) =
     let k = kindAt t (b .holder) in
-    changes v u (withTime t s) a (b .holder) (after k t (b .holder)) (b .found) (after-same k t (b .holder) .name) (slot t room) _
-    (λ h. rw h (sent-moves v t room _ _ k (b .holder)))
+    changes v u (withTime t s) a (b .holder) (withServed (memberServed k (b .holder) (s .members)) (after k t (b .holder))) (b .found) (after-same k t (b .holder) .name)
+    (slot t room) _ (λ h. rw h (sent-moves v t room _ _ k (b .holder) (s .members)))
 effect-moves v {s} a (makes vpi vci t d f g b m) = changes v (pairName vpi vci) (withTime t s) a d (withMade t (s .level) d) f refl (making vpi vci t) _ (λ _. stays)
 effect-moves v {s} a (leaves vpi vci t room d f g b) = changes v (pairName vpi vci) (withTime t s) a d (afterOutOfRate t d) f refl (outOfRate vpi vci t room) _ (λ _. stays)
+effect-moves v {s} a (beginsPath vpi t p g) =
+    rw (inserted-read self v s (fresh (pairName vpi pathVci) t p) (g .new) (g .room))
+    (read-moves v (pairName vpi pathVci) s (openingPath vpi t p) _ (taken (fresh (pairName vpi pathVci) t p)) (λ h. rw (ap (λ w. find w (s .entries)) (sym h) ∙ g .new) tt))
+effect-moves v {s} a (adds vpi vci d f j) = rests v (adding vpi vci) (Accepted 0) (find v (s .entries))
+effect-moves v {s} a (offersMember vpi vci n d f i h) = changes v (pathOf (pairName vpi vci)) s a d (offered n d) f refl (offeringMember vpi vci n) _ (λ _. stays)
+effect-moves v {s} a (removes vpi vci d f i) = changes v (pathOf (pairName vpi vci)) s a d _ f refl (removing vpi vci) _ (λ _. stays)
 
 pub four-moves : FourMoves
 four-moves cs c v d e f h =

@@ -1,7 +1,7 @@
 -- Each call keeps the relation of two tables, and its answers agree.
-use Prim.Native.Nat.{ℕ, suc, _≤_}
+use Prim.Native.Nat.{ℕ, suc, _+_, _≤_}
 use mathlib.Core.Path.{_≡_, refl, sym, ap, subst}
-use mathlib.Core.Bool.{Bool, true, false, cond}
+use mathlib.Core.Bool.{Bool, true, false, cond, not}
 use mathlib.Core.List.{List}
 use mathlib.Core.Option.{Option, none, some}
 use native.Mathlib.Nat.{le-refl}
@@ -19,19 +19,22 @@ use Rattle.cell.specs.declared.read.Reading.the-variants.{Refused as Unread, Us
 use Rattle.cell.specs.Name.{pairName}
 use Rattle.cell.specs.Fields.{cellName}
 use Rattle.cell.specs.Reading.{reading}
+use Rattle.members.specs.Path.{pathVci, pathOf}
+use Rattle.members.specs.Members.{Member, isMember, cellsOf, withMember, withoutMember, withoutPath, withCells, owner}
+use Rattle.members.specs.Turn.{afterServing}
 use Rattle.connection.specs.declared.parts.Connection.{Connection}
 use Rattle.connection.specs.declared.parts.Change.{Change}
 use Rattle.connection.specs.declared.kind.Kind.{Kind}
 use Rattle.connection.specs.declared.kind.Kind.the-variants.{Forward, Turned, Data}
 use Rattle.connection.specs.declared.parts.Pace.{Pace}
 use Rattle.connection.specs.declared.parts.Pace.the-variants.{Unsent, Running}
-use Rattle.connection.specs.Parts.{fresh, changed}
+use Rattle.connection.specs.Parts.{fresh, withQueue, dequeued, changed}
 use Rattle.connection.specs.Making.{withMade}
 use Rattle.connection.specs.Receiving.{offered, afterDataCell, fedBack, afterBackwardCell, afterForwardCell, afterResourceCell}
 use Rattle.connection.specs.OutOfRate.{afterOutOfRate}
 use Rattle.connection.specs.Ready.{lastBefore}
 use Rattle.connection.specs.Kind.{isForward, isTurned, kindAt}
-use Rattle.connection.specs.Sending.{movedBy, sentForward, sentTurned, sentData, after}
+use Rattle.connection.specs.Sending.{movedBy, sentForward, sentTurned, sentData, after, memberServed, withServed}
 use Rattle.connection.proofs.Keeps.{movedBy-mono, movedBy-only}
 use Rattle.model.specs.State.{State, Entry, free, taken, find, leafOf, put}
 use Rattle.model.specs.Invariant.{WellFormed}
@@ -39,10 +42,10 @@ use Rattle.model.specs.Choice.{Winner, noneReady, wins, winner}
 use Rattle.model.proofs.Preserved.{valid-at}
 use Rattle.model.specs.declared.answer.Answer.{Answer}
 use Rattle.model.specs.declared.answer.Answer.the-variants.{Refused, Accepted, Closed, Idle, Sent}
-use Rattle.model.specs.Call.{Call, opening, closing, receiving, offering, levelling, slot, making, outOfRate, Outcome, goesTo}
-use Rattle.model.specs.Step.{refuse, accept, replay, discard, ofOpen, openStep, closeStep, offerStep, readStep, receiveStep, levelStep, sendStep, idleStep, serveEntry, serve, slotStep, makeStep, sendOutside, outOfRateStep, step}
+use Rattle.model.specs.Call.{Call, opening, closing, receiving, offering, levelling, slot, making, outOfRate, openingPath, adding, offeringMember, removing, Outcome, goesTo}
+use Rattle.model.specs.Step.{refuse, accept, replay, discard, ofOpen, admit, openStep, openPathStep, closeStep, offerStep, withOffer, withoutOne, addStep, offerMemberStep, removeStep, dataCellStep, readStep, receiveStep, levelStep, nameTold, sendFrom, sendStep, idleStep, serveEntry, serve, slotStep, makeStep, sendOutside, outOfRateStep, step}
 use Rattle.promises.specs.Demand3.{Comparable, equal, congested, SamePlace}
-use Rattle.promises.proofs.Relation.{lowered, Lower, vacant, lower, Tables, tables, isFree-same, find-lower, put-tables, inserted-tables, roomLeft-same, last-same, withTime-tables, withLevel-tables}
+use Rattle.promises.proofs.Relation.{lowered, Lower, vacant, lower, Tables, tables, isFree-same, find-lower, put-tables, inserted-tables, roomLeft-same, last-same, withTime-tables, withLevel-tables, withMembers-tables, members-same}
 use Rattle.promises.proofs.Readings.{MoreCongested, NotLessCongested, alike, moreCongested, reading-congested}
 use Rattle.laws.specs.Require.{require}
 
@@ -51,7 +54,7 @@ pub data SameAnswer : Answer → Answer → Type 0 where
   plain : (m n : ℕ) → SameAnswer (Accepted m) (Accepted n)
   closes : (k m n : ℕ) → SameAnswer (Closed m k) (Closed n k)
   idles : SameAnswer Idle Idle
-  sends : (v : ℕ) (k : Kind) (a b m n : ℕ) → SameAnswer (Sent v k a m) (Sent v k b n)
+  sends : (v x : ℕ) (k : Kind) (a b m n : ℕ) → SameAnswer (Sent v x k a m) (Sent v x k b n)
 
 pub record Both (o p : Outcome) : Type 0 where
   pub states : Tables (o .state) (p .state)
@@ -94,28 +97,69 @@ ofOpen-meets r vacant f g h = λ _. refuse-both r 11
 ofOpen-meets r (lower c a z l) f g h = h c a z refl l
 
 -- Open, close, offer and level.
-open-meets : {s₁ s₂ : State} → Tables s₁ s₂ → (vpi vci t : ℕ) (p : Params) → Meets (openStep s₁ vpi vci t p) (openStep s₂ vpi vci t p)
-unfolding openStep replay
-open-meets r vpi vci t p =
-    require-meets r 10 _ _ refl
-    (require-meets r 19 _ _ refl
+admit-meets : {s₁ s₂ : State} → Tables s₁ s₂ → (vpi vci t : ℕ) (p : Params) → Meets (admit s₁ vpi vci t p) (admit s₂ vpi vci t p)
+unfolding admit replay
+admit-meets r vpi vci t p =
+    require-meets r 19 _ _ refl
     (require-meets r 7 _ _ refl
     (require-meets r 8 _ _ refl
     (require-meets r 12 _ _ (isFree-same _ _ (find-lower (pairName vpi vci) r))
+    (require-meets r 27 _ _ (ap (λ ms. not (isMember (pairName vpi vci) ms)) (members-same r))
     (require-meets r 13 _ _ (roomLeft-same r)
     (require-meets r 14 _ _ (ap (λ l. leb l t) (last-same r)) λ _.
     accept-both _ _ (withTime-tables t (inserted-tables (fresh (pairName vpi vci) t p) r))))))))
 
+open-meets : {s₁ s₂ : State} → Tables s₁ s₂ → (vpi vci t : ℕ) (p : Params) → Meets (openStep s₁ vpi vci t p) (openStep s₂ vpi vci t p)
+unfolding openStep
+open-meets r vpi vci t p = require-meets r 10 _ _ refl (admit-meets r vpi vci t p)
+
+open-path-meets : {s₁ s₂ : State} → Tables s₁ s₂ → (vpi t : ℕ) (p : Params) → Meets (openPathStep s₁ vpi t p) (openPathStep s₂ vpi t p)
+unfolding openPathStep
+open-path-meets r vpi t p = admit-meets r vpi pathVci t p
+
 close-meets : {s₁ s₂ : State} → Tables s₁ s₂ → (v : ℕ) → Meets (closeStep s₁ v) (closeStep s₂ v)
 unfolding closeStep
-close-meets r v = ofOpen-meets r (find-lower v r) _ _ λ c a z e l _. discard-both (c .queue .cells) _ _ _ _ (put-tables v vacant r)
+close-meets (tables l t ms hs) v =
+    let r = tables l t ms hs in
+    ofOpen-meets r (find-lower v r) _ _ λ c a z e h _. discard-both (c .queue .cells) _ _ _ _ (withMembers-tables (withoutPath v ms) (put-tables v vacant r))
 
 offer-meets : {s₁ s₂ : State} → Tables s₁ s₂ → (v n : ℕ) → Meets (offerStep s₁ v n) (offerStep s₂ v n)
 unfolding offerStep replay offered
 offer-meets r v n =
     ofOpen-meets r (find-lower v r) _ _ λ c a z e l.
-    require-meets r 15 _ _ refl λ _.
-    accept-both _ _ (put-tables v (lower (offered n c) a z l) r)
+    require-meets r 28 _ _ refl
+    (require-meets r 15 _ _ refl λ _.
+    accept-both _ _ (put-tables v (lower (offered n c) a z l) r))
+
+-- The calls on members: they hang on no rate.
+add-meets : {s₁ s₂ : State} → Tables s₁ s₂ → (vpi vci : ℕ) → Meets (addStep s₁ vpi vci) (addStep s₂ vpi vci)
+unfolding addStep
+add-meets (tables l t ms hs) vpi vci =
+    let r = tables l t ms hs in
+    require-meets r 10 _ _ refl
+    (ofOpen-meets r (find-lower (pathOf (pairName vpi vci)) r) _ _ λ c a z e h.
+    require-meets r 12 _ _ (isFree-same _ _ (find-lower (pairName vpi vci) r))
+    (require-meets r 27 _ _ refl
+    (require-meets r 26 _ _ refl λ _.
+    accept-both _ _ (withMembers-tables (withMember (pairName vpi vci) ms) r))))
+
+offer-member-meets : {s₁ s₂ : State} → Tables s₁ s₂ → (x n : ℕ) → Meets (offerMemberStep s₁ x n) (offerMemberStep s₂ x n)
+unfolding offerMemberStep withOffer replay offered
+offer-member-meets (tables l t ms hs) x n =
+    let r = tables l t ms hs in
+    ofOpen-meets r (find-lower (pathOf x) r) _ _ λ c a z e h.
+    require-meets r 28 _ _ refl
+    (require-meets r 15 _ _ refl λ _.
+    accept-both _ _ (withMembers-tables (withCells x (cellsOf x ms + n) ms) (put-tables (pathOf x) (lower (offered n c) a z h) r)))
+
+remove-meets : {s₁ s₂ : State} → Tables s₁ s₂ → (x : ℕ) → Meets (removeStep s₁ x) (removeStep s₂ x)
+unfolding removeStep withoutOne
+remove-meets (tables l t ms hs) x =
+    let r = tables l t ms hs in
+    ofOpen-meets r (find-lower (pathOf x) r) _ _ λ c a z e h.
+    require-meets r 28 _ _ refl λ _.
+    discard-both (cellsOf x ms) _ _ _ _
+    (withMembers-tables (withoutMember x ms) (put-tables (pathOf x) (lower (withQueue c (dequeued (cellsOf x ms) (c .queue))) a z h) r))
 
 level-meets : {s₁ s₂ : State} → Tables s₁ s₂ → (l : ℕ) → Meets (levelStep s₁ l) (levelStep s₂ l)
 unfolding levelStep
@@ -147,15 +191,21 @@ below-peak w v c e = valid-at w v c e .1 .rates .below
 
 resource-meets : {s₁ s₂ : State} → WellFormed s₁ → Tables s₁ s₂ → (o : List ℕ) (f : Fields) → Meets (readStep s₁ o (Resource f)) (readStep s₂ o (Resource f))
 unfolding readStep replay
-resource-meets w (tables l t hs) o f =
-    let r = tables l t hs in
+resource-meets w (tables l t ms hs) o f =
+    let r = tables l t ms hs in
     ofOpen-meets r (find-lower (cellName f) r) _ _ λ c a z e h _. accept-both _ _ (put-tables (cellName f) (work-lower l o f c a z (below-peak w (cellName f) c e) h) r)
 
+data-cell-meets : {s₁ s₂ : State} → Tables s₁ s₂ → (x : ℕ) (e : Bool) → Meets (dataCellStep s₁ x e) (dataCellStep s₂ x e)
+unfolding dataCellStep replay afterDataCell
+data-cell-meets (tables l t ms hs) x e =
+    let r = tables l t ms hs in
+    require-meets r 11 _ _ refl
+    (ofOpen-meets r (find-lower (owner x ms) r) _ _ λ c a z _ h _. accept-both _ _ (put-tables (owner x ms) (lower (afterDataCell e c) a z h) r))
+
 read-meets : {s₁ s₂ : State} → WellFormed s₁ → Tables s₁ s₂ → (o : List ℕ) (q : Reading) → Meets (readStep s₁ o q) (readStep s₂ o q)
-unfolding readStep replay afterDataCell
+unfolding readStep
 read-meets w r o (Unread n) = λ _. refuse-both r n
-read-meets w r o (User vpi vci e) =
-    ofOpen-meets r (find-lower (pairName vpi vci) r) _ _ λ c a z _ l _. accept-both _ _ (put-tables (pairName vpi vci) (lower (afterDataCell e c) a z l) r)
+read-meets w r o (User vpi vci e) = data-cell-meets r (pairName vpi vci) e
 read-meets w r o (Resource f) = resource-meets w r o f
 
 -- two backward cells, the second at least as congested
@@ -204,22 +254,43 @@ after-lower Forward t c a z l =
 after-lower Turned t c a z l = lower (sentTurned t c) a z l
 after-lower Data t c a z l = lower (sentData t c) a z l
 
+-- nor does the member whose turn it is
+member-same : (k : Kind) (c : Connection) (a : ℕ) (z : Change) (ms : List Member) → memberServed k (lowered c a z) ms ≡ memberServed k c ms
+unfolding memberServed
+member-same Forward c a z ms = refl
+member-same Turned c a z ms = refl
+member-same Data c a z ms = refl
+
+served-lower : (x : Option ℕ) {c d : Connection} → Lower (taken c) (taken d) → Lower (taken (withServed x c)) (taken (withServed x d))
+unfolding withServed
+served-lower x (lower c a z l) = lower (withServed x c) a z l
+
+send-both :
+    {s₁ s₂ : State} → Tables s₁ s₂ → (t v : ℕ) (c : Connection) (a : ℕ) (z : Change) → a ≤ c .rate .acr → (k : Kind) (x : Option ℕ)
+    → Both (sendFrom s₁ t v c k x) (sendFrom s₂ t v (lowered c a z) k x)
+unfolding sendFrom
+send-both (tables l u ms hs) t v c a z h k x =
+    record {
+      states = withMembers-tables (afterServing x ms) (put-tables v (served-lower x (after-lower k t c a z h)) (tables l u ms hs));
+      answers = sends v (nameTold v x) k _ _ _ _;
+    }
+
 entry-both : {s₁ s₂ : State} → Tables s₁ s₂ → (t v : ℕ) {x y : Entry} → Lower x y → Both (serveEntry s₁ t v x) (serveEntry s₂ t v y)
 unfolding serveEntry sendStep idleStep
 entry-both r t v vacant = record { states = r; answers = idles }
-entry-both r t v (lower c a z l) =
-    rw (kind-same t c a z) (record { states = put-tables v (after-lower (kindAt t c) t c a z l) r; answers = sends v (kindAt t c) _ _ _ _ })
+entry-both (tables l u ms hs) t v (lower c a z h) =
+    rw (kind-same t c a z, member-same (kindAt t c) c a z ms) (send-both (tables l u ms hs) t v c a z h (kindAt t c) (memberServed (kindAt t c) c ms))
 
 pub none≢some : {v : ℕ} → _≡_ {A = Option ℕ} none (some v) → ⊥
 none≢some e = let z : _≡_ {A = ℕ} 0 1 = cc in omega arith
 
-pub sent-same : {v w : ℕ} {k l : Kind} {a n : ℕ} → v ≡ w → k ≡ l → Sent v k a n ≡ Sent w l a n
-sent-same p q = rw (p, q)
+pub sent-same : {v w x y : ℕ} {k l : Kind} {a n : ℕ} → v ≡ w → x ≡ y → k ≡ l → Sent v x k a n ≡ Sent w y l a n
+sent-same p q r = rw (p, q, r)
 
 -- slots that go to the same connection, or to none in both
 entries-meet :
     {s₁ s₂ : State} → Tables s₁ s₂ → (t v w : ℕ) (x y : Entry) → (v ≡ w → Lower x y) → Meets (serveEntry s₁ t v x) (serveEntry s₂ t w y)
-unfolding serveEntry sendStep idleStep goesTo
+unfolding serveEntry sendStep sendFrom idleStep goesTo
 entries-meet r t v w free free h e = record { states = r; answers = idles }
 entries-meet r t v w free (taken d) h e = absurd (none≢some e)
 entries-meet r t v w (taken c) free h e = absurd (none≢some (sym e))
@@ -249,13 +320,13 @@ slot-meets {s₁} {s₂} r t room =
 -- Making a backward cell.
 make-meets : {s₁ s₂ : State} → Tables s₁ s₂ → (v t : ℕ) → Meets (makeStep s₁ v t) (makeStep s₂ v t)
 unfolding makeStep replay withMade
-make-meets (tables l u hs) v t =
-    require-meets (tables l u hs) 8 _ _ refl
-    (ofOpen-meets (tables l u hs) (find-lower v (tables l u hs)) _ _ λ c a z e h.
-    require-meets (tables l u hs) 14 _ _ refl
-    (require-meets (tables l u hs) 16 _ _ refl
-    (require-meets (tables l u hs) 17 _ _ refl λ _.
-    accept-both _ _ (put-tables v (lower (withMade t l c) a z h) (withTime-tables t (tables l u hs))))))
+make-meets (tables l u ms hs) v t =
+    require-meets (tables l u ms hs) 8 _ _ refl
+    (ofOpen-meets (tables l u ms hs) (find-lower v (tables l u ms hs)) _ _ λ c a z e h.
+    require-meets (tables l u ms hs) 14 _ _ refl
+    (require-meets (tables l u ms hs) 16 _ _ refl
+    (require-meets (tables l u ms hs) 17 _ _ refl λ _.
+    accept-both _ _ (put-tables v (lower (withMade t l c) a z h) (withTime-tables t (tables l u ms hs))))))
 
 -- A cell outside the rate, at the same places in both: its octets may differ in CCR, as a slot's may.
 outside-both : {s₁ s₂ : State} → Tables s₁ s₂ → (t v : ℕ) (c : Connection) (a : ℕ) (z : Change) → a ≤ c .rate .acr → Both (sendOutside s₁ t v c) (sendOutside s₂ t v (lowered c a z))
@@ -283,6 +354,10 @@ same-meets w r (levelling l) = level-meets r l
 same-meets w r (slot t room) = slot-meets r t room
 same-meets w r (making vpi vci t) = make-meets r (pairName vpi vci) t
 same-meets w r (outOfRate vpi vci t room) = out-of-rate-meets r (pairName vpi vci) t room
+same-meets w r (openingPath vpi t p) = open-path-meets r vpi t p
+same-meets w r (adding vpi vci) = add-meets r vpi vci
+same-meets w r (offeringMember vpi vci n) = offer-member-meets r (pairName vpi vci) n
+same-meets w r (removing vpi vci) = remove-meets r (pairName vpi vci)
 
 pub step-meets : {s₁ s₂ : State} → WellFormed s₁ → Tables s₁ s₂ → {c d : Call} → Comparable c d → Meets (step s₁ c) (step s₂ d)
 unfolding step receiveStep

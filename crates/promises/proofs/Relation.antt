@@ -6,10 +6,11 @@ use mathlib.Core.List.{List, [], _∷_}
 use lib.ListN.{length, getD, set, replicate}
 use native.Mathlib.Nat.{le-refl}
 use Rattle.moves.specs.Moves.{moved}
+use Rattle.members.specs.Members.{Member}
 use Rattle.connection.specs.declared.parts.Connection.{Connection}
 use Rattle.connection.specs.declared.parts.Change.{Change}
 use Rattle.connection.specs.Parts.{withRate, withChange}
-use Rattle.model.specs.State.{State, Entry, free, taken, empty, capacity, position, isFree, holds, find, put, inserted, roomLeft, withTime, withLevel}
+use Rattle.model.specs.State.{State, Entry, free, taken, empty, capacity, position, isFree, holds, find, put, inserted, roomLeft, withTime, withLevel, withMembers}
 
 -- the same connection at another allowed rate, with another change by its last backward cell
 abbrev pub lowered : Connection → ℕ → Change → Connection
@@ -24,7 +25,9 @@ pub data Lowers : List Entry → List Entry → Type 0 where
   more : {x y : Entry} {xs ys : List Entry} → Lower x y → Lowers xs ys → Lowers (x ∷ xs) (y ∷ ys)
 
 pub data Tables : State → State → Type 0 where
-  tables : (l t : ℕ) {xs ys : List Entry} → Lowers xs ys → Tables (record { level = l; last = t; entries = xs }) (record { level = l; last = t; entries = ys })
+  tables :
+      (l t : ℕ) (ms : List Member) {xs ys : List Entry} → Lowers xs ys
+      → Tables (record { level = l; last = t; entries = xs; members = ms }) (record { level = l; last = t; entries = ys; members = ms })
 
 -- a test that looks past the rates finds the same place in both
 position-same : (f : Entry → Bool) → ((x y : Entry) → Lower x y → f x ≡ f y) → {xs ys : List Entry} → Lowers xs ys → position f xs ≡ position f ys
@@ -59,31 +62,38 @@ set-lower n (more h hs) (suc i) = more h (set-lower n hs i)
 -- The table's functions.
 pub find-lower : (v : ℕ) {s₁ s₂ : State} → Tables s₁ s₂ → Lower (find v (s₁ .entries)) (find v (s₂ .entries))
 unfolding find
-find-lower v (tables l t {xs} hs) = rw (← position-same (holds v) (holds-same v) hs) (getD-lower hs (position (holds v) xs))
+find-lower v (tables l t ms {xs} hs) = rw (← position-same (holds v) (holds-same v) hs) (getD-lower hs (position (holds v) xs))
 
 pub put-tables : (v : ℕ) {x y : Entry} → Lower x y → {s₁ s₂ : State} → Tables s₁ s₂ → Tables (put v x s₁) (put v y s₂)
 unfolding put
-put-tables v h (tables l t {xs} hs) = rw (← position-same (holds v) (holds-same v) hs) (tables l t (set-lower h hs (position (holds v) xs)))
+put-tables v h (tables l t ms {xs} hs) = rw (← position-same (holds v) (holds-same v) hs) (tables l t ms (set-lower h hs (position (holds v) xs)))
 
 pub inserted-tables : (c : Connection) {s₁ s₂ : State} → Tables s₁ s₂ → Tables (inserted c s₁) (inserted c s₂)
 unfolding inserted
-inserted-tables c (tables l t {xs} hs) =
-    rw (← position-same isFree isFree-same hs) (tables l t (set-lower (lower c (c .rate .acr) (c .change) (le-refl _)) hs (position isFree xs)))
+inserted-tables c (tables l t ms {xs} hs) =
+    rw (← position-same isFree isFree-same hs) (tables l t ms (set-lower (lower c (c .rate .acr) (c .change) (le-refl _)) hs (position isFree xs)))
 
 pub roomLeft-same : {s₁ s₂ : State} → Tables s₁ s₂ → roomLeft s₁ ≡ roomLeft s₂
 unfolding roomLeft
-roomLeft-same (tables l t hs) = rw (position-same isFree isFree-same hs, length-same hs)
+roomLeft-same (tables l t ms hs) = rw (position-same isFree isFree-same hs, length-same hs)
 
 pub last-same : {s₁ s₂ : State} → Tables s₁ s₂ → s₁ .last ≡ s₂ .last
-last-same (tables l t hs) = refl
+last-same (tables l t ms hs) = refl
 
 pub withTime-tables : (t : ℕ) {s₁ s₂ : State} → Tables s₁ s₂ → Tables (withTime t s₁) (withTime t s₂)
 unfolding withTime
-withTime-tables t (tables l u hs) = tables l t hs
+withTime-tables t (tables l u ms hs) = tables l t ms hs
 
 pub withLevel-tables : (l : ℕ) {s₁ s₂ : State} → Tables s₁ s₂ → Tables (withLevel l s₁) (withLevel l s₂)
 unfolding withLevel
-withLevel-tables l (tables k t hs) = tables l t hs
+withLevel-tables l (tables k t ms hs) = tables l t ms hs
+
+pub withMembers-tables : (ms : List Member) {s₁ s₂ : State} → Tables s₁ s₂ → Tables (withMembers ms s₁) (withMembers ms s₂)
+unfolding withMembers
+withMembers-tables ms (tables l t ns hs) = tables l t ms hs
+
+pub members-same : {s₁ s₂ : State} → Tables s₁ s₂ → s₁ .members ≡ s₂ .members
+members-same (tables l t ms hs) = refl
 
 vacant-all : (n : ℕ) → Lowers (replicate n free) (replicate n free)
 vacant-all zero = end
@@ -91,4 +101,4 @@ vacant-all (suc n) = more vacant (vacant-all n)
 
 pub empty-tables : Tables empty empty
 unfolding empty
-empty-tables = tables 0 0 (vacant-all capacity)
+empty-tables = tables 0 0 [] (vacant-all capacity)

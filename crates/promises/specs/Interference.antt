@@ -1,39 +1,79 @@
--- No call touches a connection that it does not name: the record of every other one stays as it was. (Document 01, "Four moves of the allowed rate", says so of a backward cell; document 02, L6.)
+-- No call touches a connection, or a member of a path, that it is not about: the record of every other one stays as it was. (Document 01, "Four moves of the allowed rate", says so of a backward cell; document 02, L6 and L13.)
 use Prim.Native.Nat.{ℕ}
 use mathlib.Core.Path.{_≡_}
 use mathlib.Core.Logic.{_≢_}
+use mathlib.Core.Bool.{Bool, false}
 use mathlib.Core.List.{List}
 use mathlib.Core.Option.{Option, none, some}
+use lib.Dec.{eqb}
 use Rattle.cell.specs.declared.read.Reading.{Reading}
 use Rattle.cell.specs.declared.read.Reading.the-variants.{Refused, User, Resource}
 use Rattle.cell.specs.Name.{pairName}
 use Rattle.cell.specs.Fields.{cellName}
 use Rattle.cell.specs.Reading.{reading}
+use Rattle.members.specs.Path.{pathVci, pathOf}
+use Rattle.members.specs.Members.{Member, isMember, cellsOf, owner}
 use Rattle.model.specs.State.{empty, find}
 use Rattle.model.specs.declared.answer.Answer.{Answer}
-use Rattle.model.specs.Call.{Call, opening, closing, receiving, offering, levelling, slot, making, outOfRate, goesTo}
+use Rattle.model.specs.declared.answer.Answer.the-variants.{Refused as NotDone, Accepted, Closed, Idle, Sent}
+use Rattle.model.specs.Call.{Call, opening, closing, receiving, offering, levelling, slot, making, outOfRate, openingPath, adding, offeringMember, removing, goesTo}
 use Rattle.model.specs.Step.{step}
 use Rattle.model.specs.Run.{final}
 
--- the connection of a received cell
-unfoldable pub readName : Reading → Option ℕ
-readName (Refused n) = none
-readName (User vpi vci e) = some (pairName vpi vci)
-readName (Resource f) = some (cellName f)
+-- the connection of a received cell: of a member's data cell its path
+unfoldable pub readName : List Member → Reading → Option ℕ
+readName ms (Refused n) = none
+readName ms (User vpi vci e) = some (owner (pairName vpi vci) ms)
+readName ms (Resource f) = some (cellName f)
 
--- the one connection that a call is about: it names it, it receives a cell of it, or it is a slot that goes to it
-unfoldable pub names : Call → Answer → Option ℕ
-names (opening vpi vci t p) a = some (pairName vpi vci)
-names (closing vpi vci) a = some (pairName vpi vci)
-names (receiving o) a = readName (reading o)
-names (offering vpi vci n) a = some (pairName vpi vci)
-names (levelling l) a = none
-names (slot t room) a = goesTo a
-names (making vpi vci t) a = some (pairName vpi vci)
-names (outOfRate vpi vci t room) a = some (pairName vpi vci)
+-- the one connection that a call is about: it names it or a member of it, it receives a cell of it, or it is a slot that goes to it; a new member changes none
+unfoldable pub names : List Member → Call → Answer → Option ℕ
+names ms (opening vpi vci t p) a = some (pairName vpi vci)
+names ms (closing vpi vci) a = some (pairName vpi vci)
+names ms (receiving o) a = readName ms (reading o)
+names ms (offering vpi vci n) a = some (pairName vpi vci)
+names ms (levelling l) a = none
+names ms (slot t room) a = goesTo a
+names ms (making vpi vci t) a = some (pairName vpi vci)
+names ms (outOfRate vpi vci t room) a = some (pairName vpi vci)
+names ms (openingPath vpi t p) a = some (pairName vpi pathVci)
+names ms (adding vpi vci) a = none
+names ms (offeringMember vpi vci n) a = some (pathOf (pairName vpi vci))
+names ms (removing vpi vci) a = some (pathOf (pairName vpi vci))
+
+-- a slot's answer tells the name x
+unfoldable pub tells : (x : ℕ) → Answer → Bool
+tells x (NotDone n) = false
+tells x (Accepted n) = false
+tells x (Closed n k) = false
+tells x Idle = false
+tells x (Sent v y k a n) = eqb y x
+
+-- a call is about the member x: it names it, closes its path, or is a slot that names it
+unfoldable pub touches : (x : ℕ) → Call → Answer → Bool
+touches x (opening vpi vci t p) a = false
+touches x (closing vpi vci) a = eqb (pairName vpi vci) (pathOf x)
+touches x (receiving o) a = false
+touches x (offering vpi vci n) a = false
+touches x (levelling l) a = false
+touches x (slot t room) a = tells x a
+touches x (making vpi vci t) a = false
+touches x (outOfRate vpi vci t room) a = false
+touches x (openingPath vpi t p) a = false
+touches x (adding vpi vci) a = eqb (pairName vpi vci) x
+touches x (offeringMember vpi vci n) a = eqb (pairName vpi vci) x
+touches x (removing vpi vci) a = eqb (pairName vpi vci) x
+
+-- x is a member before and after, on which the same waits, or in neither
+pub record SameMember (x : ℕ) (ms ns : List Member) : Type 0 where
+  pub member : isMember x ns ≡ isMember x ms
+  pub cells : cellsOf x ns ≡ cellsOf x ms
 
 -- after any list of calls from the empty table
-abbrev pub NoInterference : Type 0
-NoInterference =
-    (cs : List Call) (c : Call) (u : ℕ) → names c (step (final empty cs) c .answer) ≢ some u
-    → find u (step (final empty cs) c .state .entries) ≡ find u (final empty cs .entries)
+pub record NoInterference : Type 0 where
+  pub connections :
+      (cs : List Call) (c : Call) (u : ℕ) → let s = final empty cs in
+      names (s .members) c (step s c .answer) ≢ some u → find u (step s c .state .entries) ≡ find u (s .entries)
+  pub members :
+      (cs : List Call) (c : Call) (x : ℕ) → let s = final empty cs in
+      touches x c (step s c .answer) ≡ false → SameMember x (s .members) (step s c .state .members)

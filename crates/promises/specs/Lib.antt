@@ -5,3 +5,4 @@ pub mod Demand3
 pub mod Refusals
 pub mod Interference
 pub mod Moves
+pub mod Paths

@@ -24,10 +24,10 @@ use Rattle.model.specs.Run.{final}
 -- what a call with this answer may make of the rate record of the connection v, which is d before it
 pub data Moves (v : ℕ) (d : Connection) : Call → Answer → Rate → Type 0 where
   stays : {c : Call} {a : Answer} → Moves v d c a (d .rate)
-  first : {t room acr n : ℕ} → d .pace ≡ Unsent → Moves v d (slot t room) (Sent v Forward acr n) (firstCell (d .rate))
+  first : {t room acr n : ℕ} → d .pace ≡ Unsent → Moves v d (slot t room) (Sent v v Forward acr n) (firstCell (d .rate))
   later :
       {t room acr n sent forward k : ℕ} {turned : Bool} → d .pace ≡ Running sent forward k turned
-      → Moves v d (slot t room) (Sent v Forward acr n) (unanswered (d .unacked) (idle (t - forward) (d .rate)))
+      → Moves v d (slot t room) (Sent v v Forward acr n) (unanswered (d .unacked) (idle (t - forward) (d .rate)))
   fed :
       {o : List ℕ} {n : ℕ} (f : Fields) → reading o ≡ Resource f → cellName f ≡ v → f .dir ≡ 1
       → Moves v d (receiving o) (Accepted n) (feedback (eqb (f .ci) 1) (eqb (f .ni) 1) (rateOf (f .er)) (d .rate))

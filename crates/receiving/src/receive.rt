@@ -1,8 +1,9 @@
-// What an offer, or a received cell, makes of its connection (document 01, "Opening", "Four moves of the allowed rate" and "Turning cells round").
+// What an offer, the removal of a member, or a received cell makes of its connection (document 01, "Opening", "Four moves of the allowed rate" and "Turning cells round";
+// document 02, L13).
 ghost use mathlib.Core.Path.{_≡_};
-ghost use Prim.Native.Nat.{_+_, _≤_};
+ghost use Prim.Native.Nat.{_+_, _-_, _<_, _^_};
 ghost use Rattle.cell.specs.Fields.{Checked};
-ghost use Rattle.connection.specs.Parts.{waiting};
+ghost use Rattle.connection.specs.Parts.{waiting, withQueue, dequeued};
 ghost use Rattle.connection.specs.Receiving.{offered, afterDataCell, afterBackwardCell, waitingCi, afterForwardPayload};
 use crate::feedback::with_feedback;
 use cell::fields::Fields;
@@ -17,11 +18,28 @@ use turning::turn::turn;
 
 // An offer adds to the waiting data.
 pub fn offered(n: u32, c: Connection) -> Connection
-    requires { ⌜ waiting (c .queue) + n ≤ 65535 ⌝ }
+    requires { ⌜ waiting (c .queue) + n < 2 ^ 32 ⌝ }
     ensures { λ r. ⌜ r ≡ offered n c ⌝ }
 {
     c.with_queue(Queue {
         cells: c.queue.cells + n,
+        served: c.queue.served,
+    })
+}
+
+fn minus(a: u32, b: u32) -> u32
+    ensures { λ r. ⌜ r ≡ a - b ⌝ }
+{
+    if b <= a { a - b } else { 0 }
+}
+
+// The removal of a member takes the data that waited on it from its path (document 02, L13).
+pub fn dequeued(n: u32, c: Connection) -> Connection
+    ensures { λ r. ⌜ r ≡ withQueue c (dequeued n (c .queue)) ⌝ }
+{
+    c.with_queue(Queue {
+        cells: minus(c.queue.cells, n),
+        served: c.queue.served,
     })
 }
 

@@ -5,15 +5,16 @@ use mathlib.Core.Bool.{Bool, true, false, _&&_}
 use mathlib.Core.List.{List, _++_}
 use native.Mathlib.Omega.{arith}
 use lib.Dec.{leb, lit≤}
-use borrow.Author.Tests.{le-leb, leb-true}
+use borrow.Author.Tests.{le-leb, lt-leb, leb-true}
 use Rattle.params.specs.declared.params.Params.{Params}
-use Rattle.rate.specs.Units.{latestTime}
 use Rattle.rate.specs.Code.{codesClear}
 use Rattle.cell.specs.Name.{vpiIn, vciIn, noName, pairFits, pairName}
 use Rattle.cell.specs.Header.{vpiOf, vciOf, header}
 use Rattle.cell.specs.Fields.{resourceCell}
 use Rattle.cell.specs.Turning.{turnedCell}
 use Rattle.cell.proofs.Names.{name-lt, names-apart, pair-back}
+use Rattle.members.specs.Path.{pathOf}
+use Rattle.members.specs.Members.{Member}
 use Rattle.connection.specs.declared.parts.Connection.{Connection}
 use Rattle.connection.specs.declared.parts.Waiting.{Waiting}
 use Rattle.connection.specs.declared.parts.Waiting.the-variants.{Nothing, Cell}
@@ -22,59 +23,69 @@ use Rattle.connection.specs.declared.kind.Kind.the-variants.{Forward, Turned, D
 use Rattle.connection.specs.Kind.{kindAt}
 use Rattle.connection.specs.Making.{madeFields}
 use Rattle.connection.specs.OutOfRate.{outOfRateCell}
-use Rattle.connection.specs.Sending.{after, forwardFields, backwardCell, bufferAfter, untouched, written}
+use Rattle.connection.specs.Sending.{after, memberServed, forwardFields, backwardCell, bufferAfter, untouched, written}
 use Rattle.connection.proofs.Keeps.{after-same}
-use Rattle.model.specs.State.{State, Entry, free, taken, empty, find}
+use Rattle.model.specs.State.{State, Entry, free, taken, empty, find, withTime}
 use Rattle.model.specs.Invariant.{WellFormed}
 use Rattle.model.specs.declared.answer.Answer.the-variants.{Refused}
-use Rattle.model.specs.Call.{Call, opening, closing, receiving, offering, levelling, slot, making, outOfRate, Outcome}
-use Rattle.model.specs.Step.{refuse, accept, replay, discard, ofOpen, openStep, closeStep, offerStep, makeStep, outOfRateStep, sendStep, idleStep, sendOutside, step}
+use Rattle.model.specs.Call.{Call, opening, closing, receiving, offering, levelling, slot, making, outOfRate, openingPath, adding, offeringMember, removing, Outcome}
+use Rattle.model.specs.Step.{refuse, accept, replay, discard, ofOpen, admit, openStep, openPathStep, addStep, offerMemberStep, removeStep, nameTold, sendFrom, sendStep, idleStep, sendOutside, step}
 use Rattle.model.specs.Queries.{entryAcr, acrOf, entryContract, contractOf}
 use Rattle.model.specs.Run.{final}
 use Rattle.model.proofs.Frames.{name-of}
 use Rattle.model.proofs.Preserved.{valid-at}
-use Rattle.model.proofs.Effects.{Effect, refuses, begins, ends, offers, marks, works, levels, idles, sends, makes, leaves, effect}
-use Rattle.model.proofs.Reached.{reached-well-formed, reached-unknown}
-use Rattle.rm_cells.specs.Addresses.{Unknown, OutOfRangeUnknown, PairsApart, Carries, SentCarries, CarriesName, CellsCarryNames}
+use Rattle.model.proofs.Effects.{Effect, refuses, begins, ends, offers, marks, works, levels, idles, sends, makes, leaves, beginsPath, adds, offersMember, removes, effect}
+use Rattle.model.proofs.Reached.{reached-well-formed, reached-unknown, reached-no-path}
+use Rattle.promises.proofs.NotOpen.{close-out, offer-out, make-out, leave-out}
+use Rattle.rm_cells.specs.Addresses.{Unknown, OutOfRangeUnknown, NoPathOver255, PairsApart, Carries, SentCarries, CarriesName, CellsCarryNames}
 use Rattle.laws.specs.Require.{require}
 
 -- Out of the ranges.
 module _ (s : State) (vpi vci : ℕ) where
   open-out : (t : ℕ) (p : Params) → pairFits vpi vci ≡ false → 32 ≤ vci → codesClear (p .pcr) (p .mcr) (p .icr) ≡ true → openStep s vpi vci t p ≡ refuse s 7
-  unfolding openStep require
+  unfolding openStep admit require
   open-out t p e l k = rw (le-leb 32 vci l, k, e)
 
-  module _ (f : find (pairName vpi vci) (s .entries) ≡ free) where
-    close-out : closeStep s (pairName vpi vci) ≡ refuse s 11
-    unfolding closeStep ofOpen
-    close-out = rw f
+  -- the calls on members
+  module _ (f : find (pathOf (pairName vpi vci)) (s .entries) ≡ free) where
+    add-out : 32 ≤ vci → addStep s vpi vci ≡ refuse s 11
+    unfolding addStep require ofOpen
+    add-out l = rw (le-leb 32 vci l, f)
 
-    offer-out : (n : ℕ) → offerStep s (pairName vpi vci) n ≡ refuse s 11
-    unfolding offerStep ofOpen
-    offer-out n = rw f
+    offer-member-out : (n : ℕ) → offerMemberStep s (pairName vpi vci) n ≡ refuse s 11
+    unfolding offerMemberStep ofOpen
+    offer-member-out n = rw f
 
-    make-out : (t : ℕ) → t ≤ latestTime → makeStep s (pairName vpi vci) t ≡ refuse s 11
-    unfolding makeStep require ofOpen
-    make-out t l = rw (le-leb t latestTime l, f)
-
-    leave-out : (t : ℕ) → t ≤ latestTime → outOfRateStep s (pairName vpi vci) t 53 ≡ refuse s 11
-    unfolding outOfRateStep require ofOpen
-    leave-out t l = rw (le-leb t latestTime l, f)
+    remove-out : removeStep s (pairName vpi vci) ≡ refuse s 11
+    unfolding removeStep ofOpen
+    remove-out = rw f
 
 pub out-of-range-unknown : OutOfRangeUnknown
 unfolding step acrOf entryAcr contractOf entryContract
 out-of-range-unknown cs vpi vci e =
     let s : State = final empty cs in
     let f : find (pairName vpi vci) (s .entries) ≡ free = reached-unknown cs vpi vci e in
+    let g : find (pathOf (pairName vpi vci)) (s .entries) ≡ free = reached-no-path cs vpi vci e in
     record {
       opens = λ t p l k. open-out s vpi vci t p e l k;
       closes = close-out s vpi vci f;
       offers = offer-out s vpi vci f;
       makes = make-out s vpi vci f;
       leaves = leave-out s vpi vci f;
+      adds = add-out s vpi vci g;
+      offersMember = offer-member-out s vpi vci g;
+      removes = remove-out s vpi vci g;
       reads = ap entryAcr f;
       exports = ap entryContract f;
     }
+
+path-out : (s : State) (vpi t : ℕ) (p : Params) → 255 < vpi → codesClear (p .pcr) (p .mcr) (p .icr) ≡ true → openPathStep s vpi t p ≡ refuse s 7
+unfolding openPathStep admit require
+path-out s vpi t p h k = rw (k, lt-leb vpi 255 h)
+
+pub no-path-over-255 : NoPathOver255
+unfolding step
+no-path-over-255 cs vpi t p h k = path-out (final empty cs) vpi t p h k
 
 -- Within them.
 fits-lt : (a b : ℕ) → pairFits a b ≡ true → pairName a b < noName
@@ -107,11 +118,13 @@ unfolding backwardCell resourceCell madeFields turnedCell
 backward-name v p Nothing level h = header-name 0 v _ (lit≤ tt) h
 backward-name v p (Cell w) level h = header-name 0 v _ (lit≤ tt) h
 
-sent-name : (k : Kind) (c d : Connection) → d .name ≡ c .name → c .name < noName → SentCarries k (c .name) (bufferAfter k c d)
-unfolding bufferAfter resourceCell forwardFields
-sent-name Forward c d e h = rw e (header-name 0 (c .name) _ (lit≤ tt) h)
-sent-name Turned c d e h = backward-name (c .name) (c .rate .params) (c .destination .turned) (c .destination .made .level) h
-sent-name Data c d e h = refl
+sent-name :
+    (k : Kind) (c d : Connection) (ms : List Member) → d .name ≡ c .name → c .name < noName
+    → SentCarries k (c .name) (nameTold (c .name) (memberServed k c ms)) (bufferAfter k c d)
+unfolding bufferAfter resourceCell forwardFields memberServed nameTold
+sent-name Forward c d ms e h = (refl, rw e (header-name 0 (c .name) _ (lit≤ tt) h))
+sent-name Turned c d ms e h = (refl, backward-name (c .name) (c .rate .params) (c .destination .turned) (c .destination .made .level) h)
+sent-name Data c d ms e h = refl
 
 outside-name : (c : Connection) → c .name < noName → Carries (c .name) (written (outOfRateCell c))
 unfolding outOfRateCell resourceCell forwardFields
@@ -126,22 +139,30 @@ refused-named (levelling l) n = refl
 refused-named (slot t room) n = refl
 refused-named (making vpi vci t) n = refl
 refused-named (outOfRate vpi vci t room) n = refl
+refused-named (openingPath vpi t p) n = refl
+refused-named (adding vpi vci) n = refl
+refused-named (offeringMember vpi vci k) n = refl
+refused-named (removing vpi vci) n = refl
 
 effect-named : {s : State} → WellFormed s → {c : Call} {o : Outcome} → Effect s c o → CarriesName c (o .answer) (o .buffer)
-unfolding refuse accept replay discard sendStep idleStep sendOutside
+unfolding refuse accept replay discard sendFrom sendStep idleStep sendOutside withTime
 effect-named w (refuses c n h) = refused-named c n
 effect-named w (begins vpi vci t p g) = refl
 effect-named w (ends vpi vci d f) = refl
-effect-named w (offers vpi vci n d f h) = refl
-effect-named w (marks o vpi vci e d r f) = refl
+effect-named w (offers vpi vci n d f i h) = refl
+effect-named w (marks o vpi vci e u d r i z f) = refl
 effect-named w (works o q d r f) = refl
 effect-named w (levels l h) = refl
 effect-named w (idles t room g b) = refl
 effect-named {s} w (sends t room i u g b) =
     let k = kindAt t (b .holder) in
-    subst (λ (v : ℕ). SentCarries k v (bufferAfter k (b .holder) (after k t (b .holder)))) (name-of u s (b .holder) (b .found))
-    (sent-name k (b .holder) (after k t (b .holder)) (after-same k t (b .holder) .name) (valid-at w u (b .holder) (b .found) .0 .coded))
+    subst (λ (v : ℕ). SentCarries k v (nameTold v (memberServed k (b .holder) (s .members))) (bufferAfter k (b .holder) (after k t (b .holder)))) (name-of u s (b .holder) (b .found))
+    (sent-name k (b .holder) (after k t (b .holder)) (s .members) (after-same k t (b .holder) .name) (valid-at w u (b .holder) (b .found) .0 .coded))
 effect-named w (makes vpi vci t d f g b m) = refl
+effect-named w (beginsPath vpi t p g) = refl
+effect-named w (adds vpi vci d f j) = refl
+effect-named w (offersMember vpi vci n d f i h) = refl
+effect-named w (removes vpi vci d f i) = refl
 effect-named {s} w (leaves vpi vci t room d f g b) =
     subst (λ (v : ℕ). Carries v (written (outOfRateCell d))) (name-of (pairName vpi vci) s d f) (outside-name d (valid-at w (pairName vpi vci) d f .0 .coded))
 

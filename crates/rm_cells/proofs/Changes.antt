@@ -13,6 +13,7 @@ use Rattle.cell.specs.declared.read.Reading.the-variants.{Resource}
 use Rattle.cell.specs.Name.{pairName}
 use Rattle.cell.specs.Fields.{cellName}
 use Rattle.cell.specs.Reading.{reading}
+use Rattle.members.specs.Path.{pathVci}
 use Rattle.connection.specs.declared.parts.Connection.{Connection}
 use Rattle.connection.specs.declared.parts.Change.{Change}
 use Rattle.connection.specs.declared.kind.Kind.{Kind}
@@ -22,7 +23,7 @@ use Rattle.connection.specs.Invariant.{ValidAt}
 use Rattle.connection.specs.Kind.{kindAt}
 use Rattle.connection.specs.Making.{withMade}
 use Rattle.connection.specs.Receiving.{offered, afterDataCell, fedBack, afterBackwardCell, afterForwardCell, afterResourceCell}
-use Rattle.connection.specs.Sending.{after, sentForward, sentTurned, sentData}
+use Rattle.connection.specs.Sending.{after, withServed, sentForward, sentTurned, sentData}
 use Rattle.connection.specs.OutOfRate.{afterOutOfRate}
 use Rattle.connection.proofs.Differences.{change-within}
 use Rattle.connection.proofs.Keeps.{work-same}
@@ -30,16 +31,16 @@ use Rattle.model.specs.declared.acr.Acr.{Acr}
 use Rattle.model.specs.declared.acr.Acr.the-variants.{NotOpen, Rate}
 use Rattle.model.specs.declared.answer.Answer.{Answer}
 use Rattle.model.specs.declared.answer.Answer.the-variants.{Accepted}
-use Rattle.model.specs.State.{State, Entry, free, taken, empty, find, put, withTime}
+use Rattle.model.specs.State.{State, Entry, free, taken, empty, find, put, inserted, withTime, withMembers}
 use Rattle.model.specs.Invariant.{OnEntry, NamesUnique}
-use Rattle.model.specs.Call.{Call, opening, closing, receiving, offering, levelling, slot, making, outOfRate, Outcome}
+use Rattle.model.specs.Call.{Call, opening, closing, receiving, offering, levelling, slot, making, outOfRate, openingPath, adding, offeringMember, removing, Outcome}
 use Rattle.model.specs.Step.{refuse, accept, replay, discard, step}
 use Rattle.model.specs.Queries.{entryAcr, acrOf}
 use Rattle.model.specs.Run.{final, paramsGiven}
 use Rattle.model.proofs.Entries.{find-each, Case, same, other, case}
 use Rattle.model.proofs.Frames.{put-read, inserted-read, freed-read}
 use Rattle.model.proofs.Given.{entryParams, params-given}
-use Rattle.model.proofs.Effects.{Effect, refuses, begins, ends, effect}
+use Rattle.model.proofs.Effects.{Enters, Effect, refuses, begins, ends, beginsPath, effect}
 use Rattle.model.proofs.Reached.{reached-well-formed}
 use Rattle.promises.proofs.Pairs.{work-backward}
 use Rattle.promises.proofs.Received.{step-works}
@@ -59,14 +60,26 @@ bounded cs v =
     rw (← params-given v cs) (bounded-entry (s .last) (find v (s .entries)) (find-each (ValidAt (s .last)) v (s .entries) (reached-well-formed cs .each)))
 
 -- An open.
-begun : {s : State} {o : Outcome} {vpi vci t : ℕ} {p : Params} (n : ℕ) → Effect s (opening vpi vci t p) o → o .answer ≡ Accepted n
-    → acrOf (o .state) (pairName vpi vci) ≡ Rate (initial p) (changed (initial p) (initial p))
-unfolding refuse accept replay acrOf entryAcr withTime fresh
-begun n (refuses _ k h) e = let z : _≡_ {A = ℕ} 0 1 = cc in absurd (omega arith)
-begun {s} {o} {vpi} {vci} {t} {p} n (begins _ _ _ _ g) e =
+begun-entry :
+    (s : State) (u t : ℕ) (p : Params) → Enters s u t p → entryAcr (find u (inserted (fresh u t p) s .entries)) ≡ Rate (initial p) (changed (initial p) (initial p))
+unfolding entryAcr fresh
+begun-entry s u t p g =
     ap entryAcr
-    (inserted-read (λ (x : Entry). x) (pairName vpi vci) s (fresh (pairName vpi vci) t p) (g .new) (g .room)
-    ∙ ap (λ (b : Bool). cond b (taken (fresh (pairName vpi vci) t p)) (find (pairName vpi vci) (s .entries))) (eq-eqb (pairName vpi vci) (pairName vpi vci) refl))
+    (inserted-read (λ (x : Entry). x) u s (fresh u t p) (g .new) (g .room) ∙ ap (λ (b : Bool). cond b (taken (fresh u t p)) (find u (s .entries))) (eq-eqb u u refl))
+
+begun :
+    {s : State} {o : Outcome} {vpi vci t : ℕ} {p : Params} (n : ℕ) → Effect s (opening vpi vci t p) o → o .answer ≡ Accepted n
+    → acrOf (o .state) (pairName vpi vci) ≡ Rate (initial p) (changed (initial p) (initial p))
+unfolding refuse accept replay acrOf withTime
+begun n (refuses _ k h) e = let z : _≡_ {A = ℕ} 0 1 = cc in absurd (omega arith)
+begun {s} {o} {vpi} {vci} {t} {p} n (begins _ _ _ _ g) e = begun-entry s (pairName vpi vci) t p g
+
+begun-path :
+    {s : State} {o : Outcome} {vpi t : ℕ} {p : Params} (n : ℕ) → Effect s (openingPath vpi t p) o → o .answer ≡ Accepted n
+    → acrOf (o .state) (pairName vpi pathVci) ≡ Rate (initial p) (changed (initial p) (initial p))
+unfolding refuse accept replay acrOf withTime
+begun-path n (refuses _ k h) e = let z : _≡_ {A = ℕ} 0 1 = cc in absurd (omega arith)
+begun-path {s} {o} {vpi} {t} {p} n (beginsPath _ _ _ g) e = begun-entry s (pairName vpi pathVci) t p g
 
 -- what was read stands in the entry
 rate-in : (x : Entry) (a : ℕ) (z : Change) → entryAcr x ≡ Rate a z → Has (λ d. (d .rate .acr ≡ a) × (d .change ≡ z)) x
@@ -125,7 +138,7 @@ sent-kept x Data t d m = m
 
 closed-kept : {s : State} → NamesUnique (s .entries) → {vpi vci : ℕ} {o : Outcome} (v : ℕ) (x : Change) → Effect s (closing vpi vci) o
     → Has (Changed x) (find v (s .entries)) → (b : ℕ) (y : Change) → acrOf (o .state) v ≡ Rate b y → Has (Changed x) (find v (o .state .entries))
-unfolding refuse discard acrOf entryAcr
+unfolding refuse discard withMembers acrOf entryAcr
 closed-kept u v x (refuses _ n h) m b y e = m
 closed-kept {s} u {vpi} {vci} v x (ends _ _ d f) m b y e = go (case (pairName vpi vci) v)
   where
@@ -137,16 +150,20 @@ closed-kept {s} u {vpi} {vci} v x (ends _ _ d f) m b y e = go (case (pairName vp
 
 call-kept : {s : State} → NamesUnique (s .entries) → (c : Call) {o : Outcome} (v : ℕ) (x : Change) → Effect s c o → NotFedBack v c → Has (Changed x) (find v (s .entries))
     → (b : ℕ) (y : Change) → acrOf (o .state) v ≡ Rate b y → Has (Changed x) (find v (o .state .entries))
-unfolding offered afterDataCell withMade afterOutOfRate
+unfolding offered afterDataCell withMade withServed afterOutOfRate
 call-kept u (opening vpi vci t p) v x h q m b y e = effect-kept (Changed x) v u h tt m
 call-kept u (closing vpi vci) v x h q m b y e = closed-kept u v x h m b y e
 call-kept {s} u (receiving o) v x h q m b y e =
     effect-kept (Changed x) v u h (λ e d k. k, λ f d r n g k. work-kept v x (s .level) o f d (λ z. q f r z n) k) m
 call-kept u (offering vpi vci n) v x h q m b y e = effect-kept (Changed x) v u h (λ d k. k) m
 call-kept u (levelling l) v x h q m b y e = effect-kept (Changed x) v u h tt m
-call-kept u (slot t room) v x h q m b y e = effect-kept (Changed x) v u h (λ d acr n z k. sent-kept x (kindAt t d) t d k) m
+call-kept u (slot t room) v x h q m b y e = effect-kept (Changed x) v u h (λ d y z acr n e k. sent-kept x (kindAt t d) t d k) m
 call-kept u (making vpi vci t) v x h q m b y e = effect-kept (Changed x) v u h (λ d k. k) m
 call-kept u (outOfRate vpi vci t room) v x h q m b y e = effect-kept (Changed x) v u h (λ d _ _ k. k) m
+call-kept u (openingPath vpi t p) v x h q m b y e = effect-kept (Changed x) v u h tt m
+call-kept u (adding vpi vci) v x h q m b y e = effect-kept (Changed x) v u h tt m
+call-kept u (offeringMember vpi vci n) v x h q m b y e = effect-kept (Changed x) v u h (λ d k. k) m
+call-kept u (removing vpi vci) v x h q m b y e = effect-kept (Changed x) v u h (λ d n k. k) m
 
 same-change : (z : Entry) (x y : Change) (b : ℕ) → Has (Changed x) z → entryAcr z ≡ Rate b y → y ≡ x
 unfolding entryAcr
@@ -167,6 +184,7 @@ pub changes : Changes
 changes = record {
   bounded = bounded;
   begins = λ cs vpi vci t n p e. begun n (effect (final empty cs) (reached-well-formed cs .unique) (opening vpi vci t p)) e;
+  beginsPath = λ cs vpi t n p e. begun-path n (effect (final empty cs) (reached-well-formed cs .unique) (openingPath vpi t p)) e;
   fedBack = fed-back;
   kept = kept;
 }

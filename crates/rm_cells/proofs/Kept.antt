@@ -3,6 +3,7 @@ use Prim.Native.Nat.{ℕ, _≤_}
 use mathlib.Core.Path.{_≡_, refl, sym, ap, subst, _∙_}
 use mathlib.Core.Logic.{_≢_}
 use mathlib.Core.Bool.{Bool, cond}
+use mathlib.Core.Option.{Option}
 use lib.Dec.{eqb}
 use borrow.Author.Tests.{eq-eqb, ne-eqb}
 use Rattle.cell.specs.Name.{pairName}
@@ -10,23 +11,25 @@ use Rattle.cell.specs.Fields.{cellName}
 use Rattle.cell.specs.Reading.{reading}
 use Rattle.cell.specs.declared.fields.Fields.{Fields}
 use Rattle.cell.specs.declared.read.Reading.the-variants.{Resource}
+use Rattle.params.specs.declared.params.Params.{Params}
+use Rattle.members.specs.Path.{pathVci, pathOf}
 use Rattle.connection.specs.declared.parts.Connection.{Connection}
-use Rattle.connection.specs.Parts.{fresh}
+use Rattle.connection.specs.Parts.{fresh, withQueue, dequeued}
 use Rattle.connection.specs.Making.{withMade}
 use Rattle.connection.specs.Receiving.{offered, afterDataCell, afterResourceCell}
 use Rattle.connection.specs.Kind.{kindAt}
-use Rattle.connection.specs.Sending.{after}
+use Rattle.connection.specs.Sending.{after, withServed}
 use Rattle.connection.specs.OutOfRate.{afterOutOfRate}
 use Rattle.connection.proofs.Keeps.{work-same, after-same}
-use Rattle.model.specs.State.{State, Entry, free, taken, find, put, withTime, withLevel}
+use Rattle.model.specs.State.{State, Entry, free, taken, find, put, inserted, withTime, withLevel, withMembers}
 use Rattle.model.specs.Invariant.{NamesUnique}
 use Rattle.model.specs.declared.answer.Answer.{Answer}
 use Rattle.model.specs.declared.answer.Answer.the-variants.{Sent}
-use Rattle.model.specs.Call.{Call, opening, closing, receiving, offering, levelling, slot, making, outOfRate, Outcome}
-use Rattle.model.specs.Step.{refuse, accept, replay, discard, idleStep, sendStep, sendOutside}
+use Rattle.model.specs.Call.{Call, opening, closing, receiving, offering, levelling, slot, making, outOfRate, openingPath, adding, offeringMember, removing, Outcome}
+use Rattle.model.specs.Step.{refuse, accept, replay, discard, withOffer, withoutOne, idleStep, sendFrom, sendStep, sendOutside}
 use Rattle.model.proofs.Entries.{Case, same, other, case}
 use Rattle.model.proofs.Frames.{put-read, inserted-read, freed-read}
-use Rattle.model.proofs.Effects.{Effect, refuses, begins, ends, offers, marks, works, levels, idles, sends, makes, leaves}
+use Rattle.model.proofs.Effects.{Enters, Effect, refuses, begins, ends, offers, marks, works, levels, idles, sends, makes, leaves, beginsPath, adds, offersMember, removes}
 use Rattle.promises.proofs.Pairs.{sent-same}
 
 abbrev pub Has : (Connection → Type 0) → Entry → Type 0
@@ -42,9 +45,14 @@ KeptBy P v s (receiving o) a =
     × ((f : Fields) (d : Connection) → reading o ≡ Resource f → cellName f ≡ v → find v (s .entries) ≡ taken d → P d → P (afterResourceCell (s .level) o f d))
 KeptBy P v s (offering vpi vci n) a = (d : Connection) → P d → P (offered n d)
 KeptBy P v s (levelling l) a = Unit
-KeptBy P v s (slot t room) a = (d : Connection) (acr n : ℕ) → a ≡ Sent v (kindAt t d) acr n → P d → P (after (kindAt t d) t d)
+KeptBy P v s (slot t room) a =
+    (d : Connection) (x : ℕ) (m : Option ℕ) (acr n : ℕ) → a ≡ Sent v x (kindAt t d) acr n → P d → P (withServed m (after (kindAt t d) t d))
 KeptBy P v s (making vpi vci t) a = (d : Connection) → P d → P (withMade t (s .level) d)
 KeptBy P v s (outOfRate vpi vci t room) a = (d : Connection) → s .last ≤ t → find v (s .entries) ≡ taken d → P d → P (afterOutOfRate t d)
+KeptBy P v s (openingPath vpi t p) a = Unit
+KeptBy P v s (adding vpi vci) a = Unit
+KeptBy P v s (offeringMember vpi vci n) a = (d : Connection) → P d → P (offered n d)
+KeptBy P v s (removing vpi vci) a = (d : Connection) (n : ℕ) → P d → P (withQueue d (dequeued n (d .queue)))
 
 module _ (P : Connection → Type 0) (v : ℕ) where
   changed-kept :
@@ -58,26 +66,36 @@ module _ (P : Connection → Type 0) (v : ℕ) where
           rw (eq-eqb u v q) (m q g (subst (Has P) g h))
       go (other q) = rw (ne-eqb u v q) h
 
+  -- an open is another connection's
+  begun-kept :
+      (s : State) (u t : ℕ) (p : Params) → Enters s u t p → Has P (find v (s .entries)) → Has P (find v (inserted (fresh u t p) s .entries))
+  unfolding fresh
+  begun-kept s u t p g m = rw (inserted-read (λ (x : Entry). x) v s (fresh u t p) (g .new) (g .room)) (go (case u v))
+    where
+      go : Case u v → Has P (cond (eqb u v) (taken (fresh u t p)) (find v (s .entries)))
+      go (same z) = absurd (subst (Has P) (ap (λ (x : ℕ). find x (s .entries)) (sym z) ∙ g .new) m)
+      go (other z) = rw (ne-eqb u v z) m
+
   pub effect-kept :
       {s : State} → NamesUnique (s .entries) → {c : Call} {o : Outcome} → Effect s c o → KeptBy P v s c (o .answer) → Has P (find v (s .entries))
       → Has P (find v (o .state .entries))
-  unfolding refuse accept replay discard sendStep idleStep sendOutside withTime withLevel fresh offered afterDataCell withMade afterOutOfRate
+  unfolding refuse accept replay discard sendFrom sendStep idleStep sendOutside withTime withLevel withMembers withOffer withoutOne withServed offered afterDataCell withMade afterOutOfRate
   effect-kept a (refuses c n h) q m = m
-  effect-kept {s} a (begins vpi vci t p g) q m = rw (inserted-read (λ (x : Entry). x) v s (fresh (pairName vpi vci) t p) (g .new) (g .room)) (go (case (pairName vpi vci) v))
-    where
-      go : Case (pairName vpi vci) v → Has P (cond (eqb (pairName vpi vci) v) (taken (fresh (pairName vpi vci) t p)) (find v (s .entries)))
-      go (same z) = absurd (subst (Has P) (ap (λ (x : ℕ). find x (s .entries)) (sym z) ∙ g .new) m)
-      go (other z) = rw (ne-eqb (pairName vpi vci) v z) m
+  effect-kept {s} a (begins vpi vci t p g) q m = begun-kept s (pairName vpi vci) t p g m
   effect-kept {s} a (ends vpi vci d f) q m = rw (freed-read (λ (x : Entry). x) v (pairName vpi vci) s a, ne-eqb (pairName vpi vci) v q) m
-  effect-kept {s} a (offers vpi vci n d f b) q m = changed-kept (pairName vpi vci) s a d (offered n d) f refl (λ _ _. q d) m
-  effect-kept {s} a (marks o vpi vci e d r f) q m = changed-kept (pairName vpi vci) s a d (afterDataCell e d) f refl (λ _ _. q .0 e d) m
+  effect-kept {s} a (offers vpi vci n d f i b) q m = changed-kept (pairName vpi vci) s a d (offered n d) f refl (λ _ _. q d) m
+  effect-kept {s} a (marks o vpi vci e u d r i z f) q m = changed-kept u s a d (afterDataCell e d) f refl (λ _ _. q .0 e d) m
   effect-kept {s} a (works o g d r f) q m =
       changed-kept (cellName g) s a d (afterResourceCell (s .level) o g d) f (work-same (s .level) o g d .name) (λ n h. q .1 g d r n h) m
   effect-kept a (levels l b) q m = m
   effect-kept a (idles t room g b) q m = m
   effect-kept {s} a (sends t room i u g b) q m =
       let k = kindAt t (b .holder) in
-      changed-kept u (withTime t s) a (b .holder) (after k t (b .holder)) (b .found) (after-same k t (b .holder) .name)
-      (λ z _. q (b .holder) _ _ (sent-same z refl)) m
+      changed-kept u (withTime t s) a (b .holder) (withServed _ (after k t (b .holder))) (b .found) (after-same k t (b .holder) .name)
+      (λ z _. q (b .holder) _ _ _ _ (sent-same z refl refl)) m
   effect-kept {s} a (makes vpi vci t d f g b z) q m = changed-kept (pairName vpi vci) (withTime t s) a d (withMade t (s .level) d) f refl (λ _ _. q d) m
   effect-kept {s} a (leaves vpi vci t room d f g b) q m = changed-kept (pairName vpi vci) (withTime t s) a d (afterOutOfRate t d) f refl (λ _ h. q d (g .since) h) m
+  effect-kept {s} a (beginsPath vpi t p g) q m = begun-kept s (pairName vpi pathVci) t p g m
+  effect-kept a (adds vpi vci d f j) q m = m
+  effect-kept {s} a (offersMember vpi vci n d f i b) q m = changed-kept (pathOf (pairName vpi vci)) s a d (offered n d) f refl (λ _ _. q d) m
+  effect-kept {s} a (removes vpi vci d f i) q m = changed-kept (pathOf (pairName vpi vci)) s a d _ f refl (λ _ _. q d _) m

@@ -30,14 +30,14 @@ use Rattle.connection.specs.Making.{withMade}
 use Rattle.connection.specs.Receiving.{offered, afterDataCell, waitingCi, markKept, afterBackwardCell, afterForwardCell, afterResourceCell}
 use Rattle.connection.specs.OutOfRate.{afterOutOfRate}
 use Rattle.connection.specs.Kind.{kindAt}
-use Rattle.connection.specs.Sending.{after, sentForward, sentData, bufferAfter, backwardCell, written}
+use Rattle.connection.specs.Sending.{after, sentForward, sentData, bufferAfter, backwardCell, written, withServed}
 use Rattle.connection.proofs.Keeps.{work-same}
 use Rattle.model.specs.State.{State, Entry, taken, empty, find}
 use Rattle.model.specs.Invariant.{WellFormed}
 use Rattle.model.specs.declared.answer.Answer.{Answer}
 use Rattle.model.specs.declared.answer.Answer.the-variants.{Sent}
-use Rattle.model.specs.Call.{Call, opening, closing, receiving, offering, levelling, slot, making, outOfRate, Outcome}
-use Rattle.model.specs.Step.{refuse, accept, replay, idleStep, sendStep, step}
+use Rattle.model.specs.Call.{Call, opening, closing, receiving, offering, levelling, slot, making, outOfRate, openingPath, adding, offeringMember, removing, Outcome}
+use Rattle.model.specs.Step.{refuse, accept, replay, idleStep, sendFrom, sendStep, step}
 use Rattle.model.specs.Run.{final}
 use Rattle.model.proofs.Frames.{name-of, put-read}
 use Rattle.model.proofs.Preserved.{valid-at}
@@ -125,16 +125,20 @@ sent-mark v t Turned d n m = absurd (n refl)
 sent-mark v t Data d n m = m
 
 quiet-kept : (v : ℕ) {s : State} → WellFormed s → (c : Call) (a : Answer) → Quiet v c a → KeptBy (CarriesMark v) v s c a
-unfolding offered afterDataCell withMade afterOutOfRate
+unfolding offered afterDataCell withMade withServed afterOutOfRate
 quiet-kept v w (opening vpi vci t p) a q = tt
 quiet-kept v w (closing vpi vci) a q = q
 quiet-kept v {s} w (receiving o) a q =
     (λ e d m. m, λ f d r _ g m. work-mark v (s .level) o f d q r (rw (← name-of v s d g) (valid-at w v d g .0 .coded)) m)
 quiet-kept v w (offering vpi vci n) a q = λ d m. m
 quiet-kept v w (levelling l) a q = tt
-quiet-kept v w (slot t room) a q = λ d acr n e m. sent-mark v t (kindAt t d) d (λ k. q acr n (e ∙ sent-same refl k)) m
+quiet-kept v w (slot t room) a q = λ d x y acr n e m. sent-mark v t (kindAt t d) d (λ k. q x acr n (e ∙ sent-same refl refl k)) m
 quiet-kept v w (making vpi vci t) a q = λ d m. m
 quiet-kept v w (outOfRate vpi vci t room) a q = λ d _ _ m. m
+quiet-kept v w (openingPath vpi t p) a q = tt
+quiet-kept v w (adding vpi vci) a q = tt
+quiet-kept v w (offeringMember vpi vci n) a q = λ d m. m
+quiet-kept v w (removing vpi vci) a q = λ d n m. m
 
 all-mark : (v : ℕ) (s : State) → WellFormed s → (cs : List Call) → AllQuiet v s cs → Has (CarriesMark v) (find v (s .entries)) → Has (CarriesMark v) (find v (final s cs .entries))
 all-mark v s w [] q m = m
@@ -183,8 +187,8 @@ written-mark v d e Turned q n m = record {
 written-mark v d e Data q n m = let z : _≡_ {A = ℕ} 0 1 = cc in absurd (omega arith)
 
 slot-mark :
-    (v : ℕ) {s : State} {t room acr n : ℕ} {o : Outcome} → Effect s (slot t room) o → Has (CarriesMark v) (find v (s .entries)) → o .answer ≡ Sent v Turned acr n → MarkWritten v (o .buffer)
-unfolding refuse sendStep idleStep
+    (v : ℕ) {s : State} {t room x acr n : ℕ} {o : Outcome} → Effect s (slot t room) o → Has (CarriesMark v) (find v (s .entries)) → o .answer ≡ Sent v x Turned acr n → MarkWritten v (o .buffer)
+unfolding refuse sendFrom sendStep idleStep
 slot-mark v (refuses _ n h) m e = let z : _≡_ {A = ℕ} 0 1 = cc in absurd (omega arith)
 slot-mark v (idles _ _ g b) m e = let z : _≡_ {A = ℕ} 0 1 = cc in absurd (omega arith)
 slot-mark v {s} {t} (sends _ _ i u g b) m e =
@@ -194,9 +198,9 @@ slot-mark v {s} {t} (sends _ _ i u g b) m e =
     (subst (Has (CarriesMark v)) (ap (λ (w : ℕ). find w (s .entries)) (sym q) ∙ b .found) m)
 
 pub no-mark-lost : NoMarkLost
-no-mark-lost cs o f c ds t room acr n a e d q m quiet sent =
+no-mark-lost cs o f c ds t room x acr n a e d q m quiet sent =
     let w = reached-well-formed cs in
     let s : State = step (final empty cs) (receiving o) .state in
-    let x : WellFormed s = step-well-formed w (receiving o) in
-    let h = all-mark (cellName f) s x ds quiet (received-mark (final empty cs) w o f c a e d q m) in
-    slot-mark (cellName f) (effect (final s ds) (final-well-formed x ds .unique) (slot t room)) h sent
+    let y : WellFormed s = step-well-formed w (receiving o) in
+    let h = all-mark (cellName f) s y ds quiet (received-mark (final empty cs) w o f c a e d q m) in
+    slot-mark (cellName f) (effect (final s ds) (final-well-formed y ds .unique) (slot t room)) h sent

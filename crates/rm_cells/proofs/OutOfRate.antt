@@ -20,13 +20,13 @@ use Rattle.cell.proofs.Written.{read-written}
 use Rattle.connection.specs.declared.parts.Connection.{Connection}
 use Rattle.connection.specs.declared.ready.Instant.{Instant}
 use Rattle.connection.specs.declared.ready.Instant.the-variants.{At}
-use Rattle.connection.specs.Parts.{withOutside}
+use Rattle.connection.specs.Parts.{withQueue, withOutside, dequeued}
 use Rattle.connection.specs.Invariant.{NotAfter}
 use Rattle.connection.specs.Interval.{rested}
 use Rattle.connection.specs.Making.{withMade}
 use Rattle.connection.specs.Receiving.{offered, afterDataCell, afterResourceCell}
 use Rattle.connection.specs.Kind.{kindAt}
-use Rattle.connection.specs.Sending.{after, forwardFields, written}
+use Rattle.connection.specs.Sending.{after, withServed, forwardFields, written}
 use Rattle.connection.specs.OutOfRate.{afterOutOfRate, outOfRateCell}
 use Rattle.connection.proofs.Keeps.{work-out-of-rate, after-out-of-rate}
 use Rattle.connection.proofs.SendCases.{forward-fits}
@@ -35,7 +35,7 @@ use Rattle.model.specs.State.{State, Entry, free, taken, empty, position, holds
 use Rattle.model.specs.Invariant.{WellFormed}
 use Rattle.model.specs.Choice.{candidateFrom, candidate, winner}
 use Rattle.model.specs.declared.answer.Answer.{Answer}
-use Rattle.model.specs.Call.{Call, opening, closing, receiving, offering, levelling, slot, making, outOfRate, Outcome}
+use Rattle.model.specs.Call.{Call, opening, closing, receiving, offering, levelling, slot, making, outOfRate, openingPath, adding, offeringMember, removing, Outcome}
 use Rattle.model.specs.Step.{refuse, sendOutside, step}
 use Rattle.model.specs.Run.{final, isAccepted, entryRate}
 use Rattle.model.proofs.Frames.{name-of, put-read, put-kept}
@@ -129,20 +129,24 @@ not-after now i m e h = subst (NotAfter now) e h
 open-kept :
     (vpi vci : ℕ) → pairName vpi vci < noName → (t : ℕ) {s : State} → WellFormed s → (c : Call) (a : Answer) → c ≢ closing vpi vci
     → KeptBy (SentSince t) (pairName vpi vci) s c a
-unfolding offered afterDataCell withMade afterOutOfRate
+unfolding offered afterDataCell withMade withServed afterOutOfRate
 open-kept vpi vci l t w (opening i j x p) a q = tt
 open-kept vpi vci l t w (closing i j) a q = λ e. let k = names-apart vpi vci i j l (sym e) in q (rw (k .0, k .1))
 open-kept vpi vci l t {s} w (receiving o) a q =
     (λ e d m. kept-since t d (afterDataCell e d) refl m, λ f d r _ g m. kept-since t d (afterResourceCell (s .level) o f d) (work-out-of-rate (s .level) o f d) m)
 open-kept vpi vci l t w (offering i j n) a q = λ d m. kept-since t d (offered n d) refl m
 open-kept vpi vci l t w (levelling k) a q = tt
-open-kept vpi vci l t w (slot x room) a q = λ d acr n e m. kept-since t d (after (kindAt x d) x d) (after-out-of-rate (kindAt x d) x d) m
+open-kept vpi vci l t w (slot x room) a q = λ d v y acr n e m. kept-since t d (withServed y (after (kindAt x d) x d)) (after-out-of-rate (kindAt x d) x d) m
 open-kept vpi vci l t {s} w (making i j x) a q = λ d m. kept-since t d (withMade x (s .level) d) refl m
 open-kept vpi vci l t {s} w (outOfRate i j x room) a q = λ d h g m. record {
   instant = x;
   at = refl;
   since = omega (arith, h, m .since, not-after (s .last) (d .outside) (m .instant) (m .at) (valid-at w (pairName vpi vci) d g .3));
 }
+open-kept vpi vci l t w (openingPath i x p) a q = tt
+open-kept vpi vci l t w (adding i j) a q = tt
+open-kept vpi vci l t w (offeringMember i j n) a q = λ d m. kept-since t d (offered n d) refl m
+open-kept vpi vci l t w (removing i j) a q = λ d n m. kept-since t d (withQueue d (dequeued n (d .queue))) refl m
 
 all-since :
     (vpi vci : ℕ) → pairName vpi vci < noName → (t : ℕ) {s : State} → WellFormed s → (cs : List Call) → All (λ c. c ≢ closing vpi vci) cs

@@ -21,6 +21,7 @@ use Rattle.cell.specs.declared.read.Reading.the-variants.{Resource}
 use Rattle.cell.proofs.Admits.{resource-received}
 use Rattle.cell.proofs.Turned.{turned-kept, turned-words}
 use Rattle.cell.proofs.Written.{written-octets, written-clear}
+use Rattle.members.specs.Path.{pathVci, pathOf}
 use Rattle.connection.specs.declared.parts.Connection.{Connection}
 use Rattle.connection.specs.declared.parts.Waiting.{Waiting}
 use Rattle.connection.specs.declared.parts.Waiting.the-variants.{Nothing, Cell}
@@ -32,18 +33,18 @@ use Rattle.connection.specs.Kind.{kindAt}
 use Rattle.connection.specs.Making.{withMade}
 use Rattle.connection.specs.Receiving.{offered, afterDataCell, markKept, afterBackwardCell, afterForwardCell, afterResourceCell}
 use Rattle.connection.specs.OutOfRate.{afterOutOfRate, outOfRateCell}
-use Rattle.connection.specs.Sending.{after, sentForward, sentTurned, sentData, bufferAfter, backwardCell, written}
+use Rattle.connection.specs.Sending.{after, withServed, sentForward, sentTurned, sentData, bufferAfter, backwardCell, written}
 use Rattle.connection.proofs.Keeps.{after-same, after-valid, valid-later}
 use Rattle.connection.proofs.Reached.{acr-is-rate}
 use Rattle.connection.proofs.SendCases.{forward-fits, made-fits}
-use Rattle.model.specs.State.{State, Entry, free, taken, empty, capacity, position, holds, isFree, find, put, inserted, withTime, withLevel}
+use Rattle.model.specs.State.{State, Entry, free, taken, empty, capacity, position, holds, isFree, find, put, inserted, withTime, withLevel, withMembers}
 use Rattle.model.specs.Invariant.{Each, WellFormed}
-use Rattle.model.specs.Call.{Call, opening, closing, receiving, offering, levelling, slot, making, outOfRate, Outcome}
-use Rattle.model.specs.Step.{refuse, accept, replay, discard, idleStep, sendStep, sendOutside, step}
+use Rattle.model.specs.Call.{Call, opening, closing, receiving, offering, levelling, slot, making, outOfRate, openingPath, adding, offeringMember, removing, Outcome}
+use Rattle.model.specs.Step.{refuse, accept, replay, discard, withOffer, withoutOne, idleStep, sendFrom, sendStep, sendOutside, step}
 use Rattle.model.specs.Run.{final}
 use Rattle.model.proofs.Entries.{each-set, each-free, each-at}
 use Rattle.model.proofs.Preserved.{valid-at, empty-well-formed}
-use Rattle.model.proofs.Effects.{Timely, Effect, refuses, begins, ends, offers, marks, works, levels, idles, sends, makes, leaves, effect}
+use Rattle.model.proofs.Effects.{Timely, Effect, refuses, begins, ends, offers, marks, works, levels, idles, sends, makes, leaves, beginsPath, adds, offersMember, removes, effect}
 use Rattle.model.proofs.Reached.{step-well-formed}
 use Rattle.promises.specs.All.{All}
 use Rattle.rm_cells.specs.ReservedBit.{TopBitsClear, WrittenClear, OfOctets, NoReservedBit}
@@ -115,19 +116,23 @@ unfolding put
 changed-clear u s d e f h m = each-set TurnedClear (s .entries) m (position (holds u) (s .entries)) (taken e) (h (each-at TurnedClear u (s .entries) d f m))
 
 effect-clear : {s : State} {c : Call} {o : Outcome} → Effect s c o → OfOctets c → Each TurnedClear (s .entries) → Each TurnedClear (o .state .entries)
-unfolding refuse accept replay discard idleStep sendStep sendOutside put inserted withTime withLevel fresh offered afterDataCell withMade afterOutOfRate
+unfolding refuse accept replay discard idleStep sendFrom sendStep sendOutside put inserted withTime withLevel withMembers withOffer withoutOne withServed fresh offered afterDataCell withMade afterOutOfRate
 effect-clear (refuses c n h) q m = m
 effect-clear {s} (begins a b t p g) q m = each-set TurnedClear (s .entries) m (position isFree (s .entries)) (taken (fresh (pairName a b) t p)) tt
 effect-clear {s} (ends a b d f) q m = each-set TurnedClear (s .entries) m (position (holds (pairName a b)) (s .entries)) free tt
-effect-clear {s} (offers a b n d f h) q m = changed-clear (pairName a b) s d (offered n d) f (λ x. x) m
-effect-clear {s} (marks o a b e d r f) q m = changed-clear (pairName a b) s d (afterDataCell e d) f (λ x. x) m
+effect-clear {s} (offers a b n d f i h) q m = changed-clear (pairName a b) s d (offered n d) f (λ x. x) m
+effect-clear {s} (marks o a b e u d r i z f) q m = changed-clear u s d (afterDataCell e d) f (λ x. x) m
 effect-clear {s} (works o g d r f) q m = changed-clear (cellName g) s d (afterResourceCell (s .level) o g d) f (work-clear (s .level) o g d q r) m
 effect-clear (levels l h) q m = m
 effect-clear (idles t room g b) q m = m
 effect-clear {s} (sends t room i u g b) q m =
-    changed-clear u (withTime t s) (b .holder) (after (kindAt t (b .holder)) t (b .holder)) (b .found) (sent-clear (kindAt t (b .holder)) t (b .holder)) m
+    changed-clear u (withTime t s) (b .holder) (withServed _ (after (kindAt t (b .holder)) t (b .holder))) (b .found) (sent-clear (kindAt t (b .holder)) t (b .holder)) m
 effect-clear {s} (makes a b t d f g h z) q m = changed-clear (pairName a b) (withTime t s) d (withMade t (s .level) d) f (λ x. x) m
 effect-clear {s} (leaves a b t room d f g h) q m = changed-clear (pairName a b) (withTime t s) d (afterOutOfRate t d) f (λ x. x) m
+effect-clear {s} (beginsPath a t p g) q m = each-set TurnedClear (s .entries) m (position isFree (s .entries)) (taken (fresh (pairName a pathVci) t p)) tt
+effect-clear (adds a b d f j) q m = m
+effect-clear {s} (offersMember a b n d f i h) q m = changed-clear (pathOf (pairName a b)) s d (offered n d) f (λ x. x) m
+effect-clear {s} (removes a b d f i) q m = changed-clear (pathOf (pairName a b)) s d _ f (λ x. x) m
 
 record Clear (s : State) : Type 0 where
   wellFormed : WellFormed s
@@ -160,12 +165,12 @@ unfolding outOfRateCell
 outside-clear last c x = fields-clear 1 _ (lit≤ tt) (forward-fits (c .name) (c .rate) (x .0 .coded) (acr-is-rate (c .rate) (x .1 .rates)))
 
 effect-written : {s : State} → Clear s → {c : Call} {o : Outcome} → Effect s c o → WrittenClear (o .buffer)
-unfolding refuse accept replay discard idleStep sendStep sendOutside
+unfolding refuse accept replay discard idleStep sendFrom sendStep sendOutside
 effect-written h (refuses c n p) = tt
 effect-written h (begins a b t p g) = tt
 effect-written h (ends a b d f) = tt
-effect-written h (offers a b n d f p) = tt
-effect-written h (marks o a b e d r f) = tt
+effect-written h (offers a b n d f i p) = tt
+effect-written h (marks o a b e u d r i z f) = tt
 effect-written h (works o g d r f) = tt
 effect-written h (levels l p) = tt
 effect-written h (idles t room g b) = tt
@@ -174,6 +179,10 @@ effect-written {s} h (sends t room i u g b) =
     let v = valid-later (s .last) t (g .since) d (valid-at (h .wellFormed) u d (b .found)) in
     buffer-clear t (kindAt t d) d (after (kindAt t d) t d) v (after-valid (kindAt t d) t d refl v) (each-at TurnedClear u (s .entries) d (b .found) (h .turned))
 effect-written h (makes a b t d f g p z) = tt
+effect-written h (beginsPath a t p g) = tt
+effect-written h (adds a b d f j) = tt
+effect-written h (offersMember a b n d f i p) = tt
+effect-written h (removes a b d f i) = tt
 effect-written {s} h (leaves a b t room d f g p) = outside-clear (s .last) d (valid-at (h .wellFormed) (pairName a b) d f)
 
 pub no-reserved-bit : NoReservedBit

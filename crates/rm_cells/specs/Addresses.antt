@@ -1,5 +1,5 @@
--- A pair of numbers out of their ranges is unknown, and never another pair; every cell that a call writes carries its connection's VPI and VCI. (Document 02, L6.)
-use Prim.Native.Nat.{ℕ, _≤_}
+-- A pair of numbers out of their ranges is unknown, and never another pair; every cell that a call writes carries its connection's VPI and VCI, of a path VCI 6. (Document 02, L6 and L13.)
+use Prim.Native.Nat.{ℕ, _≤_, _<_}
 use mathlib.Core.Path.{_≡_}
 use mathlib.Core.Bool.{true, false}
 use mathlib.Core.List.{List}
@@ -16,7 +16,7 @@ use Rattle.model.specs.declared.acr.Acr.the-variants.{NotOpen}
 use Rattle.model.specs.declared.contract.Contract.the-variants.{NotOpen as NoContract}
 use Rattle.model.specs.declared.answer.Answer.{Answer}
 use Rattle.model.specs.declared.answer.Answer.the-variants.{Refused, Accepted, Closed, Idle, Sent}
-use Rattle.model.specs.Call.{Call, opening, closing, receiving, offering, levelling, slot, making, outOfRate}
+use Rattle.model.specs.Call.{Call, opening, closing, receiving, offering, levelling, slot, making, outOfRate, openingPath, adding, offeringMember, removing}
 use Rattle.model.specs.Step.{refuse, step}
 use Rattle.model.specs.Queries.{acrOf, contractOf}
 use Rattle.model.specs.Run.{final}
@@ -28,12 +28,22 @@ pub record Unknown (s : State) (vpi vci : ℕ) : Type 0 where
   pub offers : (n : ℕ) → step s (offering vpi vci n) ≡ refuse s 11
   pub makes : (t : ℕ) → t ≤ latestTime → step s (making vpi vci t) ≡ refuse s 11
   pub leaves : (t : ℕ) → t ≤ latestTime → step s (outOfRate vpi vci t 53) ≡ refuse s 11
+  -- no path is open for the calls on members: 10 comes first in adding
+  pub adds : 32 ≤ vci → step s (adding vpi vci) ≡ refuse s 11
+  pub offersMember : (n : ℕ) → step s (offeringMember vpi vci n) ≡ refuse s 11
+  pub removes : step s (removing vpi vci) ≡ refuse s 11
   pub reads : acrOf s (pairName vpi vci) ≡ NotOpen
   pub exports : contractOf s (pairName vpi vci) ≡ NoContract
 
 -- after any list of calls from the empty table
 abbrev pub OutOfRangeUnknown : Type 0
 OutOfRangeUnknown = (cs : List Call) (vpi vci : ℕ) → pairFits vpi vci ≡ false → Unknown (final empty cs) vpi vci
+
+-- a path of a VPI out of its range is none: 19 comes first in its open
+abbrev pub NoPathOver255 : Type 0
+NoPathOver255 =
+    (cs : List Call) (vpi t : ℕ) (p : Params) → 255 < vpi → codesClear (p .pcr) (p .mcr) (p .icr) ≡ true
+    → step (final empty cs) (openingPath vpi t p) ≡ refuse (final empty cs) 7
 
 -- a pair within the ranges shares its name with no other pair, in its ranges or out of them
 abbrev pub PairsApart : Type 0
@@ -44,11 +54,11 @@ abbrev pub Carries : ℕ → Buffer → Type 0
 Carries v untouched = ⊥
 Carries v (written o) = pairName (vpiOf o) (vciOf o) ≡ v
 
--- by the kind of cell that a slot sends: for data nothing is written
-abbrev pub SentCarries : Kind → ℕ → Buffer → Type 0
-SentCarries Forward v b = Carries v b
-SentCarries Turned v b = Carries v b
-SentCarries Data v b = b ≡ untouched
+-- by the kind of cell that a slot sends, the connection that it goes to and the name that it tells: for data nothing is written
+abbrev pub SentCarries : Kind → (connection told : ℕ) → Buffer → Type 0
+SentCarries Forward v x b = (x ≡ v) × Carries v b
+SentCarries Turned v x b = (x ≡ v) × Carries v b
+SentCarries Data v x b = b ≡ untouched
 
 -- by the call and its answer: a slot's answer tells the name, a cell outside the rate is asked for by its pair, and nothing else is written
 abbrev pub CarriesName : Call → Answer → Buffer → Type 0
@@ -61,13 +71,17 @@ CarriesName (slot t room) (Refused n) b = b ≡ untouched
 CarriesName (slot t room) (Accepted n) b = b ≡ untouched
 CarriesName (slot t room) (Closed n k) b = b ≡ untouched
 CarriesName (slot t room) Idle b = b ≡ untouched
-CarriesName (slot t room) (Sent v k acr n) b = SentCarries k v b
+CarriesName (slot t room) (Sent v x k acr n) b = SentCarries k v x b
 CarriesName (making vpi vci t) a b = b ≡ untouched
 CarriesName (outOfRate vpi vci t room) (Refused n) b = b ≡ untouched
 CarriesName (outOfRate vpi vci t room) (Accepted n) b = Carries (pairName vpi vci) b
 CarriesName (outOfRate vpi vci t room) (Closed n k) b = ⊥
 CarriesName (outOfRate vpi vci t room) Idle b = ⊥
-CarriesName (outOfRate vpi vci t room) (Sent v k acr n) b = ⊥
+CarriesName (outOfRate vpi vci t room) (Sent v x k acr n) b = ⊥
+CarriesName (openingPath vpi t p) a b = b ≡ untouched
+CarriesName (adding vpi vci) a b = b ≡ untouched
+CarriesName (offeringMember vpi vci n) a b = b ≡ untouched
+CarriesName (removing vpi vci) a b = b ≡ untouched
 
 -- forward, turned and made cells of slots, and those outside the rate; after any list of calls from the empty table
 abbrev pub CellsCarryNames : Type 0

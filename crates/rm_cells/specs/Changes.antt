@@ -13,6 +13,7 @@ use Rattle.cell.specs.declared.read.Reading.the-variants.{Resource}
 use Rattle.cell.specs.Name.{pairName}
 use Rattle.cell.specs.Fields.{cellName}
 use Rattle.cell.specs.Reading.{reading}
+use Rattle.members.specs.Path.{pathVci}
 use Rattle.connection.specs.declared.parts.Change.{Change}
 use Rattle.connection.specs.Parts.{changed}
 use Rattle.connection.specs.Change.{difference}
@@ -20,7 +21,7 @@ use Rattle.model.specs.declared.acr.Acr.{Acr}
 use Rattle.model.specs.declared.acr.Acr.the-variants.{NotOpen, Rate}
 use Rattle.model.specs.declared.answer.Answer.the-variants.{Accepted}
 use Rattle.model.specs.State.{empty}
-use Rattle.model.specs.Call.{Call, opening, closing, receiving, offering, levelling, slot, making, outOfRate}
+use Rattle.model.specs.Call.{Call, opening, closing, receiving, offering, levelling, slot, making, outOfRate, openingPath, adding, offeringMember, removing}
 use Rattle.model.specs.Step.{step}
 use Rattle.model.specs.Queries.{acrOf}
 use Rattle.model.specs.Run.{final, paramsGiven}
@@ -47,14 +48,21 @@ NotFedBack v (levelling l) = Unit
 NotFedBack v (slot t room) = Unit
 NotFedBack v (making vpi vci t) = Unit
 NotFedBack v (outOfRate vpi vci t room) = Unit
+NotFedBack v (openingPath vpi t p) = Unit
+NotFedBack v (adding vpi vci) = Unit
+NotFedBack v (offeringMember vpi vci n) = Unit
+NotFedBack v (removing vpi vci) = Unit
 
 -- after any list of calls cs from the empty table
 pub record Changes : Type 0 where
   pub bounded : (cs : List Call) (v : ℕ) → ChangeBounded (paramsGiven v cs) (acrOf (final empty cs) v)
-  -- no change as soon as a connection is opened
+  -- no change as soon as a connection is opened, a path as well as a channel
   pub begins :
       (cs : List Call) (vpi vci t n : ℕ) (p : Params) → let o = step (final empty cs) (opening vpi vci t p) in
       o .answer ≡ Accepted n → acrOf (o .state) (pairName vpi vci) ≡ Rate (initial p) (changed (initial p) (initial p))
+  pub beginsPath :
+      (cs : List Call) (vpi t n : ℕ) (p : Params) → let o = step (final empty cs) (openingPath vpi t p) in
+      o .answer ≡ Accepted n → acrOf (o .state) (pairName vpi pathVci) ≡ Rate (initial p) (changed (initial p) (initial p))
   -- a backward cell of an open connection: from the rate read before it to the one read after it
   pub fedBack :
       (cs : List Call) (o : List ℕ) (f : Fields) (a : ℕ) (x : Change) → reading o ≡ Resource f → f .dir ≡ 1 → acrOf (final empty cs) (cellName f) ≡ Rate a x

@@ -17,7 +17,7 @@ use Rattle.connection.specs.Sending.{Buffer, written}
 use Rattle.model.specs.State.{State, taken, empty, find}
 use Rattle.model.specs.declared.answer.Answer.{Answer}
 use Rattle.model.specs.declared.answer.Answer.the-variants.{Sent}
-use Rattle.model.specs.Call.{Call, opening, closing, receiving, offering, levelling, slot, making, outOfRate}
+use Rattle.model.specs.Call.{Call, opening, closing, receiving, offering, levelling, slot, making, outOfRate, openingPath, adding, offeringMember, removing}
 use Rattle.model.specs.Step.{step}
 use Rattle.model.specs.Run.{final}
 
@@ -34,9 +34,13 @@ Quiet v (closing vpi vci) a = pairName vpi vci ≢ v
 Quiet v (receiving o) a = AreOctets o
 Quiet v (offering vpi vci n) a = Unit
 Quiet v (levelling l) a = Unit
-Quiet v (slot t room) a = (acr n : ℕ) → a ≢ Sent v Turned acr n
+Quiet v (slot t room) a = (x acr n : ℕ) → a ≢ Sent v x Turned acr n
 Quiet v (making vpi vci t) a = Unit
 Quiet v (outOfRate vpi vci t room) a = Unit
+Quiet v (openingPath vpi t p) a = Unit
+Quiet v (adding vpi vci) a = Unit
+Quiet v (offeringMember vpi vci n) a = Unit
+Quiet v (removing vpi vci) a = Unit
 
 abbrev pub AllQuiet : ℕ → State → List Call → Type 0
 AllQuiet v s [] = Unit
@@ -57,7 +61,7 @@ pub record MarkWritten (v : ℕ) (b : Buffer) : Type 0 where
 -- of it, then a slot that does
 abbrev pub NoMarkLost : Type 0
 NoMarkLost =
-    (cs : List Call) (o : List ℕ) (f : Fields) (c : Connection) (ds : List Call) (t room acr n : ℕ) → AreOctets o → reading o ≡ Resource f → f .dir ≡ 0
+    (cs : List Call) (o : List ℕ) (f : Fields) (c : Connection) (ds : List Call) (t room x acr n : ℕ) → AreOctets o → reading o ≡ Resource f → f .dir ≡ 0
     → find (cellName f) (final empty cs .entries) ≡ taken c → MarkCame f c (final empty cs .level)
     → let s = step (final empty cs) (receiving o) .state in
-    AllQuiet (cellName f) s ds → step (final s ds) (slot t room) .answer ≡ Sent (cellName f) Turned acr n → MarkWritten (cellName f) (step (final s ds) (slot t room) .buffer)
+    AllQuiet (cellName f) s ds → step (final s ds) (slot t room) .answer ≡ Sent (cellName f) x Turned acr n → MarkWritten (cellName f) (step (final s ds) (slot t room) .buffer)

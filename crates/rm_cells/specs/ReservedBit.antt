@@ -8,7 +8,7 @@ use Rattle.cell.specs.Octets.{octet, AreOctets}
 use Rattle.cell.specs.Fields.{fieldsFit, resourceCell}
 use Rattle.connection.specs.Sending.{Buffer, untouched, written}
 use Rattle.model.specs.State.{empty}
-use Rattle.model.specs.Call.{Call, opening, closing, receiving, offering, levelling, slot, making, outOfRate}
+use Rattle.model.specs.Call.{Call, opening, closing, receiving, offering, levelling, slot, making, outOfRate, openingPath, adding, offeringMember, removing}
 use Rattle.model.specs.Step.{step}
 use Rattle.model.specs.Run.{final}
 use Rattle.promises.specs.All.{All}
@@ -31,6 +31,10 @@ OfOctets (levelling l) = Unit
 OfOctets (slot t room) = Unit
 OfOctets (making vpi vci t) = Unit
 OfOctets (outOfRate vpi vci t room) = Unit
+OfOctets (openingPath vpi t p) = Unit
+OfOctets (adding vpi vci) = Unit
+OfOctets (offeringMember vpi vci n) = Unit
+OfOctets (removing vpi vci) = Unit
 
 -- after any list of calls from the empty table, whatever the next call is; and in every cell that is written from its fields
 pub record NoReservedBit : Type 0 where

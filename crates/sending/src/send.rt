@@ -1,8 +1,9 @@
 // What a slot at t makes of the connection that it goes to, and what a forward cell carries (document 01, "Slots").
 ghost use mathlib.Core.Path.{_≡_};
+ghost use mathlib.Core.Option.{some};
 ghost use Prim.Native.Nat.{_+_, _-_, min};
 ghost use Rattle.rate.specs.Code.{rateOf, codeOf};
-ghost use Rattle.connection.specs.Sending.{movedBy, paced, sentForward, madeLeft, sentTurned, sentData, after};
+ghost use Rattle.connection.specs.Sending.{movedBy, paced, sentForward, madeLeft, sentTurned, sentData, after, withServed};
 ghost use Rattle.connection.specs.Range.{PaceInRange, InRange, ForwardCarried};
 use cell::fields::Fields;
 use connection::kind::Kind;
@@ -123,8 +124,19 @@ pub fn sent_data(t: u64, c: Connection) -> Connection
     let pace = c.pace;
     let queue = Queue {
         cells: less(c.queue.cells),
+        served: c.queue.served,
     };
     c.with_pace(paced(t, false, pace)).with_queue(queue)
+}
+
+// A path keeps the VCI of the member that was served last (document 02, L13).
+pub fn with_served(member: u32, c: Connection) -> Connection
+    ensures { λ r. ⌜ r ≡ withServed (some member) c ⌝ }
+{
+    c.with_queue(Queue {
+        cells: c.queue.cells,
+        served: member % 65536,
+    })
 }
 
 // What sending a cell of this kind at t makes of a connection.

@@ -2,3 +2,4 @@
 pub mod SentWaited
 pub mod Liveness
 pub mod Restart
+pub mod Fairness

@@ -1,9 +1,9 @@
 -- What a connection that waits can count on.
 use Prim.Native.Nat.{ℕ, suc, _≤_, _<_}
-use mathlib.Core.Path.{_≡_, refl, ap, subst, _∙_}
+use mathlib.Core.Path.{_≡_, refl, sym, ap, subst, _∙_}
 use mathlib.Core.Bool.{Bool, true, false}
 use mathlib.Core.List.{List, [], _∷_}
-use mathlib.Core.Option.{some}
+use mathlib.Core.Option.{Option, some}
 use native.Mathlib.Nat.{le-refl}
 use native.Mathlib.Omega.{arith}
 use lib.Dec.{leb}
@@ -18,11 +18,11 @@ use Rattle.connection.specs.declared.ready.Instant.{Instant}
 use Rattle.connection.specs.declared.ready.Instant.the-variants.{Never, At}
 use Rattle.connection.specs.Ready.{anyWaits, readyInstant}
 use Rattle.connection.specs.Kind.{kindAt}
-use Rattle.connection.specs.Sending.{after}
-use Rattle.connection.proofs.Keeps.{after-same}
-use Rattle.connection.proofs.Readiness.{ready-zero, ready-moving, ready-some}
+use Rattle.connection.specs.Sending.{after, memberServed, withServed}
+use Rattle.connection.proofs.Keeps.{after-same, served-same}
+use Rattle.connection.proofs.Readiness.{ready-zero, ready-moving, ready-some, ready-served}
 use Rattle.connection.proofs.Spaced.{dueFrom, waits-ready, sent-spaced}
-use Rattle.model.specs.State.{State, Entry, free, taken, empty, find, withTime}
+use Rattle.model.specs.State.{State, Entry, free, taken, empty, find, withTime, withMembers}
 use Rattle.model.specs.Invariant.{Each, WellFormed}
 use Rattle.model.specs.Choice.{Ahead, sooner, tied, Chosen}
 use Rattle.model.proofs.Entries.{Case, same, other, case, each-at}
@@ -31,7 +31,7 @@ use Rattle.model.proofs.Preserved.{valid-at}
 use Rattle.model.proofs.Winners.{ahead-anti}
 use Rattle.model.proofs.Counts.{count, count-le, count-put}
 use Rattle.model.specs.Call.{slot, Outcome, goesTo}
-use Rattle.model.specs.Step.{refuse, sendStep, step}
+use Rattle.model.specs.Step.{refuse, sendFrom, sendStep, step}
 use Rattle.model.specs.Run.{run, final, isAccepted}
 use Rattle.model.proofs.Effects.{Effect, refuses, idles, sends, effect}
 use Rattle.model.proofs.Reached.{step-well-formed, reached-well-formed}
@@ -68,7 +68,7 @@ slot-goes {s} v c i t room f r l (sends _ _ j u g b) a =
     goes j u b (subst (λ (w : ℕ). Ahead j u i w) (name-of v s c f) (each-at _ v (s .entries) c f (b .first) i r l))
 
 precedes : {s : State} {t i v : ℕ} {o : Outcome} → Goes s t i v o → Precedes s i v o
-unfolding sendStep goesTo
+unfolding sendFrom sendStep goesTo
 precedes (goes j u b h) = record { instant = j; name = u; holder = b .holder; found = b .found; readyAt = b .readyAt; ahead = h; goes = refl }
 
 goes-first :
@@ -107,10 +107,11 @@ ahead-by (sooner h) = omega arith
 ahead-by (tied e h) = omega arith
 
 -- a connection that has sent at t is not ready by t
-sent-later : (t : ℕ) (d : Connection) (j : ℕ) → readyInstant (after (kindAt t d) t d) ≡ At j → t < j
-sent-later t d j e =
+sent-later : (t : ℕ) (d : Connection) (x : Option ℕ) (j : ℕ) → readyInstant (withServed x (after (kindAt t d) t d)) ≡ At j → t < j
+sent-later t d x j e =
     let d′ = after (kindAt t d) t d in
-    omega (arith, sent-spaced t d j e, gap-is (d′ .rate .acr) (ready-some d′ j e .0))
+    let r : readyInstant d′ ≡ At j = sym (ready-served x d′) ∙ e in
+    omega (arith, sent-spaced t d j r, gap-is (d′ .rate .acr) (ready-some d′ j r .0))
 
 -- either the slot is v's, or v waits on and one fewer is ready by i
 data Next (i v : ℕ) (c : Connection) (s : State) (o : Outcome) : Type 0 where
@@ -118,18 +119,26 @@ data Next (i v : ℕ) (c : Connection) (s : State) (o : Outcome) : Type 0 where
   another : find v (o .state .entries) ≡ taken c → suc (count (entryBy i) (o .state .entries)) ≡ count (entryBy i) (s .entries) → Next i v c s o
 
 slot-next : {s : State} → WellFormed s → (v : ℕ) (c : Connection) → find v (s .entries) ≡ taken c → (i t : ℕ) → i ≤ t → {o : Outcome} → Goes s t i v o → Next i v c s o
-unfolding sendStep goesTo withTime
+unfolding sendFrom sendStep goesTo withTime withMembers
 slot-next {s} w v c f i t l (goes j u b h) = go (case u v)
   where
-    late : (n : ℕ) → readyInstant (after (kindAt t (b .holder)) t (b .holder)) ≡ At n → i < n
-    late n q = omega (arith, sent-later t (b .holder) n q)
+    x : Option ℕ
+    x = memberServed (kindAt t (b .holder)) (b .holder) (s .members)
+
+    d : Connection
+    d = withServed x (after (kindAt t (b .holder)) t (b .holder))
+
+    late : (n : ℕ) → readyInstant d ≡ At n → i < n
+    late n q = omega (arith, sent-later t (b .holder) x n q)
+
+    name : d .name ≡ b .holder .name
+    name = served-same x (after (kindAt t (b .holder)) t (b .holder)) .name ∙ after-same (kindAt t (b .holder)) t (b .holder) .name
 
     go : Case u v → Next i v c s (sendStep (withTime t s) t u (b .holder) (kindAt t (b .holder)))
     go (same q) = own (ap some q)
     go (other q) =
-        another (put-other v u (withTime t s) (w .unique) (b .holder) (after (kindAt t (b .holder)) t (b .holder)) (b .found) (after-same (kindAt t (b .holder)) t (b .holder) .name) (λ z. q (cc)) ∙ f)
-        (count-put (entryBy i) (none-free i) (taken (after (kindAt t (b .holder)) t (b .holder))) (by-later i (after (kindAt t (b .holder)) t (b .holder)) late) u (withTime t s)
-        (ap (entryBy i) (b .found) ∙ by-now i j (b .holder) (b .readyAt) (ahead-by h)))
+        another (put-other v u (withTime t s) (w .unique) (b .holder) d (b .found) name (λ z. q (cc)) ∙ f)
+        (count-put (entryBy i) (none-free i) (taken d) (by-later i d late) u (withTime t s) (ap (entryBy i) (b .found) ∙ by-now i j (b .holder) (b .readyAt) (ahead-by h)))
 
 served :
     {s : State} → WellFormed s → (v : ℕ) (c : Connection) → find v (s .entries) ≡ taken c → (i : ℕ) → readyInstant c ≡ At i → (ts : List ℕ)

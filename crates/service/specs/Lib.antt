@@ -3,3 +3,4 @@ pub mod Spacing
 pub mod SentWaited
 pub mod Liveness
 pub mod Restart
+pub mod Fairness

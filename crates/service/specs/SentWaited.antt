@@ -22,5 +22,5 @@ Waited Data c = 0 < waiting (c .queue)
 -- after any list of calls from the empty table
 abbrev pub SentWaited : Type 0
 SentWaited =
-    (cs : List Call) (t room v acr n : ℕ) (k : Kind) (c : Connection) → find v (final empty cs .entries) ≡ taken c
-    → step (final empty cs) (slot t room) .answer ≡ Sent v k acr n → Waited k c
+    (cs : List Call) (t room v x acr n : ℕ) (k : Kind) (c : Connection) → find v (final empty cs .entries) ≡ taken c
+    → step (final empty cs) (slot t room) .answer ≡ Sent v x k acr n → Waited k c

@@ -1,28 +1,44 @@
 -- What a slot that goes to an entry leaves.
-use Prim.Native.Nat.{ℕ, _<_}
+use Prim.Native.Nat.{ℕ, _%_, _≤_, _<_}
 use mathlib.Core.Path.{_≡_, refl, sym, ap, subst, _∙_}
-use mathlib.Core.List.{List}
+use mathlib.Core.Bool.{true, false, true≢false}
+use mathlib.Core.List.{List, _++_}
+use mathlib.Core.Option.{Option, none, some}
+use native.Mathlib.Omega.{arith}
 use lib.ListN.{getD}
+use Rattle.cell.specs.Name.{noName}
+use Rattle.members.specs.Path.{isPath}
+use Rattle.members.specs.Members.{Member, pathCells}
+use Rattle.members.specs.Turn.{turn, afterServing, lastAfter}
+use Rattle.members.proofs.Turns.{turn-none, turn-some}
 use Rattle.connection.specs.declared.parts.Connection.{Connection}
 use Rattle.connection.specs.declared.kind.Kind.{Kind}
 use Rattle.connection.specs.declared.kind.Kind.the-variants.{Forward, Turned, Data}
 use Rattle.connection.specs.Invariant.{ValidAt}
 use Rattle.connection.specs.Kind.{kindAt}
-use Rattle.connection.specs.Sending.{after, sentForward, sentTurned, sentData, bufferAfter}
-use Rattle.connection.proofs.Keeps.{after-same, after-valid}
+use Rattle.connection.specs.Parts.{waiting}
+use Rattle.connection.specs.Range.{InRange}
+use Rattle.connection.specs.Sending.{after, sentForward, sentTurned, sentData, memberServed, withServed, bufferAfter}
+use Rattle.connection.proofs.Keeps.{Same, after-same, after-valid, served-same, served-valid}
 use Rattle.connection.proofs.Reached.{acr-is-rate}
-use Rattle.model.specs.State.{State, free, taken, position, holds, put, capacity}
+use Rattle.model.specs.State.{State, free, taken, position, holds, leafOf, put, withMembers, capacity}
 use Rattle.model.specs.Invariant.{WellFormed}
-use Rattle.table.specs.Layout.{words}
+use Rattle.model.specs.Call.{Outcome}
+use Rattle.model.specs.Step.{nameTold, sendFrom, sendStep}
+use Rattle.model.specs.Tournament.{replayed}
+use Rattle.model.specs.declared.answer.Answer.the-variants.{Sent}
+use Rattle.model.proofs.Members.{path-sum}
+use Rattle.table.specs.Layout.{words, memberWords}
 use Rattle.table.specs.Loading.{connectionAt}
 use Rattle.names.specs.Finding.{Located}
-use Rattle.model.specs.declared.answer.Answer.the-variants.{Sent}
-use Rattle.model.specs.Step.{sendStep}
+use Rattle.names.proofs.Found.{found-at}
+use Rattle.member_words.specs.Words.{number, Serves}
 use Rattle.engine.specs.Contract.{bufferContent}
-use Rattle.slots.specs.Slots.{Carried, MovedBy}
-use Rattle.storing.specs.Updates.{Updates}
-use Rattle.model.proofs.Preserved.{put-well-formed}
-use Rattle.engine.proofs.Outcomes.{valid-in, loaded-is, updated-is}
+use Rattle.slots.specs.Slots.{Carried, MovedBy, ofMember}
+use Rattle.storing.specs.Updates.{Updates, SourceMoved}
+use Rattle.tournament.specs.Replaying.{Ordered}
+use Rattle.engine.proofs.Outcomes.{valid-in, loaded-is, updated-is, put-ordered}
+use Rattle.engine.proofs.Members.{front, with-members, members-changed}
 
 carried-is :
     (t : ℕ) (c : Connection) (k : Kind) (old new : List ℕ) → kindAt t c ≡ k → ValidAt t c → Carried k c (after k t c) old new
@@ -39,33 +55,147 @@ sent-moved Forward t c = (refl, refl)
 sent-moved Turned t c = refl
 sent-moved Data t c = (refl, refl)
 
--- and leaves the table well-formed
-sent-well-formed : (s : State) → WellFormed s → (t : ℕ) → s .last ≡ t → (c : Connection) → ValidAt t c → WellFormed (put (c .name) (taken (after (kindAt t c) t c)) s)
-sent-well-formed s w t last c h =
-    put-well-formed w (c .name) (taken (after (kindAt t c) t c)) (subst (λ (z : ℕ). ValidAt z (after (kindAt t c) t c)) (sym last) (after-valid (kindAt t c) t c refl h))
-    (after-same (kindAt t c) t c .name)
+-- no member is served but by data of a path
+no-member : (k : Kind) (c : Connection) (ms : List Member) → ofMember k (c .name) ≡ false → memberServed k c ms ≡ none
+unfolding memberServed
+no-member Forward c ms e = refl
+no-member Turned c ms e = refl
+no-member Data c ms e = turn-none (c .name) (c .queue .served) ms e
 
--- the connection that was loaded, its kind, and what comes after it
-pub sent-out :
-    (s : State) → WellFormed s → (t : ℕ) → s .last ≡ t → (l m old new : List ℕ) → l ≡ words s → (i : ℕ) → i < capacity → (c : Connection) → getD (s .entries) i free ≡ taken c
-    → position (holds (c .name)) (s .entries) ≡ i → (d : Connection) → d ≡ connectionAt l i → (k : Kind) → k ≡ kindAt t d → (n : Connection) → n ≡ after k t d
-    → Carried k d n old new → (j : ℕ) → Updates (MovedBy k) l m i n j
-    → (m ≡ words (sendStep s t (c .name) c (kindAt t c) .state)) × (Sent (d .name) k (n .rate .acr) j ≡ sendStep s t (c .name) c (kindAt t c) .answer)
-    × (new ≡ bufferContent (sendStep s t (c .name) c (kindAt t c) .buffer) old)
+of-data : (k : Kind) (v : ℕ) → ofMember k v ≡ true → k ≡ Data
+of-data Forward v e = absurd (true≢false (sym e))
+of-data Turned v e = absurd (true≢false (sym e))
+of-data Data v e = refl
+
+-- a slot's outcome without a member
+abbrev plain : State → (t : ℕ) → Connection → Kind → Outcome
+plain s t c k = record {
+  state = put (c .name) (taken (after k t c)) s;
+  answer = Sent (c .name) (c .name) k (after k t c .rate .acr) (replayed (leafOf (c .name) s) (s .entries) (put (c .name) (taken (after k t c)) s .entries));
+  buffer = bufferAfter k c (after k t c);
+}
+
+unserved : (s : State) (t : ℕ) (c : Connection) (k : Kind) → sendFrom s t (c .name) c k none ≡ plain s t c k
+unfolding sendFrom nameTold afterServing withMembers put withServed lastAfter
+unserved s t c k = refl
+
+plain-send : (s : State) (t : ℕ) (c : Connection) (k : Kind) → memberServed k c (s .members) ≡ none → sendStep s t (c .name) c k ≡ plain s t c k
 unfolding sendStep
-sent-out s w t last l m old new e i h c entry place d q k a n b g j u =
-    let p : Located (s .entries) (c .name) i = record { holder = c; here = entry; named = refl; place = place } in
-    let is : d ≡ c = loaded-is s w p e h q in
-    let x : k ≡ kindAt t c = a ∙ ap (kindAt t) is in
-    let y : n ≡ after (kindAt t c) t c = b ∙ ap (λ (z : Kind). after z t d) x ∙ ap (after (kindAt t c) t) is in
-    let good : ValidAt t c = subst (λ (z : ℕ). ValidAt z c) last (valid-in s w p) in
-    let r : Carried (kindAt t c) c (after (kindAt t c) t c) old new =
-    subst (λ (z : Connection). Carried (kindAt t c) c z old new) y
-    (subst (λ (z : Connection). Carried (kindAt t c) z n old new) is (subst (λ (z : Kind). Carried z d n old new) x g)) in
-    let f : Updates (MovedBy (kindAt t c)) l m i (after (kindAt t c) t c) j = subst (λ (z : Connection). Updates (MovedBy (kindAt t c)) l m i z j) y (subst (λ (z : Kind). Updates (MovedBy z) l m i n j) x u) in
-    let z = updated-is s w e h p (after (kindAt t c) t c) (after-same (kindAt t c) t c) f (sent-moved (kindAt t c) t c) (sent-well-formed s w t last c good) in (
-      z .0,
-      ap (λ (z : Connection). Sent (z .name) k (n .rate .acr) j) is ∙ ap (λ (z : Kind). Sent (c .name) z (n .rate .acr) j) x
-          ∙ ap (λ (z : Connection). Sent (c .name) (kindAt t c) (z .rate .acr) j) y ∙ ap (λ (z : ℕ). Sent (c .name) (kindAt t c) (after (kindAt t c) t c .rate .acr) z) (z .1),
-      carried-is t c (kindAt t c) old new refl good r,
-    )
+plain-send s t c k e = ap (sendFrom s t (c .name) c k) e ∙ unserved s t c k
+
+member-send : (s : State) (t : ℕ) (c : Connection) (k : Kind) (u : ℕ) → memberServed k c (s .members) ≡ some u → sendStep s t (c .name) c k ≡ sendFrom s t (c .name) c k (some u)
+unfolding sendStep
+member-send s t c k u e = ap (sendFrom s t (c .name) c k) e
+
+pub served-ranged : (x : Option ℕ) (c : Connection) → InRange c → InRange (withServed x c)
+unfolding withServed
+served-ranged x c h = record { opened = h .opened; trm = h .trm; pace = h .pace; made = h .made; outside = h .outside }
+
+served-moved : (x : Option ℕ) (k : Kind) (t : ℕ) (c : Connection) → k ≡ Data → SourceMoved c (withServed x (after k t c))
+unfolding withServed after sentData
+served-moved x k t c e = subst (λ (z : Kind). SourceMoved c (withServed x (after z t c))) (sym e) (refl, refl)
+
+-- The connection that was loaded, its kind, and what comes after it, as they stand in the table.
+module _ (s : State) (w : WellFormed s) (t : ℕ) (last : s .last ≡ t) {l : List ℕ} (e : l ≡ words s) (i : ℕ) (h : i < capacity) (c : Connection) (entry : getD (s .entries) i free ≡ taken c)
+    (place : position (holds (c .name)) (s .entries) ≡ i) (d : Connection) (q : d ≡ connectionAt l i) (k : Kind) (a : k ≡ kindAt t d) (n : Connection) (b : n ≡ after k t d) where
+  abbrev located : Located (s .entries) (c .name) i
+  located = record { holder = c; here = entry; named = refl; place = place }
+
+  is : d ≡ c
+  is = loaded-is s w located e h q
+
+  kind-is : k ≡ kindAt t c
+  kind-is = a ∙ ap (kindAt t) is
+
+  abbrev next : Connection
+  next = after (kindAt t c) t c
+
+  next-is : n ≡ next
+  next-is = b ∙ ap (λ (z : Kind). after z t d) kind-is ∙ ap (after (kindAt t c) t) is
+
+  valid : ValidAt t c
+  valid = subst (λ (z : ℕ). ValidAt z c) last (valid-in s w located)
+
+  next-valid : ValidAt (s .last) next
+  next-valid = subst (λ (y : ℕ). ValidAt y next) (sym last) (after-valid (kindAt t c) t c refl valid)
+
+  carried : (old new : List ℕ) → Carried k d n old new → new ≡ bufferContent (bufferAfter (kindAt t c) c next) old
+  carried old new g =
+      carried-is t c (kindAt t c) old new refl valid
+      (subst (λ (z : Connection). Carried (kindAt t c) c z old new) next-is
+      (subst (λ (z : Connection). Carried (kindAt t c) z n old new) is (subst (λ (z : Kind). Carried z d n old new) kind-is g)))
+
+  answer-is : (x j : ℕ) → Sent (d .name) x k (n .rate .acr) j ≡ Sent (c .name) x (kindAt t c) (next .rate .acr) j
+  answer-is x j =
+      ap (λ (z : Connection). Sent (z .name) x k (n .rate .acr) j) is ∙ ap (λ (z : Kind). Sent (c .name) x z (n .rate .acr) j) kind-is
+      ∙ ap (λ (z : Connection). Sent (c .name) x (kindAt t c) (z .rate .acr) j) next-is
+
+  member-is : ofMember k (d .name) ≡ ofMember (kindAt t c) (c .name)
+  member-is = ap (λ (z : Connection). ofMember k (z .name)) is ∙ ap (λ (z : Kind). ofMember z (c .name)) kind-is
+
+  -- from the connection itself
+  pub sent-out :
+      {m : List ℕ} (old new : List ℕ) → Carried k d n old new → (j : ℕ) → Updates (MovedBy k) l m i n j → ofMember k (d .name) ≡ false
+      → (m ≡ words (sendStep s t (c .name) c (kindAt t c) .state)) × (Sent (d .name) (d .name) k (n .rate .acr) j ≡ sendStep s t (c .name) c (kindAt t c) .answer)
+      × (new ≡ bufferContent (sendStep s t (c .name) c (kindAt t c) .buffer) old)
+  sent-out {m} old new g j u o =
+      let f : Updates (MovedBy (kindAt t c)) l m i next j = subst (λ (y : Connection). Updates (MovedBy (kindAt t c)) l m i y j) next-is (subst (λ (y : Kind). Updates (MovedBy y) l m i n j) kind-is u) in
+      let y = updated-is s (w .size) e located next (after-same (kindAt t c) t c) f (sent-moved (kindAt t c) t c) (put-ordered w (c .name) (taken next) next-valid (after-same (kindAt t c) t c .name)) in
+      subst (λ (p : Outcome). (m ≡ words (p .state)) × (Sent (d .name) (d .name) k (n .rate .acr) j ≡ p .answer) × (new ≡ bufferContent (p .buffer) old))
+      (sym (plain-send s t c (kindAt t c) (no-member (kindAt t c) c (s .members) (sym member-is ∙ o)))) (
+        y .0,
+        answer-is (d .name) j ∙ ap (λ (z : Connection). Sent (c .name) (z .name) (kindAt t c) (next .rate .acr) j) is ∙ ap (Sent (c .name) (c .name) (kindAt t c) (next .rate .acr)) (y .1),
+        carried old new g,
+      )
+
+  -- from a member: its word has one cell less, then the path's entry is stored
+  pub served-out :
+      {m r : List ℕ} (old new : List ℕ) → Carried k d n old new → (x j : ℕ) → ofMember k (d .name) ≡ true → (kindAt t c ≡ Data → 0 < waiting (c .queue))
+      → Serves (d .name) (d .queue .served % 65536) l m x → Updates SourceMoved m r i (withServed (some x) n) j
+      → (r ≡ words (sendStep s t (c .name) c (kindAt t c) .state)) × (Sent (d .name) x k (n .rate .acr) j ≡ sendStep s t (c .name) c (kindAt t c) .answer)
+      × (new ≡ bufferContent (sendStep s t (c .name) c (kindAt t c) .buffer) old)
+  unfolding sendFrom nameTold withMembers put memberServed
+  served-out {m} {r} old new g x j o waits sv u = go (turn (c .name) (c .queue .served) (s .members)) refl
+    where
+      data-kind : kindAt t c ≡ Data
+      data-kind = of-data (kindAt t c) (c .name) (sym member-is ∙ o)
+
+      path : isPath (c .name) ≡ true
+      path = ap (λ (z : Kind). ofMember z (c .name)) (sym data-kind) ∙ sym member-is ∙ o
+
+      kept : (v q : ℕ) → q ≤ 65535 → q % 65536 ≡ q
+      kept v q b = omega arith
+
+      served : (m ≡ front s ++ memberWords (afterServing (turn (c .name) (c .queue .served) (s .members)) (s .members))) × (x ≡ number (turn (c .name) (c .queue .served) (s .members)))
+      served =
+          subst (λ (z : ℕ). Serves (c .name) z l m x) (kept 0 (c .queue .served) (valid .4 .served)) (subst (λ (z : Connection). Serves (z .name) (z .queue .served % 65536) l m x) is sv)
+          .is (front s) (s .members) (with-members s (w .size) (w .members .valid) e) (valid .0 .coded)
+
+      waiting-there : 0 < pathCells (c .name) (s .members)
+      waiting-there = omega (arith, waits data-kind, path-sum s (w .unique) (w .members) (c .name) c (found-at located) path)
+
+      go : (o : Option ℕ) → turn (c .name) (c .queue .served) (s .members) ≡ o
+          → (r ≡ words (sendStep s t (c .name) c (kindAt t c) .state)) × (Sent (d .name) x k (n .rate .acr) j ≡ sendStep s t (c .name) c (kindAt t c) .answer)
+          × (new ≡ bufferContent (sendStep s t (c .name) c (kindAt t c) .buffer) old)
+      go none p = absurd (turn-some (c .name) (c .queue .served) (s .members) waiting-there p)
+      go (some v) p =
+          let told : x ≡ v = served .1 ∙ ap number p in
+          let ms : List Member = afterServing (some v) (s .members) in
+          let z : Connection = withServed (some v) next in
+          let f : Updates SourceMoved m r i z j = subst (λ (y : ℕ). Updates SourceMoved m r i (withServed (some y) next) j) told (subst (λ (y : Connection). Updates SourceMoved m r i (withServed (some x) y) j) next-is u) in
+          let here : m ≡ words (withMembers ms s) = members-changed s ms (served .0 ∙ ap (λ (y : Option ℕ). front s ++ memberWords (afterServing y (s .members))) p) in
+          let y =
+          updated-is (withMembers ms s) (w .size) here located z (same-served (some v)) f (served-moved (some v) (kindAt t c) t c data-kind)
+          (put-ordered w (c .name) (taken z) (served-valid (some v) next next-valid) (served-same (some v) next .name ∙ after-same (kindAt t c) t c .name)) in
+          subst (λ (p : Outcome). (r ≡ words (p .state)) × (Sent (d .name) x k (n .rate .acr) j ≡ p .answer) × (new ≡ bufferContent (p .buffer) old))
+          (sym (member-send s t c (kindAt t c) v (ap (λ (z : Kind). memberServed z c (s .members)) data-kind ∙ p))) (
+            y .0,
+            answer-is x j ∙ ap (λ (z : ℕ). Sent (c .name) z (kindAt t c) (next .rate .acr) j) told ∙ ap (Sent (c .name) v (kindAt t c) (next .rate .acr)) (y .1),
+            carried old new g,
+          )
+        where
+          same-served : (o : Option ℕ) → Same c (withServed o next)
+          same-served o =
+              let a = after-same (kindAt t c) t c in
+              let b = served-same o next in
+              record { name = b .name ∙ a .name; opened = b .opened ∙ a .opened; trm = b .trm ∙ a .trm; params = b .params ∙ a .params }

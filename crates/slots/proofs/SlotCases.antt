@@ -7,6 +7,7 @@ use borrow.Author.Tests.{le-leb, lt-leb, eq-eqb, ne-eqb}
 use Rattle.rate.specs.Units.{latestTime}
 use Rattle.connection.specs.declared.parts.Connection.{Connection}
 use Rattle.connection.specs.Kind.{kindAt}
+use Rattle.connection.proofs.Waited.{data-waits}
 use Rattle.model.specs.State.{State, free, taken, position, holds, find, withTime, capacity}
 use Rattle.model.specs.Invariant.{WellFormed}
 use Rattle.table.specs.Layout.{words, lastAt}
@@ -81,7 +82,7 @@ module _ (s : State) (w : WellFormed s) (l : List ℕ) (e : l ≡ words s) (t ro
       let c = n .holder in
       let step : slotStep s t room ≡ sendStep (withTime t s) t (c .name) c (kindAt t c) =
       served s t room r u h ∙ send-serve (withTime t s) t (n .instant) (winner t (s .entries)) c (n .won) (found-in s t i c (n .here) (n .place)) in
-      subst (Leaves m a old new) (sym step) (k .sends (withTime t s) (withTime-well-formed w t h u) refl timed-words c (n .here) (n .place))
+      subst (Leaves m a old new) (sym step) (k .sends (withTime t s) (withTime-well-formed w t h u) refl timed-words c (n .here) (n .place) (λ q. data-waits t c (n .instant) (n .readyAt) (n .due) q))
 
 pub entry-below : (x : Choice) (i : ℕ) → ChoiceInRange x → x ≡ Entry i → i < capacity
 entry-below x i h q = subst ChoiceInRange q h

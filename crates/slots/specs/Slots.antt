@@ -1,12 +1,15 @@
 -- What a slot that goes to an entry writes and leaves.
-use Prim.Native.Nat.{ℕ, _≤_}
+use Prim.Native.Nat.{ℕ, _≤_, _<_}
 use mathlib.Core.Path.{_≡_}
+use mathlib.Core.Bool.{Bool, false}
 use mathlib.Core.List.{List}
 use lib.ListN.{getD}
 use Rattle.moves.specs.declared.moves.Rate.{Rate}
 use Rattle.rate.specs.Units.{largestRate}
 use Rattle.cell.specs.Fields.{resourceCell}
+use Rattle.members.specs.Path.{isPath}
 use Rattle.connection.specs.declared.parts.Connection.{Connection}
+use Rattle.connection.specs.Parts.{waiting}
 use Rattle.connection.specs.declared.kind.Kind.{Kind}
 use Rattle.connection.specs.declared.kind.Kind.the-variants.{Forward, Turned, Data}
 use Rattle.connection.specs.Kind.{kindAt}
@@ -35,9 +38,16 @@ MovedBy Forward = SourceMoved
 MovedBy Turned = BothMoved
 MovedBy Data = SourceMoved
 
--- a slot at t that goes to entry i, in a state whose last accepted time is t
+-- a cell of this kind is a member's: data of a path (document 02, L13)
+abbrev pub ofMember : Kind → (name : ℕ) → Bool
+ofMember Forward v = false
+ofMember Turned v = false
+ofMember Data v = isPath v
+
+-- a slot at t that goes to entry i, in a state whose last accepted time is t; it sends data only where some waits
 pub record Sends (t i : ℕ) (before after : List ℕ) (r : Answer) (old new : List ℕ) : Type 0 where
   pub sends :
       (s : State) → WellFormed s → s .last ≡ t → before ≡ words s → (c : Connection) → getD (s .entries) i free ≡ taken c → position (holds (c .name)) (s .entries) ≡ i
+      → (kindAt t c ≡ Data → 0 < waiting (c .queue))
       → (after ≡ words (sendStep s t (c .name) c (kindAt t c) .state)) × (r ≡ sendStep s t (c .name) c (kindAt t c) .answer)
       × (new ≡ bufferContent (sendStep s t (c .name) c (kindAt t c) .buffer) old)

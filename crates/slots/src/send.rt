@@ -1,4 +1,4 @@
-// A slot that goes to an entry: the cell that it sends, and what that makes of the entry (document 01, "Slots").
+// A slot that goes to an entry: the cell that it sends, and what that makes of the entry (document 01, "Slots"; document 02, L13).
 ghost use mathlib.Core.Path.{_≡_};
 ghost use Prim.Native.Nat.{_≤_, _<_};
 ghost use lib.ListN.{length};
@@ -6,13 +6,14 @@ ghost use Rattle.rate.specs.Units.{latestTime};
 ghost use Rattle.cell.specs.Name.{noName};
 ghost use Rattle.connection.specs.Range.{InRange};
 ghost use Rattle.connection.specs.Sending.{backwardCell};
-ghost use Rattle.slots.specs.Slots.{ForwardIn, Carried, MovedBy, Sends};
+ghost use Rattle.slots.specs.Slots.{ForwardIn, Carried, MovedBy, ofMember, Sends};
 ghost use Rattle.model.specs.State.{capacity};
 ghost use Rattle.storing.specs.Updates.{Updates};
 use connection::kind::Kind;
 use connection::parts::Connection;
 use connection::parts::Waiting;
 use loading::load::load;
+use member_words::turn::serve;
 use model::answer::Answer;
 use moves::moves::Rate;
 use params::params::Params;
@@ -20,6 +21,7 @@ use receiving::make::made_fields;
 use scheduling::kind::kind_at;
 use sending::send::after;
 use sending::send::forward_fields;
+use sending::send::with_served;
 use storing::store::update;
 use storing::store::update_source;
 use table::layout::WORDS;
@@ -78,6 +80,18 @@ fn store_sent(t: &mut [u64; WORDS], i: usize, kind: Kind, next: Connection) -> u
     }
 }
 
+// Whether the cell is a member's: data of a path (document 02, L13).
+fn of_member(kind: Kind, name: u32) -> bool
+    ensures { λ r. ⌜ r ≡ ofMember kind name ⌝ }
+{
+    match kind {
+        Kind::Forward => false,
+        Kind::Turned => false,
+        Kind::Data => name % 65536 == 6,
+    }
+}
+
+// A data cell of a path is taken from the member whose turn it is, and the slot tells its name; a channel is not looked for among the members.
 pub fn send(t: &mut [u64; WORDS], time: u64, i: usize, cell: &mut [u8]) -> Answer
     requires { ⌜ (i < capacity) × ((time ≤ latestTime) × (length (now cell) ≡ 53)) ⌝ }
     ensures { λ r. ⌜ Sends time i (now (t .entry)) (now (t .exit)) r (now (cell .entry)) (now (cell .exit)) ⌝ }
@@ -86,8 +100,20 @@ pub fn send(t: &mut [u64; WORDS], time: u64, i: usize, cell: &mut [u8]) -> Answe
     let kind = kind_at(time, c);
     let next = after(kind, time, c);
     put_cell(cell, kind, c, next);
+    if of_member(kind, c.name) {
+        let member = serve(t, c.name, (c.queue.served % 65536) as u16);
+        let comparisons = update_source(t, i, with_served(member, next));
+        return Answer::Sent {
+            connection: c.name,
+            name: member,
+            kind,
+            acr: next.rate.acr,
+            comparisons,
+        };
+    }
     let comparisons = store_sent(t, i, kind, next);
     Answer::Sent {
+        connection: c.name,
         name: c.name,
         kind,
         acr: next.rate.acr,

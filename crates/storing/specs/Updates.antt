@@ -1,18 +1,21 @@
--- What storing an entry makes of the words of a state that calls reach, and how many comparisons it makes in the tournament. (Document 02, L4.)
+-- What storing an entry makes of the words of a state, and how many comparisons it makes in the tournament. (Document 02, L4.)
 use Prim.Native.Nat.{ℕ}
 use mathlib.Core.Path.{_≡_}
 use mathlib.Core.List.{List}
-use lib.ListN.{getD, set}
+use lib.ListN.{length, getD, set}
 use Rattle.connection.specs.declared.parts.Connection.{Connection}
-use Rattle.model.specs.State.{State, Entry, free, taken}
-use Rattle.model.specs.Invariant.{WellFormed}
+use Rattle.model.specs.State.{State, Entry, free, taken, capacity}
 use Rattle.model.specs.Tournament.{replayed}
 use Rattle.table.specs.Layout.{words, sourceWords, fixedWords}
 use Rattle.tournament.specs.Replaying.{Ordered}
 
+-- what storing asks of a state: so it may stand between two stores of one call, where members and entries do not agree yet (document 02, L13)
+abbrev pub Sized : State → Type 0
+Sized s = length (s .entries) ≡ capacity
+
 -- the state with entry i given this content
 abbrev pub withEntry : State → (entry : ℕ) → Entry → State
-withEntry s i x = record { level = s .level; last = s .last; entries = set (s .entries) i x }
+withEntry s i x = record { level = s .level; last = s .last; entries = set (s .entries) i x; members = s .members }
 
 -- the words are those of the state with entry i given this content, and the matches of its leaf were replayed
 abbrev pub Becomes : State → (after : List ℕ) → (entry : ℕ) → Entry → (n : ℕ) → Type 0
@@ -31,16 +34,16 @@ BothMoved c d = d .outside ≡ c .outside
 -- a connection that keeps its entry, its name and what its open fixed
 pub record Updates (Moved : Connection → Connection → Type 0) (l m : List ℕ) (i : ℕ) (d : Connection) (n : ℕ) : Type 0 where
   pub is :
-      (s : State) → WellFormed s → l ≡ words s → (c : Connection) → getD (s .entries) i free ≡ taken c → d .name ≡ c .name → fixedWords d ≡ fixedWords c → Moved c d
+      (s : State) → Sized s → l ≡ words s → (c : Connection) → getD (s .entries) i free ≡ taken c → d .name ≡ c .name → fixedWords d ≡ fixedWords c → Moved c d
       → Ordered (set (s .entries) i (taken d)) → Becomes s m i (taken d) n
 
 -- a connection that takes a free entry
 pub record Takes (l m : List ℕ) (i : ℕ) (c : Connection) (n : ℕ) : Type 0 where
   pub is :
-      (s : State) → WellFormed s → l ≡ words s → getD (s .entries) i free ≡ free → Ordered (set (s .entries) i (taken c)) → Becomes s m i (taken c) n
+      (s : State) → Sized s → l ≡ words s → getD (s .entries) i free ≡ free → Ordered (set (s .entries) i (taken c)) → Becomes s m i (taken c) n
 
 -- a connection that leaves its entry
 pub record Leaves (l m : List ℕ) (i v n : ℕ) : Type 0 where
   pub is :
-      (s : State) → WellFormed s → l ≡ words s → (c : Connection) → getD (s .entries) i free ≡ taken c → c .name ≡ v → Ordered (set (s .entries) i free)
+      (s : State) → Sized s → l ≡ words s → (c : Connection) → getD (s .entries) i free ≡ taken c → c .name ≡ v → Ordered (set (s .entries) i free)
       → Becomes s m i free n

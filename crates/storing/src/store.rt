@@ -17,11 +17,13 @@ use entry_words::fixed::put_fixed;
 use entry_words::sides::clear_live;
 use entry_words::sides::put_sides;
 use entry_words::source::put_source;
+use falling::column::insert;
+use falling::column::remove;
 use names::directory::directory_word;
-use names::directory::insert;
-use names::directory::remove;
 use names::used::flip_entry;
+use table::layout::CAPACITY;
 use table::layout::DESTINATION;
+use table::layout::DIRECTORY;
 use table::layout::FIXED;
 use table::layout::FIXED_WIDTH;
 use table::layout::KEYS;
@@ -91,7 +93,7 @@ pub fn store(t: &mut [u64; WORDS], i: usize, c: Connection) -> u32
     put_fixed(t, FIXED + i * FIXED_WIDTH, c);
     t[NAMES + i] = c.name as u64;
     flip_entry(t, i);
-    insert(t, directory_word(c.name, i));
+    insert(t, DIRECTORY, CAPACITY, directory_word(c.name, i));
     replay(t, i)
 }
 
@@ -105,6 +107,6 @@ pub fn clear(t: &mut [u64; WORDS], i: usize, name: u32) -> u32
     clear_fixed(t, FIXED + i * FIXED_WIDTH);
     t[NAMES + i] = 0;
     flip_entry(t, i);
-    remove(t, directory_word(name, i) + 1);
+    remove(t, DIRECTORY, CAPACITY, directory_word(name, i) + 1);
     replay(t, i)
 }

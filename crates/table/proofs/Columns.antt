@@ -40,9 +40,9 @@ module _ (f : Entry → List ℕ) (w : ℕ) (wide : (x : Entry) → length (f x)
       → f (getD ss i free) ≡ k ++ (q ++ r) → f x ≡ k ++ (v ++ r) → length q ≡ length v → put (h ++ (flat f ss ++ t)) p v ≡ h ++ (flat f (set ss i x) ++ t)
   replace-part k q v r at ss x l a b e = rw (← at) (part-flat f w wide h ss t i free x k q v r l a b e)
 
--- The words with the four columns of four rows of entries, behind a header: a store changes one column at a time.
-abbrev pub mixed : (h : List ℕ) (k n l m : List Entry) → List ℕ
-mixed h k n l m = h ++ (flat keyOf k ++ (flat nameOf n ++ (flat liveOf l ++ flat fixedOf m)))
+-- The words with the four columns of four rows of entries, behind a header and before what is behind them: a store changes one column at a time.
+abbrev pub mixed : (h : List ℕ) (k n l m : List Entry) (t : List ℕ) → List ℕ
+mixed h k n l m t = h ++ (flat keyOf k ++ (flat nameOf n ++ (flat liveOf l ++ (flat fixedOf m ++ t))))
 
 sized : (f : Entry → List ℕ) (w : ℕ) → ((x : Entry) → length (f x) ≡ w) → (ss : List Entry) → length ss ≡ capacity → length (flat f ss) ≡ capacity * w
 sized f w wide ss e = length-flat f w wide ss ∙ ap (λ (x : ℕ). x * w) e
@@ -57,14 +57,14 @@ toNames h k n = h ++ (flat keyOf k ++ flat nameOf n)
 abbrev toLives : (h : List ℕ) (k n l : List Entry) → List ℕ
 toLives h k n l = h ++ (flat keyOf k ++ (flat nameOf n ++ flat liveOf l))
 
-name-split : (h : List ℕ) (k n l m : List Entry) → mixed h k n l m ≡ toKeys h k ++ (flat nameOf n ++ (flat liveOf l ++ flat fixedOf m))
-name-split h k n l m = simp append-assoc
+name-split : (h : List ℕ) (k n l m : List Entry) (t : List ℕ) → mixed h k n l m t ≡ toKeys h k ++ (flat nameOf n ++ (flat liveOf l ++ (flat fixedOf m ++ t)))
+name-split h k n l m t = simp append-assoc
 
-live-split : (h : List ℕ) (k n l m : List Entry) → mixed h k n l m ≡ toNames h k n ++ (flat liveOf l ++ flat fixedOf m)
-live-split h k n l m = simp append-assoc
+live-split : (h : List ℕ) (k n l m : List Entry) (t : List ℕ) → mixed h k n l m t ≡ toNames h k n ++ (flat liveOf l ++ (flat fixedOf m ++ t))
+live-split h k n l m t = simp append-assoc
 
-fixed-split : (h : List ℕ) (k n l m : List Entry) → mixed h k n l m ≡ toLives h k n l ++ (flat fixedOf m ++ [])
-fixed-split h k n l m = simp (append-assoc, append-nil)
+fixed-split : (h : List ℕ) (k n l m : List Entry) (t : List ℕ) → mixed h k n l m t ≡ toLives h k n l ++ (flat fixedOf m ++ t)
+fixed-split h k n l m t = simp append-assoc
 
 -- a header and four rows as long as those of a table
 pub record Rows (h : List ℕ) (k n l m : List Entry) : Type 0 where
@@ -74,7 +74,7 @@ pub record Rows (h : List ℕ) (k n l m : List Entry) : Type 0 where
   pub lives : length l ≡ capacity
   pub fixeds : length m ≡ capacity
 
-module _ (h : List ℕ) (k n l m : List Entry) (r : Rows h k n l m) (i : ℕ) (b : i < capacity) where
+module _ (h : List ℕ) (k n l m : List Entry) (t : List ℕ) (r : Rows h k n l m) (i : ℕ) (b : i < capacity) where
   at-key : length h + i * 1 ≡ keysFrom + i
   at-key = omega (arith, r .heads)
 
@@ -105,49 +105,49 @@ module _ (h : List ℕ) (k n l m : List Entry) (r : Rows h k n l m) (i : ℕ) (b
         sized liveOf liveWidth live-wide l (r .lives),
       )
 
-  pub set-key : (x : Entry) → put (mixed h k n l m) (keysFrom + i) (keyOf x) ≡ mixed h (set k i x) n l m
-  set-key x = replace keyOf 1 key-wide h (flat nameOf n ++ (flat liveOf l ++ flat fixedOf m)) i (keysFrom + i) at-key k x (omega (arith, r .keys))
+  pub set-key : (x : Entry) → put (mixed h k n l m t) (keysFrom + i) (keyOf x) ≡ mixed h (set k i x) n l m t
+  set-key x = replace keyOf 1 key-wide h (flat nameOf n ++ (flat liveOf l ++ (flat fixedOf m ++ t))) i (keysFrom + i) at-key k x (omega (arith, r .keys))
 
-  pub set-name : (x : Entry) → put (mixed h k n l m) (namesFrom + i) (nameOf x) ≡ mixed h k (set n i x) l m
+  pub set-name : (x : Entry) → put (mixed h k n l m t) (namesFrom + i) (nameOf x) ≡ mixed h k (set n i x) l m t
   set-name x =
-      ap (λ (y : List ℕ). put y (namesFrom + i) (nameOf x)) (name-split h k n l m)
-      ∙ replace nameOf 1 name-wide (toKeys h k) (flat liveOf l ++ flat fixedOf m) i (namesFrom + i) at-name n x (omega (arith, r .names))
-      ∙ sym (name-split h k (set n i x) l m)
+      ap (λ (y : List ℕ). put y (namesFrom + i) (nameOf x)) (name-split h k n l m t)
+      ∙ replace nameOf 1 name-wide (toKeys h k) (flat liveOf l ++ (flat fixedOf m ++ t)) i (namesFrom + i) at-name n x (omega (arith, r .names))
+      ∙ sym (name-split h k (set n i x) l m t)
 
   -- a part of an entry's live words: those behind p
   pub set-part :
       (p q v z : List ℕ) (x : Entry) → liveOf (getD l i free) ≡ p ++ (q ++ z) → liveOf x ≡ p ++ (v ++ z) → length q ≡ length v
-      → put (mixed h k n l m) (liveFrom + length p + i * liveWidth) v ≡ mixed h k n (set l i x) m
+      → put (mixed h k n l m t) (liveFrom + length p + i * liveWidth) v ≡ mixed h k n (set l i x) m t
   set-part p q v z x a c e =
-      ap (λ (y : List ℕ). put y (liveFrom + length p + i * liveWidth) v) (live-split h k n l m)
-      ∙ replace-part liveOf liveWidth live-wide (toNames h k n) (flat fixedOf m) i (liveFrom + length p + i * liveWidth) p q v z (omega (arith, before-live)) l x (omega (arith, r .lives)) a c e
-      ∙ sym (live-split h k n (set l i x) m)
+      ap (λ (y : List ℕ). put y (liveFrom + length p + i * liveWidth) v) (live-split h k n l m t)
+      ∙ replace-part liveOf liveWidth live-wide (toNames h k n) (flat fixedOf m ++ t) i (liveFrom + length p + i * liveWidth) p q v z (omega (arith, before-live)) l x (omega (arith, r .lives)) a c e
+      ∙ sym (live-split h k n (set l i x) m t)
 
-  pub set-live : (x : Entry) → put (mixed h k n l m) (liveFrom + i * liveWidth) (liveOf x) ≡ mixed h k n (set l i x) m
+  pub set-live : (x : Entry) → put (mixed h k n l m t) (liveFrom + i * liveWidth) (liveOf x) ≡ mixed h k n (set l i x) m t
   set-live x =
       set-part [] (liveOf (getD l i free)) (liveOf x) [] x (sym (append-nil (liveOf (getD l i free)))) (sym (append-nil (liveOf x)))
       (live-wide (getD l i free) ∙ sym (live-wide x))
 
-  pub set-fixed : (x : Entry) → put (mixed h k n l m) (fixedFrom + i * fixedWidth) (fixedOf x) ≡ mixed h k n l (set m i x)
+  pub set-fixed : (x : Entry) → put (mixed h k n l m t) (fixedFrom + i * fixedWidth) (fixedOf x) ≡ mixed h k n l (set m i x) t
   set-fixed x =
-      ap (λ (y : List ℕ). put y (fixedFrom + i * fixedWidth) (fixedOf x)) (fixed-split h k n l m)
-      ∙ replace fixedOf fixedWidth fixed-wide (toLives h k n l) [] i (fixedFrom + i * fixedWidth) at-fixed m x (omega (arith, r .fixeds))
-      ∙ sym (fixed-split h k n l (set m i x))
+      ap (λ (y : List ℕ). put y (fixedFrom + i * fixedWidth) (fixedOf x)) (fixed-split h k n l m t)
+      ∙ replace fixedOf fixedWidth fixed-wide (toLives h k n l) t i (fixedFrom + i * fixedWidth) at-fixed m x (omega (arith, r .fixeds))
+      ∙ sym (fixed-split h k n l (set m i x) t)
 
-  pub get-key : drop (keysFrom + i) (mixed h k n l m) ≡ keyOf (getD k i free) ++ (flat keyOf (drop (suc i) k) ++ (flat nameOf n ++ (flat liveOf l ++ flat fixedOf m)))
-  get-key = read keyOf 1 key-wide h (flat nameOf n ++ (flat liveOf l ++ flat fixedOf m)) i (keysFrom + i) at-key k (omega (arith, r .keys))
+  pub get-key : drop (keysFrom + i) (mixed h k n l m t) ≡ keyOf (getD k i free) ++ (flat keyOf (drop (suc i) k) ++ (flat nameOf n ++ (flat liveOf l ++ (flat fixedOf m ++ t))))
+  get-key = read keyOf 1 key-wide h (flat nameOf n ++ (flat liveOf l ++ (flat fixedOf m ++ t))) i (keysFrom + i) at-key k (omega (arith, r .keys))
 
-  pub get-name : drop (namesFrom + i) (mixed h k n l m) ≡ nameOf (getD n i free) ++ (flat nameOf (drop (suc i) n) ++ (flat liveOf l ++ flat fixedOf m))
+  pub get-name : drop (namesFrom + i) (mixed h k n l m t) ≡ nameOf (getD n i free) ++ (flat nameOf (drop (suc i) n) ++ (flat liveOf l ++ (flat fixedOf m ++ t)))
   get-name =
-      ap (λ (y : List ℕ). drop (namesFrom + i) y) (name-split h k n l m)
-      ∙ read nameOf 1 name-wide (toKeys h k) (flat liveOf l ++ flat fixedOf m) i (namesFrom + i) at-name n (omega (arith, r .names))
+      ap (λ (y : List ℕ). drop (namesFrom + i) y) (name-split h k n l m t)
+      ∙ read nameOf 1 name-wide (toKeys h k) (flat liveOf l ++ (flat fixedOf m ++ t)) i (namesFrom + i) at-name n (omega (arith, r .names))
 
-  pub get-live : drop (liveFrom + i * liveWidth) (mixed h k n l m) ≡ liveOf (getD l i free) ++ (flat liveOf (drop (suc i) l) ++ flat fixedOf m)
+  pub get-live : drop (liveFrom + i * liveWidth) (mixed h k n l m t) ≡ liveOf (getD l i free) ++ (flat liveOf (drop (suc i) l) ++ (flat fixedOf m ++ t))
   get-live =
-      ap (λ (y : List ℕ). drop (liveFrom + i * liveWidth) y) (live-split h k n l m)
-      ∙ read liveOf liveWidth live-wide (toNames h k n) (flat fixedOf m) i (liveFrom + i * liveWidth) (omega (arith, before-live)) l (omega (arith, r .lives))
+      ap (λ (y : List ℕ). drop (liveFrom + i * liveWidth) y) (live-split h k n l m t)
+      ∙ read liveOf liveWidth live-wide (toNames h k n) (flat fixedOf m ++ t) i (liveFrom + i * liveWidth) (omega (arith, before-live)) l (omega (arith, r .lives))
 
-  pub get-fixed : drop (fixedFrom + i * fixedWidth) (mixed h k n l m) ≡ fixedOf (getD m i free) ++ (flat fixedOf (drop (suc i) m) ++ [])
+  pub get-fixed : drop (fixedFrom + i * fixedWidth) (mixed h k n l m t) ≡ fixedOf (getD m i free) ++ (flat fixedOf (drop (suc i) m) ++ t)
   get-fixed =
-      ap (λ (y : List ℕ). drop (fixedFrom + i * fixedWidth) y) (fixed-split h k n l m)
-      ∙ read fixedOf fixedWidth fixed-wide (toLives h k n l) [] i (fixedFrom + i * fixedWidth) at-fixed m (omega (arith, r .fixeds))
+      ap (λ (y : List ℕ). drop (fixedFrom + i * fixedWidth) y) (fixed-split h k n l m t)
+      ∙ read fixedOf fixedWidth fixed-wide (toLives h k n l) t i (fixedFrom + i * fixedWidth) at-fixed m (omega (arith, r .fixeds))

@@ -1,5 +1,5 @@
 -- Loading gives back the connection that stands in the entry: no number of a connection that calls made lies outside the range it is brought into.
-use Prim.Native.Nat.{ℕ, _+_, _*_, _%_, _^_, _≤_, _<_, _-_}
+use Prim.Native.Nat.{ℕ, _+_, _*_, _/_, _%_, _^_, _≤_, _<_, _-_}
 use mathlib.Core.Path.{_≡_, refl, ap, _∙_}
 use mathlib.Core.Bool.{Bool, true, false, cond}
 use mathlib.Core.List.{List, _++_}
@@ -17,17 +17,18 @@ use Rattle.params.proofs.Ranges.{fits}
 use Rattle.cell.specs.Name.{noName}
 use Rattle.connection.specs.declared.parts.Pace.{Pace}
 use Rattle.connection.specs.declared.parts.Pace.the-variants.{Unsent, Running}
+use Rattle.connection.specs.declared.parts.Queue.{Queue}
 use Rattle.connection.specs.declared.parts.Waiting.{Waiting}
 use Rattle.connection.specs.declared.parts.Waiting.the-variants.{Nothing, Cell}
 use Rattle.connection.specs.declared.parts.Connection.{Connection}
 use Rattle.connection.specs.declared.parts.Made.{Made}
 use Rattle.connection.specs.declared.ready.Instant.{Instant}
 use Rattle.connection.specs.declared.ready.Instant.the-variants.{Never, At}
-use Rattle.connection.specs.Invariant.{ValidAt, PaceFits, NotAfter, MadeValidAt}
+use Rattle.connection.specs.Invariant.{ValidAt, PaceFits, NotAfter, MadeValidAt, QueueFits}
 use Rattle.connection.specs.Range.{InRange, PaceInRange, HasRoom, InstantInRange}
 use Rattle.connection.proofs.Reached.{in-range}
-use Rattle.table.specs.Layout.{paceTag, paceSent, paceForward, paceK, waitTag, waitingPayload, liveWords, fixedWords, liveFrom, liveWidth, instantWord}
-use Rattle.table.specs.Loading.{paceOf, waitingOf, paramsAt, connectionFrom, connectionAt, instantOf}
+use Rattle.table.specs.Layout.{paceTag, paceSent, paceForward, paceK, waitTag, waitingPayload, queueWord, liveWords, fixedWords, liveFrom, liveWidth, instantWord}
+use Rattle.table.specs.Loading.{paceOf, waitingOf, queueOf, paramsAt, connectionFrom, connectionAt, instantOf}
 
 -- Each part is what its words stand for.
 pace-back : (now n : ℕ) (p : Pace) → n ≤ 256 → PaceFits now n p → PaceInRange p → paceOf (paceTag p) (paceSent p) (paceForward p) (paceK p) ≡ p
@@ -79,6 +80,15 @@ instant-back now (At i) l h =
 made-back : (now : ℕ) (m : Made) → now ≤ latestTime → MadeValidAt now m → _≡_ {A = Made} (record { level = m .level % 2 ^ 32; last = instantOf (instantWord (m .last)) }) m
 made-back now m l h = rw (narrow (m .level) (omega (arith, h .level)), instant-back now (m .last) l (h .past))
 
+queue-back : (v : ℕ) (l : Queue) → QueueFits v l → queueOf (queueWord l) ≡ l
+queue-back v l h = rw (low (l .served) (l .cells) (omega (arith, h .path)), high (l .served) (l .cells) (omega (arith, h .served)) (omega (arith, h .path)))
+  where
+    low : (q n : ℕ) → n < 2 ^ 24 → (q * 2 ^ 32 + n) % 2 ^ 24 ≡ n
+    low q n b = omega arith
+
+    high : (q n : ℕ) → q < 2 ^ 16 → n < 2 ^ 24 → (q * 2 ^ 32 + n) / 2 ^ 32 % 2 ^ 16 ≡ q
+    high q n a b = omega arith
+
 -- a connection from its own words
 pub words-back :
     (now : ℕ) (c : Connection) (s t : List ℕ) → now ≤ latestTime → ValidAt now c → connectionFrom (c .name) (liveWords c ++ s) 0 (fixedWords c ++ t) 0 ≡ c
@@ -92,7 +102,7 @@ words-back now c s t l h =
       params-back c t (fits (c .rate .params) (h .0 .fits)),
       pace-back now (nrm (c .rate .params)) (c .pace) (pow-mono (fits (c .rate .params) (h .0 .fits) .nMost)) (h .0 .paced) (r .pace),
       narrow (c .unacked) (omega (arith, h .1 .counted)),
-      narrow (c .queue .cells) (omega (arith, h .1 .queued)),
+      queue-back (c .name) (c .queue) (h .4),
       efci-back (c .destination .efci) (c .destination .turned),
       turned-back (c .destination .efci) (c .destination .turned),
       made-back now (c .destination .made) l (h .2),
@@ -133,6 +143,9 @@ load-ranged l i = record {
 pub load-room : (l : List ℕ) (i : ℕ) → HasRoom (connectionAt l i .pace)
 load-room l i =
     pace-ranged (getD l (liveFrom + i * liveWidth + 3) 0) (getD l (liveFrom + i * liveWidth + 3 + 1) 0) (getD l (liveFrom + i * liveWidth + 3 + 2) 0) (getD l (liveFrom + i * liveWidth + 3 + 3) 0) .1
+
+pub load-queue : (l : List ℕ) (i : ℕ) → connectionAt l i .queue .cells < 2 ^ 24
+load-queue l i = omega arith
 
 pub load-named : (l : List ℕ) (i : ℕ) → connectionAt l i .name < noName
 load-named l i = omega arith

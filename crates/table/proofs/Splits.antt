@@ -4,19 +4,20 @@ use mathlib.Core.Path.{_≡_, refl, _∙_}
 use mathlib.Core.List.{List, [], _∷_, _++_, append-assoc}
 use native.Mathlib.Omega.{arith}
 use lib.ListN.{length, length-append}
+use Rattle.members.specs.Members.{Member}
 use Rattle.model.specs.State.{State, Entry, capacity}
 use Rattle.table.specs.Layout.{tableWords, words, used, directory, nodes, columns, groups, directoryFrom, nodesFrom, keysFrom}
 use Rattle.table.proofs.Used.{length-used}
 use Rattle.table.proofs.Directory.{length-directory}
 use Rattle.table.proofs.Nodes.{length-nodes}
 
-module _ (a b : ℕ) (us ds ns : List ℕ) (ss : List Entry) where
+module _ (a b : ℕ) (us ds ns : List ℕ) (ss : List Entry) (ms : List Member) where
   -- the winners, behind the directory
-  pub nodes-split : tableWords a b us ds ns ss ≡ (a ∷ b ∷ (us ++ ds)) ++ (ns ++ (0 ∷ columns ss))
+  pub nodes-split : tableWords a b us ds ns ss ms ≡ (a ∷ b ∷ (us ++ ds)) ++ (ns ++ (0 ∷ columns ss ms))
   nodes-split = simp append-assoc
 
   -- the columns, behind the header
-  pub columns-split : tableWords a b us ds ns ss ≡ (a ∷ b ∷ (us ++ (ds ++ (ns ++ (0 ∷ []))))) ++ columns ss
+  pub columns-split : tableWords a b us ds ns ss ms ≡ (a ∷ b ∷ (us ++ (ds ++ (ns ++ (0 ∷ []))))) ++ columns ss ms
   columns-split = simp append-assoc
 
 pub length-before-directory : (a b : ℕ) (us : List ℕ) → length us ≡ groups → length (a ∷ b ∷ us) ≡ directoryFrom
@@ -30,7 +31,7 @@ abbrev pub beforeDirectory : State → List ℕ
 beforeDirectory s = s .level ∷ s .last ∷ used (s .entries)
 
 abbrev pub behindDirectory : State → List ℕ
-behindDirectory s = nodes (s .entries) ++ (0 ∷ columns (s .entries))
+behindDirectory s = nodes (s .entries) ++ (0 ∷ columns (s .entries) (s .members))
 
 pub directory-split : (s : State) → words s ≡ beforeDirectory s ++ (directory (s .entries) ++ behindDirectory s)
 unfolding words
@@ -43,9 +44,9 @@ front s = s .level ∷ s .last ∷ (used (s .entries) ++ directory (s .entries))
 pub length-front : (s : State) → length (s .entries) ≡ capacity → length (front s) ≡ nodesFrom
 length-front s g = length-before-nodes (s .level) (s .last) (used (s .entries)) (directory (s .entries)) (length-used (s .entries)) (length-directory (s .entries) ∙ g)
 
-pub winners-split : (s : State) → words s ≡ front s ++ (nodes (s .entries) ++ (0 ∷ columns (s .entries)))
+pub winners-split : (s : State) → words s ≡ front s ++ (nodes (s .entries) ++ (0 ∷ columns (s .entries) (s .members)))
 unfolding words
-winners-split s = nodes-split (s .level) (s .last) (used (s .entries)) (directory (s .entries)) (nodes (s .entries)) (s .entries)
+winners-split s = nodes-split (s .level) (s .last) (used (s .entries)) (directory (s .entries)) (nodes (s .entries)) (s .entries) (s .members)
 
 -- and before its columns
 abbrev pub header : State → List ℕ
@@ -64,6 +65,6 @@ length-header s g =
       g,
     )
 
-pub header-split : (s : State) → words s ≡ header s ++ columns (s .entries)
+pub header-split : (s : State) → words s ≡ header s ++ columns (s .entries) (s .members)
 unfolding words
-header-split s = columns-split (s .level) (s .last) (used (s .entries)) (directory (s .entries)) (nodes (s .entries)) (s .entries)
+header-split s = columns-split (s .level) (s .last) (used (s .entries)) (directory (s .entries)) (nodes (s .entries)) (s .entries) (s .members)

@@ -17,9 +17,10 @@ use Rattle.connection.specs.declared.ready.Instant.the-variants.{Never, At}
 use Rattle.connection.specs.declared.parts.Waiting.{Waiting}
 use Rattle.connection.specs.Ready.{readyInstant}
 use Rattle.connection.specs.Invariant.{ValidAt}
+use Rattle.members.specs.Members.{memberCapacity}
 use Rattle.model.specs.State.{State, Entry, free, taken, empty, capacity}
 use Rattle.model.specs.Tournament.{instantLead, leafLead}
-use Rattle.table.specs.Layout.{nameOf, keyOf, liveOf, fixedOf, destinationTag, waitingPayload, payloadWords, madeWords, outsideWords, instantWord, key, sourceWords, destinationWords, sideWords, liveWords, fixedWords, columns, isTaken, used, directory, nodes, tableWords, words, groups, namesFrom, keysFrom, liveFrom, liveWidth, fixedFrom, fixedWidth, size}
+use Rattle.table.specs.Layout.{nameOf, keyOf, liveOf, fixedOf, destinationTag, waitingPayload, payloadWords, madeWords, outsideWords, instantWord, key, sourceWords, destinationWords, sideWords, liveWords, fixedWords, columns, isTaken, used, directory, nodes, tableWords, packed, memberWords, words, groups, namesFrom, keysFrom, liveFrom, liveWidth, fixedFrom, fixedWidth, size}
 use Rattle.table.specs.Loading.{connectionFrom, connectionAt}
 use Rattle.table.specs.Storing.{sourceUpdated, destinationUpdated, efciUpdated, outsideUpdated, updated, given}
 use Rattle.table.proofs.Loaded.{words-back, from-drop}
@@ -68,40 +69,40 @@ module _ (s : State) (g : length (s .entries) ≡ capacity) (i : ℕ) (h : i < c
   name-at =
       word-of (words s) (namesFrom + i)
       ∙ ap (λ (y : List ℕ). getD (drop (namesFrom + i) y) 0 0) (header-split s)
-      ∙ ap (λ (y : List ℕ). getD y 0 0) (get-name (header s) (s .entries) (s .entries) (s .entries) (s .entries) all i h)
+      ∙ ap (λ (y : List ℕ). getD y 0 0) (get-name (header s) (s .entries) (s .entries) (s .entries) (s .entries) (memberWords (s .members)) all i h)
       ∙ first-name (getD (s .entries) i free) _
 
   pub key-at : getD (words s) (keysFrom + i) 0 ≡ keyNumber (getD (s .entries) i free)
   key-at =
       word-of (words s) (keysFrom + i)
       ∙ ap (λ (y : List ℕ). getD (drop (keysFrom + i) y) 0 0) (header-split s)
-      ∙ ap (λ (y : List ℕ). getD y 0 0) (get-key (header s) (s .entries) (s .entries) (s .entries) (s .entries) all i h)
+      ∙ ap (λ (y : List ℕ). getD y 0 0) (get-key (header s) (s .entries) (s .entries) (s .entries) (s .entries) (memberWords (s .members)) all i h)
       ∙ first-key (getD (s .entries) i free) _
 
   -- an entry loaded
   pub load-at : (c : Connection) → getD (s .entries) i free ≡ taken c → s .last ≤ latestTime → ValidAt (s .last) c → connectionAt (words s) i ≡ c
   load-at c e t p =
-      let live = ap (λ (y : List ℕ). drop (liveFrom + i * liveWidth) y) (header-split s) ∙ get-live (header s) (s .entries) (s .entries) (s .entries) (s .entries) all i h in
-      let fixed = ap (λ (y : List ℕ). drop (fixedFrom + i * fixedWidth) y) (header-split s) ∙ get-fixed (header s) (s .entries) (s .entries) (s .entries) (s .entries) all i h in
+      let live = ap (λ (y : List ℕ). drop (liveFrom + i * liveWidth) y) (header-split s) ∙ get-live (header s) (s .entries) (s .entries) (s .entries) (s .entries) (memberWords (s .members)) all i h in
+      let fixed = ap (λ (y : List ℕ). drop (fixedFrom + i * fixedWidth) y) (header-split s) ∙ get-fixed (header s) (s .entries) (s .entries) (s .entries) (s .entries) (memberWords (s .members)) all i h in
       ap (λ (v : ℕ). connectionFrom v (words s) (liveFrom + i * liveWidth) (words s) (fixedFrom + i * fixedWidth)) (name-at ∙ ap number e)
       ∙ from-drop (c .name) (words s) (liveFrom + i * liveWidth) (words s) (fixedFrom + i * fixedWidth)
-      ∙ ap (λ (y : List ℕ). connectionFrom (c .name) y 0 (drop (fixedFrom + i * fixedWidth) (words s)) 0) (live ∙ ap (λ (x : Entry). liveOf x ++ (flat liveOf (drop (suc i) (s .entries)) ++ flat fixedOf (s .entries))) e)
-      ∙ ap (λ (y : List ℕ). connectionFrom (c .name) (liveWords c ++ (flat liveOf (drop (suc i) (s .entries)) ++ flat fixedOf (s .entries))) 0 y 0) (fixed ∙ ap (λ (x : Entry). fixedOf x ++ (flat fixedOf (drop (suc i) (s .entries)) ++ [])) e)
-      ∙ words-back (s .last) c (flat liveOf (drop (suc i) (s .entries)) ++ flat fixedOf (s .entries)) (flat fixedOf (drop (suc i) (s .entries)) ++ []) t p
+      ∙ ap (λ (y : List ℕ). connectionFrom (c .name) y 0 (drop (fixedFrom + i * fixedWidth) (words s)) 0) (live ∙ ap (λ (x : Entry). liveOf x ++ (flat liveOf (drop (suc i) (s .entries)) ++ (flat fixedOf (s .entries) ++ memberWords (s .members)))) e)
+      ∙ ap (λ (y : List ℕ). connectionFrom (c .name) (liveWords c ++ (flat liveOf (drop (suc i) (s .entries)) ++ (flat fixedOf (s .entries) ++ memberWords (s .members)))) 0 y 0) (fixed ∙ ap (λ (x : Entry). fixedOf x ++ (flat fixedOf (drop (suc i) (s .entries)) ++ memberWords (s .members))) e)
+      ∙ words-back (s .last) c (flat liveOf (drop (suc i) (s .entries)) ++ (flat fixedOf (s .entries) ++ memberWords (s .members))) (flat fixedOf (drop (suc i) (s .entries)) ++ memberWords (s .members)) t p
 
   -- the state with entry i given to x
   abbrev with : Entry → State
-  with x = record { level = s .level; last = s .last; entries = set (s .entries) i x }
+  with x = record { level = s .level; last = s .last; entries = set (s .entries) i x; members = s .members }
 
   long : (x : Entry) → length (set (s .entries) i x) ≡ capacity
   long x = length-set (s .entries) i x ∙ g
 
   -- the words of the state but for the columns, which are those of these entries
   abbrev columnsOf : List Entry → List ℕ
-  columnsOf xs = tableWords (s .level) (s .last) (used (s .entries)) (directory (s .entries)) (nodes (s .entries)) xs
+  columnsOf xs = tableWords (s .level) (s .last) (used (s .entries)) (directory (s .entries)) (nodes (s .entries)) xs (s .members)
 
-  to-columns : (xs : List Entry) → header s ++ columns xs ≡ columnsOf xs
-  to-columns xs = sym (columns-split (s .level) (s .last) (used (s .entries)) (directory (s .entries)) (nodes (s .entries)) xs)
+  to-columns : (xs : List Entry) → header s ++ columns xs (s .members) ≡ columnsOf xs
+  to-columns xs = sym (columns-split (s .level) (s .last) (used (s .entries)) (directory (s .entries)) (nodes (s .entries)) xs (s .members))
 
   -- Entry i is given to x in the columns, one after the other: what a part of the live words, the key, the fixed words and the name make of them.
   module _ (x : Entry) where
@@ -111,20 +112,20 @@ module _ (s : State) (g : length (s .entries) ≡ capacity) (i : ℕ) (h : i < c
     -- what is stored of the live words is v, between what stays
     part-in :
         (k o v z : List ℕ) → liveOf (getD (s .entries) i free) ≡ k ++ (o ++ z) → liveOf x ≡ k ++ (v ++ z) → length o ≡ length v
-        → put (words s) (liveFrom + length k + i * liveWidth) v ≡ mixed (header s) (s .entries) (s .entries) xs (s .entries)
-    part-in k o v z a b l = ap (λ (y : List ℕ). put y (liveFrom + length k + i * liveWidth) v) (header-split s) ∙ set-part (header s) (s .entries) (s .entries) (s .entries) (s .entries) all i h k o v z x a b l
+        → put (words s) (liveFrom + length k + i * liveWidth) v ≡ mixed (header s) (s .entries) (s .entries) xs (s .entries) (memberWords (s .members))
+    part-in k o v z a b l = ap (λ (y : List ℕ). put y (liveFrom + length k + i * liveWidth) v) (header-split s) ∙ set-part (header s) (s .entries) (s .entries) (s .entries) (s .entries) (memberWords (s .members)) all i h k o v z x a b l
 
-    live-in : put (words s) (liveFrom + i * liveWidth) (liveOf x) ≡ mixed (header s) (s .entries) (s .entries) xs (s .entries)
-    live-in = ap (λ (y : List ℕ). put y (liveFrom + i * liveWidth) (liveOf x)) (header-split s) ∙ set-live (header s) (s .entries) (s .entries) (s .entries) (s .entries) all i h x
+    live-in : put (words s) (liveFrom + i * liveWidth) (liveOf x) ≡ mixed (header s) (s .entries) (s .entries) xs (s .entries) (memberWords (s .members))
+    live-in = ap (λ (y : List ℕ). put y (liveFrom + i * liveWidth) (liveOf x)) (header-split s) ∙ set-live (header s) (s .entries) (s .entries) (s .entries) (s .entries) (memberWords (s .members)) all i h x
 
-    key-in : put (mixed (header s) (s .entries) (s .entries) xs (s .entries)) (keysFrom + i) (keyOf x) ≡ mixed (header s) xs (s .entries) xs (s .entries)
-    key-in = set-key (header s) (s .entries) (s .entries) xs (s .entries) (rows (s .entries) (s .entries) xs (s .entries) g g (long x) g) i h x
+    key-in : put (mixed (header s) (s .entries) (s .entries) xs (s .entries) (memberWords (s .members))) (keysFrom + i) (keyOf x) ≡ mixed (header s) xs (s .entries) xs (s .entries) (memberWords (s .members))
+    key-in = set-key (header s) (s .entries) (s .entries) xs (s .entries) (memberWords (s .members)) (rows (s .entries) (s .entries) xs (s .entries) g g (long x) g) i h x
 
-    fixed-in : put (mixed (header s) xs (s .entries) xs (s .entries)) (fixedFrom + i * fixedWidth) (fixedOf x) ≡ mixed (header s) xs (s .entries) xs xs
-    fixed-in = set-fixed (header s) xs (s .entries) xs (s .entries) (rows xs (s .entries) xs (s .entries) (long x) g (long x) g) i h x
+    fixed-in : put (mixed (header s) xs (s .entries) xs (s .entries) (memberWords (s .members))) (fixedFrom + i * fixedWidth) (fixedOf x) ≡ mixed (header s) xs (s .entries) xs xs (memberWords (s .members))
+    fixed-in = set-fixed (header s) xs (s .entries) xs (s .entries) (memberWords (s .members)) (rows xs (s .entries) xs (s .entries) (long x) g (long x) g) i h x
 
-    name-in : put (mixed (header s) xs (s .entries) xs xs) (namesFrom + i) (nameOf x) ≡ header s ++ columns xs
-    name-in = set-name (header s) xs (s .entries) xs xs (rows xs (s .entries) xs xs (long x) g (long x) (long x)) i h x
+    name-in : put (mixed (header s) xs (s .entries) xs xs (memberWords (s .members))) (namesFrom + i) (nameOf x) ≡ header s ++ columns xs (s .members)
+    name-in = set-name (header s) xs (s .entries) xs xs (memberWords (s .members)) (rows xs (s .entries) xs xs (long x) g (long x) (long x)) i h x
 
     -- the whole entry
     pub given-in : given (words s) i x ≡ columnsOf xs
@@ -140,11 +141,11 @@ module _ (s : State) (g : length (s .entries) ≡ capacity) (i : ℕ) (h : i < c
     abbrev ys : List Entry
     ys = set (s .entries) i (taken d)
 
-    kept : mixed (header s) ys (s .entries) ys (s .entries) ≡ columnsOf ys
+    kept : mixed (header s) ys (s .entries) ys (s .entries) (memberWords (s .members)) ≡ columnsOf ys
     kept =
-        ap (λ (y : List ℕ). header s ++ (flat keyOf ys ++ (y ++ (flat liveOf ys ++ flat fixedOf (s .entries)))))
+        ap (λ (y : List ℕ). header s ++ (flat keyOf ys ++ (y ++ (flat liveOf ys ++ (flat fixedOf (s .entries) ++ memberWords (s .members))))))
         (sym (flat-same nameOf 1 name-wide (s .entries) i (taken d) free inside (ap (λ (v : ℕ). v ∷ []) p ∙ ap nameOf (sym e))))
-        ∙ ap (λ (y : List ℕ). header s ++ (flat keyOf ys ++ (flat nameOf ys ++ (flat liveOf ys ++ y))))
+        ∙ ap (λ (y : List ℕ). header s ++ (flat keyOf ys ++ (flat nameOf ys ++ (flat liveOf ys ++ (y ++ memberWords (s .members))))))
         (sym (flat-same fixedOf fixedWidth fixed-wide (s .entries) i (taken d) free inside (q ∙ ap fixedOf (sym e))))
         ∙ to-columns ys
 
@@ -175,12 +176,12 @@ module _ (s : State) (g : length (s .entries) ≡ capacity) (i : ℕ) (h : i < c
     unfolding words isTaken
     silent-at k o v z a b l r =
         part-in (taken d) k o v z (ap liveOf e ∙ a) b l
-        ∙ ap (λ (y : List ℕ). header s ++ (y ++ (flat nameOf (s .entries) ++ (flat liveOf ys ++ flat fixedOf (s .entries)))))
+        ∙ ap (λ (y : List ℕ). header s ++ (y ++ (flat nameOf (s .entries) ++ (flat liveOf ys ++ (flat fixedOf (s .entries) ++ memberWords (s .members))))))
         (sym (flat-same keyOf 1 key-wide (s .entries) i (taken d) free inside (ap (λ (x : Instant). key x ∷ []) r ∙ ap keyOf (sym e))))
         ∙ kept
-        ∙ ap (λ (y : List ℕ). tableWords (s .level) (s .last) y (directory (s .entries)) (nodes (s .entries)) ys) (sym (used-same (s .entries) i (taken d) (sym (ap isTaken e))))
-        ∙ ap (λ (y : List ℕ). tableWords (s .level) (s .last) (used ys) y (nodes (s .entries)) ys) (sym (directory-same (s .entries) i c d e p))
-        ∙ ap (λ (y : List ℕ). tableWords (s .level) (s .last) (used ys) (directory ys) y ys) (sym (nodes-same (s .entries) i (taken d) inside (lead-same i c d p r ∙ ap (leafLead i) (sym e))))
+        ∙ ap (λ (y : List ℕ). tableWords (s .level) (s .last) y (directory (s .entries)) (nodes (s .entries)) ys (s .members)) (sym (used-same (s .entries) i (taken d) (sym (ap isTaken e))))
+        ∙ ap (λ (y : List ℕ). tableWords (s .level) (s .last) (used ys) y (nodes (s .entries)) ys (s .members)) (sym (directory-same (s .entries) i c d e p))
+        ∙ ap (λ (y : List ℕ). tableWords (s .level) (s .last) (used ys) (directory ys) y ys (s .members)) (sym (nodes-same (s .entries) i (taken d) inside (lead-same i c d p r ∙ ap (leafLead i) (sym e))))
 
     pub efci-at :
         sourceWords d ≡ sourceWords c → d .destination .turned ≡ c .destination .turned → d .destination .made ≡ c .destination .made → d .outside ≡ c .outside → readyInstant d ≡ readyInstant c
@@ -197,17 +198,18 @@ module _ (s : State) (g : length (s .entries) ≡ capacity) (i : ℕ) (h : i < c
         (ap₂ (λ (y : List ℕ) (z : Destination). y ++ (destinationWords z ++ outsideWords d)) f b) refl
 
 -- the empty table is all zero
-zeros : (n : ℕ) (k : ℕ) → n * 1 + (n * 1 + (n * liveWidth + n * fixedWidth)) ≡ k
-    → flat keyOf (replicate n free) ++ (flat nameOf (replicate n free) ++ (flat liveOf (replicate n free) ++ flat fixedOf (replicate n free))) ≡ replicate k 0
-zeros n k e =
+zeros : (n j k : ℕ) → n * 1 + (n * 1 + (n * liveWidth + (n * fixedWidth + j))) ≡ k
+    → flat keyOf (replicate n free) ++ (flat nameOf (replicate n free) ++ (flat liveOf (replicate n free) ++ (flat fixedOf (replicate n free) ++ replicate j 0))) ≡ replicate k 0
+zeros n j k e =
     rw (
       flat-zeros nameOf 1 name-wide free refl n,
       flat-zeros keyOf 1 key-wide free refl n,
       flat-zeros liveOf liveWidth live-wide free refl n,
       flat-zeros fixedOf fixedWidth fixed-wide free refl n,
-      replicate-append-replicate {A = ℕ} (n * liveWidth) (n * fixedWidth) 0,
-      replicate-append-replicate {A = ℕ} (n * 1) (n * liveWidth + n * fixedWidth) 0,
-      replicate-append-replicate {A = ℕ} (n * 1) (n * 1 + (n * liveWidth + n * fixedWidth)) 0,
+      replicate-append-replicate {A = ℕ} (n * fixedWidth) j 0,
+      replicate-append-replicate {A = ℕ} (n * liveWidth) (n * fixedWidth + j) 0,
+      replicate-append-replicate {A = ℕ} (n * 1) (n * liveWidth + (n * fixedWidth + j)) 0,
+      replicate-append-replicate {A = ℕ} (n * 1) (n * 1 + (n * liveWidth + (n * fixedWidth + j))) 0,
       e,
     )
 
@@ -219,11 +221,11 @@ joined a b c d =
     ∙ ap (λ (l : List ℕ). 0 ∷ 0 ∷ l) (replicate-append-replicate {A = ℕ} a (b + (c + suc d)) 0)
 
 pub empty-words : words empty ≡ replicate size 0
-unfolding words empty
+unfolding words empty memberWords packed
 empty-words =
     let ss : List Entry = replicate capacity free in
-    ap (λ (y : List ℕ). tableWords 0 0 y (directory ss) (nodes ss) ss) (used-free capacity)
-    ∙ ap (λ (y : List ℕ). tableWords 0 0 (replicate groups 0) y (nodes ss) ss) (directory-free capacity)
-    ∙ ap (λ (y : List ℕ). tableWords 0 0 (replicate groups 0) (replicate capacity 0) y ss) (nodes-free capacity)
-    ∙ ap (λ (y : List ℕ). 0 ∷ 0 ∷ (replicate groups 0 ++ (replicate capacity 0 ++ (replicate capacity 0 ++ (0 ∷ y))))) (zeros capacity (size - keysFrom) refl)
+    ap (λ (y : List ℕ). tableWords 0 0 y (directory ss) (nodes ss) ss []) (used-free capacity)
+    ∙ ap (λ (y : List ℕ). tableWords 0 0 (replicate groups 0) y (nodes ss) ss []) (directory-free capacity)
+    ∙ ap (λ (y : List ℕ). tableWords 0 0 (replicate groups 0) (replicate capacity 0) y ss []) (nodes-free capacity)
+    ∙ ap (λ (y : List ℕ). 0 ∷ 0 ∷ (replicate groups 0 ++ (replicate capacity 0 ++ (replicate capacity 0 ++ (0 ∷ y))))) (zeros capacity memberCapacity (size - keysFrom) refl)
     ∙ joined groups capacity capacity (size - keysFrom)

@@ -1,16 +1,18 @@
 -- The words of a table in the lent memory. A state has one list of words; all zero is the empty table.
 -- A header: the level, the last time, the bits of the taken entries, the directory of the names, by which one is found in ten probes, and the
--- winners of the tournament; then four columns with one block an entry: ready keys, names, the live part of each connection and the part that its open fixed.
+-- winners of the tournament; then four columns with one block an entry: ready keys, names, the live part of each connection and the part that its open fixed;
+-- then the members of paths.
 use Prim.Native.Nat.{ℕ, zero, suc, _+_, _-_, _*_, _^_}
 use mathlib.Core.Bool.{Bool, true, false, cond}
 use mathlib.Core.List.{List, [], _∷_, _++_}
 use lib.Dec.{leb, ltb}
-use lib.ListN.{take, drop, replicate}
+use lib.ListN.{length, take, drop, replicate}
 use Rattle.laws.specs.Blocks.{flat}
 use Rattle.laws.specs.Rows.{row}
 use Rattle.crc.specs.declared.payload.Payload.{Payload}
 use Rattle.connection.specs.declared.parts.Pace.{Pace}
 use Rattle.connection.specs.declared.parts.Pace.the-variants.{Unsent, Running}
+use Rattle.connection.specs.declared.parts.Queue.{Queue}
 use Rattle.connection.specs.declared.parts.Waiting.{Waiting}
 use Rattle.connection.specs.declared.parts.Waiting.the-variants.{Nothing, Cell}
 use Rattle.connection.specs.declared.parts.Made.{Made}
@@ -19,6 +21,8 @@ use Rattle.connection.specs.declared.parts.Connection.{Connection}
 use Rattle.connection.specs.declared.ready.Instant.{Instant}
 use Rattle.connection.specs.declared.ready.Instant.the-variants.{Never, At}
 use Rattle.connection.specs.Ready.{readyInstant}
+use Rattle.cell.specs.Name.{noName}
+use Rattle.members.specs.Members.{Member, memberCapacity}
 use Rattle.model.specs.State.{State, Entry, free, taken, capacity}
 use Rattle.model.specs.Tournament.{levels, winnerAt, leadWord}
 
@@ -76,8 +80,12 @@ fixedFrom = liveFrom + capacity * liveWidth
 abbrev pub fixedWidth : ℕ
 fixedWidth = 12
 
+-- behind the columns the members of paths
+abbrev pub membersFrom : ℕ
+membersFrom = fixedFrom + capacity * fixedWidth
+
 abbrev pub size : ℕ
-size = fixedFrom + capacity * fixedWidth
+size = membersFrom + memberCapacity
 
 -- a pace in four words: 0 if no cell was sent, 1 if no turned or made cell went since the last forward cell, else 2; its instants; k
 abbrev pub paceTag : Pace → ℕ
@@ -114,10 +122,14 @@ waitingPayload (Cell p) = p
 abbrev pub payloadWords : Payload → List ℕ
 payloadWords p = p .a ∷ p .b ∷ p .c ∷ p .d ∷ p .e ∷ p .f ∷ []
 
+-- the data that waits, and the VCI served last, in one word (document 02, L13)
+abbrev pub queueWord : Queue → ℕ
+queueWord l = l .served * 2 ^ 32 + l .cells
+
 -- what moves while a connection is open: the words of its source, the last of them those of its change, then those of its destination
 abbrev pub sourceWords : Connection → List ℕ
 sourceWords c =
-    c .rate .acr ∷ c .unacked ∷ c .queue .cells ∷ paceTag (c .pace) ∷ paceSent (c .pace) ∷ paceForward (c .pace) ∷ paceK (c .pace)
+    c .rate .acr ∷ c .unacked ∷ queueWord (c .queue) ∷ paceTag (c .pace) ∷ paceSent (c .pace) ∷ paceForward (c .pace) ∷ paceK (c .pace)
     ∷ c .change .before ∷ c .change .after ∷ []
 
 -- the last making, or the last cell outside the rate: 0 if there was none, else its instant plus 1
@@ -169,8 +181,20 @@ abbrev pub fixedOf : Entry → List ℕ
 fixedOf free = replicate fixedWidth 0
 fixedOf (taken c) = fixedWords c
 
-abbrev pub columns : List Entry → List ℕ
-columns ss = flat keyOf ss ++ (flat nameOf ss ++ (flat liveOf ss ++ flat fixedOf ss))
+-- A member in one word: the greater the lower its name. So the words of members, which rise by name, fall, and those of no member, which are 0, stand behind.
+abbrev pub memberWord : Member → ℕ
+memberWord m = (noName - m .name) * 65536 + m .cells
+
+unfoldable pub packed : List Member → List ℕ
+packed [] = []
+packed (m ∷ ms) = memberWord m ∷ packed ms
+
+unfoldable pub memberWords : List Member → List ℕ
+memberWords ms = packed ms ++ replicate (memberCapacity - length ms) 0
+
+-- the columns, and behind them the members
+abbrev pub columns : List Entry → List Member → List ℕ
+columns ss ms = flat keyOf ss ++ (flat nameOf ss ++ (flat liveOf ss ++ (flat fixedOf ss ++ memberWords ms)))
 
 -- the entries at which a test passes, one bit each, that of entry 0 lowest
 unfoldable pub bitmap : (Entry → Bool) → List Entry → ℕ
@@ -220,9 +244,9 @@ nodeWord ss (suc p) = leadWord (winnerAt ss (height levels (suc p)) (suc p))
 abbrev pub nodes : List Entry → List ℕ
 nodes ss = row (nodeWord ss) 0 capacity
 
--- the words with these bits of the entries in use, this directory and these winners, and the columns of these entries
-abbrev pub tableWords : (level last : ℕ) (us ds ns : List ℕ) → List Entry → List ℕ
-tableWords a b us ds ns ss = a ∷ b ∷ (us ++ (ds ++ (ns ++ (0 ∷ columns ss))))
+-- the words with these bits of the entries in use, this directory and these winners, and the columns of these entries and members
+abbrev pub tableWords : (level last : ℕ) (us ds ns : List ℕ) → List Entry → List Member → List ℕ
+tableWords a b us ds ns ss ms = a ∷ b ∷ (us ++ (ds ++ (ns ++ (0 ∷ columns ss ms))))
 
 unfoldable pub words : State → List ℕ
-words s = tableWords (s .level) (s .last) (used (s .entries)) (directory (s .entries)) (nodes (s .entries)) (s .entries)
+words s = tableWords (s .level) (s .last) (used (s .entries)) (directory (s .entries)) (nodes (s .entries)) (s .entries) (s .members)

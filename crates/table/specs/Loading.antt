@@ -1,6 +1,6 @@
 -- The connection that an entry's words stand for, whatever they are. Each number is brought into the range in which the engine adds without
 -- wrapping; that changes none of a table that calls made.
-use Prim.Native.Nat.{ℕ, _+_, _-_, _*_, _%_, _^_}
+use Prim.Native.Nat.{ℕ, _+_, _-_, _*_, _/_, _%_, _^_}
 use mathlib.Core.Bool.{cond}
 use mathlib.Core.List.{List}
 use lib.Dec.{ltb, eqb}
@@ -10,6 +10,7 @@ use Rattle.crc.specs.declared.payload.Payload.{Payload}
 use Rattle.cell.specs.Name.{noName}
 use Rattle.connection.specs.declared.parts.Pace.{Pace}
 use Rattle.connection.specs.declared.parts.Pace.the-variants.{Unsent, Running}
+use Rattle.connection.specs.declared.parts.Queue.{Queue}
 use Rattle.connection.specs.declared.parts.Waiting.the-variants.{Nothing, Cell}
 use Rattle.connection.specs.declared.parts.Waiting.{Waiting}
 use Rattle.connection.specs.declared.parts.Connection.{Connection}
@@ -53,6 +54,10 @@ paramsAt l b = record {
   trm = getD l (b + 9) 0 % 2 ^ 32;
 }
 
+-- the waiting data of every path fits in 24 bits, a VCI in 16
+abbrev pub queueOf : (word : ℕ) → Queue
+queueOf w = record { cells = w % 2 ^ 24; served = w / 2 ^ 32 % 2 ^ 16 }
+
 -- a name; the live words, from index a of the first list on; the fixed words, from index b of the second on
 abbrev pub connectionFrom : (name : ℕ) → List ℕ → (a : ℕ) → List ℕ → (b : ℕ) → Connection
 connectionFrom name l a m b = record {
@@ -62,7 +67,7 @@ connectionFrom name l a m b = record {
   rate = record { acr = getD l a 0; params = paramsAt m (b + 2) };
   pace = paceAt l (a + 3);
   unacked = getD l (a + 1) 0 % 2 ^ 32;
-  queue = record { cells = getD l (a + 2) 0 % 2 ^ 32 };
+  queue = queueOf (getD l (a + 2) 0);
   change = changed (getD l (a + 7) 0) (getD l (a + 8) 0);
   destination = record { efci = eqb (getD l (a + 9) 0 % 2) 1; turned = waitingAt l (a + 9); made = madeAt l (a + 16) };
   outside = instantOf (getD l (a + 18) 0);

@@ -43,4 +43,9 @@ pub const FIXED: usize = LIVE + CAPACITY * LIVE_WIDTH;
 
 pub const FIXED_WIDTH: usize = 12;
 
-pub const WORDS: usize = FIXED + CAPACITY * FIXED_WIDTH;
+// Behind the columns the members of paths, a word each.
+pub const MEMBERS: usize = FIXED + CAPACITY * FIXED_WIDTH;
+
+pub const MEMBER_CAPACITY: usize = 256;
+
+pub const WORDS: usize = MEMBERS + MEMBER_CAPACITY;

@@ -18,7 +18,7 @@ use Rattle.model.specs.Tournament.{levels, Lead, noLead, leads, winnerAt, leadW
 use Rattle.model.proofs.Entries.{entry-place}
 use Rattle.model.proofs.Places.{above, Stands, upper, root-stands, OnLead, Comes, lead-entry}
 use Rattle.model.proofs.Scanned.{root-winner}
-use Rattle.table.specs.Layout.{key, liveOf, fixedOf, nodeWord, nodes, words, nodesFrom, keysFrom}
+use Rattle.table.specs.Layout.{key, liveOf, fixedOf, nodeWord, nodes, words, nodesFrom, keysFrom, memberWords}
 use Rattle.table.proofs.Nodes.{above-leaves, node-at, length-nodes}
 use Rattle.table.proofs.Splits.{front, length-front, winners-split}
 use Rattle.tournament.specs.declared.choose.Choice.the-variants.{Entry as InEntry, NoneReady}
@@ -30,7 +30,7 @@ use Rattle.tournament.proofs.Replaying.{count-on, count-end, count-done
 -- ---- the words of a state
 
 abbrev behind : State → List ℕ
-behind s = flat liveOf (s .entries) ++ flat fixedOf (s .entries)
+behind s = flat liveOf (s .entries) ++ (flat fixedOf (s .entries) ++ memberWords (s .members))
 
 sized : (s : State) → WellFormed s → Sized (front s) (nodes (s .entries)) (s .entries)
 sized s w = record { front = length-front s (w .size); winners = length-nodes (s .entries); entries = w .size }

@@ -60,9 +60,12 @@ impl Both {
         }
         if let Some(at) = call.address() {
             self.same_acr(at)?;
+            self.same_path(at)?;
         }
         if let Ok(Answer::Sent(sent)) = outcome {
-            self.same_acr(Address::new(sent.vpi, sent.vci))?;
+            let at = Address::new(sent.vpi, sent.vci);
+            self.same_acr(at)?;
+            self.same_path(at)?;
         }
         Ok(outcome)
     }
@@ -88,6 +91,15 @@ impl Both {
         Err(format!(
             "ACR of {at:?}: library {ours:?}, reference {theirs:?}"
         ))
+    }
+
+    /// The same of the path that an address is on, if it is open.
+    fn same_path(&mut self, at: Address) -> Result<(), Difference> {
+        let path = Address::of_path(at.vpi);
+        if path == at || self.engine.allowed(path).is_err() {
+            return Ok(());
+        }
+        self.same_acr(path)
     }
 
     /// Compares the cells that wait under a name with those that must by its account: the

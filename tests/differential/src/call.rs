@@ -41,6 +41,21 @@ pub enum Call {
         time: u64,
         len: usize,
     },
+    OpenPath {
+        vpi: u32,
+        time: u64,
+        params: abr_params,
+    },
+    Add {
+        at: Address,
+    },
+    OfferMember {
+        at: Address,
+        cells: u64,
+    },
+    Remove {
+        at: Address,
+    },
     Acr {
         at: Address,
     },
@@ -90,7 +105,7 @@ pub enum Call {
 }
 
 /// The sorts of call, in the order of [`Call::sort`].
-pub const SORTS: [&str; 20] = [
+pub const SORTS: [&str; 24] = [
     "open",
     "close",
     "receive",
@@ -99,6 +114,10 @@ pub const SORTS: [&str; 20] = [
     "slot",
     "make",
     "out_of_rate",
+    "open_path",
+    "add",
+    "offer_member",
+    "remove",
     "acr",
     "export",
     "write_rm",
@@ -125,39 +144,47 @@ impl Call {
             Call::Slot { .. } => 5,
             Call::Make { .. } => 6,
             Call::OutOfRate { .. } => 7,
-            Call::Acr { .. } => 8,
-            Call::Export { .. } => 9,
-            Call::WriteRm { .. } => 10,
-            Call::Read { .. } => 11,
-            Call::Code { .. } => 12,
-            Call::Rate { .. } => 13,
-            Call::Import { .. } => 14,
-            Call::FairShare { .. } => 15,
-            Call::Limit { .. } => 16,
-            Call::Port { .. } => 17,
-            Call::Judge { .. } => 18,
-            Call::House { .. } => 19,
+            Call::OpenPath { .. } => 8,
+            Call::Add { .. } => 9,
+            Call::OfferMember { .. } => 10,
+            Call::Remove { .. } => 11,
+            Call::Acr { .. } => 12,
+            Call::Export { .. } => 13,
+            Call::WriteRm { .. } => 14,
+            Call::Read { .. } => 15,
+            Call::Code { .. } => 16,
+            Call::Rate { .. } => 17,
+            Call::Import { .. } => 18,
+            Call::FairShare { .. } => 19,
+            Call::Limit { .. } => 20,
+            Call::Port { .. } => 21,
+            Call::Judge { .. } => 22,
+            Call::House { .. } => 23,
         }
     }
 
     /// Whether it is given a table.
     pub fn has_table(&self) -> bool {
-        self.sort() < 10
+        self.sort() < 14
     }
 
     /// Whether it writes the table when it is accepted.
     pub fn may_change_table(&self) -> bool {
-        self.sort() < 8
+        self.sort() < 12
     }
 
-    /// The connection that it names, if it names one.
+    /// The connection or the member that it names, if it names one.
     pub fn address(&self) -> Option<Address> {
         match *self {
+            Call::OpenPath { vpi, .. } => Some(Address::of_path(vpi)),
             Call::Open { at, .. }
             | Call::Close { at }
             | Call::Offer { at, .. }
             | Call::Make { at, .. }
             | Call::OutOfRate { at, .. }
+            | Call::Add { at }
+            | Call::OfferMember { at, .. }
+            | Call::Remove { at }
             | Call::Acr { at }
             | Call::Export { at } => Some(at),
             Call::Receive { cell } => address_of(cell.as_slice()),
@@ -179,7 +206,7 @@ pub enum Answer {
     Done,
     /// The comparisons of a call that replays matches.
     Comparisons(u32),
-    /// The data cells and the comparisons of a close.
+    /// The data cells and the comparisons of a close or a removal.
     Closed(Closed),
     /// A slot.
     Sent(abr::ffi::abr_sent),

@@ -444,6 +444,52 @@ events! {
     ClosedRefused,
     /// An address was closed with data on it for the second time.
     ClosedAgain,
+    /// A path was opened on a VPI with an open channel.
+    PathBesideChannel,
+    /// A path was opened again.
+    PathReopened,
+    /// A path was closed with data on two or more members.
+    PathClosedLoaded,
+    /// One was closed with members, but no data.
+    PathClosedEmpty,
+    /// A data cell with the name of an open path was refused.
+    PathData,
+    /// More than 65,535 cells wait on the members of a path.
+    PathPastFull,
+    /// The 256th member was added.
+    MembersMax,
+    /// A pair was added that had been removed.
+    MemberAgain,
+    /// One that had been a channel.
+    MemberAfterChannel,
+    /// Exactly 65,535 cells wait on a member.
+    MemberFull,
+    /// A pair was refused as a member already although there are 256.
+    MemberFirst,
+    /// One was refused as a channel although there are 256.
+    ChannelFirst,
+    /// A member was removed with data on it, more waiting on others.
+    RemovedWaiting,
+    /// One with all the data of its path.
+    RemovedLast,
+    /// One without data, some waiting on others.
+    RemovedEmpty,
+    /// The first data of a path was not that of its lowest member.
+    TurnFirst,
+    /// A later turn was that of a higher member.
+    TurnNext,
+    /// One was that of a lower member.
+    TurnRound,
+    /// One was that of the same member, others having no data.
+    TurnAgain,
+    /// One passed over a member without data on the way up.
+    TurnPasses,
+    /// The member served last had been removed.
+    TurnRemoved,
+    /// A data cell of a member brought a mark for its path.
+    MemberMarks,
+    /// One took away the mark that another member's had brought.
+    MemberClears,
     /// Exactly 65,535 cells wait after an offer.
     OfferFills,
     /// An offer of nothing to a full connection.
@@ -451,7 +497,7 @@ events! {
 }
 
 /// The greatest number of a refusal.
-const REFUSAL_MAX: usize = 25;
+const REFUSAL_MAX: usize = 28;
 
 /// Counts of all that was reached.
 #[derive(Debug, Clone)]
@@ -474,6 +520,10 @@ pub struct Coverage {
     /// By sort of call and place of the code, of those refused for the reserved bit that
     /// one of three rate codes alone has.
     pub reserved: [[u64; 3]; SORTS.len()],
+    /// By sort of call, of those accepted for the name of a path, and of those refused for
+    /// the pair of a member.
+    pub on_path: [u64; SORTS.len()],
+    pub on_member: [u64; SORTS.len()],
     /// By damaged octet of a refused cell.
     pub damaged: [u64; 53],
     events: [u64; EVENTS.len()],
@@ -490,6 +540,8 @@ impl Default for Coverage {
             comparisons: [[0; COMPARISONS_MAX as usize + 1]; SORTS.len()],
             out_of_range: [[0; 2]; SORTS.len()],
             reserved: [[0; 3]; SORTS.len()],
+            on_path: [0; SORTS.len()],
+            on_member: [0; SORTS.len()],
             damaged: [0; 53],
             events: [0; EVENTS.len()],
         }
@@ -498,14 +550,18 @@ impl Default for Coverage {
 
 /// The refusals that each sort of call has, in the order of [`SORTS`].
 const REFUSALS: [&[usize]; SORTS.len()] = [
-    &[7, 8, 10, 12, 13, 14, 19],
+    &[7, 8, 10, 12, 13, 14, 19, 27],
     &[11],
     &[1, 2, 4, 5, 6, 11, 19],
-    &[11, 15],
+    &[11, 15, 28],
     &[9],
     &[1, 8, 14],
     &[8, 11, 14, 16, 17],
     &[1, 8, 11, 14, 18],
+    &[7, 8, 12, 13, 14, 19],
+    &[10, 11, 12, 26, 27],
+    &[11, 15, 28],
+    &[11, 28],
     &[11],
     &[11],
     &[1, 7],
@@ -520,12 +576,19 @@ const REFUSALS: [&[usize]; SORTS.len()] = [
     &[],
 ];
 
-/// The sorts of call that name a connection by its two numbers, by their places in
-/// [`SORTS`].
-const NAMING: [usize; 7] = [0, 1, 3, 6, 7, 8, 9];
+/// The sorts of call that name a connection or a member by its two numbers, or a path by
+/// one, by their places in [`SORTS`].
+const NAMING: [usize; 11] = [0, 1, 3, 6, 7, 8, 9, 10, 11, 12, 13];
 
-/// Those that read three rate codes: open, receive, read, limit and port.
-const READING: [usize; 5] = [0, 2, 11, 16, 17];
+/// Those that read three rate codes: open, receive, open of a path, read, limit and port.
+const READING: [usize; 6] = [0, 2, 8, 15, 20, 21];
+
+/// Those that take the name of a path as that of a channel: close, receive, make,
+/// out-of-rate cell, ACR and export.
+const TAKING_PATHS: [usize; 6] = [1, 2, 6, 7, 12, 13];
+
+/// Those that take a member's pair as that of no connection: the same, and offer.
+const REFUSING_MEMBERS: [usize; 7] = [1, 2, 3, 6, 7, 12, 13];
 
 impl Coverage {
     /// Counts a call and its outcome.
@@ -559,6 +622,16 @@ impl Coverage {
         }
     }
 
+    /// Counts a call that was accepted for the name of a path.
+    pub fn count_path(&mut self, call: &Call) {
+        self.on_path[call.sort()] += 1;
+    }
+
+    /// Counts a call that was refused for the pair of a member.
+    pub fn count_member(&mut self, call: &Call) {
+        self.on_member[call.sort()] += 1;
+    }
+
     /// Counts an event if it happened.
     pub fn reach(&mut self, event: Event, happened: bool) {
         self.events[event as usize] += u64::from(happened);
@@ -590,49 +663,68 @@ impl Coverage {
             add(to, from);
         }
         add(&mut self.kinds, &other.kinds);
+        add(&mut self.on_path, &other.on_path);
+        add(&mut self.on_member, &other.on_member);
         add(&mut self.damaged, &other.damaged);
         add(&mut self.events, &other.events);
     }
 
     /// What was reached fewer than `least` times, by name.
     pub fn missing(&self, least: u64) -> Vec<String> {
-        let mut missing = Vec::new();
-        let mut require = |count: u64, name: String| {
-            if count < least {
-                missing.push(format!("{name}: {count}"));
-            }
-        };
+        let counts = [self.of_calls(), self.of_arguments(), self.of_edges()];
+        let few = counts.into_iter().flatten().filter(|few| few.0 < least);
+        few.map(|(count, name)| format!("{name}: {count}"))
+            .collect()
+    }
+
+    /// The counts of outcomes that must be reached, by name.
+    fn of_calls(&self) -> Vec<(u64, String)> {
+        let mut counts = Vec::new();
         for (sort, refusals) in REFUSALS.iter().enumerate() {
-            require(self.outcomes[sort][0], format!("{} accepted", SORTS[sort]));
+            let outcomes = &self.outcomes[sort];
+            counts.push((outcomes[0], format!("{} accepted", SORTS[sort])));
             for number in *refusals {
                 let name = format!("{} refused {number}", SORTS[sort]);
-                require(self.outcomes[sort][*number], name);
+                counts.push((outcomes[*number], name));
             }
         }
+        counts
+    }
+
+    /// Those of arguments of some sorts of call.
+    fn of_arguments(&self) -> Vec<(u64, String)> {
+        let mut counts = Vec::new();
+        let mut add = |count: u64, sort: usize, what: &str| {
+            counts.push((count, format!("{} {what}", SORTS[sort])));
+        };
         for sort in NAMING {
             let [cut, added] = self.out_of_range[sort];
-            require(cut, format!("{} of a pair that is one if cut", SORTS[sort]));
-            require(
-                added,
-                format!("{} of a pair that is one if added", SORTS[sort]),
-            );
+            add(cut, sort, "of a pair that is one if cut");
+            add(added, sort, "of a pair that is one if added");
         }
         for sort in READING {
             for (place, count) in self.reserved[sort].iter().enumerate() {
-                let name = format!("{} with the bit in code {place} alone", SORTS[sort]);
-                require(*count, name);
+                add(*count, sort, &format!("with the bit in code {place} alone"));
             }
         }
-        for (kind, count) in self.kinds.iter().enumerate() {
-            require(*count, format!("slot of kind {kind}"));
+        for sort in TAKING_PATHS {
+            add(self.on_path[sort], sort, "of a path");
         }
-        for (octet, count) in self.damaged.iter().enumerate() {
-            require(*count, format!("damaged octet {}", octet + 1));
+        for sort in REFUSING_MEMBERS {
+            add(self.on_member[sort], sort, "refused for a member");
         }
-        for event in EVENTS {
-            require(self.reached(*event), format!("{event:?}"));
-        }
-        missing
+        counts
+    }
+
+    /// Those of kinds of cell, damaged octets and events.
+    fn of_edges(&self) -> Vec<(u64, String)> {
+        let kinds = self.kinds.iter().enumerate();
+        let kinds = kinds.map(|(kind, count)| (*count, format!("slot of kind {kind}")));
+        let octets = self.damaged.iter().zip(1..);
+        let octets = octets.map(|(count, octet)| (*count, format!("damaged octet {octet}")));
+        let events = EVENTS.iter();
+        let events = events.map(|event| (self.reached(*event), format!("{event:?}")));
+        kinds.chain(octets).chain(events).collect()
     }
 
     /// The events with their counts, in one line.

@@ -25,8 +25,21 @@ pub fn call(engine: &mut Engine, call: &Call, buffer: &mut Buffer) -> Outcome {
             .slot(time, buffer.octets(len))
             .map(|sent| Answer::Sent(library_sent(sent))),
         Call::OutOfRate { at, time, len } => done(engine.out_of_rate(at, time, buffer.octets(len))),
+        Call::OpenPath { vpi, time, params } => engine
+            .open_path(vpi, time, &reference_params(&params))
+            .map(Answer::Comparisons),
+        Call::Add { at } => engine.add(at).map(|()| Answer::Comparisons(0)),
+        Call::OfferMember { at, cells } => engine.offer_member(at, cells).map(Answer::Comparisons),
+        Call::Remove { at } => engine.remove(at).map(Answer::Closed),
         Call::Acr { at } => engine.allowed(at).map(Answer::Allowed),
         Call::Export { at } => engine.export(at).map(exported),
+        _ => without_table(call, buffer),
+    }
+}
+
+/// Makes a call that is given no table.
+fn without_table(call: &Call, buffer: &mut Buffer) -> Outcome {
+    match *call {
         Call::WriteRm { rm, len } => {
             done(reference::write_rm(&reference_rm(&rm), buffer.octets(len)))
         }
@@ -47,6 +60,7 @@ pub fn call(engine: &mut Engine, call: &Call, buffer: &mut Buffer) -> Outcome {
         Call::Judge { trace } => judge::judge(&Drawn::new(trace).octets)
             .map(|breach| Answer::Verdict(library_verdict(breach))),
         Call::House { pcr, mcr, icr } => Ok(house(Params::house(pcr, mcr, icr))),
+        _ => unreachable!("{call:?} is given a table"),
     }
 }
 

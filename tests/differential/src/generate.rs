@@ -4,11 +4,12 @@
 mod addresses;
 mod cells;
 mod doubles;
+mod members;
 mod ports;
 mod times;
 
 use abr::ffi::abr_params;
-use abr::{CELL_OCTETS, MAKE_INTERVAL, OUT_OF_RATE_INTERVAL, RATE_MAX, WAITING_MAX};
+use abr::{CELL_OCTETS, MAKE_INTERVAL, OUT_OF_RATE_INTERVAL, PATH_VCI, RATE_MAX, WAITING_MAX};
 use reference::Address;
 
 use crate::call::Call;
@@ -23,8 +24,13 @@ pub struct Generator {
     profile: Profile,
     /// The addresses of the list, rising.
     addresses: Vec<Address>,
+    /// The VPIs of its paths, and the pairs of their members.
+    paths: Vec<u32>,
+    members: Vec<Address>,
     /// Those that are still to be opened before all else, the last one first.
     filling: Vec<Address>,
+    /// Those that are still to be made members then, the last one first.
+    joining: Vec<Address>,
     /// The octet that the last cell was damaged in.
     pub damaged: Option<usize>,
 }
@@ -41,11 +47,22 @@ impl Generator {
             _ => {}
         }
         filling.truncate(profile.filled as usize);
+        let paths = members::paths(&mut rng, &addresses, profile.paths);
+        let members = members::members(&mut rng, &paths, &addresses, profile.members);
+        let mut joining = members.clone();
+        rng.shuffle(&mut joining);
+        joining.truncate(profile.joined as usize);
+        if !joining.is_empty() {
+            filling.extend(paths.iter().map(|vpi| Address::of_path(*vpi)));
+        }
         Generator {
             rng,
             profile,
             addresses,
+            paths,
+            members,
             filling,
+            joining,
             damaged: None,
         }
     }
@@ -53,9 +70,8 @@ impl Generator {
     /// The next call, given what the calls before it did.
     pub fn next(&mut self, seen: &Observation) -> Call {
         self.damaged = None;
-        if let Some(at) = self.filling.pop() {
-            let (time, params) = (self.opening_time(seen), self.params());
-            return Call::Open { at, time, params };
+        if let Some(call) = self.before_all_else(seen) {
+            return call;
         }
         match self.rng.weighted(&self.profile.weights) {
             0 => self.open(seen),
@@ -75,32 +91,48 @@ impl Generator {
             },
             6 => self.make(seen),
             7 => self.out_of_rate(seen),
-            8 => Call::Acr {
+            8 => self.open_path(seen),
+            9 => self.add(seen),
+            10 => self.offer_member(seen),
+            11 => self.remove(seen),
+            12 => Call::Acr {
                 at: self.address(seen),
             },
-            9 => Call::Export {
+            13 => Call::Export {
                 at: self.address(seen),
             },
             other => self.without_table(other, seen),
         }
     }
 
+    /// The next open or added member that the list begins with.
+    fn before_all_else(&mut self, seen: &Observation) -> Option<Call> {
+        let Some(at) = self.filling.pop() else {
+            return self.joining.pop().map(|at| Call::Add { at });
+        };
+        let (time, params) = (self.opening_time(seen), self.params());
+        Some(match at {
+            Address { vpi, vci } if vci == PATH_VCI => Call::OpenPath { vpi, time, params },
+            at => Call::Open { at, time, params },
+        })
+    }
+
     /// A call that is given no table, by its place in the order of the sorts.
     fn without_table(&mut self, sort: usize, seen: &Observation) -> Call {
         match sort {
-            10 => self.write_rm(seen),
-            11 => Call::Read {
+            14 => self.write_rm(seen),
+            15 => Call::Read {
                 cell: self.cell(seen),
             },
-            12 => Call::Code { rate: self.rate() },
-            13 => Call::Rate { code: self.code() },
-            14 => Call::Import {
+            16 => Call::Code { rate: self.rate() },
+            17 => Call::Rate { code: self.code() },
+            18 => Call::Import {
                 bits: self.double(),
             },
-            15 => self.fair_share(),
-            16 => self.limit(seen),
-            17 => self.port(seen),
-            18 => Call::Judge {
+            19 => self.fair_share(),
+            20 => self.limit(seen),
+            21 => self.port(seen),
+            22 => Call::Judge {
                 trace: self.rng.next(),
             },
             _ => self.house(),
@@ -117,6 +149,12 @@ impl Generator {
         } else {
             self.address_to_open(seen)
         };
+        let (time, params) = self.opening(seen);
+        Call::Open { at, time, params }
+    }
+
+    /// Time and parameters of an open.
+    fn opening(&mut self, seen: &Observation) -> (u64, abr_params) {
         let time = if !first(seen) && self.fault() {
             self.time(seen)
         } else {
@@ -129,7 +167,7 @@ impl Generator {
         if self.fault() {
             self.reserve(&mut params);
         }
-        Call::Open { at, time, params }
+        (time, params)
     }
 
     /// The time of an open that is accepted.
@@ -224,7 +262,14 @@ impl Generator {
             .connections
             .get(&at)
             .map_or(0, |connection| connection.data);
-        let room = WAITING_MAX - waiting;
+        let cells = self.cells_to_offer(waiting);
+        Call::Offer { at, cells }
+    }
+
+    /// Cells to be offered where so many wait: mostly few, sometimes just what there is room
+    /// for, or more.
+    fn cells_to_offer(&mut self, waiting: u64) -> u64 {
+        let room = WAITING_MAX.saturating_sub(waiting);
         let few = self.rng.below(9);
         let any = self.rng.next();
         let edges = [
@@ -240,11 +285,10 @@ impl Generator {
             u64::MAX - waiting,
             any,
         ];
-        let cells = match self.rng.once_in(12) {
+        match self.rng.once_in(12) {
             true => self.rng.pick(&edges),
             false => few,
-        };
-        Call::Offer { at, cells }
+        }
     }
 
     fn make(&mut self, seen: &Observation) -> Call {

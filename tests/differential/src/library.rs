@@ -65,10 +65,31 @@ impl Library {
                 let octets = buffer.octets(len).as_mut_ptr();
                 done(unsafe { ffi::abr_out_of_rate(table, vpi, vci, time, octets, len) })
             }
+            Call::OpenPath { .. }
+            | Call::Add { .. }
+            | Call::OfferMember { .. }
+            | Call::Remove { .. } => self.of_path(call)?,
             Call::Acr { at } => self.acr(at)?,
             Call::Export { at } => self.export(at)?,
             _ => without_table(call, buffer)?,
         })
+    }
+
+    /// Makes a call on a path or a member.
+    fn of_path(&mut self, call: &Call) -> Result<Outcome, Difference> {
+        let table: *mut abr_table = &mut *self.table;
+        // SAFETY: the pointer is live.
+        match *call {
+            Call::OpenPath { vpi, time, params } => {
+                answered(unsafe { ffi::abr_open_path(table, vpi, time, params) })
+            }
+            Call::Add { at } => answered(unsafe { ffi::abr_add(table, at.vpi, at.vci) }),
+            Call::OfferMember { at, cells } => {
+                answered(unsafe { ffi::abr_offer_member(table, at.vpi, at.vci, cells) })
+            }
+            Call::Remove { at } => answered(unsafe { ffi::abr_remove(table, at.vpi, at.vci) }),
+            _ => Err("a call on neither".to_owned()),
+        }
     }
 
     /// The allowed rate of an address, open or not, and its last change.
@@ -77,14 +98,17 @@ impl Library {
         answered(unsafe { ffi::abr_acr(&*self.table, at.vpi, at.vci) })
     }
 
-    /// Closes an address, open or not, and gives the data cells that waited.
+    /// Closes an address or removes it as a member, whichever it is, if it is either, and
+    /// gives the data cells that waited.
     pub fn drain(&mut self, at: Address) -> Result<u64, Difference> {
-        let closed = self.call(&Call::Close { at }, &mut Buffer::new(0))?;
-        match closed {
-            Ok(Answer::Closed(closed)) => Ok(closed.cells),
-            Err(11) => Ok(0),
-            other => Err(format!("close of {at:?}: {other:?}")),
+        for call in [Call::Close { at }, Call::Remove { at }] {
+            match self.call(&call, &mut Buffer::new(0))? {
+                Ok(Answer::Closed(closed)) => return Ok(closed.cells),
+                Err(11 | 28) => {}
+                other => return Err(format!("{call:?}: {other:?}")),
+            }
         }
+        Ok(0)
     }
 
     /// The contract of an address, open or not. The refusal is written in every case.

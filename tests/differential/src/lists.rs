@@ -19,7 +19,7 @@ const LIST: u64 = 2_000;
 
 /// The calls of a list of this profile.
 pub fn length(profile: Profile) -> u64 {
-    u64::from(profile.filled) + LIST
+    profile.first() + LIST
 }
 
 /// After so many calls every connection is compared.
@@ -55,8 +55,10 @@ impl List {
     /// Makes a call on both sides and adds it to what is known.
     pub fn step(&mut self, call: &Call, coverage: &mut Coverage) -> Result<Outcome, Difference> {
         let outcome = self.both.call(call)?;
-        let at = concerned(call, &outcome).unwrap_or_default();
+        let named = concerned(call, &outcome).unwrap_or_default();
+        let at = self.seen.connection_of(named);
         self.accounts.add(call, &outcome)?;
+        self.both.same_waiting(named, &self.accounts)?;
         self.both.same_waiting(at, &self.accounts)?;
         let allowed = self.both.allowed(at);
         let acr = allowed.map(|allowed| allowed.acr);
@@ -68,10 +70,12 @@ impl List {
         Ok(outcome)
     }
 
-    /// Compares the allowed rates and the waiting data of all open connections, and of
-    /// addresses that were closed.
+    /// Compares the allowed rates and the waiting data of all open connections, of members
+    /// and of addresses that were closed.
     fn same_everywhere(&mut self) -> Result<(), Difference> {
-        let mut addresses = self.seen.connections.keys().chain(&self.seen.closed);
+        let seen = &self.seen;
+        let pairs = seen.connections.keys().chain(seen.members.keys());
+        let mut addresses = pairs.chain(&seen.closed);
         addresses.try_for_each(|at| {
             self.both.same_acr(*at)?;
             self.both.same_waiting(*at, &self.accounts)
@@ -134,7 +138,7 @@ pub fn traces(
     Ok(list.recorder.traces())
 }
 
-/// The connection that a call concerns.
+/// The connection or the member that a call concerns.
 pub fn concerned(call: &Call, outcome: &Outcome) -> Option<Address> {
     match outcome {
         Ok(Answer::Sent(sent)) => Some(Address::new(sent.vpi, sent.vci)),

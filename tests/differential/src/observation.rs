@@ -7,6 +7,7 @@ mod change;
 mod closing;
 mod doubles;
 mod made;
+mod members;
 mod outside;
 mod ports;
 mod reserved;
@@ -60,6 +61,10 @@ pub struct Connection {
     /// Whether its rate was 0 at some time since its last cell in a slot.
     stopped: bool,
     pub efci: bool,
+    /// The member of a path whose data cell set it.
+    marked_by: Option<Address>,
+    /// The member of a path that was served last, by its VCI.
+    served: Option<u32>,
     pub unanswered: u32,
 }
 
@@ -85,6 +90,8 @@ impl Connection {
             last_outside: None,
             stopped: acr == 0,
             efci: false,
+            marked_by: None,
+            served: None,
             unanswered: 0,
         }
     }
@@ -131,6 +138,10 @@ impl Connection {
 pub struct Observation {
     pub connections: BTreeMap<Address, Connection>,
     pub closed: BTreeSet<Address>,
+    /// The members of paths, with the cells that wait on each.
+    pub members: BTreeMap<Address, u64>,
+    /// Those that were removed.
+    removed: BTreeSet<Address>,
     /// Closed with data, a backward cell or unanswered cells on them.
     loaded: BTreeSet<Address>,
     /// Closed with data on them.
@@ -159,23 +170,22 @@ impl Observation {
         judged(call, coverage);
         let answer = match outcome {
             Ok(answer) => answer,
-            Err(number) => {
-                self.refused_address(call, *number, coverage);
-                self.refused_reserved(call, *number, coverage);
-                self.refused_change(call, coverage);
-                doubles::refused(call, coverage);
-                ports::refused(call, *number, coverage);
-                self.refused_offer(call, *number);
-                self.refused(call, *number, coverage);
-                return self.refused_outside(call, *number, coverage);
-            }
+            Err(number) => return self.add_refused(call, *number, coverage),
         };
+        self.accepted_path(call, coverage);
         reserved::accepted(call, coverage);
         ports::accepted(call, coverage);
         match (*call, *answer) {
             (Call::Open { at, time, params }, _) => {
                 self.opened(at, time, params, acr, coverage);
             }
+            (Call::OpenPath { vpi, time, params }, _) => {
+                self.path_opened(vpi, coverage);
+                self.opened(Address::of_path(vpi), time, params, acr, coverage);
+            }
+            (Call::Add { at }, _) => self.added(at, coverage),
+            (Call::OfferMember { at, cells }, _) => self.member_offered(at, cells, coverage),
+            (Call::Remove { at }, _) => self.removed(at, coverage),
             (Call::Close { at }, _) => self.close(at, coverage),
             (Call::Offer { at, cells }, _) => self.offered(at, cells, coverage),
             (Call::SetLevel { level }, _) => self.level = level,
@@ -189,6 +199,19 @@ impl Observation {
             }
             _ => {}
         }
+    }
+
+    /// Adds a call that was refused.
+    fn add_refused(&mut self, call: &Call, number: u32, coverage: &mut Coverage) {
+        self.refused_address(call, number, coverage);
+        self.refused_reserved(call, number, coverage);
+        self.refused_change(call, coverage);
+        doubles::refused(call, coverage);
+        ports::refused(call, number, coverage);
+        self.refused_offer(call, number);
+        self.refused_member(call, number, coverage);
+        self.refused(call, number, coverage);
+        self.refused_outside(call, number, coverage);
     }
 
     fn opened(
@@ -217,6 +240,7 @@ impl Observation {
             return;
         };
         self.closing(at, &connection, coverage);
+        self.path_closed(at, coverage);
         if connection.change != 0 {
             self.changed.insert(at);
         }
@@ -240,11 +264,15 @@ impl Observation {
 
     fn received(&mut self, cell: &[u8], acr: u64, coverage: &mut Coverage) {
         let header = u32::from_be_bytes([cell[0], cell[1], cell[2], cell[3]]);
-        let (at, bits) = (address_of(cell).unwrap_or_default(), cell[6]);
+        let (named, bits) = (address_of(cell).unwrap_or_default(), cell[6]);
+        let at = self.connection_of(named);
         coverage.reach(Event::GfcIgnored, header >> 28 != 0);
         let rm = header >> 1 & 7 == 6;
         if rm && bits & 0x80 == 0 {
             return self.forward_received(at, bits, coverage);
+        }
+        if at != named {
+            self.member_received(named, header >> 2 & 1 == 1, coverage);
         }
         let Some(connection) = self.connections.get_mut(&at) else {
             return;
@@ -275,7 +303,11 @@ impl Observation {
             .min();
         coverage.reach(Event::ReadyExact, earliest == Some(time));
         coverage.reach(Event::ReadyLessOne, earliest == Some(time + 1));
-        let at = Address::new(sent.vpi, sent.vci);
+        let named = Address::new(sent.vpi, sent.vci);
+        let at = self.connection_of(named);
+        if at != named {
+            self.member_sent(named, coverage);
+        }
         self.ties(time, earliest, at, coverage);
         zero::passed_over(self.connections.values(), time, coverage);
         if let Some(connection) = self.connections.get_mut(&at) {

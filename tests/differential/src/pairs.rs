@@ -6,7 +6,8 @@
 //! allowed rate of the second is above that of the first, and every allowed rate is
 //! between its minimum, which may be 0, and its peak. Refusals and kinds are the same;
 //! comparisons may differ, since ready instants follow the rates. So the waiting data is the
-//! same too, and what a close answers of it (document 02, L12). Two out-of-rate
+//! same too, what a close answers of it (document 02, L12), and whose turn it is among a
+//! path's members (document 02, L13), the connection of whose slots is the path. Two out-of-rate
 //! cells differ in CCR and CRC-10 only. The change that the last feedback made (document
 //! 02, L9) is never more than from minimum to peak or back; the two lists' changes are in
 //! no order.
@@ -53,6 +54,8 @@ pub struct Tally {
     pub outside: u64,
     /// Those with different CCR.
     pub outside_lower: u64,
+    /// Data slots of members in both lists.
+    pub members: u64,
 }
 
 impl Tally {
@@ -68,6 +71,7 @@ impl Tally {
         self.made += other.made;
         self.outside += other.outside;
         self.outside_lower += other.outside_lower;
+        self.members += other.members;
     }
 }
 
@@ -87,7 +91,7 @@ pub fn run(seed: u64, profile: Profile, tally: &mut Tally) -> Result<(), Differe
     let mut rng = Rng::new(!seed);
     let mut pair = Pair::default();
     tally.pairs += 1;
-    for index in 0..LIST + u64::from(profile.filled) {
+    for index in 0..LIST + profile.first() {
         let call = generator.next(&pair.seen);
         let worse = congested(&call, &mut rng, tally);
         let goes_on = pair.step(&call, &worse, tally).map_err(|difference| {
@@ -110,9 +114,10 @@ impl Pair {
         let mut buffers = [Buffer::new(0); 2];
         let first = self.first.call(call, &mut buffers[0])?;
         let second = self.second.call(worse, &mut buffers[1])?;
+        let to = [&first, &second].map(|outcome| self.goes_to(outcome));
         self.accounts[0].add(call, &first)?;
         self.accounts[1].add(worse, &second)?;
-        if goes_to(&first) != goes_to(&second) {
+        if to[0] != to[1] {
             return Ok(false);
         }
         if sends(&first) != sends(&second) {
@@ -122,7 +127,9 @@ impl Pair {
         if matches!(call, Call::OutOfRate { .. }) && first.is_ok() {
             outside(buffers, tally)?;
         }
-        let at = concerned(call, &first).unwrap_or_default();
+        let named = concerned(call, &first).unwrap_or_default();
+        let at = self.seen.connection_of(named);
+        tally.members += u64::from(to[0].is_some() && at != named);
         let allowed = allowed(&self.first.acr(at)?);
         let acr = allowed.map_or(0, |allowed| allowed.acr);
         self.seen.add(call, &first, acr, &mut Coverage::default());
@@ -131,6 +138,18 @@ impl Pair {
         }
         self.compare(tally)?;
         Ok(true)
+    }
+
+    /// The connection that a slot goes to, a path if it is for a member; none if it is
+    /// idle or refused.
+    fn goes_to(&self, outcome: &Outcome) -> Option<Address> {
+        match outcome {
+            Ok(Answer::Sent(sent)) if sent.kind != 0 => {
+                let named = Address::new(sent.vpi, sent.vci);
+                Some(self.seen.connection_of(named))
+            }
+            _ => None,
+        }
     }
 
     /// Closes in both lists what is still open: every account comes out even.
@@ -173,19 +192,12 @@ fn allowed(outcome: &Outcome) -> Option<Allowed> {
     }
 }
 
-/// The connection that a slot goes to; none if it is idle or refused.
-fn goes_to(outcome: &Outcome) -> Option<Address> {
-    match outcome {
-        Ok(Answer::Sent(sent)) if sent.kind != 0 => Some(Address::new(sent.vpi, sent.vci)),
-        _ => None,
-    }
-}
-
 /// What two calls of a pair must have in common beside the connection: the kind
-/// of cell, 0 if none is sent; the data cells of a close, 0 of any other; or the refusal.
+/// of cell, 0 if none is sent, and its VCI, that of the member if it is a path's data; the
+/// data cells of a close, 0 of any other; or the refusal.
 fn sends(outcome: &Outcome) -> Result<(u32, u64), u32> {
     match outcome {
-        Ok(Answer::Sent(sent)) => Ok((sent.kind, 0)),
+        Ok(Answer::Sent(sent)) => Ok((sent.kind, sent.vci.into())),
         Ok(Answer::Closed(closed)) => Ok((0, closed.cells)),
         Ok(_) => Ok((0, 0)),
         Err(number) => Err(*number),

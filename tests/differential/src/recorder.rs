@@ -30,7 +30,7 @@ impl Recorder {
     /// open then.
     pub fn add(&mut self, call: &Call, outcome: &Outcome, at: Address, rate: Option<u64>) {
         match (*call, *outcome) {
-            (Call::Open { params, .. }, Ok(_)) => {
+            (Call::Open { params, .. } | Call::OpenPath { params, .. }, Ok(_)) => {
                 let trace = Trace::new(params.n.into(), params.trm.into());
                 let (rate, last) = (rate.unwrap_or_default(), None);
                 self.open.insert(at, Recording { trace, rate, last });

@@ -7,7 +7,7 @@ use differential::{lists, parallel};
 
 /// How many lists of each profile, fewer of those with a full table, and how many
 /// of them in one job.
-const LISTS: u64 = 4_750;
+const LISTS: u64 = 3_750;
 const JOB: u64 = 10;
 
 /// Each event, refusal and kind must be reached so often.

@@ -38,6 +38,7 @@ fn more_congestion_never_allows_a_higher_rate() {
     assert!(tally.made >= 100_000, "{tally:?}");
     assert!(tally.outside >= 100_000, "{tally:?}");
     assert!(tally.outside_lower >= 10_000, "{tally:?}");
+    assert!(tally.members >= 200_000, "{tally:?}");
     assert!(tally.cut_off < tally.pairs / 10, "{tally:?}");
 }
 

@@ -1,9 +1,9 @@
 //! Up to 1,024 open connections and down again, in several orders of opening and
 //! closing, on addresses as somebody might choose them who wants the calls to be slow;
-//! both sides compared, with the comparisons (document 02, L4). ABR_SEED gives
-//! other lists.
+//! both sides compared, with the comparisons (document 02, L4). Some of the connections
+//! are paths, each with a member (document 02, L13). ABR_SEED gives other lists.
 
-use abr::{CELL_OCTETS, CONNECTIONS_MAX, MAKE_INTERVAL, VCI_MAX, VCI_MIN, VPI_MAX};
+use abr::{CELL_OCTETS, CONNECTIONS_MAX, MAKE_INTERVAL, PATH_VCI, VCI_MAX, VCI_MIN, VPI_MAX};
 use differential::call::Call;
 use differential::coverage::{Coverage, Event};
 use differential::generate::Generator;
@@ -11,7 +11,7 @@ use differential::library::Difference;
 use differential::lists::{self, List};
 use differential::octets::{put_header, Header, Octets};
 use differential::parallel;
-use differential::profile::{Profile, PROFILES};
+use differential::profile::{weights, Profile, NO_OTHERS, PROFILES};
 use differential::rng::Rng;
 use reference::Address;
 
@@ -35,7 +35,9 @@ const LEAST: u64 = 200;
 /// The calls between two changes of what is open: neither opens nor closes.
 const NO_CHANGE: Profile = Profile {
     name: "no change",
-    weights: [0, 0, 24, 8, 2, 46, 4, 4, 0, 0, 0, 0, 0, 0, 0, 0, 0, 0, 0, 0],
+    weights: weights([0, 0, 24, 8, 2, 46, 4, 4], [0, 0, 6, 0], NO_OTHERS),
+    paths: 1,
+    members: 1,
     ..PROFILES[1]
 };
 
@@ -43,11 +45,12 @@ const NO_CHANGE: Profile = Profile {
 type Addresses = fn(&mut Rng) -> Vec<Address>;
 
 /// The sorts of addresses.
-const SETS: [(&str, Addresses); 4] = [
+const SETS: [(&str, Addresses); 5] = [
     ("adjacent", adjacent),
     ("one VCI on every path", across_paths),
     ("far apart", far_apart),
     ("both ends", both_ends),
+    ("paths and channels", paths_and_channels),
 ];
 
 /// VCIs one after the other on one VPI.
@@ -87,6 +90,28 @@ fn both_ends(_: &mut Rng) -> Vec<Address> {
     let low = (VCI_MIN..VCI_MIN + half).map(|vci| Address::new(0, vci));
     let high = (VCI_MAX + 1 - half..=VCI_MAX).map(|vci| Address::new(VPI_MAX, vci));
     low.chain(high).collect()
+}
+
+/// A path on every VPI, and the same VCIs on all of them.
+fn paths_and_channels(rng: &mut Rng) -> Vec<Address> {
+    let first = rng.within(MEMBER_VCI + 1, VCI_MAX - ADDRESSES);
+    let channels =
+        (0..ADDRESSES - VPI_MAX - 1).map(|i| Address::new(i & VPI_MAX, first + i / (VPI_MAX + 1)));
+    let mut addresses: Vec<Address> = (0..=VPI_MAX).map(Address::of_path).collect();
+    addresses.extend(channels);
+    addresses.sort_unstable();
+    addresses
+}
+
+/// The VCI of a path's one member.
+const MEMBER_VCI: u32 = VCI_MIN;
+
+/// The pair that has the data of a connection: itself, or the member if it is a path.
+fn data_of(at: Address) -> Address {
+    match at.vci {
+        PATH_VCI => Address::new(at.vpi, MEMBER_VCI),
+        _ => at,
+    }
 }
 
 /// Brings rising addresses into another order.
@@ -167,10 +192,47 @@ impl Changing {
         addresses.try_for_each(|at| self.list.both.same_acr(*at))
     }
 
+    /// Opens an address; if it is a path, its member is added.
     fn open(&mut self, at: Address) -> Result<(), Difference> {
         let time = self.list.seen.last;
         let params = self.generator.params();
-        self.step(&Call::Open { at, time, params })
+        if at.vci != PATH_VCI {
+            return self.step(&Call::Open { at, time, params });
+        }
+        let vpi = at.vpi;
+        self.step(&Call::OpenPath { vpi, time, params })?;
+        self.step(&Call::Add { at: data_of(at) })
+    }
+
+    /// Offers cells to an address, or to its member.
+    fn offer(&mut self, at: Address, cells: u64) -> Result<(), Difference> {
+        let call = match at.vci {
+            PATH_VCI => Call::OfferMember {
+                at: data_of(at),
+                cells,
+            },
+            _ => Call::Offer { at, cells },
+        };
+        self.step(&call)
+    }
+
+    /// Removes the member of a path and adds it again, twice. A channel is refused as a
+    /// member, and if it is closed it must not become one.
+    fn remove(&mut self, at: Address) -> Result<(), Difference> {
+        let pair = data_of(at);
+        if pair != at {
+            for _ in 0..2 {
+                self.step(&Call::Remove { at: pair })?;
+                self.step(&Call::Add { at: pair })?;
+                self.offer(at, 1)?;
+            }
+            return Ok(());
+        }
+        self.step(&Call::Remove { at })?;
+        match self.is_open(at) {
+            true => self.step(&Call::Add { at }),
+            false => Ok(()),
+        }
     }
 
     /// A slot so much later than the last call with a time.
@@ -199,7 +261,7 @@ impl Changing {
                 (true, false) => {
                     self.open(at)?;
                     let cells = self.rng.below(3);
-                    self.step(&Call::Offer { at, cells })?;
+                    self.offer(at, cells)?;
                 }
                 (false, true) => self.step(&Call::Close { at })?,
                 _ => continue,
@@ -216,7 +278,7 @@ impl Changing {
     }
 
     /// On every address a refused open (12, or 13 if the table is full) or close (11),
-    /// an offer, a data cell, a making and an out-of-rate cell; then slots for all, a
+    /// offers, a data cell, a removal, a making and an out-of-rate cell; then slots for all, a
     /// millisecond apart: longer than any gap of a connection with a minimum.
     fn every_address(&mut self) -> Result<(), Difference> {
         let full = self.count() == CONNECTIONS_MAX;
@@ -230,9 +292,10 @@ impl Changing {
             if !open {
                 self.step(&Call::Close { at })?;
             }
-            self.step(&Call::Offer { at, cells: 1 })?;
-            let cell = data_cell(at);
+            self.offer(at, 1)?;
+            let cell = data_cell(data_of(at));
             self.step(&Call::Receive { cell })?;
+            self.remove(at)?;
             let time = self.list.seen.last;
             self.step(&Call::Make { at, time })?;
             let len = CELL_OCTETS;
@@ -326,11 +389,13 @@ fn jobs() -> Vec<(u64, usize, Course)> {
 }
 
 /// An open makes one comparison, since nothing waits on it; a slot ten or, if it
-/// is idle, none; a close, a received cell, an offer and a making any number from
-/// one to ten; an out-of-rate cell none.
+/// is idle, none; a close, a received cell, an offer, a making and a removal any number
+/// from one to ten; an out-of-rate cell and adding a member none.
 fn every_number_of_comparisons(total: &Coverage) {
-    let [open, close, receive, offer, level, slot, make, out_of_rate, ..] = total.comparisons;
-    for counts in [close, receive, offer, make] {
+    let [open, close, receive, offer, level, slot, make, out_of_rate, members @ ..] =
+        total.comparisons;
+    let [open_path, add, offer_member, remove, ..] = members;
+    for counts in [close, receive, offer, make, offer_member, remove] {
         assert!(
             counts[1..].iter().all(|count| *count >= LEAST),
             "{counts:?}"
@@ -342,6 +407,8 @@ fn every_number_of_comparisons(total: &Coverage) {
         assert_eq!(named, counts.iter().sum(), "{counts:?}");
     };
     only(&open, &[1]);
+    only(&open_path, &[1]);
+    only(&add, &[0]);
     only(&level, &[0]);
     only(&out_of_rate, &[0]);
     only(&slot, &[0, 10]);
@@ -355,8 +422,8 @@ fn up_to_1_024_connections_and_down_again() {
         total.add(&coverage);
     }
     println!("all: {}", total.summary());
-    println!("comparisons: {:?}", &total.comparisons[..8]);
-    let [open, close, receive, offer, _, _, make, out_of_rate, ..] = total.outcomes;
+    println!("comparisons: {:?}", &total.comparisons[..12]);
+    let [open, close, receive, offer, _, _, make, out_of_rate, open_path, add, ..] = total.outcomes;
     let refused = [
         open[12],
         open[13],
@@ -367,6 +434,11 @@ fn up_to_1_024_connections_and_down_again() {
         out_of_rate[0],
         out_of_rate[11],
         out_of_rate[18],
+        open_path[12],
+        open_path[13],
+        add[11],
+        add[12],
+        add[27],
     ];
     let mut counts = refused.iter().chain(&total.kinds);
     assert!(counts.all(|count| *count >= LEAST), "{refused:?}");

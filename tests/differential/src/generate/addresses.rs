@@ -40,7 +40,7 @@ impl Generator {
     }
 
     /// An open address, if there is one.
-    fn open_one(&mut self, seen: &Observation) -> Option<Address> {
+    pub(super) fn open_one(&mut self, seen: &Observation) -> Option<Address> {
         let open = seen.connections.len().max(1) as u64;
         let place = self.rng.below(open) as usize;
         seen.connections.keys().nth(place).copied()
@@ -53,14 +53,23 @@ impl Generator {
         let other_path = Address::new(vpi ^ 1 << self.rng.below(8), vci);
         let anywhere = Address::new(any & VPI_MAX, any >> 8 & VCI_MAX);
         let outside = self.out_of_range(seen);
-        self.rng.pick(&[other_path, anywhere, outside, outside])
+        let member = self.any_member(seen).unwrap_or(other_path);
+        self.rng
+            .pick(&[other_path, anywhere, outside, outside, member])
     }
 
     /// A pair with a number out of its range, often one that would be open if it were
     /// cut or added to the other.
     fn out_of_range(&mut self, seen: &Observation) -> Address {
+        let open = self.open_one(seen).unwrap_or(Address::new(1, VCI_MIN));
+        self.outside(open)
+    }
+
+    /// A pair with a number out of its range, often one that would be this pair if it were
+    /// cut or added to the other.
+    pub(super) fn outside(&mut self, like: Address) -> Address {
         let any = self.rng.next() as u32;
-        let Address { vpi, vci } = self.open_one(seen).unwrap_or(Address::new(1, VCI_MIN));
+        let Address { vpi, vci } = like;
         let pairs = [
             (vpi + 256, vci),
             (vpi | 1 << 31, vci),
@@ -85,9 +94,12 @@ impl Generator {
         self.rng.pick(&[of_low_vci, outside, outside])
     }
 
-    /// An address of the list; in every second open of a list that began with a full
-    /// table one that is not open.
+    /// An address of the list, sometimes a member; in every second open of a list that
+    /// began with a full table one that is not open.
     pub(super) fn address_to_open(&mut self, seen: &Observation) -> Address {
+        if !seen.members.is_empty() && self.rng.once_in(8) {
+            return self.any_member(seen).unwrap_or_default();
+        }
         let place = self.rng.below(self.addresses.len() as u64) as usize;
         let any = self.addresses[place];
         if self.profile.filled == 0 || self.rng.once_in(2) {

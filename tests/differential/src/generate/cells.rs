@@ -84,6 +84,10 @@ impl Generator {
         let rm = self.rm(seen);
         let mut cell = [0; CELL_OCTETS];
         let mut header = self.header(&rm);
+        if header.pt < 4 {
+            let to = self.data_address(seen, Address::new(rm.vpi, rm.vci));
+            header.vci = to.vci;
+        }
         if header.pt == 6 {
             self.payload(&mut cell, &rm);
         } else {

@@ -39,7 +39,17 @@ impl Observation {
         let cut = Address::new(at.vpi & VPI_MAX, at.vci & VCI_MAX);
         let added = at.vpi.wrapping_mul(65_536).wrapping_add(at.vci);
         let sum = Address::new(added >> 16, added & VCI_MAX);
-        let like_open = [cut, sum].map(|other| self.connections.contains_key(&other));
+        let like_open = [cut, sum].map(|other| self.finds(call, other));
         coverage.count_out_of_range(call, like_open);
+    }
+
+    /// Whether a call would find at another pair what it names: a member, the path of one,
+    /// or a connection.
+    fn finds(&self, call: &Call, at: Address) -> bool {
+        match call {
+            Call::Add { .. } => self.path_is_open(at.vpi),
+            Call::OfferMember { .. } | Call::Remove { .. } => self.members.contains_key(&at),
+            _ => self.connections.contains_key(&at),
+        }
     }
 }

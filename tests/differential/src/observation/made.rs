@@ -44,7 +44,10 @@ impl Observation {
             (Call::Make { at, .. }, 11) => {
                 coverage.reach(Event::MadeClosed, self.closed.contains(&at));
             }
-            (Call::Open { time, .. } | Call::Slot { time, .. }, 14) => {
+            (
+                Call::Open { time, .. } | Call::OpenPath { time, .. } | Call::Slot { time, .. },
+                14,
+            ) => {
                 let others = self.last_sent.max(self.last_outside);
                 coverage.reach(Event::MadeTimeCounts, time >= others);
             }

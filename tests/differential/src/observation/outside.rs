@@ -44,7 +44,13 @@ impl Observation {
             (Call::OutOfRate { at, .. }, 11) => {
                 coverage.reach(Event::OutsideClosed, self.closed.contains(&at));
             }
-            (Call::Open { time, .. } | Call::Slot { time, .. } | Call::Make { time, .. }, 14) => {
+            (
+                Call::Open { time, .. }
+                | Call::OpenPath { time, .. }
+                | Call::Slot { time, .. }
+                | Call::Make { time, .. },
+                14,
+            ) => {
                 let others = self.last_sent.max(self.last_making);
                 coverage.reach(Event::OutsideTimeCounts, time >= others);
             }

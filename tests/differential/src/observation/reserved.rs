@@ -67,7 +67,9 @@ pub(super) fn accepted(call: &Call, coverage: &mut Coverage) {
 /// in the order of their places, whatever else the cell is.
 fn codes(call: &Call) -> Option<[u32; 3]> {
     match call {
-        Call::Open { params, .. } => Some([params.pcr, params.mcr, params.icr]),
+        Call::Open { params, .. } | Call::OpenPath { params, .. } => {
+            Some([params.pcr, params.mcr, params.icr])
+        }
         Call::Receive { cell }
         | Call::Read { cell }
         | Call::Limit { cell, .. }

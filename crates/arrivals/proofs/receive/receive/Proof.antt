@@ -2,8 +2,8 @@ use Rattle.cell.proofs.Admits.{received-checked}
 use Rattle.cell.specs.Reading.{reading}
 use Rattle.cell.proofs.Readings.{user-same, rest, HeaderMeets, header-meets, rest-meets}
 use Rattle.cell.specs.declared.read.Reading.the-variants.{Resource}
-use Rattle.engine.proofs.Outcomes.{refused-out}
-use Rattle.arrivals.proofs.ReceiveCases.{unread, user-read, resource-read, same-meets}
+use Rattle.engine.proofs.Outcomes.{refused-out, same-meets}
+use Rattle.arrivals.proofs.ReceiveCases.{unread, user-read, resource-read}
 use borrow.Author.Needs.{needs}
 use lib.ListN.{length}
 use mathlib.Core.Path.{_≡_, refl, sym, ap, _∙_}

@@ -24,15 +24,16 @@ clear-requires c κs = entry (c .before .before .before .before .before)
 
 returns-2 : tie.Need-returns-2
 returns-2 c =
-    let ld = c .before .before .before in
+    let cl = c .before .before in
+    let ld = cl .before .before .before in
     let i = ld .before .before .before in
     let f = i .before .before in
     let v = f .before .before .args .name in
     record {
       meets = λ s w e.
           let p = standing s w e v (f .find .ensures) (i .i .given .1) in
-          close-out s w e (entry i) p (ld .load .ensures) (c .clear .ensures);
+          close-out s w e (entry i) p (ld .load .ensures) (cl .clear .ensures) (c .remove-path .ensures);
     }
 
 pub close-spec : {M : Type 1} → statement M
-close-spec = tie.close (tie.spec (λ c κs. search needs) (λ c. search needs) (λ c. search needs) returns load-requires (λ c. search needs) clear-requires returns-2)
+close-spec = tie.close (tie.spec (λ c κs. search needs) (λ c. search needs) (λ c. search needs) returns load-requires (λ c. search needs) clear-requires (λ c κs. search needs) returns-2)

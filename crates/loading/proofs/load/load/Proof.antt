@@ -5,12 +5,13 @@ use Rattle.loading.proofs.load.load.Tie as tie
 
 returns : tie.Need-returns
 returns c =
-    let outside = c .before .before .before .before .before .before .before .before .before in
+    let queue = c .before .before .before .before .before .before .before .before in
+    let outside = queue .before .before in
     let made = outside .before .before in
     let turned = made .before in
     let pace = turned .before in
     let st = pace .before .before in
-    loaded-is (st .args .t .now) (st .args .i) (pace .before .params-at .ensures) (pace .pace-at .ensures) (turned .waiting-at .ensures) (made .made-at .ensures) (outside .instant-of .ensures)
+    loaded-is (st .args .t .now) (st .args .i) (pace .before .params-at .ensures) (pace .pace-at .ensures) (turned .waiting-at .ensures) (made .made-at .ensures) (outside .instant-of .ensures) (queue .queue-of .ensures)
 
 pub load-spec : {M : Type 1} → statement M
 load-spec = tie.close (tie.spec (λ c. search needs) (λ c. search needs) (λ c. search needs) (λ c. search needs) (λ c. search needs) (λ c κs. search needs) (λ c. search needs) (λ c κs. search needs) (λ c. search needs) (λ c κs. search needs) (λ c. search needs) (λ c κs. search needs) (λ c. search needs) (λ c. search needs) (λ c. search needs) (λ c κs. search needs) (λ c. search needs) (λ c. search needs) (λ c. search needs) (λ c. search needs) (λ c. search needs) (λ c. search needs) (λ c. search needs) (λ c. search needs) (λ c. search needs) (λ c. search needs) (λ c. search needs) (λ c. search needs) (λ c. search needs) (λ c. search needs) (λ c. search needs) (λ c. search needs) (λ c. search needs) (λ c. search needs) (λ c. search needs) (λ c. search needs) (λ c. search needs) (λ c. search needs) (λ c. search needs) (λ c. search needs) (λ c. search needs) (λ c. search needs) (λ c. search needs) (λ c. search needs) returns)

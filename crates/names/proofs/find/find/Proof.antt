@@ -1,3 +1,4 @@
+use Rattle.names.proofs.Directories.{directory-column}
 use Rattle.names.proofs.Found.{found-here, found-nowhere}
 use borrow.Author.Needs.{needs}
 use Rattle.names.proofs.find.find.Statement.{statement}
@@ -15,7 +16,7 @@ find-spec =
     (tie.spec
     (λ c. search needs)
     (λ c. search needs)
-    (λ c κs. search needs)
+    (λ c κs. search (needs, directory-column))
     (λ c. search needs)
     (λ c. search needs)
     (λ c. search needs)

@@ -1,5 +1,6 @@
-use Prim.Native.Nat.{_<_}
+use Prim.Native.Nat.{ℕ, _<_}
 use mathlib.Core.Path.{sym, ap, subst, _∙_}
+use mathlib.Core.Option.{some}
 use native.Mathlib.Omega.{arith}
 use borrow.Author.Needs.{needs}
 use Rattle.cell.specs.Name.{noName}
@@ -8,8 +9,9 @@ use Rattle.connection.specs.Range.{InRange}
 use Rattle.connection.proofs.Keeps.{after-same}
 use Rattle.connection.proofs.Ranged.{after-ranged}
 use Rattle.table.proofs.Loaded.{load-named}
+use Rattle.storing.specs.Updates.{Updates, SourceMoved}
 use Rattle.engine.proofs.Outcomes.{ranged, roomy}
-use Rattle.slots.proofs.SendCases.{sent-out}
+use Rattle.slots.proofs.SendCases.{served-ranged, sent-out, served-out}
 use Rattle.slots.proofs.send.send.Statement.{statement}
 use Rattle.slots.proofs.send.send.Tie as tie
 
@@ -41,29 +43,55 @@ named c =
 put-cell-requires : tie.Need-put-cell-requires
 put-cell-requires c κs = (search needs, (loaded-name (c .before .before .before), named (c .before)))
 
-store-sent-requires : tie.Need-store-sent-requires
-store-sent-requires c κs =
-    let a = c .before .before .before .before .before in
-    let k = a .before in
+-- what comes after it lies in range
+next-range : (c : tie.After-after) → InRange (c .after .result)
+next-range c =
+    let k = c .before in
     let l = k .before in
-    let start = l .before .before .before in (
-      search needs,
-      subst InRange (sym (a .after .ensures))
-          (after-ranged (k .kind-at .result) (start .args .time) (l .load .result) (omega (arith, start .pre .1 .0)) (in-range l) (roomy (start .args .t .now) (start .args .i) (l .load .ensures))),
-    )
+    let start = l .before .before .before in
+    subst InRange (sym (c .after .ensures))
+    (after-ranged (k .kind-at .result) (start .args .time) (l .load .result) (omega (arith, start .pre .1 .0)) (in-range l) (roomy (start .args .t .now) (start .args .i) (l .load .ensures)))
+
+store-sent-requires : tie.Need-store-sent-requires
+store-sent-requires c κs = (search needs, next-range (c .before .before .before .before .before .before .before))
+
+update-source-requires : tie.Need-update-source-requires
+update-source-requires c κs = let a = c .before .before .before .before .before .before .before .before .before .before .before in (search needs, subst InRange (sym (c .with-served .ensures)) (served-ranged _ (a .after .result) (next-range a)))
 
 returns : tie.Need-returns
 returns c =
-    let p = c .before .before .before .before in
+    let ws = c .before in
+    let sv = ws .before .before in
+    let t1 = sv .before .before .before in
+    let om = t1 .before in
+    let p = om .before .before .before in
     let a = p .before .before in
     let k = a .before in
     let l = k .before in
     let start = l .before .before .before in
     record {
-      sends = λ s w last e d entry place.
-          sent-out s w (start .args .time) last (start .args .t .now) (c .store-sent .last .0) (start .args .cell .now) (p .put-cell .last .0) e (start .args .i) (start .pre .0) d entry place
-          (l .load .result) (l .load .ensures) (k .kind-at .result) (k .kind-at .ensures) (a .after .result) (a .after .ensures) (p .put-cell .ensures) (c .store-sent .result) (c .store-sent .ensures);
+      sends = λ s w last e d entry place waits.
+          served-out s w (start .args .time) last e (start .args .i) (start .pre .0) d entry place (l .load .result) (l .load .ensures) (k .kind-at .result) (k .kind-at .ensures) (a .after .result) (a .after .ensures)
+          (start .args .cell .now) (p .put-cell .last .0) (p .put-cell .ensures) (sv .serve .result) (c .update-source .result) (sym (om .of-member .ensures) ∙ t1 .if1 .taken) waits (sv .serve .ensures)
+          (subst (λ (x : Connection). Updates SourceMoved (sv .serve .last .0) (c .update-source .last .0) (start .args .i) x (c .update-source .result)) (ws .with-served .ensures) (c .update-source .ensures));
+    }
+
+returns-2 : tie.Need-returns-2
+returns-2 c =
+    let e1 = c .before .before in
+    let om = e1 .before in
+    let p = om .before .before .before in
+    let a = p .before .before in
+    let k = a .before in
+    let l = k .before in
+    let start = l .before .before .before in
+    record {
+      sends = λ s w last e d entry place waits.
+          sent-out s w (start .args .time) last e (start .args .i) (start .pre .0) d entry place (l .load .result) (l .load .ensures) (k .kind-at .result) (k .kind-at .ensures) (a .after .result) (a .after .ensures)
+          (start .args .cell .now) (p .put-cell .last .0) (p .put-cell .ensures) (c .store-sent .result) (c .store-sent .ensures) (sym (om .of-member .ensures) ∙ e1 .if1 .left);
     }
 
 pub send-spec : {M : Type 1} → statement M
-send-spec = tie.close (tie.spec (λ c κs. search needs) kind-at-requires after-requires put-cell-requires store-sent-requires (λ c. search needs) returns)
+send-spec =
+    tie.close
+    (tie.spec (λ c κs. search needs) kind-at-requires after-requires put-cell-requires (λ c κs. search needs) (λ c. search needs) (λ c κs. search needs) (λ c κs. search needs) update-source-requires (λ c. search needs) returns store-sent-requires (λ c. search needs) returns-2)

@@ -7,6 +7,7 @@ use Rattle.table.specs.Layout.{keysFrom}
 use Rattle.table.specs.Storing.{entryFlipped}
 use Rattle.table.proofs.Storing.{given-by}
 use Rattle.storing.proofs.Stored.{leaves}
+use Rattle.names.proofs.Directories.{directory-column}
 use borrow.Author.Needs.{needs}
 use Rattle.storing.proofs.store.clear.Statement.{statement}
 use Rattle.storing.proofs.store.clear.Tie as tie
@@ -25,4 +26,4 @@ returns c =
     (rem .before .directory-word .ensures) (rem .remove .ensures) (c .replay .ensures)
 
 pub clear-spec : {M : Type 1} → statement M
-clear-spec = tie.close (tie.spec (λ c. search needs) (λ c. search needs) (λ c κs. search needs) (λ c. search needs) (λ c. search needs) (λ c. search needs) (λ c. search needs) (λ c. search needs) (λ c κs. search needs) (λ c. search needs) (λ c. search needs) (λ c. search needs) (λ c κs. search needs) (λ c κs. search needs) (λ c. search needs) (λ c κs. search needs) (λ c κs. search needs) returns)
+clear-spec = tie.close (tie.spec (λ c. search needs) (λ c. search needs) (λ c κs. search needs) (λ c. search needs) (λ c. search needs) (λ c. search needs) (λ c. search needs) (λ c. search needs) (λ c κs. search needs) (λ c. search needs) (λ c. search needs) (λ c. search needs) (λ c κs. search needs) (λ c κs. search needs) (λ c. search needs) (λ c κs. search (needs, directory-column)) (λ c κs. search needs) returns)

@@ -6,6 +6,7 @@ use Rattle.table.specs.Storing.{entryFlipped}
 use Rattle.table.specs.Layout.{liveWords, liveFrom, liveWidth}
 use Rattle.table.proofs.Storing.{keyed, live-by, given-by}
 use Rattle.storing.proofs.Stored.{takes}
+use Rattle.names.proofs.Directories.{directory-column}
 use borrow.Author.Needs.{needs}
 use Rattle.storing.proofs.store.store.Statement.{statement}
 use Rattle.storing.proofs.store.store.Tie as tie
@@ -30,4 +31,4 @@ returns c =
     (ins .before .directory-word .ensures) (ins .insert .ensures) (c .replay .ensures)
 
 pub store-spec : {M : Type 1} → statement M
-store-spec = tie.close (tie.spec (λ c κs. search needs) (λ c κs. search needs) (λ c κs. search needs) (λ c. search needs) (λ c. search needs) (λ c. search needs) (λ c. search needs) (λ c. search needs) (λ c κs. search needs) (λ c. search needs) (λ c. search needs) (λ c. search needs) (λ c. search needs) (λ c κs. search needs) (λ c κs. search needs) (λ c κs. search needs) (λ c κs. search needs) returns)
+store-spec = tie.close (tie.spec (λ c κs. search needs) (λ c κs. search needs) (λ c κs. search needs) (λ c. search needs) (λ c. search needs) (λ c. search needs) (λ c. search needs) (λ c. search needs) (λ c κs. search needs) (λ c. search needs) (λ c. search needs) (λ c. search needs) (λ c. search needs) (λ c κs. search needs) (λ c κs. search needs) (λ c κs. search (needs, directory-column)) (λ c κs. search needs) returns)

@@ -1,0 +1,2 @@
+-- What the search for the connection of a received data cell finds.
+pub mod Owner

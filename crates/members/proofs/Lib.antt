@@ -1,0 +1,5 @@
+pub mod Names
+pub mod Lists
+pub mod Valid
+pub mod Turns
+pub mod Fairness

@@ -1,0 +1,3 @@
+-- Each computed.
+pub mod PathRefusals
+pub mod PathSlots

@@ -1,0 +1,3 @@
+-- The calls on paths and members at work.
+pub mod PathRefusals
+pub mod PathSlots

@@ -1,0 +1,2 @@
+-- What the calls on members do to the words of a table: one lemma for each way out.
+pub mod Cases

@@ -1,0 +1,39 @@
+// Offering data to a member (document 02, L13).
+ghost use Rattle.engine.specs.Contract.{Meets};
+ghost use Rattle.model.specs.Step.{offerMemberStep};
+use crate::name::NO_NAME;
+use crate::name::path_of;
+use loading::load::load;
+use member_words::change::set_cells;
+use member_words::find::cells_at;
+use member_words::find::find as find_member;
+use model::answer::Answer;
+use names::find::Found;
+use names::find::find;
+use receiving::receive::offered;
+use storing::store::update_source;
+use table::layout::WORDS;
+
+// Refusals 11, 28, 15, which looks at that member alone. The sum is never formed before it is known to fit.
+pub fn offer_member(t: &mut [u64; WORDS], name: u32, cells: u64) -> Answer
+    ensures { λ r. ⌜ Meets (λ s. offerMemberStep s name cells) (now (t .entry)) (now (t .exit)) r ⌝ }
+{
+    let Found::At(i) = find(t, path_of(name)) else {
+        return Answer::Refused(11);
+    };
+    if NO_NAME <= name {
+        return Answer::Refused(11);
+    }
+    let Found::At(j) = find_member(t, name) else {
+        return Answer::Refused(28);
+    };
+    let waiting = cells_at(t, j);
+    if ((65535 - waiting) as u64) < cells {
+        return Answer::Refused(15);
+    }
+    let more = cells as u32;
+    let c = load(t, i);
+    set_cells(t, j, waiting + more);
+    let comparisons = update_source(t, i, offered(more, c));
+    Answer::Accepted { comparisons }
+}

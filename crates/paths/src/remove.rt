@@ -1,0 +1,38 @@
+// Removing a member from its path, with what waits on it (document 02, L13).
+ghost use Rattle.engine.specs.Contract.{Meets};
+ghost use Rattle.model.specs.Step.{removeStep};
+use crate::name::NO_NAME;
+use crate::name::path_of;
+use loading::load::load;
+use member_words::change;
+use member_words::find::cells_at;
+use member_words::find::find as find_member;
+use model::answer::Answer;
+use names::find::Found;
+use names::find::find;
+use receiving::receive::dequeued;
+use storing::store::update_source;
+use table::layout::WORDS;
+
+// Refusals 11, 28. It answers like a close.
+pub fn remove(t: &mut [u64; WORDS], name: u32) -> Answer
+    ensures { λ r. ⌜ Meets (λ s. removeStep s name) (now (t .entry)) (now (t .exit)) r ⌝ }
+{
+    let Found::At(i) = find(t, path_of(name)) else {
+        return Answer::Refused(11);
+    };
+    if NO_NAME <= name {
+        return Answer::Refused(11);
+    }
+    let Found::At(j) = find_member(t, name) else {
+        return Answer::Refused(28);
+    };
+    let waiting = cells_at(t, j);
+    let c = load(t, i);
+    change::remove(t, name);
+    let comparisons = update_source(t, i, dequeued(waiting, c));
+    Answer::Closed {
+        comparisons,
+        cells: waiting as u64,
+    }
+}

@@ -1,0 +1,101 @@
+-- What the calls do on a member's pair and on a path's own name.
+use Prim.Native.Nat.{ℕ, _≤_, _<_}
+use mathlib.Core.Path.{_≡_, refl, sym, ap, _∙_}
+use mathlib.Core.Bool.{Bool, true, false, true≢false}
+use mathlib.Core.List.{List}
+use native.Mathlib.Omega.{arith}
+use borrow.Author.Tests.{le-leb}
+use Rattle.params.specs.declared.params.Params.{Params}
+use Rattle.rate.specs.Units.{latestTime}
+use Rattle.rate.specs.Code.{codesClear}
+use Rattle.params.specs.Params.{paramsFit}
+use Rattle.cell.specs.declared.fields.Fields.{Fields}
+use Rattle.cell.specs.declared.read.Reading.the-variants.{User, Resource}
+use Rattle.cell.specs.Name.{vciIn, noName, pairName}
+use Rattle.cell.specs.Fields.{cellName}
+use Rattle.cell.specs.Reading.{reading}
+use Rattle.cell.proofs.Names.{Named, pair-named}
+use Rattle.members.specs.Path.{pathVci, firstVci, isPath}
+use Rattle.members.specs.Members.{isMember}
+use Rattle.members.specs.Invariant.{ValidMember}
+use Rattle.members.proofs.Lists.{all-map, all-named}
+use Rattle.connection.specs.declared.parts.Connection.{Connection}
+use Rattle.model.specs.State.{State, Entry, free, taken, isFree, empty, find}
+use Rattle.model.specs.Invariant.{WellFormed}
+use Rattle.model.specs.Call.{Call, receiving}
+use Rattle.model.specs.Step.{refuse, ofOpen, admit, openStep, offerStep, dataCellStep, readStep, receiveStep, step}
+use Rattle.model.specs.Queries.{entryAcr, acrOf, entryContract, contractOf}
+use Rattle.model.specs.Run.{final}
+use Rattle.model.proofs.Members.{path-sum}
+use Rattle.model.proofs.Effects.{is-free, path-is}
+use Rattle.model.proofs.Reached.{reached-well-formed}
+use Rattle.promises.specs.Paths.{MemberOnly, OwnName, Paths}
+use Rattle.promises.proofs.NotOpen.{close-out, offer-out, make-out, leave-out}
+use Rattle.laws.specs.Require.{require}
+
+-- a member's name has 24 bits, and its VCI is 32 or more
+member-named : {s : State} → WellFormed s → (vpi vci : ℕ) → isMember (pairName vpi vci) (s .members) ≡ true → Named vpi vci (pairName vpi vci)
+member-named {s} w vpi vci e =
+    pair-named vpi vci (all-named (λ x. x < noName) (pairName vpi vci) (s .members) (all-map ValidMember (λ m. m .name < noName) (λ m h. h .coded) (s .members) (w .members .valid .each)) e)
+
+member-high : {s : State} → WellFormed s → (x : ℕ) → isMember x (s .members) ≡ true → firstVci ≤ vciIn x
+member-high {s} w x e =
+    all-named (λ y. firstVci ≤ vciIn y) x (s .members) (all-map ValidMember (λ m. firstVci ≤ vciIn (m .name)) (λ m h. h .high) (s .members) (w .members .valid .each)) e
+
+module _ (s : State) (vpi vci : ℕ) (f : find (pairName vpi vci) (s .entries) ≡ free) where
+  member-open :
+      (t : ℕ) (p : Params) → vpi ≤ 255 → vci ≤ 65535 → firstVci ≤ vci → codesClear (p .pcr) (p .mcr) (p .icr) ≡ true → paramsFit p ≡ true → t ≤ latestTime
+      → isMember (pairName vpi vci) (s .members) ≡ true → openStep s vpi vci t p ≡ refuse s 27
+  unfolding openStep admit require isFree
+  member-open t p a b low clear fit until e = rw (le-leb firstVci vci low, clear, le-leb vpi 255 a, le-leb vci 65535 b, fit, le-leb t latestTime until, f, e)
+
+  member-resource : (o : List ℕ) (g : Fields) → reading o ≡ Resource g → cellName g ≡ pairName vpi vci → step s (receiving o) ≡ refuse s 11
+  unfolding step receiveStep readStep ofOpen
+  member-resource o g r n = rw (r, n, f)
+
+member-only :
+    (s : State) → WellFormed s → (vpi vci : ℕ) → find (pairName vpi vci) (s .entries) ≡ free → isMember (pairName vpi vci) (s .members) ≡ true → MemberOnly s vpi vci
+unfolding step acrOf entryAcr contractOf entryContract
+member-only s w vpi vci f e =
+    let n = member-named w vpi vci e in
+    record {
+      opens = λ t p clear fit until. member-open s vpi vci f t p (n .vpiFits) (n .vciFits) (omega (arith, member-high w (pairName vpi vci) e, n .vciBack)) clear fit until e;
+      closes = close-out s vpi vci f;
+      offers = offer-out s vpi vci f;
+      makes = make-out s vpi vci f;
+      leaves = leave-out s vpi vci f;
+      resources = member-resource s vpi vci f;
+      reads = ap entryAcr f;
+      exports = ap entryContract f;
+    }
+
+own-data : (s : State) (vpi : ℕ) → isPath (pairName vpi pathVci) ≡ true → (o : List ℕ) (e : Bool) → reading o ≡ User vpi pathVci e → step s (receiving o) ≡ refuse s 11
+unfolding step receiveStep readStep dataCellStep require
+own-data s vpi p o e r = rw (r, p)
+
+own-offer :
+    (s : State) (vpi : ℕ) → isPath (pairName vpi pathVci) ≡ true → (n : ℕ) (c : Connection) → find (pairName vpi pathVci) (s .entries) ≡ taken c
+    → offerStep s (pairName vpi pathVci) n ≡ refuse s 28
+unfolding offerStep ofOpen require
+own-offer s vpi p n c f = rw (f, p)
+
+own-name : (s : State) (vpi : ℕ) → isPath (pairName vpi pathVci) ≡ true → OwnName s vpi
+unfolding step
+own-name s vpi p = record { dataCells = λ o e r. own-data s vpi p o e r; offers = λ n c f. own-offer s vpi p n c f }
+
+no-entry : (x : Entry) → isFree x ≡ false → x ≡ free → ⊥
+unfolding isFree
+no-entry x e f = true≢false (sym (ap isFree f) ∙ e)
+
+apart : (cs : List Call) (x : ℕ) → isMember x (final empty cs .members) ≡ true → find x (final empty cs .entries) ≡ free
+apart cs x e = is-free (find x (final empty cs .entries)) (reached-well-formed cs .members .noChannel x e)
+
+pub paths : Paths
+paths = record {
+  apart = apart;
+  onOpenPath = λ cs x e. no-entry _ (reached-well-formed cs .members .onOpenPath x e);
+  few = λ cs. reached-well-formed cs .members .valid .few;
+  sum = λ cs v c p f. let w = reached-well-formed cs in path-sum (final empty cs) (w .unique) (w .members) v c f p;
+  members = λ cs vpi vci e. member-only (final empty cs) (reached-well-formed cs) vpi vci (apart cs (pairName vpi vci) e) e;
+  names = λ cs vpi h. own-name (final empty cs) vpi (path-is vpi h);
+}

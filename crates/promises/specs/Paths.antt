@@ -1,0 +1,57 @@
+-- Paths and their members, in every table that calls make. (Document 02, L13.)
+use Prim.Native.Nat.{ℕ, _≤_}
+use mathlib.Core.Path.{_≡_}
+use mathlib.Core.Bool.{Bool, true}
+use mathlib.Core.List.{List}
+use lib.ListN.{length}
+use Rattle.params.specs.declared.params.Params.{Params}
+use Rattle.rate.specs.Units.{latestTime}
+use Rattle.rate.specs.Code.{codesClear}
+use Rattle.params.specs.Params.{paramsFit}
+use Rattle.cell.specs.declared.fields.Fields.{Fields}
+use Rattle.cell.specs.declared.read.Reading.the-variants.{User, Resource}
+use Rattle.cell.specs.Name.{pairName}
+use Rattle.cell.specs.Fields.{cellName}
+use Rattle.cell.specs.Reading.{reading}
+use Rattle.members.specs.Path.{pathVci, isPath, pathOf}
+use Rattle.members.specs.Members.{memberCapacity, isMember, pathCells}
+use Rattle.connection.specs.declared.parts.Connection.{Connection}
+use Rattle.connection.specs.Parts.{waiting}
+use Rattle.model.specs.State.{State, free, taken, empty, find}
+use Rattle.model.specs.declared.acr.Acr.the-variants.{NotOpen}
+use Rattle.model.specs.declared.contract.Contract.the-variants.{NotOpen as NoContract}
+use Rattle.model.specs.Call.{Call, opening, closing, receiving, offering, making, outOfRate}
+use Rattle.model.specs.Step.{refuse, step}
+use Rattle.model.specs.Queries.{acrOf, contractOf}
+use Rattle.model.specs.Run.{final}
+
+-- a member's pair is no connection's: what the calls for one do, where no refusal with an earlier place in their order comes first
+pub record MemberOnly (s : State) (vpi vci : ℕ) : Type 0 where
+  pub opens :
+      (t : ℕ) (p : Params) → codesClear (p .pcr) (p .mcr) (p .icr) ≡ true → paramsFit p ≡ true → t ≤ latestTime
+      → step s (opening vpi vci t p) ≡ refuse s 27
+  pub closes : step s (closing vpi vci) ≡ refuse s 11
+  pub offers : (n : ℕ) → step s (offering vpi vci n) ≡ refuse s 11
+  pub makes : (t : ℕ) → t ≤ latestTime → step s (making vpi vci t) ≡ refuse s 11
+  pub leaves : (t : ℕ) → t ≤ latestTime → step s (outOfRate vpi vci t 53) ≡ refuse s 11
+  pub resources : (o : List ℕ) (f : Fields) → reading o ≡ Resource f → cellName f ≡ pairName vpi vci → step s (receiving o) ≡ refuse s 11
+  pub reads : acrOf s (pairName vpi vci) ≡ NotOpen
+  pub exports : contractOf s (pairName vpi vci) ≡ NoContract
+
+-- a path's own name takes neither data cells nor plain offers
+pub record OwnName (s : State) (vpi : ℕ) : Type 0 where
+  pub dataCells : (o : List ℕ) (e : Bool) → reading o ≡ User vpi pathVci e → step s (receiving o) ≡ refuse s 11
+  pub offers : (n : ℕ) (c : Connection) → find (pairName vpi pathVci) (s .entries) ≡ taken c → step s (offering vpi pathVci n) ≡ refuse s 28
+
+-- after any list of calls from the empty table
+pub record Paths : Type 0 where
+  -- a pair is a channel or a member, never both, and a member's path is open
+  pub apart : (cs : List Call) (x : ℕ) → isMember x (final empty cs .members) ≡ true → find x (final empty cs .entries) ≡ free
+  pub onOpenPath : (cs : List Call) (x : ℕ) → isMember x (final empty cs .members) ≡ true → find (pathOf x) (final empty cs .entries) ≡ free → ⊥
+  pub few : (cs : List Call) → length (final empty cs .members) ≤ memberCapacity
+  -- on a path waits what waits on its members
+  pub sum :
+      (cs : List Call) (v : ℕ) (c : Connection) → isPath v ≡ true → find v (final empty cs .entries) ≡ taken c
+      → waiting (c .queue) ≡ pathCells v (final empty cs .members)
+  pub members : (cs : List Call) (vpi vci : ℕ) → isMember (pairName vpi vci) (final empty cs .members) ≡ true → MemberOnly (final empty cs) vpi vci
+  pub names : (cs : List Call) (vpi : ℕ) → vpi ≤ 255 → OwnName (final empty cs) vpi
