@@ -10,7 +10,8 @@ use common::Folder;
 
 /// What is shown while a file is judged, with this pause between lines.
 fn shown(as_text: bool, pause: Duration) -> String {
-    let folder = Folder::new(if as_text { "shown-text" } else { "shown" });
+    // One folder a call: the tests run at the same time, and each takes its folder away.
+    let folder = Folder::new(&format!("shown-{as_text}-{}", pause.as_secs()));
     folder.put("trace", if as_text { b"5 7" } else { &[5, 7] });
     let mut line = Vec::new();
     let progress = Progress::to(Some(Box::new(&mut line)), pause, "a name");
