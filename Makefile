@@ -11,7 +11,7 @@
 #
 # ABR_LIB names another archive than the proved one, which then is not built.
 
-VERSION := 0.14.0
+VERSION := 0.15.0
 PREFIX ?= /usr/local
 DESTDIR ?=
 CC ?= gcc

@@ -141,7 +141,7 @@ static void set_params(uint32_t icr, uint32_t n)
 {
     params = abr_house(ABR_CODE_MAX, 0x4000, icr);
     params.n = n;
-    params.crm = params.adtf = 1;
+    params.tbe = params.frtt = params.adtf = 1;
 }
 
 /* Opens a channel with data. */

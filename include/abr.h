@@ -8,8 +8,8 @@
  * (marks of a replaced cell), L4 (1,024 connections, comparisons), L5 (no minimum
  * rate, abr_out_of_rate), L6 (full addresses), L7 (the reserved bit of a rate code),
  * L8 (abr_export, abr_import), L9 (what the last feedback did), L10 (abr_port,
- * abr_fair_share, abr_limit), L11 (abr_judge), L12 (the cells of a close) and L13
- * (abr_open_path and the members of paths) of document 02.
+ * abr_fair_share, abr_limit), L11 (abr_judge), L12 (the cells of a close), L13
+ * (abr_open_path and the members of paths) and L14 (TBE and round trip) of document 02.
  *
  * Addresses. A connection is named by its VPI and its VCI together, as VPI * 65,536
  * + VCI (document 02, L6): the same VCI on another VPI is another connection. Every
@@ -97,8 +97,8 @@ extern "C" {
 
 /* ---- Version ------------------------------------------------------------ */
 
-/* 0.14.0: major, minor and patch number, eight bits each. */
-#define ABR_VERSION 0x000e00u
+/* 0.15.0: major, minor and patch number, eight bits each. */
+#define ABR_VERSION 0x000f00u
 
 /* The words of a table, which has 288,920 octets. */
 #define ABR_TABLE_WORDS 36115u
@@ -159,8 +159,11 @@ extern "C" {
 /* The value of c that means a CDF of zero. */
 #define ABR_CDF_ZERO 7u
 
-/* The largest CRM, and the largest count of unanswered cells. */
-#define ABR_CRM_MAX 8388608u
+/* The largest TBE, in cells. */
+#define ABR_TBE_MAX 16777215u
+
+/* The largest FRTT, in microseconds. */
+#define ABR_FRTT_MAX 16700000u
 
 /* The largest ADTF, in steps of 10 ms. */
 #define ABR_ADTF_MAX 1023u
@@ -170,7 +173,8 @@ extern "C" {
 #define ABR_HOUSE_R 4u
 #define ABR_HOUSE_D 4u
 #define ABR_HOUSE_C 4u
-#define ABR_HOUSE_CRM 524288u
+#define ABR_HOUSE_TBE 16777215u
+#define ABR_HOUSE_FRTT 0u
 #define ABR_HOUSE_ADTF 50u
 #define ABR_HOUSE_TRM 7u
 
@@ -233,6 +237,10 @@ extern "C" {
 #define ABR_REFUSED_ALREADY_MEMBER 27u /* pair is already a member of its path */
 #define ABR_REFUSED_NOT_A_MEMBER 28u   /* path is open, but the VCI is no member of it */
 
+/* Because of the input, added by document 02's L14. */
+#define ABR_REFUSED_TBE 29u  /* TBE is 0 or over 16,777,215 */
+#define ABR_REFUSED_FRTT 30u /* FRTT is over 16,700,000 */
+
 /* ---- Types -------------------------------------------------------------- */
 
 /* The state of an engine. Its words have no meaning outside the library. */
@@ -245,12 +253,13 @@ typedef struct {
 typedef struct {
     uint32_t pcr;  /* peak rate, at least one cell per second */
     uint32_t mcr;  /* minimum rate, 0 for none */
-    uint32_t icr;  /* initial rate, from mcr to pcr */
+    uint32_t icr;  /* initial rate, from mcr to pcr; tbe and frtt may lower the one that is used */
     uint32_t n;    /* Nrm = 2^n, n 1 to 8 */
     uint32_t r;    /* RIF = 1/2^r, r 0 to 15 */
     uint32_t d;    /* RDF = 1/2^d, d 0 to 15 */
     uint32_t c;    /* CDF = 1/2^c, c 0 to 6; 7 means zero */
-    uint32_t crm;  /* CRM, 1 to 8,388,608 */
+    uint32_t tbe;  /* TBE, the cells allowed before feedback, 1 to 16,777,215; CRM is TBE / Nrm, rounded up */
+    uint32_t frtt; /* FRTT, the round trip in microseconds, 0 to 16,700,000; 0 lowers nothing */
     uint32_t adtf; /* ADTF in steps of 10 ms, 1 to 1,023 */
     uint32_t trm;  /* Trm number, 0 to 7: 100/2^(7-trm) ms */
 } abr_params;
@@ -365,16 +374,21 @@ static inline int abr_matches(void)
 /* ---- Connections -------------------------------------------------------- */
 
 /*
- * Opens a channel at a time (section "Opening"). It starts at its initial
- * rate with nothing sent and nothing waiting, also if its address was open before,
- * and takes the lowest free place of the tournament. Nothing waits yet, so that the
+ * Opens a channel at a time (section "Opening"). The initial rate that is used is
+ * the given one, lowered to 512,000,000 * TBE / FRTT, rounded down, if that is less, but
+ * never under MCR; with FRTT 0 it is the given one (document 02, L14). The first cell of
+ * a connection, and a forward cell more than ADTF after the last, bring the allowed
+ * rate down to it. The connection starts at that rate with nothing sent and nothing
+ * waiting, also if its address was open before, and takes the lowest free place of the tournament. Nothing waits yet, so that the
  * winners stay and 1 comparison is made.
  * Refusals in order:
  *   10  vci under 32, whatever vpi is
  *   19  bit 15 set in pcr, mcr or icr, if that code has no bit above it
  *    7  vpi over 255, vci over 65,535, or a parameter out of its range: a rate code
- *       over 16 bits, MCR <= ICR <= PCR broken, PCR under 512, or any other of abr_params;
- *       MCR may be 0, and with it ICR (document 02, L5)
+ *       over 16 bits, MCR <= ICR <= PCR broken, PCR under 512, or any other but tbe and frtt;
+ *       MCR may be 0, and with it ICR (document 02, L5); of ICR the given one counts
+ *   29  TBE 0 or over 16,777,215
+ *   30  FRTT over 16,700,000
  *    8  time over 2^62
  *   12  the connection is open
  *   27  the pair is a member of a path
@@ -423,7 +437,8 @@ ABR_MUST_USE abr_allowed abr_acr(const abr_table *table, uint32_t vpi, uint32_t 
 /*
  * The peak, minimum and initial rate of a connection as doubles in cells per second,
  * for a planning tool (document 02, L8): the rates of the codes that its open gave,
- * each over 512 and exact. The allowed rate does not matter. The refusal is written in
+ * each over 512 and exact; the initial rate too is the given one and not the one used
+ * (document 02, L14). The allowed rate does not matter. The refusal is written in
  * every case.
  * Refusal: 11 the connection is not open, vpi over 255 or vci over 65,535.
  */
@@ -438,6 +453,8 @@ ABR_MUST_USE abr_contract abr_export(const abr_table *table, uint32_t vpi, uint3
  * Refusals in order:
  *   19  bit 15 set in pcr, mcr or icr, if that code has no bit above it
  *    7  vpi over 255, or a parameter out of its range, as in abr_open
+ *   29  TBE 0 or over 16,777,215
+ *   30  FRTT over 16,700,000
  *    8  time over 2^62
  *   12  the path is open
  *   13  1,024 connections are open
@@ -737,6 +754,8 @@ static inline const char *abr_refusal_text(uint32_t refusal)
     case ABR_REFUSED_MEMBERS_FULL: return "256 members are in the engine";
     case ABR_REFUSED_ALREADY_MEMBER: return "pair is already a member of its path";
     case ABR_REFUSED_NOT_A_MEMBER: return "path is open, but the VCI is no member of it";
+    case ABR_REFUSED_TBE: return "TBE is 0 or over 16,777,215";
+    case ABR_REFUSED_FRTT: return "FRTT is over 16,700,000";
     default: return "not an answer of this library";
     }
 }
@@ -752,8 +771,8 @@ static inline const char *abr_refusal_text(uint32_t refusal)
 #endif
 
 ABR_LAYOUT(table_size, sizeof(abr_table) == 8 * ABR_TABLE_WORDS);
-ABR_LAYOUT(params_size, sizeof(abr_params) == 40);
-ABR_LAYOUT(params_trm, offsetof(abr_params, trm) == 36);
+ABR_LAYOUT(params_size, sizeof(abr_params) == 44);
+ABR_LAYOUT(params_trm, offsetof(abr_params, trm) == 40);
 ABR_LAYOUT(rm_size, sizeof(abr_rm) == 48);
 ABR_LAYOUT(rm_vci, offsetof(abr_rm, vci) == 4);
 ABR_LAYOUT(rm_er, offsetof(abr_rm, er) == 28);

@@ -113,7 +113,7 @@ fn both_bounds_are_reached() {
 fn moves_before_a_forward_cell_do_not_touch_it() {
     let params = Params {
         n: 1,
-        crm: 1,
+        tbe: 1, // CRM 1
         ..Params::house(0x7FFF, 0x4000, THOUSAND)
     };
     let mut engine = engine_with(&params);

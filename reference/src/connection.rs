@@ -3,7 +3,8 @@
 //! ("Slots"; with document 02's L1 a made cell counts as a turned one, with L5 a
 //! connection with an allowed rate of 0 is never ready, and any may send out-of-rate
 //! forward cells; with L9 it keeps what the last feedback did; with L13 it is a channel or
-//! a path, whose data is that of its members).
+//! a path, whose data is that of its members; with L14 the initial rate of the moves is
+//! the one that TBE and FRTT allow, while the given one is exported).
 
 use crate::address::Address;
 use crate::cell::{self, Octets, Rm};
@@ -49,21 +50,21 @@ impl RateRecord {
     /// A new connection starts at the initial rate.
     pub fn new(contract: Contract) -> Self {
         RateRecord {
-            acr: contract.icr,
+            acr: contract.icr_used,
             contract,
         }
     }
 
     /// Before the first cell: not above the initial rate.
     pub fn first_cell(self) -> Self {
-        self.at(self.acr.min(self.contract.icr))
+        self.at(self.acr.min(self.contract.icr_used))
     }
 
     /// Rule 5, `passed` nanoseconds after the last forward cell: once more than
     /// ADTF has passed the rate is not above the initial one.
     pub fn idle(self, passed: u64) -> Self {
         if passed > self.contract.adtf {
-            self.at(self.acr.min(self.contract.icr))
+            self.at(self.acr.min(self.contract.icr_used))
         } else {
             self
         }

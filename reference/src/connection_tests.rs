@@ -68,7 +68,7 @@ fn the_largest_rates_do_not_overflow() {
         d: 15,
         c: 6,
         r: 0,
-        crm: 1,
+        tbe: 1, // CRM 1
         ..house
     };
     let record = RateRecord::new(params.contract().unwrap());

@@ -1,9 +1,10 @@
 //! The table of connections and the calls on it (document 01, from "Opening"
 //! to "Slots"; the orders of refusals are in "Refused because of the state", those
 //! of a made cell and an out-of-rate cell in document 02's L1 and L5, and where 19
-//! comes in L7; what an ACR is read with in L9, what a close answers in L12, and all
-//! of paths and their members in L13). Calls that replay matches answer the comparisons
-//! (document 02, L4). A connection is named by its VPI and VCI together (document 02, L6).
+//! comes in L7, where 29 and 30 in L14; what an ACR is read with in L9, what a close
+//! answers in L12, and all of paths and their members in L13). Calls that replay matches
+//! answer the comparisons (document 02, L4). A connection is named by its VPI and VCI
+//! together (document 02, L6).
 
 use std::collections::BTreeMap;
 
@@ -77,19 +78,19 @@ impl Engine {
     }
 
     /// Opens a channel on the lowest free leaf and answers the comparisons.
-    /// Refusals: 10, 19, 7, 8, 12, 27, 13, 14.
+    /// Refusals: 10, 19, 7, 29, 30, 8, 12, 27, 13, 14.
     pub fn open(&mut self, at: Address, time: u64, params: &Params) -> Result<u32, Refusal> {
         check_vci(at)?;
         self.open_with(Load::channel(), at, time, params)
     }
 
     /// Opens a path on the lowest free leaf, without members, and answers the
-    /// comparisons. Refusals: 19, 7, 8, 12, 13, 14.
+    /// comparisons. Refusals: 19, 7, 29, 30, 8, 12, 13, 14.
     pub fn open_path(&mut self, vpi: u32, time: u64, params: &Params) -> Result<u32, Refusal> {
         self.open_with(Load::path(), Address::of_path(vpi), time, params)
     }
 
-    /// Opens a connection. Refusals: 19, 7, 8, 12, 27, 13, 14.
+    /// Opens a connection. Refusals: 19, 7, 29, 30, 8, 12, 27, 13, 14.
     fn open_with(
         &mut self,
         load: Load,
@@ -97,8 +98,9 @@ impl Engine {
         time: u64,
         params: &Params,
     ) -> Result<u32, Refusal> {
-        let contract = params.contract()?; // 19 before 7, which the name has too
+        params.check()?; // 19 before 7, which the name has too
         let name = at.name().ok_or(refusal::RANGE)?;
+        let contract = params.contract()?;
         check_range(time)?;
         if self.table.contains_key(&at) {
             return Err(refusal::ALREADY_OPEN);

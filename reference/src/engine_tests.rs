@@ -292,7 +292,7 @@ fn feedback_before_the_first_cell() {
 #[test]
 fn idle_is_tested_before_unanswered() {
     let mut engine = engine_with(&Params {
-        crm: 1,
+        tbe: 32, // CRM 1
         r: 0,
         c: 1,
         ..params()
@@ -315,7 +315,7 @@ fn idle_is_tested_before_unanswered() {
 fn unanswered_cells_cut_the_rate() {
     let mut engine = engine_with(&Params {
         n: 1,
-        crm: 2,
+        tbe: 3, // CRM 2
         ..params()
     });
     engine.offer(at(32), 50).unwrap();
@@ -339,7 +339,7 @@ fn unanswered_cells_cut_the_rate() {
 fn rate_after_answer(bn: u32) -> u64 {
     let mut engine = engine_with(&Params {
         n: 1,
-        crm: 2,
+        tbe: 3, // CRM 2
         ..params()
     });
     engine.offer(at(32), 9).unwrap();

@@ -60,6 +60,8 @@ mod out_of_rate_tests;
 mod path_tests;
 #[cfg(test)]
 mod reserved_bit_tests;
+#[cfg(test)]
+mod setup_tests;
 
 pub use address::Address;
 pub use cell::{read, write_rm, Cell, Rm};

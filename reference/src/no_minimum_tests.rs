@@ -147,7 +147,7 @@ fn unanswered_cells_bring_the_rate_to_0() {
     let params = Params {
         n: 1,
         c: 0,
-        crm: 1,
+        tbe: 2, // CRM 1
         ..params()
     };
     let mut engine = engine_with(&params);

@@ -210,7 +210,7 @@ fn slots(outside: bool) -> (Vec<Option<Sent>>, Vec<Octets>) {
     let small = Params {
         n: 2,
         c: 1,
-        crm: 2,
+        tbe: 8, // CRM 2
         adtf: 1,
         trm: 0,
         ..params()
@@ -279,7 +279,7 @@ fn it_is_not_counted_as_unanswered_and_answers_nothing() {
     let params = Params {
         n: 1,
         c: 1,
-        crm: 2,
+        tbe: 4, // CRM 2
         ..params()
     };
     let mut engine = engine_with(&params);

@@ -1,5 +1,6 @@
 //! The parameters of an open (document 01, "Opening"; with document 02's L5 the
-//! least minimum is 0, with L7 a rate code with the reserved bit is refused).
+//! least minimum is 0, with L7 a rate code with the reserved bit is refused, with L14
+//! TBE and FRTT stand in the place of CRM).
 
 use std::ops::RangeInclusive;
 
@@ -25,8 +26,17 @@ pub const ADTF_STEP: u64 = 10_000_000;
 /// Trm makes another one due.
 pub const MRM: u32 = 2;
 
-/// The largest CRM, and the number at which the unanswered count stops.
+/// The number at which the unanswered count stops, which no CRM is above.
 pub const CRM_MAX: u32 = 8_388_608;
+
+/// The largest TBE.
+pub const TBE_MAX: u32 = 16_777_215;
+
+/// The largest FRTT in microseconds.
+pub const FRTT_MAX: u32 = 16_700_000;
+
+/// A rate of one cell in a microsecond.
+const CELL_PER_MICROSECOND: u64 = 512_000_000;
 
 /// The value of c that means a CDF of zero.
 pub const CDF_ZERO: u32 = 7;
@@ -48,8 +58,10 @@ pub struct Params {
     pub d: u32,
     /// CDF is 1/2^c, or zero if c is 7.
     pub c: u32,
-    /// Unanswered forward cells at which the rate begins to fall.
-    pub crm: u32,
+    /// TBE: the cells allowed before feedback.
+    pub tbe: u32,
+    /// FRTT: the round trip in microseconds.
+    pub frtt: u32,
     /// ADTF in steps of 10 ms.
     pub adtf: u32,
     /// Trm number.
@@ -65,8 +77,10 @@ impl Params {
     pub const HOUSE_D: u32 = 4;
     /// c of the house set.
     pub const HOUSE_C: u32 = 4;
-    /// CRM of the house set.
-    pub const HOUSE_CRM: u32 = 524_288;
+    /// TBE of the house set.
+    pub const HOUSE_TBE: u32 = 16_777_215;
+    /// FRTT of the house set.
+    pub const HOUSE_FRTT: u32 = 0;
     /// ADTF of the house set.
     pub const HOUSE_ADTF: u32 = 50;
     /// Trm number of the house set.
@@ -82,41 +96,67 @@ impl Params {
             r: Self::HOUSE_R,
             d: Self::HOUSE_D,
             c: Self::HOUSE_C,
-            crm: Self::HOUSE_CRM,
+            tbe: Self::HOUSE_TBE,
+            frtt: Self::HOUSE_FRTT,
             adtf: Self::HOUSE_ADTF,
             trm: Self::HOUSE_TRM,
         }
     }
 
-    /// Checks every range and gives the set as rates, times and counts. Refusals:
-    /// 19 whatever else is wrong, 7.
-    pub fn contract(&self) -> Result<Contract, Refusal> {
+    /// Checks all but TBE and FRTT, and gives the three rates in the order peak, minimum,
+    /// initial. Refusals: 19 whatever else is wrong, 7.
+    pub fn check(&self) -> Result<(u64, u64, u64), Refusal> {
         if [self.pcr, self.mcr, self.icr]
             .into_iter()
             .any(rate::is_reserved)
         {
             return Err(refusal::RESERVED_BIT);
         }
-        let (pcr, mcr, icr) = self.rates()?;
-        within(self.n, 1..=8)?;
-        within(self.r, 0..=15)?;
-        within(self.d, 0..=15)?;
-        within(self.c, 0..=CDF_ZERO)?;
-        within(self.crm, 1..=CRM_MAX)?;
-        within(self.adtf, 1..=1_023)?;
-        within(self.trm, 0..=7)?;
+        let rates = self.rates()?;
+        within(self.n, 1..=8, refusal::RANGE)?;
+        within(self.r, 0..=15, refusal::RANGE)?;
+        within(self.d, 0..=15, refusal::RANGE)?;
+        within(self.c, 0..=CDF_ZERO, refusal::RANGE)?;
+        within(self.adtf, 1..=1_023, refusal::RANGE)?;
+        within(self.trm, 0..=7, refusal::RANGE)?;
+        Ok(rates)
+    }
+
+    /// Checks every range and gives the set as rates, times and counts. Refusals:
+    /// 19, 7, 29, 30.
+    pub fn contract(&self) -> Result<Contract, Refusal> {
+        let (pcr, mcr, icr) = self.check()?;
+        within(self.tbe, 1..=TBE_MAX, refusal::TBE)?;
+        within(self.frtt, 0..=FRTT_MAX, refusal::FRTT)?;
         Ok(Contract {
             pcr,
             mcr,
             icr,
+            icr_used: self.icr_used(mcr, icr),
             nrm: 1 << self.n,
             r: self.r,
             d: self.d,
             c: self.c,
-            crm: self.crm,
+            crm: self.crm(),
             adtf: u64::from(self.adtf) * ADTF_STEP,
             trm: TRM_TIMES[self.trm as usize],
         })
+    }
+
+    /// CRM: TBE / Nrm, rounded up, for every TBE and every n under 64.
+    pub fn crm(&self) -> u32 {
+        u64::from(self.tbe).div_ceil(1 << self.n) as u32
+    }
+
+    /// The initial rate that is used: the given one, lowered to the rate at which TBE cells
+    /// go in a round trip if that is less, but never under the minimum. Without a
+    /// round trip nothing is lowered.
+    pub fn icr_used(&self, mcr: u64, icr: u64) -> u64 {
+        let cells = CELL_PER_MICROSECOND * u64::from(self.tbe);
+        match cells.checked_div(self.frtt.into()) {
+            Some(limit) => icr.min(limit).max(mcr),
+            None => icr,
+        }
     }
 
     /// The three rates in the order peak, minimum, initial. Minimum and initial
@@ -133,12 +173,12 @@ impl Params {
     }
 }
 
-/// Refuses a number outside its range with 7.
-fn within(number: u32, range: RangeInclusive<u32>) -> Result<(), Refusal> {
+/// Refuses a number outside its range.
+fn within(number: u32, range: RangeInclusive<u32>, refusal: Refusal) -> Result<(), Refusal> {
     if range.contains(&number) {
         Ok(())
     } else {
-        Err(refusal::RANGE)
+        Err(refusal)
     }
 }
 
@@ -149,8 +189,10 @@ pub struct Contract {
     pub pcr: u64,
     /// Minimum rate.
     pub mcr: u64,
-    /// Initial rate.
+    /// Initial rate as the open gave it.
     pub icr: u64,
+    /// Initial rate that is used.
+    pub icr_used: u64,
     /// Nrm: a forward cell and the cells after it up to the next, at most.
     pub nrm: u32,
     /// Exponent of RIF.
@@ -188,7 +230,8 @@ mod tests {
             r: 4,
             d: 4,
             c: 4,
-            crm: 524_288,
+            tbe: 16_777_215,
+            frtt: 0,
             adtf: 50,
             trm: 7,
         };
@@ -201,7 +244,8 @@ mod tests {
         assert_eq!(contract.pcr, 512_000);
         assert_eq!(contract.mcr, 512);
         assert_eq!(contract.icr, 1_024);
-        assert_eq!(contract.nrm, 32);
+        assert_eq!(contract.icr_used, 1_024);
+        assert_eq!((contract.nrm, contract.crm), (32, 524_288));
         assert_eq!(contract.adtf, 500_000_000);
         assert_eq!(contract.trm, 100_000_000);
     }
@@ -216,16 +260,17 @@ mod tests {
 
     #[test]
     fn numbers_at_their_ends() {
-        let cases: [(Setter, u32, u32); 7] = [
-            (|p, v| p.n = v, 1, 8),
-            (|p, v| p.r = v, 0, 15),
-            (|p, v| p.d = v, 0, 15),
-            (|p, v| p.c = v, 0, 7),
-            (|p, v| p.crm = v, 1, 8_388_608),
-            (|p, v| p.adtf = v, 1, 1_023),
-            (|p, v| p.trm = v, 0, 7),
+        let cases: [(Setter, u32, u32, Refusal); 8] = [
+            (|p, v| p.n = v, 1, 8, 7),
+            (|p, v| p.r = v, 0, 15, 7),
+            (|p, v| p.d = v, 0, 15, 7),
+            (|p, v| p.c = v, 0, 7, 7),
+            (|p, v| p.adtf = v, 1, 1_023, 7),
+            (|p, v| p.trm = v, 0, 7, 7),
+            (|p, v| p.tbe = v, 1, 16_777_215, 29),
+            (|p, v| p.frtt = v, 0, 16_700_000, 30),
         ];
-        for (set, low, high) in cases {
+        for (set, low, high, refusal) in cases {
             let answer = |value| {
                 let mut params = good();
                 set(&mut params, value);
@@ -233,10 +278,10 @@ mod tests {
             };
             assert_eq!(answer(low), Ok(()));
             assert_eq!(answer(high), Ok(()));
-            assert_eq!(answer(high + 1), Err(7));
-            assert_eq!(answer(u32::MAX), Err(7));
+            assert_eq!(answer(high + 1), Err(refusal));
+            assert_eq!(answer(u32::MAX), Err(refusal));
             if low > 0 {
-                assert_eq!(answer(low - 1), Err(7));
+                assert_eq!(answer(low - 1), Err(refusal));
             }
         }
     }

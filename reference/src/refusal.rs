@@ -60,3 +60,7 @@ pub const MEMBERS_FULL: Refusal = 26;
 pub const ALREADY_MEMBER: Refusal = 27;
 /// The path is open, but the VCI is no member of it.
 pub const NOT_A_MEMBER: Refusal = 28;
+/// TBE is 0 or over 16,777,215.
+pub const TBE: Refusal = 29;
+/// FRTT is over 16,700,000.
+pub const FRTT: Refusal = 30;

@@ -7,7 +7,7 @@
 
 use reference::cell::{self, Cell, Octets, Rm};
 use reference::connection::RateRecord;
-use reference::params::{Contract, TRM_TIMES};
+use reference::params::{Contract, FRTT_MAX, TBE_MAX, TRM_TIMES};
 use reference::{code_of, gap, rate_of, read, write_rm, Address, Params};
 
 /// What the proved program must write.
@@ -66,19 +66,19 @@ fn coded() -> Lines {
     lines
 }
 
-/// The rates of the three codes; then the numbers, and whether an open takes
-/// them.
-fn parameters(p: &Params) -> [String; 2] {
-    let rates = [p.pcr, p.mcr, p.icr].map(rate_of);
-    let fits = match p.contract() {
-        Ok(_) => 1,
-        Err(number) => {
-            assert_eq!(number, 7);
-            0
-        }
-    };
-    let numbers = hex(&[p.n, p.r, p.d, p.c, p.crm, p.adtf, p.trm, fits]);
-    [decimal(&rates), numbers]
+/// The rates of the three codes and the initial rate that is used; then the numbers and CRM;
+/// then whether an open takes TBE, FRTT and all the others, each by itself.
+fn parameters(p: &Params) -> [String; 3] {
+    let [pcr, mcr, icr] = [p.pcr, p.mcr, p.icr].map(rate_of);
+    let others = p.check();
+    assert!(others.is_ok_and(|rates| rates == (pcr, mcr, icr)) || others == Err(7));
+    let tbe = (1..=TBE_MAX).contains(&p.tbe);
+    let frtt = p.frtt <= FRTT_MAX;
+    [
+        decimal(&[pcr, mcr, icr, p.icr_used(mcr, icr)]),
+        hex(&[p.n, p.r, p.d, p.c, p.tbe, p.frtt, p.adtf, p.trm, p.crm()]),
+        hex(&[others.is_ok(), tbe, frtt].map(u32::from)),
+    ]
 }
 
 /// PCR, MCR and ICR of a house set.
@@ -90,20 +90,34 @@ const HOUSE: [(u32, u32, u32); 5] = [
     (0x153E8, 0x4000, 0x4200),
 ];
 
-/// n, r, d, c, CRM, ADTF and the Trm number.
-const NUMBERS: [[u32; 7]; 12] = [
-    [1, 0, 0, 0, 1, 1, 0],
-    [8, 15, 15, 7, 8_388_608, 1023, 7],
-    [0, 4, 4, 4, 524_288, 50, 7],
-    [9, 4, 4, 4, 524_288, 50, 7],
-    [5, 16, 4, 4, 524_288, 50, 7],
-    [5, 4, 16, 4, 524_288, 50, 7],
-    [5, 4, 4, 8, 524_288, 50, 7],
-    [5, 4, 4, 4, 0, 50, 7],
-    [5, 4, 4, 4, 8_388_609, 50, 7],
-    [5, 4, 4, 4, 524_288, 0, 7],
-    [5, 4, 4, 4, 524_288, 1024, 7],
-    [5, 4, 4, 4, 524_288, 50, 8],
+/// n, r, d, c, ADTF and the Trm number.
+const NUMBERS: [[u32; 6]; 10] = [
+    [1, 0, 0, 0, 1, 0],
+    [8, 15, 15, 7, 1023, 7],
+    [0, 4, 4, 4, 50, 7],
+    [9, 4, 4, 4, 50, 7],
+    [5, 16, 4, 4, 50, 7],
+    [5, 4, 16, 4, 50, 7],
+    [5, 4, 4, 8, 50, 7],
+    [5, 4, 4, 4, 0, 7],
+    [5, 4, 4, 4, 1024, 7],
+    [5, 4, 4, 4, 50, 8],
+];
+
+/// n, TBE and FRTT.
+const SETUPS: [(u32, u32, u32); 12] = [
+    (1, 16_777_215, 0),
+    (8, 1, 16_700_000),
+    (5, 0, 1),
+    (5, 16_777_216, 1),
+    (5, 1, 16_700_001),
+    (5, 32, 33_000),
+    (5, 33, 33_000),
+    (5, 33, 33_001),
+    (5, 1, 1_000_000),
+    (5, 1, 1_000_001),
+    (31, u32::MAX, u32::MAX),
+    (32, u32::MAX, 1),
 ];
 
 fn params() -> Lines {
@@ -111,16 +125,24 @@ fn params() -> Lines {
     for (pcr, mcr, icr) in HOUSE {
         lines.extend(parameters(&Params::house(pcr, mcr, icr)));
     }
-    for [n, r, d, c, crm, adtf, trm] in NUMBERS {
+    for [n, r, d, c, adtf, trm] in NUMBERS {
         let house = Params::house(0x53E8, 0x4000, 0x4200);
         lines.extend(parameters(&Params {
             n,
             r,
             d,
             c,
-            crm,
             adtf,
             trm,
+            ..house
+        }));
+    }
+    for (n, tbe, frtt) in SETUPS {
+        let house = Params::house(0x53E8, 0x4000, 0x53E8);
+        lines.extend(parameters(&Params {
+            n,
+            tbe,
+            frtt,
             ..house
         }));
     }

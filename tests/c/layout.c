@@ -24,9 +24,10 @@ static void offsets_of_params(void)
     AT(abr_params, r, 16, 4);
     AT(abr_params, d, 20, 4);
     AT(abr_params, c, 24, 4);
-    AT(abr_params, crm, 28, 4);
-    AT(abr_params, adtf, 32, 4);
-    AT(abr_params, trm, 36, 4);
+    AT(abr_params, tbe, 28, 4);
+    AT(abr_params, frtt, 32, 4);
+    AT(abr_params, adtf, 36, 4);
+    AT(abr_params, trm, 40, 4);
 }
 
 static void offsets_of_rm(void)
@@ -104,27 +105,33 @@ static void every_rm_field(void)
 /* Each parameter is checked by its own range. */
 static void every_parameter(void)
 {
-    static const uint32_t good[10] = {0x7FFF, 0x4000, 0x53E8, 8, 15, 15, 7, 8388608, 1023, 7};
-    static const uint32_t bad[10] = {0x4001, 0x53E9, 0x3FFF, 9, 16, 16, 8, 8388609, 1024, 8};
-    for (int field = 0; field <= 10; field++) {
+    static const uint32_t good[11] = {0x7FFF, 0x4000, 0x53E8, 8, 15, 15, 7, ABR_TBE_MAX, ABR_FRTT_MAX, 1023, 7};
+    static const uint32_t bad[11] = {0x4001, 0x53E9, 0x3FFF, 9, 16, 16, 8, ABR_TBE_MAX + 1, ABR_FRTT_MAX + 1, 1024, 8};
+    for (int field = 0; field <= 11; field++) {
         static abr_table table;
-        uint32_t words[10];
+        uint32_t words[11], expected = ABR_REFUSED_RANGE;
         abr_params params;
         memset(&table, 0, sizeof table);
         memcpy(words, good, sizeof words);
-        if (field < 10) {
+        if (field < 11) {
             words[field] = bad[field];
         }
+        switch (field) {
+        case 7: expected = ABR_REFUSED_TBE; break;
+        case 8: expected = ABR_REFUSED_FRTT; break;
+        case 11: expected = ABR_OK; break;
+        default: break;
+        }
         memcpy(&params, words, sizeof params);
-        CHECK(abr_open(&table, 1, 32, 0, params).refusal == (field < 10 ? ABR_REFUSED_RANGE : ABR_OK));
+        CHECK(abr_open(&table, 1, 32, 0, params).refusal == expected);
     }
 }
 
 /* The house set has each code in its own place. */
 static void every_house_field(void)
 {
-    static const uint32_t words[10] = {1, 2, 3, ABR_HOUSE_N, ABR_HOUSE_R, ABR_HOUSE_D, ABR_HOUSE_C,
-                                       ABR_HOUSE_CRM, ABR_HOUSE_ADTF, ABR_HOUSE_TRM};
+    static const uint32_t words[11] = {1, 2, 3, ABR_HOUSE_N, ABR_HOUSE_R, ABR_HOUSE_D, ABR_HOUSE_C,
+                                       ABR_HOUSE_TBE, ABR_HOUSE_FRTT, ABR_HOUSE_ADTF, ABR_HOUSE_TRM};
     abr_params params = abr_house(1, 2, 3);
     CHECK(memcmp(&params, words, sizeof params) == 0);
 }

@@ -71,7 +71,7 @@ static void opens(void)
     abr_params params = abr_house(thousand, slowest, thousand);
     CHECK(params.pcr == thousand && params.mcr == slowest && params.icr == thousand);
     CHECK(params.n == ABR_HOUSE_N && params.r == ABR_HOUSE_R && params.d == ABR_HOUSE_D);
-    CHECK(params.c == ABR_HOUSE_C && params.crm == ABR_HOUSE_CRM);
+    CHECK(params.c == ABR_HOUSE_C && params.tbe == ABR_HOUSE_TBE && params.frtt == ABR_HOUSE_FRTT);
     CHECK(params.adtf == ABR_HOUSE_ADTF && params.trm == ABR_HOUSE_TRM);
     CHECK(is(abr_open(&table, 256, 31, 0, params), ABR_REFUSED_LOW_VCI, 0));
     CHECK(is(abr_open(&table, SECOND, 0, params), ABR_OK, 1));
@@ -431,12 +431,38 @@ static void a_path_with_members(void)
     CHECK(closed_is(abr_remove(&table, UPPER), ABR_REFUSED_NOT_OPEN, 0, 0));
 }
 
+/*
+ * TBE 64 and a round trip of 128 ms allow 500 cells per second to begin with, half of the given initial rate (document 02,
+ * L14). CRM is 2, so that the third unanswered forward cell cuts the rate by a sixteenth.
+ */
+static void tbe_and_round_trip(void)
+{
+    abr_params params = abr_house(thousand, slowest, thousand);
+    params.tbe = 0;
+    params.frtt = ABR_FRTT_MAX + 1;
+    CHECK(is(abr_open(&table, 256, 33, ABR_TIME_MAX + 1, params), ABR_REFUSED_RANGE, 0));
+    CHECK(is(abr_open(&table, FIRST, ABR_TIME_MAX + 1, params), ABR_REFUSED_TBE, 0));
+    CHECK(is(abr_open_path(&table, 7, ABR_TIME_MAX + 1, params), ABR_REFUSED_TBE, 0));
+    params.tbe = 64;
+    CHECK(is(abr_open(&table, FIRST, ABR_TIME_MAX + 1, params), ABR_REFUSED_FRTT, 0));
+    params.frtt = 128000;
+    CHECK(is(abr_open(&table, FIRST, ABR_TIME_MAX + 1, params), ABR_REFUSED_TIME, 0));
+    CHECK(is(abr_open(&table, FIRST, 500 * MS, params), ABR_OK, 1) && acr_is(FIRST, 256000, 0));
+    exports(FIRST, ABR_OK); /* the initial rate as given */
+    CHECK(is(abr_offer(&table, FIRST, 9), ABR_OK, 10) && is(feedback(FIRST, 0, ABR_CODE_MAX), ABR_OK, 10));
+    CHECK(acr_is(FIRST, 288000, 32000) && slot_is(500 * MS, FIRST, ABR_SENT_FORWARD, 256000));
+    CHECK(slot_is(502 * MS, FIRST, ABR_SENT_DATA, 256000) && slot_is(504 * MS, FIRST, ABR_SENT_DATA, 256000));
+    CHECK(slot_is(600 * MS, FIRST, ABR_SENT_FORWARD, 256000) && slot_is(602 * MS, FIRST, ABR_SENT_DATA, 256000));
+    CHECK(slot_is(604 * MS, FIRST, ABR_SENT_DATA, 256000) && slot_is(700 * MS, FIRST, ABR_SENT_FORWARD, 240000));
+    CHECK(closed_is(abr_close(&table, FIRST), ABR_OK, 10, 5));
+}
+
 static void nothing_is_left(void)
 {
     CHECK(slot_is(ABR_TIME_MAX, NOBODY, ABR_SENT_IDLE, 0));
     CHECK(strcmp(abr_refusal_text(ABR_OK), "accepted") == 0);
-    CHECK(strcmp(abr_refusal_text(28), abr_refusal_text(29)) != 0);
-    CHECK(strcmp(abr_refusal_text(3), abr_refusal_text(29)) == 0); /* withdrawn (document 02, L6) */
+    CHECK(strcmp(abr_refusal_text(30), abr_refusal_text(31)) != 0);
+    CHECK(strcmp(abr_refusal_text(3), abr_refusal_text(31)) == 0); /* withdrawn (document 02, L6) */
 }
 
 /* The verdict on some octets. */
@@ -503,6 +529,7 @@ static int scenario(const char *name)
     closes();
     without_a_minimum();
     a_path_with_members();
+    tbe_and_round_trip();
     nothing_is_left();
     printf("%s: %s\n", name, checks_failed ? "FAILED" : "ok");
     return checks_failed != 0;

@@ -62,11 +62,12 @@ fn params(draw: &mut Draw) -> Result<Params, Refusal> {
     let initial = 1 + draw.below(peak);
     let code = |cells: u64| abr::code(cells * RATE_ONE);
     let house = Params::house(code(peak)?, code(draw.below(initial + 1))?, code(initial)?);
+    let n = 1 + draw.below(6) as u32;
     Ok(Params {
-        n: 1 + draw.below(6) as u32,
+        n,
         d: 1 + draw.below(5) as u32,
         trm: 2 + draw.below(6) as u32,
-        crm: 4,
+        tbe: 4 << n, // CRM 4
         ..house
     })
 }

@@ -45,7 +45,7 @@ mod table;
 pub use cell::{read, write_rm, Cell, Rm, CELL_OCTETS};
 pub use double::{import, Contract, Imported};
 pub use judge::{judge, Rule, Verdict};
-pub use params::Params;
+pub use params::{Params, FRTT_MAX, TBE_MAX};
 pub use port::{fair_share, limit, port, Share, DEMANDS_MAX};
 pub use rate::{code, rate, RATE_MAX, RATE_ONE};
 pub use refusal::Refusal;

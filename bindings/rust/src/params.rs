@@ -2,8 +2,13 @@
 
 use crate::ffi;
 
+/// The largest TBE, in cells.
+pub const TBE_MAX: u32 = 16_777_215;
+/// The largest FRTT, in microseconds.
+pub const FRTT_MAX: u32 = 16_700_000;
+
 /// What an open gives beside VPI, VCI and time (document 01, "Opening"; document 02,
-/// L5), with the layout of the C struct. [`crate::Table::open`] checks the ranges.
+/// L5 and L14), with the layout of the C struct. [`crate::Table::open`] checks the ranges.
 #[repr(C)]
 #[derive(Debug, Clone, Copy, PartialEq, Eq, Hash, Default)]
 pub struct Params {
@@ -11,7 +16,8 @@ pub struct Params {
     pub pcr: u32,
     /// Code of the minimum rate, 0 for none.
     pub mcr: u32,
-    /// Code of the initial rate, from minimum to peak.
+    /// Code of the initial rate, from minimum to peak. The one that is used may be lower:
+    /// 512,000,000 × TBE / FRTT, rounded down, if that is less, but never under the minimum.
     pub icr: u32,
     /// Nrm is 2^n, n from 1 to 8.
     pub n: u32,
@@ -21,8 +27,11 @@ pub struct Params {
     pub d: u32,
     /// CDF is 1/2^c, c from 0 to 6; 7 means zero.
     pub c: u32,
-    /// CRM, from 1 to 8,388,608.
-    pub crm: u32,
+    /// TBE, the cells allowed before feedback, from 1 to 16,777,215. CRM is TBE / Nrm,
+    /// rounded up.
+    pub tbe: u32,
+    /// FRTT, the round trip in microseconds, from 0 to 16,700,000; 0 lowers nothing.
+    pub frtt: u32,
     /// ADTF in steps of 10 ms, from 1 to 1,023.
     pub adtf: u32,
     /// Trm number, from 0 to 7.
@@ -36,7 +45,8 @@ impl Params {
     /// let params = abr::Params::house(0x53E8, 0x4000, 0x4200);
     /// assert_eq!((params.pcr, params.mcr, params.icr), (0x53E8, 0x4000, 0x4200));
     /// assert_eq!((params.n, params.r, params.d, params.c), (5, 4, 4, 4));
-    /// assert_eq!((params.crm, params.adtf, params.trm), (524_288, 50, 7));
+    /// assert_eq!((params.tbe, params.frtt), (16_777_215, 0));
+    /// assert_eq!((params.adtf, params.trm), (50, 7));
     /// ```
     pub fn house(pcr: u32, mcr: u32, icr: u32) -> Self {
         // SAFETY: the call has no pointer.

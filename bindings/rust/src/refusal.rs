@@ -8,7 +8,7 @@ macro_rules! refusals {
     ($($(#[$doc:meta])* $name:ident = $number:literal: $text:literal,)*) => {
         /// A refused call changes nothing and says why (document 01, "Refused because
         /// of the input" and "Refused because of the state"; document 02, L1, L5, L7,
-        /// L8, L10, L11 and L13). L6 withdrew refusal 3.
+        /// L8, L10, L11, L13 and L14). L6 withdrew refusal 3.
         ///
         /// ```
         /// use abr::Refusal;
@@ -16,7 +16,7 @@ macro_rules! refusals {
         /// assert_eq!(Refusal::Range.number(), 7);
         /// assert_eq!(Refusal::try_from(7), Ok(Refusal::Range));
         /// assert_eq!(Refusal::try_from(3), Err(3));
-        /// assert_eq!(Refusal::try_from(29), Err(29));
+        /// assert_eq!(Refusal::try_from(31), Err(31));
         /// assert_eq!(Refusal::Full.to_string(), "1,024 connections are open");
         /// ```
         #[derive(Debug, Clone, Copy, PartialEq, Eq, Hash)]
@@ -96,6 +96,10 @@ refusals! {
     AlreadyMember = 27: "pair is already a member of its path",
     /// The path is open, but the VCI is no member of it.
     NotAMember = 28: "path is open, but the VCI is no member of it",
+    /// TBE is 0 or over 16,777,215.
+    Tbe = 29: "TBE is 0 or over 16,777,215",
+    /// FRTT is over 16,700,000.
+    Frtt = 30: "FRTT is over 16,700,000",
 }
 
 impl Refusal {

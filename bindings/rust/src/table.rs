@@ -106,8 +106,8 @@ impl Table {
     ///
     /// # Errors
     /// In this order: [`Refusal::LowVci`], [`Refusal::ReservedBit`] in one of the
-    /// three rate codes, [`Refusal::Range`], [`Refusal::Time`],
-    /// [`Refusal::AlreadyOpen`], [`Refusal::AlreadyMember`] of a path,
+    /// three rate codes, [`Refusal::Range`], [`Refusal::Tbe`], [`Refusal::Frtt`],
+    /// [`Refusal::Time`], [`Refusal::AlreadyOpen`], [`Refusal::AlreadyMember`] of a path,
     /// [`Refusal::Full`], [`Refusal::TimeBackward`].
     ///
     /// ```
@@ -157,8 +157,8 @@ impl Table {
     ///
     /// # Errors
     /// In this order: [`Refusal::ReservedBit`] in one of the three rate codes,
-    /// [`Refusal::Range`], [`Refusal::Time`], [`Refusal::AlreadyOpen`],
-    /// [`Refusal::Full`], [`Refusal::TimeBackward`].
+    /// [`Refusal::Range`], [`Refusal::Tbe`], [`Refusal::Frtt`], [`Refusal::Time`],
+    /// [`Refusal::AlreadyOpen`], [`Refusal::Full`], [`Refusal::TimeBackward`].
     ///
     /// ```
     /// use abr::{Kind, Params, Refusal, Table, CELL_OCTETS, PATH_VCI};
@@ -464,7 +464,7 @@ impl Table {
     }
 
     /// The peak, minimum and initial rate of a connection as doubles in cells per
-    /// second, exactly the rates of the codes that its open gave.
+    /// second, exactly the rates of the codes that its open gave, the initial one too.
     ///
     /// # Errors
     /// [`Refusal::NotOpen`].

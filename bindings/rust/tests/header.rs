@@ -52,6 +52,8 @@ fn the_limits_are_those_of_the_header() {
     assert_eq!(interval, abr::OUT_OF_RATE_INTERVAL);
     assert_eq!(value("ABR_LEVEL_MAX"), u64::from(abr::LEVEL_MAX));
     assert_eq!(value("ABR_DEMANDS_MAX"), abr::DEMANDS_MAX as u64);
+    assert_eq!(value("ABR_TBE_MAX"), u64::from(abr::TBE_MAX));
+    assert_eq!(value("ABR_FRTT_MAX"), u64::from(abr::FRTT_MAX));
     assert_eq!(value("ABR_RATE_ONE"), abr::RATE_ONE);
     assert_eq!(value("ABR_TIME_MAX"), abr::TIME_MAX);
     assert_eq!(value("ABR_RATE_MAX"), abr::RATE_MAX);
@@ -84,9 +86,9 @@ fn the_house_set_is_that_of_the_header() {
     let house = abr::Params::house(3, 2, 1);
     assert_eq!((house.pcr, house.mcr, house.icr), (3, 2, 1));
     let rest = [
-        house.n, house.r, house.d, house.c, house.crm, house.adtf, house.trm,
+        house.n, house.r, house.d, house.c, house.tbe, house.frtt, house.adtf, house.trm,
     ];
-    let names = ["N", "R", "D", "C", "CRM", "ADTF", "TRM"];
+    let names = ["N", "R", "D", "C", "TBE", "FRTT", "ADTF", "TRM"];
     for (number, name) in rest.into_iter().zip(names) {
         let expected = value(&format!("ABR_HOUSE_{name}"));
         assert_eq!(u64::from(number), expected, "{name}");
@@ -113,7 +115,7 @@ fn the_refusals_are_those_of_the_header() {
     assert_eq!(defined("ABR_OK"), (0, "accepted"));
     assert_eq!(Refusal::try_from(0), Err(0));
     assert_eq!(Refusal::try_from(3), Err(3)); // withdrawn by document 02's L6
-    assert_eq!(Refusal::try_from(29), Err(29));
+    assert_eq!(Refusal::try_from(31), Err(31));
 }
 
 #[test]
@@ -134,8 +136,8 @@ fn the_rules_of_a_trace_are_those_of_the_header() {
 fn the_layouts_are_those_of_the_header() {
     assert_eq!(size_of::<ffi::abr_table>(), 8 * ffi::ABR_TABLE_WORDS);
     assert_eq!(align_of::<ffi::abr_table>(), 8);
-    assert_eq!(size_of::<ffi::abr_params>(), 40);
-    assert_eq!(offset_of!(ffi::abr_params, trm), 36);
+    assert_eq!(size_of::<ffi::abr_params>(), 44);
+    assert_eq!(offset_of!(ffi::abr_params, trm), 40);
     assert_eq!(size_of::<ffi::abr_rm>(), 48);
     assert_eq!(offset_of!(ffi::abr_rm, vci), 4);
     assert_eq!(offset_of!(ffi::abr_rm, sn), 44);

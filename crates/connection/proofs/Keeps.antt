@@ -13,7 +13,7 @@ use borrow.Author.Tests.{eqb-false}
 use Rattle.params.specs.declared.params.Params.{Params}
 use Rattle.moves.specs.declared.moves.Rate.{Rate}
 use Rattle.rate.specs.Code.{rateOf}
-use Rattle.params.specs.Params.{nrm, paramsFit}
+use Rattle.params.specs.Params.{nrm, paramsFit, tbeFits, frttFits}
 use Rattle.moves.specs.Moves.{moved, opened, firstCell, idle, unanswered, feedback}
 use Rattle.moves.specs.Bounds.{RateInBounds}
 use Rattle.moves.proofs.FourMoves.{opened-in-bounds, firstCell-in-bounds, firstCell-mono, idle-in-bounds, idle-mono, unanswered-in-bounds, unanswered-mono, feedback-in-bounds}
@@ -129,6 +129,8 @@ valid-later now later h c p = (
     assigned = p .0 .assigned;
     coded = p .0 .coded;
     fits = p .0 .fits;
+    tbe = p .0 .tbe;
+    frtt = p .0 .frtt;
     trmTime = p .0 .trmTime;
     past = le-trans (p .0 .past) h;
     paced = pace-later now later (nrm (c .rate .params)) (c .pace) h (p .0 .paced);
@@ -139,10 +141,10 @@ valid-later now later h c p = (
   p .4,
 )
 
-pub fresh-valid : (v t : ℕ) (p : Params) → (isPath v ≡ false → firstVci ≤ vciIn v) → v < noName → paramsFit p ≡ true → ValidAt t (fresh v t p)
+pub fresh-valid : (v t : ℕ) (p : Params) → (isPath v ≡ false → firstVci ≤ vciIn v) → v < noName → paramsFit p ≡ true → tbeFits p ≡ true → frttFits p ≡ true → ValidAt t (fresh v t p)
 unfolding fresh
-fresh-valid v t p l u e = (
-  record { assigned = l; coded = u; fits = e; trmTime = refl; past = le-refl t; paced = tt },
+fresh-valid v t p l u e f g = (
+  record { assigned = l; coded = u; fits = e; tbe = f; frtt = g; trmTime = refl; past = le-refl t; paced = tt },
   fresh-in-bounds v t p e,
   record { level = omega arith; past = tt },
   tt,
@@ -158,6 +160,8 @@ same-parts-valid {now} c d s p h g m o q = (
     assigned = rw (s .name) (p .0 .assigned);
     coded = rw (s .name) (p .0 .coded);
     fits = ap paramsFit (s .params) ∙ p .0 .fits;
+    tbe = ap tbeFits (s .params) ∙ p .0 .tbe;
+    frtt = ap frttFits (s .params) ∙ p .0 .frtt;
     trmTime = rw (s .trm, s .params) (p .0 .trmTime);
     past = rw (s .opened) (p .0 .past);
     paced = rw (s .params) h;

@@ -5,7 +5,7 @@ use mathlib.Core.Path.{_≡_}
 use mathlib.Core.Bool.{true, false}
 use Rattle.params.specs.declared.params.Params.{Params}
 use Rattle.moves.specs.declared.moves.Rate.{Rate}
-use Rattle.params.specs.Params.{nrm, paramsFit, trmTime}
+use Rattle.params.specs.Params.{nrm, paramsFit, tbeFits, frttFits, trmTime}
 use Rattle.moves.specs.Bounds.{Between, RateInBounds}
 use Rattle.cell.specs.Name.{vciIn, noName}
 use Rattle.members.specs.Path.{isPath, firstVci}
@@ -38,6 +38,8 @@ pub record PartsValidAt (now name opened trm : ℕ) (p : Params) (pace : Pace) :
   pub assigned : isPath name ≡ false → firstVci ≤ vciIn name
   pub coded : name < noName
   pub fits : paramsFit p ≡ true
+  pub tbe : tbeFits p ≡ true
+  pub frtt : frttFits p ≡ true
   pub trmTime : trm ≡ trmTime (p .trm)
   pub past : opened ≤ now
   pub paced : PaceFits now (nrm p) pace

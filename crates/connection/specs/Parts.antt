@@ -3,7 +3,7 @@ use Prim.Native.Nat.{ℕ, _+_, _-_}
 use mathlib.Core.Bool.{false}
 use Rattle.params.specs.declared.params.Params.{Params}
 use Rattle.moves.specs.declared.moves.Rate.{Rate}
-use Rattle.params.specs.Params.{initial, trmTime}
+use Rattle.params.specs.Params.{initialUsed, trmTime}
 use Rattle.moves.specs.Moves.{opened}
 pub use Rattle.connection.specs.declared.parts.Pace.{Pace}
 pub use Rattle.connection.specs.declared.parts.Pace.the-variants.{Unsent, Running}
@@ -57,7 +57,7 @@ freshDestination = record { efci = false; turned = Nothing; made = record { leve
 abbrev pub changed : (before after : ℕ) → Change
 changed a b = record { before = a; after = b }
 
--- a connection as it starts: ACR = ICR, no cell sent, nothing waiting, Y = 0, no change by a backward cell (document 02, L9), no cell outside the rate
+-- a connection as it starts: ACR = the ICR used, no cell sent, nothing waiting, Y = 0, no change by a backward cell (document 02, L9), no cell outside the rate
 unfoldable pub fresh : (name time : ℕ) → Params → Connection
 fresh v t p = record {
   name = v;
@@ -67,7 +67,7 @@ fresh v t p = record {
   pace = Unsent;
   unacked = 0;
   queue = record { cells = 0; served = 0 };
-  change = changed (initial p) (initial p);
+  change = changed (initialUsed p) (initialUsed p);
   destination = freshDestination;
   outside = Never;
 }

@@ -55,11 +55,6 @@ pub members-changed : (s : State) (ms : List Member) {l : List ℕ} → l ≡ fr
 unfolding withMembers
 members-changed s ms e = e ∙ sym (front-split (withMembers ms s))
 
--- an entry and the members, in either order
-pub put-members : (s : State) (ms : List Member) (v : ℕ) (x : Entry) → put v x (withMembers ms s) ≡ withMembers ms (put v x s)
-unfolding put withMembers
-put-members s ms v x = refl
-
 -- what the test of a name's VCI says
 pub is-path : (v : ℕ) → v % 65536 ≡ 6 → isPath v ≡ true
 unfolding isPath

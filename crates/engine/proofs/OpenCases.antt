@@ -11,7 +11,7 @@ use borrow.Author.Tests.{le-leb, lt-leb}
 use Rattle.params.specs.declared.params.Params.{Params}
 use Rattle.rate.specs.Units.{latestTime}
 use Rattle.rate.specs.Code.{codesClear}
-use Rattle.params.specs.Params.{paramsFit}
+use Rattle.params.specs.Params.{paramsFit, tbeFits, frttFits}
 use Rattle.cell.specs.Name.{pairName}
 use Rattle.members.specs.Path.{firstVci}
 use Rattle.members.specs.Members.{isMember}
@@ -62,9 +62,18 @@ module _ (s : State) (a b t : ℕ) (p : Params) where
     unfolding admit require
     open-unfit g h f = rw (k, le-leb a 255 g, le-leb b 65535 h, f)
 
-    pub open-late : a ≤ 255 → b ≤ 65535 → paramsFit p ≡ true → latestTime < t → admit s a b t p ≡ refuse s 8
-    unfolding admit require
-    open-late g h f y = rw (k, le-leb a 255 g, le-leb b 65535 h, f, lt-leb t latestTime y)
+    module _ (g : a ≤ 255) (h : b ≤ 65535) (f : paramsFit p ≡ true) where
+      pub open-tbe : tbeFits p ≡ false → admit s a b t p ≡ refuse s 29
+      unfolding admit require
+      open-tbe x = rw (k, le-leb a 255 g, le-leb b 65535 h, f, x)
+
+      pub open-frtt : tbeFits p ≡ true → frttFits p ≡ false → admit s a b t p ≡ refuse s 30
+      unfolding admit require
+      open-frtt x y = rw (k, le-leb a 255 g, le-leb b 65535 h, f, x, y)
+
+      pub open-late : tbeFits p ≡ true → frttFits p ≡ true → latestTime < t → admit s a b t p ≡ refuse s 8
+      unfolding admit require
+      open-late x y z = rw (k, le-leb a 255 g, le-leb b 65535 h, f, x, y, lt-leb t latestTime z)
 
 -- the tests of the input that an open has passed
 pub record Passed (a b t : ℕ) (p : Params) : Type 0 where
@@ -72,6 +81,8 @@ pub record Passed (a b t : ℕ) (p : Params) : Type 0 where
   pub near : a ≤ 255
   pub high : b ≤ 65535
   pub fits : paramsFit p ≡ true
+  pub tbe : tbeFits p ≡ true
+  pub frtt : frttFits p ≡ true
   pub timely : t ≤ latestTime
 
 module _ (s : State) {a b t : ℕ} {p : Params} (i : Passed a b t p) where
@@ -81,7 +92,7 @@ module _ (s : State) {a b t : ℕ} {p : Params} (i : Passed a b t p) where
       (require (refuse s 27) (not (isMember (pairName a b) (s .members)))
       (require (refuse s 13) (roomLeft s) (require (refuse s 14) (leb (s .last) t) (replay (position isFree (s .entries)) s (withTime t (inserted (fresh (pairName a b) t p) s))))))
   unfolding admit require
-  rest = rw (i .clear, le-leb a 255 (i .near), le-leb b 65535 (i .high), i .fits, le-leb t latestTime (i .timely))
+  rest = rw (i .clear, le-leb a 255 (i .near), le-leb b 65535 (i .high), i .fits, i .tbe, i .frtt, le-leb t latestTime (i .timely))
 
   pub open-taken : (c : Connection) → find (pairName a b) (s .entries) ≡ taken c → admit s a b t p ≡ refuse s 12
   unfolding require isFree

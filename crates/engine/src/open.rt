@@ -1,4 +1,4 @@
-// Opening a channel or a path (document 01, "Opening"; document 02, L6, L7 and L13).
+// Opening a channel or a path (document 01, "Opening"; document 02, L6, L7, L13 and L14).
 ghost use Rattle.model.specs.Step.{admit, openStep, openPathStep};
 ghost use Rattle.engine.specs.Contract.{Meets};
 use cell::name::pair_name;
@@ -15,7 +15,7 @@ use storing::store::store;
 use table::layout::LAST;
 use table::layout::WORDS;
 
-// What every open refuses: 19, 7, 8, 12, 27, 13, 14.
+// What every open refuses: 19, 7, 29, 30, 8, 12, 27, 13, 14.
 fn admit(t: &mut [u64; WORDS], vpi: u32, vci: u32, time: u64, params: Params) -> Answer
     ensures { λ r. ⌜ Meets (λ s. admit s vpi vci time params) (now (t .entry)) (now (t .exit)) r ⌝ }
 {
@@ -30,6 +30,12 @@ fn admit(t: &mut [u64; WORDS], vpi: u32, vci: u32, time: u64, params: Params) ->
     }
     if !params.fits() {
         return Answer::Refused(7);
+    }
+    if !params.tbe_fits() {
+        return Answer::Refused(29);
+    }
+    if !params.frtt_fits() {
+        return Answer::Refused(30);
     }
     if LATEST_TIME < time {
         return Answer::Refused(8);

@@ -3,9 +3,17 @@ ghost use mathlib.Core.Path.{_≡_};
 ghost use Prim.Native.Nat.{_+_, _≤_};
 ghost use lib.ListN.{replicate};
 ghost use Rattle.laws.specs.Blocks.{put};
-ghost use Rattle.table.specs.Layout.{fixedWords, fixedWidth, size};
+ghost use Rattle.table.specs.Layout.{setupWord, fixedWords, fixedWidth, size};
 use connection::parts::Connection;
+use params::params::Params;
 use table::layout::WORDS;
+
+// TBE and FRTT.
+fn setup_word(p: Params) -> u64
+    ensures { λ r. ⌜ r ≡ setupWord p ⌝ }
+{
+    p.frtt as u64 * 4294967296 + p.tbe as u64
+}
 
 // The words that its open fixed, from index b on.
 pub fn put_fixed(t: &mut [u64; WORDS], b: usize, c: Connection)
@@ -13,6 +21,7 @@ pub fn put_fixed(t: &mut [u64; WORDS], b: usize, c: Connection)
     ensures { λ _. ⌜ now (t .exit) ≡ put (now (t .entry)) b (fixedWords c) ⌝ }
 {
     let p = c.rate.params;
+    let setup = setup_word(p);
     let trm = p.trm as u64;
     let pcr = p.pcr as u64;
     let mcr = p.mcr as u64;
@@ -21,7 +30,6 @@ pub fn put_fixed(t: &mut [u64; WORDS], b: usize, c: Connection)
     let r = p.r as u64;
     let d = p.d as u64;
     let cdf = p.c as u64;
-    let crm = p.crm as u64;
     let adtf = p.adtf as u64;
     t[b] = c.opened;
     t[b + 1] = c.trm;
@@ -32,7 +40,7 @@ pub fn put_fixed(t: &mut [u64; WORDS], b: usize, c: Connection)
     t[b + 6] = r;
     t[b + 7] = d;
     t[b + 8] = cdf;
-    t[b + 9] = crm;
+    t[b + 9] = setup;
     t[b + 10] = adtf;
     t[b + 11] = trm;
 }

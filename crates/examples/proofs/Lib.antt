@@ -7,3 +7,4 @@ pub mod AddressCalls
 pub mod ReservedCalls
 pub mod OwnTrace
 pub mod ConservedCalls
+pub mod SetupCalls

@@ -2,7 +2,7 @@
 use mathlib.Core.Path.{refl}
 use lib.Dec.{lit≤}
 use Rattle.rate.specs.Code.{reservedClear, codesClear, rateOf, codeBelow, codeOf}
-use Rattle.params.specs.Params.{within, ratesFit, codesFit, numbersFit, paramsFit, trmTimes, trmTime}
+use Rattle.params.specs.Params.{within, ratesFit, codesFit, numbersFit, paramsFit, tbeFits, frttFits, initialUsed, crm, trmTimes, trmTime}
 use Rattle.rate.specs.Gap.{gap}
 use Rattle.moves.specs.Moves.{firstCell, idle, cut, unanswered, rateByMarks, feedback, markLevel}
 use Rattle.crc.specs.Remainder.{bring, divide, remainder, bits, octetBits}
@@ -31,7 +31,7 @@ use Rattle.laws.specs.Require.{require}
 
 -- its unfolding line opens all that these calls compute with, wherever it is itself unfolded
 unfoldable pub computing : Unit {0}
-unfolding reservedClear codesClear rateOf codeBelow codeOf within ratesFit codesFit numbersFit paramsFit trmTimes trmTime gap firstCell idle cut unanswered rateByMarks feedback markLevel bring divide remainder bits octetBits headerCheck payloadCheck pairName headerRight header fieldsOf ratesClear withCrc resourceCell crcRight reading fresh offered afterBackwardCell afterResourceCell waits backwardWaits anyWaits lastBefore readyFrom readyInstant isForward isTurned kindAt movedBy paced sentForward sentData after memberServed withServed isPath anyWhere firstFrom orElse turn afterServing lastAfter empty position isFree holds find put inserted roomLeft withTime withMembers candidateFrom candidate better winner goesTo accept replay require ofOpen admit openStep offerStep readStep receiveStep nameTold sendFrom sendStep serveEntry serve slotStep step entryRate
+unfolding reservedClear codesClear rateOf codeBelow codeOf within ratesFit codesFit numbersFit paramsFit tbeFits frttFits initialUsed crm trmTimes trmTime gap firstCell idle cut unanswered rateByMarks feedback markLevel bring divide remainder bits octetBits headerCheck payloadCheck pairName headerRight header fieldsOf ratesClear withCrc resourceCell crcRight reading fresh offered afterBackwardCell afterResourceCell waits backwardWaits anyWaits lastBefore readyFrom readyInstant isForward isTurned kindAt movedBy paced sentForward sentData after memberServed withServed isPath anyWhere firstFrom orElse turn afterServing lastAfter empty position isFree holds find put inserted roomLeft withTime withMembers candidateFrom candidate better winner goesTo accept replay require ofOpen admit openStep offerStep readStep receiveStep nameTold sendFrom sendStep serveEntry serve slotStep step entryRate
 computing = tt
 
 backward : Backward congestedCell

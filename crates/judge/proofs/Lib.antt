@@ -5,3 +5,4 @@ pub mod Rest
 pub mod Earliest
 pub mod Examples
 pub mod Refusals
+pub mod RoundTrip

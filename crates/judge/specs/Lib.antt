@@ -2,6 +2,8 @@
 pub mod Rules
 pub mod Octets
 pub mod Promises
+-- And of a source before feedback (document 02, L14):
+pub mod RoundTrip
 -- And computed:
 pub mod Examples
 -- For the code's own functions:

@@ -9,7 +9,7 @@ use lib.ListN.{length}
 use borrow.Author.Tests.{leb-true, ltb-true, eq-eqb}
 use Rattle.params.specs.declared.params.Params.{Params}
 use Rattle.rate.specs.Units.{latestTime}
-use Rattle.params.specs.Params.{paramsFit}
+use Rattle.params.specs.Params.{paramsFit, tbeFits, frttFits}
 use Rattle.cell.specs.declared.fields.Fields.{Fields}
 use Rattle.cell.specs.declared.read.Reading.{Reading}
 use Rattle.cell.specs.declared.read.Reading.the-variants.{Refused as Unread, User, Resource}
@@ -44,6 +44,8 @@ pub record Enters (s : State) (u t : ℕ) (p : Params) : Type 0 where
   pub assigned : isPath u ≡ false → firstVci ≤ vciIn u
   pub coded : u < noName
   pub fits : paramsFit p ≡ true
+  pub tbe : tbeFits p ≡ true
+  pub frtt : frttFits p ≡ true
   pub new : find u (s .entries) ≡ free
   pub noMember : isMember u (s .members) ≡ false
   pub room : roomLeft s ≡ true
@@ -136,6 +138,8 @@ unfolding admit
 admit-effect s c a b t p assigned f =
     require-effect c 19 tt _ _ λ clear.
     require-effect c 7 tt _ _ λ fit.
+    require-effect c 29 tt _ _ λ tbe.
+    require-effect c 30 tt _ _ λ frtt.
     require-effect c 8 tt _ _ λ until.
     require-effect c 12 tt _ _ λ new.
     require-effect c 27 tt _ _ λ noMember.
@@ -145,6 +149,8 @@ admit-effect s c a b t p assigned f =
       assigned = λ i. omega (arith, assigned (ranges fit .0) i, named fit .vciBack);
       coded = in-range fit;
       fits = both (pairFits a b) (paramsFit p) fit .1;
+      tbe = tbe;
+      frtt = frtt;
       new = is-free (find (pairName a b) (s .entries)) new;
       noMember = not-true _ noMember;
       room = room;

@@ -44,7 +44,7 @@ fresh-empty u t p = refl
 begun-well-formed : {s : State} → WellFormed s → (u t : ℕ) (p : Params) → Enters s u t p → WellFormed (withTime t (inserted (fresh u t p) s))
 unfolding withTime inserted fresh
 begun-well-formed {s} w u t p g =
-    inserted-well-formed (withTime-well-formed w t (g .timely .since) (g .timely .until)) (fresh u t p) (fresh-valid u t p (g .assigned) (g .coded) (g .fits)) (g .new)
+    inserted-well-formed (withTime-well-formed w t (g .timely .since) (g .timely .until)) (fresh u t p) (fresh-valid u t p (g .assigned) (g .coded) (g .fits) (g .tbe) (g .frtt)) (g .new)
     (inserted-members s (w .unique) (w .members) (fresh u t p) (g .new) (g .room) (g .noMember) (fresh-empty u t p))
 
 -- a connection that stays as it should be, and keeps its name

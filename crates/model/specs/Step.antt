@@ -8,7 +8,7 @@ use lib.ListN.{length}
 use Rattle.params.specs.declared.params.Params.{Params}
 use Rattle.rate.specs.Units.{latestTime}
 use Rattle.rate.specs.Code.{codesClear}
-use Rattle.params.specs.Params.{paramsFit}
+use Rattle.params.specs.Params.{paramsFit, tbeFits, frttFits}
 use Rattle.cell.specs.declared.read.Reading.{Reading}
 use Rattle.cell.specs.declared.read.Reading.the-variants.{Refused as Unread, User, Resource}
 use Rattle.cell.specs.Name.{pairFits, pairName}
@@ -52,17 +52,19 @@ unfoldable pub ofOpen : State → Entry → (Connection → Outcome) → Outcome
 ofOpen s free f = refuse s 11
 ofOpen s (taken c) f = f c
 
--- What every open refuses: 19, 7, 8, 12, 27, 13, 14. 27 is a member's pair, so that a path's name never meets it. (Document 02, L13.)
+-- What every open refuses: 19, 7, which judges the initial rate as given, 29, 30, 8, 12, 27, 13, 14. 27 is a member's pair, so that a path's name never meets it. (Document 02, L13 and L14.)
 unfoldable pub admit : State → (vpi vci time : ℕ) → Params → Outcome
 admit s vpi vci t p =
     require (refuse s 19) (codesClear (p .pcr) (p .mcr) (p .icr))
     (require (refuse s 7) (pairFits vpi vci && paramsFit p)
+    (require (refuse s 29) (tbeFits p)
+    (require (refuse s 30) (frttFits p)
     (require (refuse s 8) (leb t latestTime)
     (require (refuse s 12) (isFree (find (pairName vpi vci) (s .entries)))
     (require (refuse s 27) (not (isMember (pairName vpi vci) (s .members)))
     (require (refuse s 13) (roomLeft s)
     (require (refuse s 14) (leb (s .last) t)
-    (replay (position isFree (s .entries)) s (withTime t (inserted (fresh (pairName vpi vci) t p) s)))))))))
+    (replay (position isFree (s .entries)) s (withTime t (inserted (fresh (pairName vpi vci) t p) s)))))))))))
 
 -- Opening a channel: 10 before all that, which looks at the VCI alone.
 unfoldable pub openStep : State → (vpi vci time : ℕ) → Params → Outcome

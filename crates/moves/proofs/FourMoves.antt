@@ -6,11 +6,12 @@ use native.Mathlib.Nat.{le-trans}
 use native.Mathlib.Omega.{arith}
 use lib.Dec.{leb, ltb, eqb}
 use Rattle.params.specs.declared.params.Params.{Params}
-use Rattle.params.specs.Params.{peak, least, adtfTime, paramsFit}
+use Rattle.params.specs.Params.{peak, least, crm, adtfTime, paramsFit}
 use Rattle.moves.specs.Moves.{Rate, moved, opened, firstCell, idle, unanswered, rateByMarks, feedback, markLevel}
 use Rattle.moves.specs.Bounds.{Between, RateInBounds}
 use Rattle.moves.proofs.Cuts.{cut-le, cut-mono}
 use Rattle.params.proofs.Ranges.{fits}
+use Rattle.params.proofs.Setup.{initial-rate}
 
 cond-all : (P : ℕ → Type 0) (t : Bool) {x y : ℕ} → P x → P y → P (cond t x y)
 cond-all P true p q = p
@@ -27,7 +28,9 @@ still-between h a l u = record { low = h .low; high = h .high; above = l; below 
 -- A connection as it is opened.
 pub opened-in-bounds : (p : Params) → paramsFit p ≡ true → RateInBounds (opened p)
 opened-in-bounds p e =
-    let f = fits p e in record { low = f .low; high = f .high; above = f .low; below = f .high }
+    let f = fits p e in
+    let u = initial-rate .between p (f .low) in
+    let high = le-trans (u .1) (f .high) in record { low = u .0; high = high; above = u .0; below = high }
 
 -- First cell.
 pub firstCell-in-bounds : (q : Rate) → RateInBounds q → RateInBounds (firstCell q)
@@ -54,7 +57,7 @@ pub unanswered-in-bounds : (y : ℕ) (q : Rate) → RateInBounds q → RateInBou
 unfolding unanswered
 unanswered-in-bounds y q h =
     let le = cut-le (q .params .c) (q .acr) in
-    let t : Bool = leb (q .params .crm) y && not (eqb (q .params .c) 7) in
+    let t : Bool = leb (crm (q .params)) y && not (eqb (q .params .c) 7) in
     still-between h _ (cond-all (λ a. least (q .params) ≤ a) t (omega arith) (h .above))
     (cond-all (λ a. a ≤ peak (q .params)) t (omega arith) (h .below))
 
@@ -62,7 +65,7 @@ pub unanswered-mono : (y : ℕ) (q : Rate) (a : ℕ) → a ≤ q .acr → unansw
 unfolding unanswered
 unanswered-mono y q a h =
     let le = cut-mono (q .params .c) h in
-    cond-mono (leb (q .params .crm) y && not (eqb (q .params .c) 7)) (omega arith) h
+    cond-mono (leb (crm (q .params)) y && not (eqb (q .params .c) 7)) (omega arith) h
 
 -- Feedback: it goes down with the rate, with ER, and with the marks.
 rateByMarks-high : (ci ni : Bool) (q : Rate) → RateInBounds q → rateByMarks ci ni q ≤ peak (q .params)

@@ -1,9 +1,9 @@
--- The rate record and the four moves of the allowed rate. (Document 01, "Four moves of the allowed rate".)
+-- The rate record and the four moves of the allowed rate. (Document 01, "Four moves of the allowed rate"; document 02, L14.)
 use Prim.Native.Nat.{ℕ, _+_, _-_, _*_, _/_, _^_, min, max}
 use mathlib.Core.Bool.{Bool, true, false, cond, _&&_, not}
 use lib.Dec.{leb, ltb, eqb}
 use Rattle.params.specs.declared.params.Params.{Params}
-use Rattle.params.specs.Params.{peak, least, initial, adtfTime}
+use Rattle.params.specs.Params.{peak, least, initialUsed, crm, adtfTime}
 pub use Rattle.moves.specs.declared.moves.Rate.{Rate}
 
 -- the same parameters at another allowed rate: all that a move does
@@ -12,15 +12,15 @@ moved q a = record { acr = a; params = q .params }
 
 -- the record of a connection as it is opened
 abbrev pub opened : Params → Rate
-opened p = record { acr = initial p; params = p }
+opened p = record { acr = initialUsed p; params = p }
 
 -- First cell.
 unfoldable pub firstCell : Rate → Rate
-firstCell q = moved q (min (q .acr) (initial (q .params)))
+firstCell q = moved q (min (q .acr) (initialUsed (q .params)))
 
 -- Idle: before a later forward cell, this long after the last one.
 unfoldable pub idle : ℕ → Rate → Rate
-idle passed q = moved q (cond (ltb (adtfTime (q .params)) passed) (min (q .acr) (initial (q .params))) (q .acr))
+idle passed q = moved q (cond (ltb (adtfTime (q .params)) passed) (min (q .acr) (initialUsed (q .params))) (q .acr))
 
 -- x less its part 1/2^k, rounded down
 unfoldable pub cut : ℕ → ℕ → ℕ
@@ -30,7 +30,7 @@ cut k x = x * (2 ^ k - 1) / 2 ^ k
 unfoldable pub unanswered : ℕ → Rate → Rate
 unanswered y q =
     moved q
-    (cond (leb (q .params .crm) y && not (eqb (q .params .c) 7)) (max (least (q .params)) (cut (q .params .c) (q .acr))) (q .acr))
+    (cond (leb (crm (q .params)) y && not (eqb (q .params .c) 7)) (max (least (q .params)) (cut (q .params .c) (q .acr))) (q .acr))
 
 -- what a backward cell's CI and NI make of the rate, before ER and the minimum
 unfoldable pub rateByMarks : Bool → Bool → Rate → ℕ

@@ -3,23 +3,13 @@
 ghost use mathlib.Core.Path.{_≡_};
 ghost use Prim.Native.Nat.{_+_, _/_, _^_, min, max};
 ghost use Rattle.moves.specs.Moves.{moved, opened, firstCell, idle, unanswered, cut, rateByMarks, feedback};
+use params::extremes::higher;
+use params::extremes::lower;
 use params::params::Params;
 
 pub struct Rate {
     pub acr: u64,
     pub params: Params,
-}
-
-fn lower(a: u64, b: u64) -> u64
-    ensures { λ x. ⌜ x ≡ min a b ⌝ }
-{
-    if a < b { a } else { b }
-}
-
-fn higher(a: u64, b: u64) -> u64
-    ensures { λ x. ⌜ x ≡ max a b ⌝ }
-{
-    if a < b { b } else { a }
 }
 
 // The part 1/2^k of x, rounded down, for every k.
@@ -56,7 +46,7 @@ impl Rate {
         ensures { λ q. ⌜ q ≡ opened params ⌝ }
     {
         Rate {
-            acr: params.initial(),
+            acr: params.initial_used(),
             params,
         }
     }
@@ -72,7 +62,7 @@ impl Rate {
     pub fn first_cell(self) -> Rate
         ensures { λ q. ⌜ q ≡ firstCell self ⌝ }
     {
-        self.moved(lower(self.acr, self.params.initial()))
+        self.moved(lower(self.acr, self.params.initial_used()))
     }
 
     // `passed` is the time since the last forward cell.
@@ -90,7 +80,7 @@ impl Rate {
     pub fn unanswered(self, y: u32) -> Rate
         ensures { λ q. ⌜ q ≡ unanswered y self ⌝ }
     {
-        if y < self.params.crm {
+        if y < self.params.crm() {
             return self;
         }
         if self.params.c == 7 {

@@ -5,3 +5,4 @@ pub mod OneCell
 pub mod Passing
 pub mod Reread
 pub mod Fits
+pub mod RoundTrip

@@ -8,7 +8,7 @@ use native.Mathlib.Omega.{arith}
 use borrow.Author.Tests.{eq-eqb}
 use Rattle.rate.specs.Gap.{gap}
 use Rattle.params.specs.declared.params.Params.{Params}
-use Rattle.params.specs.Params.{nrm, paramsFit}
+use Rattle.params.specs.Params.{nrm, paramsFit, tbeFits, frttFits}
 use Rattle.params.specs.Forward.{forwardDue}
 use Rattle.cell.specs.Name.{pairName}
 use Rattle.members.specs.Path.{pathVci}
@@ -110,6 +110,8 @@ pub record Opened (v : ℕ) (p : Params) (ss : List Entry) : Type 0 where
   pub time : ℕ
   pub found : find v ss ≡ taken (fresh v time p)
   pub fits : paramsFit p ≡ true
+  pub tbe : tbeFits p ≡ true
+  pub frtt : frttFits p ≡ true
 
 entered : {s : State} (u t : ℕ) (p : Params) → Enters s u t p → Opened u p (inserted (fresh u t p) s .entries)
 unfolding fresh
@@ -117,6 +119,8 @@ entered {s} u t p g = record {
   time = t;
   found = inserted-read (λ (x : Entry). x) u s (fresh u t p) (g .new) (g .room) ∙ rw (eq-eqb u u refl) refl;
   fits = g .fits;
+  tbe = g .tbe;
+  frtt = g .frtt;
 }
 
 refused-opens : {A : Type 0} (s : State) (n : ℕ) → isAccepted (refuse s n .answer) ≡ true → A

@@ -2,3 +2,4 @@
 pub mod InRate
 pub mod Written
 pub mod Traces
+pub mod RoundTrip

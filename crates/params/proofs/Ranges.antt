@@ -7,15 +7,15 @@ use native.Mathlib.Omega.{arith}
 use lib.Dec.{leb}
 use lib.ListN.{getD, List·getD-eq-default}
 use borrow.Author.Tests.{leb-true}
-use Rattle.params.specs.Params.{Params, peak, least, initial, within, codesFit, ratesFit, numbersFit, paramsFit, trmTimes, trmTime}
-use Rattle.params.specs.Ranges.{Fits}
+use Rattle.params.specs.Params.{Params, peak, least, initial, within, codesFit, ratesFit, numbersFit, paramsFit, tbeFits, frttFits, trmTimes, trmTime}
+use Rattle.params.specs.Ranges.{Fits, SetupFits}
 
 -- both sides of a test
 both : (a b : Bool) → (a && b) ≡ true → (a ≡ true) × (b ≡ true)
 both true b e = (refl, e)
 both false b e = let z : _≡_ {A = ℕ} 0 1 = cc in absurd (omega arith)
 
-in-range : (low high x : ℕ) → within low high x ≡ true → (low ≤ x) × (x ≤ high)
+pub in-range : (low high x : ℕ) → within low high x ≡ true → (low ≤ x) × (x ≤ high)
 unfolding within
 in-range low high x e =
     let h = both (leb low x) (leb x high) e in (leb-true low x (h .0), leb-true x high (h .1))
@@ -31,15 +31,13 @@ fits p e =
     let rate₂ = both (leb (least p) (initial p)) (leb (initial p) (peak p)) (rate .1) in
     let trm = leb (p .trm) 7 in
     let adtf = within 1 1023 (p .adtf) && trm in
-    let crm = within 1 8_388_608 (p .crm) && adtf in
-    let cdf = leb (p .c) 7 && crm in
+    let cdf = leb (p .c) 7 && adtf in
     let rdf = leb (p .d) 15 && cdf in
     let n = both (within 1 8 (p .n)) (leb (p .r) 15 && rdf) (g .1) in
     let r = both (leb (p .r) 15) rdf (n .1) in
     let d = both (leb (p .d) 15) cdf (r .1) in
-    let c = both (leb (p .c) 7) crm (d .1) in
-    let m = both (within 1 8_388_608 (p .crm)) adtf (c .1) in
-    let a = both (within 1 1023 (p .adtf)) trm (m .1) in
+    let c = both (leb (p .c) 7) adtf (d .1) in
+    let a = both (within 1 1023 (p .adtf)) trm (c .1) in
     record {
       pcrCode = leb-true _ _ (code .0);
       mcrCode = leb-true _ _ (code₂ .0);
@@ -52,12 +50,15 @@ fits p e =
       rMost = leb-true _ _ (r .0);
       dMost = leb-true _ _ (d .0);
       cMost = leb-true _ _ (c .0);
-      crmLeast = in-range 1 8_388_608 (p .crm) (m .0) .0;
-      crmMost = in-range 1 8_388_608 (p .crm) (m .0) .1;
       adtfLeast = in-range 1 1023 (p .adtf) (a .0) .0;
       adtfMost = in-range 1 1023 (p .adtf) (a .0) .1;
       trmMost = leb-true _ _ (a .1);
     }
+
+pub setup-fits : (p : Params) → tbeFits p ≡ true → frttFits p ≡ true → SetupFits p
+unfolding tbeFits frttFits
+setup-fits p e f =
+    let h = in-range 1 16_777_215 (p .tbe) e in record { tbeLeast = h .0; tbeMost = h .1; frttMost = leb-true _ _ f }
 
 -- a Trm number over 7 has no time
 pub trm-none : (n : ℕ) → 7 < n → 0 ≡ trmTime n

@@ -1,4 +1,4 @@
--- Parameters within their ranges. (Document 01, "Opening".)
+-- Parameters within their ranges. (Document 01, "Opening"; document 02, L14.)
 use Prim.Native.Nat.{_≤_}
 use Rattle.params.specs.Params.{Params, peak, least, initial}
 
@@ -15,8 +15,12 @@ pub record Fits (p : Params) : Type 0 where
   pub rMost : p .r ≤ 15
   pub dMost : p .d ≤ 15
   pub cMost : p .c ≤ 7
-  pub crmLeast : 1 ≤ p .crm
-  pub crmMost : p .crm ≤ 8_388_608
   pub adtfLeast : 1 ≤ p .adtf
   pub adtfMost : p .adtf ≤ 1023
   pub trmMost : p .trm ≤ 7
+
+-- what `tbeFits` and `frttFits` test
+pub record SetupFits (p : Params) : Type 0 where
+  pub tbeLeast : 1 ≤ p .tbe
+  pub tbeMost : p .tbe ≤ 16_777_215
+  pub frttMost : p .frtt ≤ 16_700_000

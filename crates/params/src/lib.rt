@@ -1,2 +1,3 @@
 // The parameters of an open, with their ranges, and the house set.
+pub mod extremes;
 pub mod params;

@@ -1,8 +1,11 @@
-// What an open gives (document 01, "Opening").
+// What an open gives (document 01, "Opening"; document 02, L14).
+ghost use Prim.Native.Nat.{_+_, _-_, _/_, _^_};
 ghost use mathlib.Core.Path.{_≡_};
 ghost use mathlib.Core.Bool.{_&&_};
 ghost use lib.Dec.{leb};
-ghost use Rattle.params.specs.Params.{peak, least, initial, within, codesFit, ratesFit, numbersFit, paramsFit, trmTime, houseSet};
+ghost use Rattle.params.specs.Params.{peak, least, initial, initialUsed, within, codesFit, ratesFit, numbersFit, paramsFit, tbeFits, frttFits, crm, trmTime, houseSet};
+use crate::extremes::higher;
+use crate::extremes::lower;
 use rate::code::rate_of;
 
 // Trm by its number, in nanoseconds.
@@ -26,6 +29,19 @@ pub fn trm_time(number: u32) -> u64
     TRM_TIMES[number as usize]
 }
 
+// x / 2^n, rounded up: the part of x - 1, rounded down, and 1 more, so that no sum wraps.
+fn rounded_up(x: u32, n: u32) -> u32
+    ensures { λ y. ⌜ y ≡ (x + 2 ^ n - 1) / 2 ^ n ⌝ }
+{
+    if x == 0 {
+        return 0;
+    }
+    if 31 < n {
+        return 1;
+    }
+    ((x - 1) >> n) + 1
+}
+
 fn within(low: u32, high: u32, x: u32) -> bool
     ensures { λ b. ⌜ b ≡ within low high x ⌝ }
 {
@@ -41,7 +57,8 @@ pub struct Params {
     pub r: u32,
     pub d: u32,
     pub c: u32,
-    pub crm: u32,
+    pub tbe: u32,
+    pub frtt: u32,
     pub adtf: u32,
     pub trm: u32,
 }
@@ -56,7 +73,9 @@ impl Params {
 
     pub const C: u32 = 4;
 
-    pub const CRM: u32 = 524288;
+    pub const TBE: u32 = 16777215;
+
+    pub const FRTT: u32 = 0;
 
     pub const ADTF: u32 = 50;
 
@@ -73,7 +92,8 @@ impl Params {
             r: Params::R,
             d: Params::D,
             c: Params::C,
-            crm: Params::CRM,
+            tbe: Params::TBE,
+            frtt: Params::FRTT,
             adtf: Params::ADTF,
             trm: Params::TRM,
         }
@@ -98,6 +118,24 @@ impl Params {
         rate_of(self.icr)
     }
 
+    // The initial rate used. Its product fits for every TBE.
+    pub fn initial_used(self) -> u64
+        ensures { λ a. ⌜ a ≡ initialUsed self ⌝ }
+    {
+        if self.frtt == 0 {
+            return self.initial();
+        }
+        let exposed = 512000000 * (self.tbe as u64) / (self.frtt as u64);
+        higher(self.least(), lower(self.initial(), exposed))
+    }
+
+    // CRM.
+    pub fn crm(self) -> u32
+        ensures { λ y. ⌜ y ≡ crm self ⌝ }
+    {
+        rounded_up(self.tbe, self.n)
+    }
+
     fn codes_fit(self) -> bool
         ensures { λ b. ⌜ b ≡ codesFit self ⌝ }
     {
@@ -114,11 +152,11 @@ impl Params {
         512 <= peak && (least <= initial && initial <= peak)
     }
 
-    // CRM, ADTF and the Trm number.
+    // ADTF and the Trm number.
     fn limits_fit(self) -> bool
-        ensures { λ b. ⌜ b ≡ within 1 8388608 (self .crm) && (within 1 1023 (self .adtf) && leb (self .trm) 7) ⌝ }
+        ensures { λ b. ⌜ b ≡ within 1 1023 (self .adtf) && leb (self .trm) 7 ⌝ }
     {
-        within(1, 8388608, self.crm) && (within(1, 1023, self.adtf) && self.trm <= 7)
+        within(1, 1023, self.adtf) && self.trm <= 7
     }
 
     fn numbers_fit(self) -> bool
@@ -128,10 +166,23 @@ impl Params {
             && (self.r <= 15 && (self.d <= 15 && (self.c <= 7 && self.limits_fit())))
     }
 
-    // What an open may give: every range of document 01 at once.
+    // What an open may give but for TBE and FRTT: every range of document 01 at once.
     pub fn fits(self) -> bool
         ensures { λ b. ⌜ b ≡ paramsFit self ⌝ }
     {
         self.codes_fit() && (self.rates_fit() && self.numbers_fit())
+    }
+
+    // TBE and FRTT, each with a refusal of its own.
+    pub fn tbe_fits(self) -> bool
+        ensures { λ b. ⌜ b ≡ tbeFits self ⌝ }
+    {
+        within(1, 16777215, self.tbe)
+    }
+
+    pub fn frtt_fits(self) -> bool
+        ensures { λ b. ⌜ b ≡ frttFits self ⌝ }
+    {
+        self.frtt <= 16700000
     }
 }

@@ -102,12 +102,14 @@ unfolding admit replay
 admit-meets r vpi vci t p =
     require-meets r 19 _ _ refl
     (require-meets r 7 _ _ refl
+    (require-meets r 29 _ _ refl
+    (require-meets r 30 _ _ refl
     (require-meets r 8 _ _ refl
     (require-meets r 12 _ _ (isFree-same _ _ (find-lower (pairName vpi vci) r))
     (require-meets r 27 _ _ (ap (λ ms. not (isMember (pairName vpi vci) ms)) (members-same r))
     (require-meets r 13 _ _ (roomLeft-same r)
     (require-meets r 14 _ _ (ap (λ l. leb l t) (last-same r)) λ _.
-    accept-both _ _ (withTime-tables t (inserted-tables (fresh (pairName vpi vci) t p) r))))))))
+    accept-both _ _ (withTime-tables t (inserted-tables (fresh (pairName vpi vci) t p) r))))))))))
 
 open-meets : {s₁ s₂ : State} → Tables s₁ s₂ → (vpi vci t : ℕ) (p : Params) → Meets (openStep s₁ vpi vci t p) (openStep s₂ vpi vci t p)
 unfolding openStep

@@ -8,7 +8,7 @@ use borrow.Author.Tests.{le-leb}
 use Rattle.params.specs.declared.params.Params.{Params}
 use Rattle.rate.specs.Units.{latestTime}
 use Rattle.rate.specs.Code.{codesClear}
-use Rattle.params.specs.Params.{paramsFit}
+use Rattle.params.specs.Params.{paramsFit, tbeFits, frttFits}
 use Rattle.cell.specs.declared.fields.Fields.{Fields}
 use Rattle.cell.specs.declared.read.Reading.the-variants.{User, Resource}
 use Rattle.cell.specs.Name.{vciIn, noName, pairName}
@@ -44,10 +44,10 @@ member-high {s} w x e =
 
 module _ (s : State) (vpi vci : ℕ) (f : find (pairName vpi vci) (s .entries) ≡ free) where
   member-open :
-      (t : ℕ) (p : Params) → vpi ≤ 255 → vci ≤ 65535 → firstVci ≤ vci → codesClear (p .pcr) (p .mcr) (p .icr) ≡ true → paramsFit p ≡ true → t ≤ latestTime
+      (t : ℕ) (p : Params) → vpi ≤ 255 → vci ≤ 65535 → firstVci ≤ vci → codesClear (p .pcr) (p .mcr) (p .icr) ≡ true → paramsFit p ≡ true → tbeFits p ≡ true → frttFits p ≡ true → t ≤ latestTime
       → isMember (pairName vpi vci) (s .members) ≡ true → openStep s vpi vci t p ≡ refuse s 27
   unfolding openStep admit require isFree
-  member-open t p a b low clear fit until e = rw (le-leb firstVci vci low, clear, le-leb vpi 255 a, le-leb vci 65535 b, fit, le-leb t latestTime until, f, e)
+  member-open t p a b low clear fit tbe frtt until e = rw (le-leb firstVci vci low, clear, le-leb vpi 255 a, le-leb vci 65535 b, fit, tbe, frtt, le-leb t latestTime until, f, e)
 
   member-resource : (o : List ℕ) (g : Fields) → reading o ≡ Resource g → cellName g ≡ pairName vpi vci → step s (receiving o) ≡ refuse s 11
   unfolding step receiveStep readStep ofOpen
@@ -59,7 +59,7 @@ unfolding step acrOf entryAcr contractOf entryContract
 member-only s w vpi vci f e =
     let n = member-named w vpi vci e in
     record {
-      opens = λ t p clear fit until. member-open s vpi vci f t p (n .vpiFits) (n .vciFits) (omega (arith, member-high w (pairName vpi vci) e, n .vciBack)) clear fit until e;
+      opens = λ t p clear fit tbe frtt until. member-open s vpi vci f t p (n .vpiFits) (n .vciFits) (omega (arith, member-high w (pairName vpi vci) e, n .vciBack)) clear fit tbe frtt until e;
       closes = close-out s vpi vci f;
       offers = offer-out s vpi vci f;
       makes = make-out s vpi vci f;

@@ -7,7 +7,7 @@ use lib.ListN.{length}
 use Rattle.params.specs.declared.params.Params.{Params}
 use Rattle.rate.specs.Units.{latestTime}
 use Rattle.rate.specs.Code.{codesClear}
-use Rattle.params.specs.Params.{paramsFit}
+use Rattle.params.specs.Params.{paramsFit, tbeFits, frttFits}
 use Rattle.cell.specs.declared.fields.Fields.{Fields}
 use Rattle.cell.specs.declared.read.Reading.the-variants.{User, Resource}
 use Rattle.cell.specs.Name.{pairName}
@@ -28,7 +28,7 @@ use Rattle.model.specs.Run.{final}
 -- a member's pair is no connection's: what the calls for one do, where no refusal with an earlier place in their order comes first
 pub record MemberOnly (s : State) (vpi vci : ℕ) : Type 0 where
   pub opens :
-      (t : ℕ) (p : Params) → codesClear (p .pcr) (p .mcr) (p .icr) ≡ true → paramsFit p ≡ true → t ≤ latestTime
+      (t : ℕ) (p : Params) → codesClear (p .pcr) (p .mcr) (p .icr) ≡ true → paramsFit p ≡ true → tbeFits p ≡ true → frttFits p ≡ true → t ≤ latestTime
       → step s (opening vpi vci t p) ≡ refuse s 27
   pub closes : step s (closing vpi vci) ≡ refuse s 11
   pub offers : (n : ℕ) → step s (offering vpi vci n) ≡ refuse s 11

@@ -7,7 +7,7 @@ use native.Mathlib.Omega.{arith}
 use lib.Dec.{eqb}
 use borrow.Author.Tests.{eq-eqb, ne-eqb, eqb-true}
 use Rattle.params.specs.declared.params.Params.{Params}
-use Rattle.params.specs.Params.{initial}
+use Rattle.params.specs.Params.{initialUsed}
 use Rattle.cell.specs.declared.fields.Fields.{Fields}
 use Rattle.cell.specs.declared.read.Reading.the-variants.{Resource}
 use Rattle.cell.specs.Name.{pairName}
@@ -61,7 +61,7 @@ bounded cs v =
 
 -- An open.
 begun-entry :
-    (s : State) (u t : ℕ) (p : Params) → Enters s u t p → entryAcr (find u (inserted (fresh u t p) s .entries)) ≡ Rate (initial p) (changed (initial p) (initial p))
+    (s : State) (u t : ℕ) (p : Params) → Enters s u t p → entryAcr (find u (inserted (fresh u t p) s .entries)) ≡ Rate (initialUsed p) (changed (initialUsed p) (initialUsed p))
 unfolding entryAcr fresh
 begun-entry s u t p g =
     ap entryAcr
@@ -69,14 +69,14 @@ begun-entry s u t p g =
 
 begun :
     {s : State} {o : Outcome} {vpi vci t : ℕ} {p : Params} (n : ℕ) → Effect s (opening vpi vci t p) o → o .answer ≡ Accepted n
-    → acrOf (o .state) (pairName vpi vci) ≡ Rate (initial p) (changed (initial p) (initial p))
+    → acrOf (o .state) (pairName vpi vci) ≡ Rate (initialUsed p) (changed (initialUsed p) (initialUsed p))
 unfolding refuse accept replay acrOf withTime
 begun n (refuses _ k h) e = let z : _≡_ {A = ℕ} 0 1 = cc in absurd (omega arith)
 begun {s} {o} {vpi} {vci} {t} {p} n (begins _ _ _ _ g) e = begun-entry s (pairName vpi vci) t p g
 
 begun-path :
     {s : State} {o : Outcome} {vpi t : ℕ} {p : Params} (n : ℕ) → Effect s (openingPath vpi t p) o → o .answer ≡ Accepted n
-    → acrOf (o .state) (pairName vpi pathVci) ≡ Rate (initial p) (changed (initial p) (initial p))
+    → acrOf (o .state) (pairName vpi pathVci) ≡ Rate (initialUsed p) (changed (initialUsed p) (initialUsed p))
 unfolding refuse accept replay acrOf withTime
 begun-path n (refuses _ k h) e = let z : _≡_ {A = ℕ} 0 1 = cc in absurd (omega arith)
 begun-path {s} {o} {vpi} {t} {p} n (beginsPath _ _ _ g) e = begun-entry s (pairName vpi pathVci) t p g

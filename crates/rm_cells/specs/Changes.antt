@@ -7,7 +7,7 @@ use mathlib.Core.Option.{Option, none, some}
 use lib.IntN.{pos, _-ℤ_}
 use lib.Signed.{_≤ℤ_}
 use Rattle.params.specs.declared.params.Params.{Params}
-use Rattle.params.specs.Params.{peak, least, initial}
+use Rattle.params.specs.Params.{peak, least, initialUsed}
 use Rattle.cell.specs.declared.fields.Fields.{Fields}
 use Rattle.cell.specs.declared.read.Reading.the-variants.{Resource}
 use Rattle.cell.specs.Name.{pairName}
@@ -59,10 +59,10 @@ pub record Changes : Type 0 where
   -- no change as soon as a connection is opened, a path as well as a channel
   pub begins :
       (cs : List Call) (vpi vci t n : ℕ) (p : Params) → let o = step (final empty cs) (opening vpi vci t p) in
-      o .answer ≡ Accepted n → acrOf (o .state) (pairName vpi vci) ≡ Rate (initial p) (changed (initial p) (initial p))
+      o .answer ≡ Accepted n → acrOf (o .state) (pairName vpi vci) ≡ Rate (initialUsed p) (changed (initialUsed p) (initialUsed p))
   pub beginsPath :
       (cs : List Call) (vpi t n : ℕ) (p : Params) → let o = step (final empty cs) (openingPath vpi t p) in
-      o .answer ≡ Accepted n → acrOf (o .state) (pairName vpi pathVci) ≡ Rate (initial p) (changed (initial p) (initial p))
+      o .answer ≡ Accepted n → acrOf (o .state) (pairName vpi pathVci) ≡ Rate (initialUsed p) (changed (initialUsed p) (initialUsed p))
   -- a backward cell of an open connection: from the rate read before it to the one read after it
   pub fedBack :
       (cs : List Call) (o : List ℕ) (f : Fields) (a : ℕ) (x : Change) → reading o ≡ Resource f → f .dir ≡ 1 → acrOf (final empty cs) (cellName f) ≡ Rate a x

@@ -4,4 +4,5 @@ pub mod OutOfRate
 pub mod Addresses
 pub mod ReservedBit
 pub mod Changes
+pub mod BeforeFeedback
 pub mod Ported

@@ -9,7 +9,7 @@ use lib.Dec.{leb, ltb, eqb}
 use borrow.Author.Tests.{eq-eqb}
 use Rattle.moves.specs.declared.moves.Rate.{Rate}
 use Rattle.rate.specs.Code.{rateOf}
-use Rattle.params.specs.Params.{peak, least, adtfTime}
+use Rattle.params.specs.Params.{peak, least, crm, adtfTime}
 use Rattle.rate.specs.Gap.{gap}
 use Rattle.moves.specs.Moves.{firstCell, idle, unanswered, rateByMarks, feedback}
 use Rattle.moves.proofs.Cuts.{cut-le}
@@ -127,7 +127,7 @@ idle-zero t q z = cond-zero (ltb (adtfTime (q .params)) t) (omega arith) z
 
 unanswered-zero : (y : ℕ) (q : Rate) → q .acr ≡ 0 → least (q .params) ≡ 0 → unanswered y q .acr ≡ 0
 unfolding unanswered
-unanswered-zero y q z l = cond-zero (leb (q .params .crm) y && not (eqb (q .params .c) 7)) (omega (arith, cut-le (q .params .c) (q .acr))) z
+unanswered-zero y q z l = cond-zero (leb (crm (q .params)) y && not (eqb (q .params .c) 7)) (omega (arith, cut-le (q .params .c) (q .acr))) z
 
 marks-zero : (ci ni : Bool) (q : Rate) → q .acr ≡ 0 → increase (q .params) ≡ 0 → rateByMarks ci ni q ≡ 0
 unfolding rateByMarks

@@ -12,8 +12,8 @@ use lib.Pow.{pow-mono}
 use lib.Seq.{getD-drop}
 use Rattle.rate.specs.Units.{latestTime}
 use Rattle.params.specs.Params.{nrm}
-use Rattle.params.specs.Ranges.{Fits}
-use Rattle.params.proofs.Ranges.{fits}
+use Rattle.params.specs.Ranges.{Fits, SetupFits}
+use Rattle.params.proofs.Ranges.{fits, setup-fits}
 use Rattle.cell.specs.Name.{noName}
 use Rattle.connection.specs.declared.parts.Pace.{Pace}
 use Rattle.connection.specs.declared.parts.Pace.the-variants.{Unsent, Running}
@@ -40,8 +40,8 @@ pace-back now n (Running sent forward k false) l f h = let m : k < 32768 = omega
 narrow : (x : ℕ) → x < 2 ^ 32 → x % 2 ^ 32 ≡ x
 narrow x l = mod-eq-of-lt l
 
-params-back : (c : Connection) (t : List ℕ) → Fits (c .rate .params) → paramsAt (fixedWords c ++ t) 2 ≡ c .rate .params
-params-back c t h =
+params-back : (c : Connection) (t : List ℕ) → Fits (c .rate .params) → SetupFits (c .rate .params) → paramsAt (fixedWords c ++ t) 2 ≡ c .rate .params
+params-back c t h g =
     let p = c .rate .params in
     rw (
       narrow (p .pcr) (omega arith),
@@ -51,10 +51,17 @@ params-back c t h =
       narrow (p .r) (omega arith),
       narrow (p .d) (omega arith),
       narrow (p .c) (omega arith),
-      narrow (p .crm) (omega arith),
+      low (p .frtt) (p .tbe) (omega (arith, g .tbeMost)),
+      high (p .frtt) (p .tbe) (omega (arith, g .frttMost)) (omega (arith, g .tbeMost)),
       narrow (p .adtf) (omega arith),
       narrow (p .trm) (omega arith),
     )
+  where
+    low : (f t : ℕ) → t < 2 ^ 32 → (f * 2 ^ 32 + t) % 2 ^ 32 ≡ t
+    low f t a = omega arith
+
+    high : (f t : ℕ) → f < 2 ^ 32 → t < 2 ^ 32 → (f * 2 ^ 32 + t) / 2 ^ 32 % 2 ^ 32 ≡ f
+    high f t a b = omega arith
 
 -- the word of a waiting cell, and of the saved EFCI
 efci-back : (e : Bool) (w : Waiting) → eqb ((waitTag w + cond e 1 0) % 2) 1 ≡ e
@@ -99,7 +106,7 @@ words-back now c s t l h =
       short,
       mod-eq-of-lt (r .opened),
       mod-eq-of-lt (r .trm),
-      params-back c t (fits (c .rate .params) (h .0 .fits)),
+      params-back c t (fits (c .rate .params) (h .0 .fits)) (setup-fits (c .rate .params) (h .0 .tbe) (h .0 .frtt)),
       pace-back now (nrm (c .rate .params)) (c .pace) (pow-mono (fits (c .rate .params) (h .0 .fits) .nMost)) (h .0 .paced) (r .pace),
       narrow (c .unacked) (omega (arith, h .1 .counted)),
       queue-back (c .name) (c .queue) (h .4),

@@ -7,6 +7,7 @@ use mathlib.Core.Bool.{Bool, true, false, cond}
 use mathlib.Core.List.{List, [], _∷_, _++_}
 use lib.Dec.{leb, ltb}
 use lib.ListN.{length, take, drop, replicate}
+use Rattle.params.specs.declared.params.Params.{Params}
 use Rattle.laws.specs.Blocks.{flat}
 use Rattle.laws.specs.Rows.{row}
 use Rattle.crc.specs.declared.payload.Payload.{Payload}
@@ -153,11 +154,15 @@ sideWords c = sourceWords c ++ destinationWords (c .destination)
 abbrev pub liveWords : Connection → List ℕ
 liveWords c = sideWords c ++ outsideWords c
 
+-- TBE and FRTT, in one word (document 02, L14)
+abbrev pub setupWord : Params → ℕ
+setupWord p = p .frtt * 2 ^ 32 + p .tbe
+
 -- what its open fixed
 abbrev pub fixedWords : Connection → List ℕ
 fixedWords c =
     c .opened ∷ c .trm ∷ c .rate .params .pcr ∷ c .rate .params .mcr ∷ c .rate .params .icr ∷ c .rate .params .n ∷ c .rate .params .r
-    ∷ c .rate .params .d ∷ c .rate .params .c ∷ c .rate .params .crm ∷ c .rate .params .adtf ∷ c .rate .params .trm ∷ []
+    ∷ c .rate .params .d ∷ c .rate .params .c ∷ setupWord (c .rate .params) ∷ c .rate .params .adtf ∷ c .rate .params .trm ∷ []
 
 -- a ready instant in one word: 0 if never, else the greater the earlier
 abbrev pub key : Instant → ℕ

@@ -49,7 +49,8 @@ paramsAt l b = record {
   r = getD l (b + 4) 0 % 2 ^ 32;
   d = getD l (b + 5) 0 % 2 ^ 32;
   c = getD l (b + 6) 0 % 2 ^ 32;
-  crm = getD l (b + 7) 0 % 2 ^ 32;
+  tbe = getD l (b + 7) 0 % 2 ^ 32;
+  frtt = getD l (b + 7) 0 / 2 ^ 32 % 2 ^ 32;
   adtf = getD l (b + 8) 0 % 2 ^ 32;
   trm = getD l (b + 9) 0 % 2 ^ 32;
 }

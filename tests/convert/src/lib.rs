@@ -13,7 +13,7 @@ macro_rules! copied {
 
 macro_rules! copied_params {
     ($to:ident, $from:expr) => {
-        copied!($to, $from, pcr mcr icr n r d c crm adtf trm)
+        copied!($to, $from, pcr mcr icr n r d c tbe frtt adtf trm)
     };
 }
 

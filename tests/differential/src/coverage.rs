@@ -490,6 +490,32 @@ events! {
     MemberMarks,
     /// One took away the mark that another member's had brought.
     MemberClears,
+    /// A connection was opened with a TBE that Nrm divides.
+    CrmWhole,
+    /// One with a TBE that is one more than such a number.
+    CrmRounded,
+    /// One with the largest TBE.
+    TbeMost,
+    /// One with the largest FRTT.
+    FrttMost,
+    /// One without a round trip.
+    IcrWithoutTrip,
+    /// One whose initial rate was lowered, to more than its minimum.
+    IcrLowered,
+    /// One whose initial rate was lowered to its minimum, which is above 0.
+    IcrToMinimum,
+    /// One whose round trip allows more than its initial rate.
+    IcrKept,
+    /// One whose round trip allows exactly its initial rate.
+    IcrEqual,
+    /// The given initial rate was exported of one with a lower one.
+    ExportedGiven,
+    /// An open was refused for a range although TBE is out of range.
+    RangeBeforeTbe,
+    /// One was refused for TBE although FRTT is out of range.
+    TbeBeforeFrtt,
+    /// One was refused for FRTT although the time is over 2^62.
+    FrttBeforeTime,
     /// Exactly 65,535 cells wait after an offer.
     OfferFills,
     /// An offer of nothing to a full connection.
@@ -497,7 +523,7 @@ events! {
 }
 
 /// The greatest number of a refusal.
-const REFUSAL_MAX: usize = 28;
+const REFUSAL_MAX: usize = 30;
 
 /// Counts of all that was reached.
 #[derive(Debug, Clone)]
@@ -550,7 +576,7 @@ impl Default for Coverage {
 
 /// The refusals that each sort of call has, in the order of [`SORTS`].
 const REFUSALS: [&[usize]; SORTS.len()] = [
-    &[7, 8, 10, 12, 13, 14, 19, 27],
+    &[7, 8, 10, 12, 13, 14, 19, 27, 29, 30],
     &[11],
     &[1, 2, 4, 5, 6, 11, 19],
     &[11, 15, 28],
@@ -558,7 +584,7 @@ const REFUSALS: [&[usize]; SORTS.len()] = [
     &[1, 8, 14],
     &[8, 11, 14, 16, 17],
     &[1, 8, 11, 14, 18],
-    &[7, 8, 12, 13, 14, 19],
+    &[7, 8, 12, 13, 14, 19, 29, 30],
     &[10, 11, 12, 26, 27],
     &[11, 15, 28],
     &[11, 28],

@@ -6,6 +6,7 @@ mod cells;
 mod doubles;
 mod members;
 mod ports;
+mod setup;
 mod times;
 
 use abr::ffi::abr_params;
@@ -165,6 +166,9 @@ impl Generator {
             self.put_out_of_range(&mut params);
         }
         if self.fault() {
+            self.set_up_wrongly(&mut params);
+        }
+        if self.fault() {
             self.reserve(&mut params);
         }
         (time, params)
@@ -190,18 +194,21 @@ impl Generator {
         if self.profile.no_minimum > 0 && self.rng.once_in(self.profile.no_minimum) {
             self.remove_minimum(&mut codes);
         }
-        let any = [8, 15, 15, 7, 8_388_608, 1_023, 7].map(|top| self.rng.within(1, top));
+        let any = [8, 15, 15, 7, 1_023, 7].map(|top| self.rng.within(1, top));
+        let n = self.rng.pick(&[1, 2, 2, 3, 3, 4, 5, any[0]]);
+        let tbe = self.tbe(1 << n);
         abr_params {
             mcr: codes[0],
             icr: codes[1],
             pcr: codes[2],
-            n: self.rng.pick(&[1, 2, 2, 3, 3, 4, 5, any[0]]),
+            n,
             r: self.rng.pick(&[0, 2, 4, any[1]]),
             d: self.rng.pick(&[0, 1, 3, 4, any[2]]),
             c: self.rng.pick(&[0, 1, 2, 4, 7, any[3]]),
-            crm: self.rng.pick(&[1, 2, 2, 3, 4, 7, any[4]]),
-            adtf: self.rng.pick(&[1, 1, 1, 2, 3, any[5]]),
-            trm: self.rng.pick(&[0, 0, 0, 1, 2, 4, any[6]]),
+            tbe,
+            frtt: self.frtt(tbe, codes[1]),
+            adtf: self.rng.pick(&[1, 1, 1, 2, 3, any[4]]),
+            trm: self.rng.pick(&[0, 0, 0, 1, 2, 4, any[5]]),
         }
     }
 
@@ -224,7 +231,7 @@ impl Generator {
     /// be within it.
     fn put_out_of_range(&mut self, params: &mut abr_params) {
         let any = self.rng.next() as u32;
-        match self.rng.below(12) {
+        match self.rng.below(11) {
             0 => params.pcr = self.rng.pick(&[0, 0x3FFF, 0x1_7FFF, any | 0x1_0000]),
             1 => params.mcr = self.rng.pick(&[0x1_0000, 0x1_4000, any | 0x1_0000]),
             2 => params.icr = self.rng.pick(&[0, 0x1_4000, any | 0x1_0000]),
@@ -234,8 +241,7 @@ impl Generator {
             6 => params.r = self.rng.pick(&[16, 32, 64, any | 16]),
             7 => params.d = self.rng.pick(&[16, 32, 64, any | 16]),
             8 => params.c = self.rng.pick(&[8, 32, 64, any | 8]),
-            9 => params.crm = self.rng.pick(&[0, 8_388_609, u32::MAX, any | 1 << 24]),
-            10 => params.adtf = self.rng.pick(&[0, 1_024, u32::MAX, any | 1 << 10]),
+            9 => params.adtf = self.rng.pick(&[0, 1_024, u32::MAX, any | 1 << 10]),
             _ => params.trm = self.rng.pick(&[8, 32, 64, u32::MAX, any | 8]),
         }
     }

@@ -11,6 +11,7 @@ mod members;
 mod outside;
 mod ports;
 mod reserved;
+mod setup;
 mod turned;
 mod zero;
 
@@ -40,7 +41,9 @@ pub struct Connection {
     pub params: abr_params,
     pub pcr: u64,
     pub mcr: u64,
+    /// The initial rate that is used.
     pub icr: u64,
+    pub crm: u32,
     pub opened: u64,
     pub acr: u64,
     /// The allowed rate after the last backward cell less the one before it.
@@ -75,7 +78,8 @@ impl Connection {
             params,
             pcr: rate(params.pcr),
             mcr: rate(params.mcr),
-            icr: rate(params.icr),
+            icr: setup::icr_used(&params),
+            crm: params.tbe.div_ceil(1 << params.n),
             opened: time,
             acr,
             change: 0,
@@ -210,6 +214,7 @@ impl Observation {
         ports::refused(call, number, coverage);
         self.refused_offer(call, number);
         self.refused_member(call, number, coverage);
+        setup::refused(call, number, coverage);
         self.refused(call, number, coverage);
         self.refused_outside(call, number, coverage);
     }
@@ -232,6 +237,7 @@ impl Observation {
         coverage.reach(Event::Full, self.connections.len() == CONNECTIONS_MAX);
         coverage.reach(Event::TimeMax, time == TIME_MAX);
         coverage.reach(Event::OpenedAtZero, acr == 0);
+        setup::opened(&params, coverage);
     }
 
     fn close(&mut self, at: Address, coverage: &mut Coverage) {
@@ -439,7 +445,7 @@ fn later_forward(connection: &Connection, sends: &Sends, time: u64, coverage: &m
     coverage.reach(Event::AdtfExact, above && passed == connection.adtf());
     coverage.reach(Event::AdtfPassed, above && passed == connection.adtf() + 1);
     coverage.reach(Event::IdleMove, idle);
-    let (y, crm) = (connection.unanswered, connection.params.crm);
+    let (y, crm) = (connection.unanswered, connection.crm);
     let zero = connection.params.c == 7;
     let rate = if idle { connection.icr } else { connection.acr };
     let cuts = y >= crm && !zero && rate > connection.mcr;

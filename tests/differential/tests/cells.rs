@@ -330,16 +330,17 @@ fn where_19_comes_in_the_order_of_refusals() {
 #[test]
 fn every_parameter_at_and_past_its_ends() {
     type Set = fn(&mut abr_params, u32);
-    let ranges: [(Set, u32, u32); 7] = [
-        (|p, v| p.n = v, 1, 8),
-        (|p, v| p.r = v, 0, 15),
-        (|p, v| p.d = v, 0, 15),
-        (|p, v| p.c = v, 0, 7),
-        (|p, v| p.crm = v, 1, 8_388_608),
-        (|p, v| p.adtf = v, 1, 1_023),
-        (|p, v| p.trm = v, 0, 7),
+    let ranges: [(Set, u32, u32, u32); 8] = [
+        (|p, v| p.n = v, 1, 8, 7),
+        (|p, v| p.r = v, 0, 15, 7),
+        (|p, v| p.d = v, 0, 15, 7),
+        (|p, v| p.c = v, 0, 7, 7),
+        (|p, v| p.tbe = v, 1, 16_777_215, 29),
+        (|p, v| p.frtt = v, 0, 16_700_000, 30),
+        (|p, v| p.adtf = v, 1, 1_023, 7),
+        (|p, v| p.trm = v, 0, 7, 7),
     ];
-    for (set, low, high) in ranges {
+    for (set, low, high, number) in ranges {
         for value in [0, 1, low, high, high + 1, high + 256, 1 << 31, u32::MAX] {
             let house = reference::Params::house(0x7FFF, 0x4000, 0x53E8);
             let mut params = library_params(&house);
@@ -351,7 +352,8 @@ fn every_parameter_at_and_past_its_ends() {
             };
             let outcome = agree(&mut Both::default(), &open).map(|_| ());
             let inside = (low..=high).contains(&value);
-            assert_eq!(outcome, if inside { Ok(()) } else { Err(7) }, "{params:?}");
+            let expected = if inside { Ok(()) } else { Err(number) };
+            assert_eq!(outcome, expected, "{params:?}");
         }
     }
 }

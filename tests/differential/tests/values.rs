@@ -307,7 +307,7 @@ fn the_unanswered_count_reaches_the_largest_crm() {
     const CRM: u64 = 8_388_608;
     let fast = abr::code(512_000_000).unwrap();
     let mut params = Params::house(fast, 0x4000, fast);
-    (params.n, params.c, params.crm) = (1, 1, CRM as u32);
+    (params.n, params.c, params.tbe) = (1, 1, 16_777_215);
     let mut table = opened(&params);
     let full = abr::rate(fast).unwrap();
     table.offer(VPI, 32, 1).unwrap();

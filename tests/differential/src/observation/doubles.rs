@@ -24,6 +24,8 @@ impl Observation {
         coverage.reach(Event::ExportedMoved, connection.acr != connection.icr);
         coverage.reach(Event::ExportedNoMinimum, connection.mcr == 0);
         coverage.reach(Event::ExportedReopened, self.closed.contains(&at));
+        let given = reference::rate_of(connection.params.icr);
+        coverage.reach(Event::ExportedGiven, connection.icr < given);
     }
 }
 

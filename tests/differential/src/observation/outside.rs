@@ -26,7 +26,7 @@ impl Observation {
         coverage.reach(Event::OutsideBeforeFirst, first);
         coverage.reach(Event::ChangeKeptOutside, connection.change != 0);
         coverage.reach(Event::OutsideAboveIcr, first && acr > connection.icr);
-        let cuts = connection.unanswered >= connection.params.crm && connection.params.c != 7;
+        let cuts = connection.unanswered >= connection.crm && connection.params.c != 7;
         let unanswered = cuts && acr > connection.mcr;
         coverage.reach(Event::OutsideUnanswered, unanswered);
         let nothing = !connection.waits() && connection.ready().is_none();

@@ -34,7 +34,7 @@ impl Observation {
             }
             Call::Open { at, params, .. } => {
                 let wide = |code: &u32| *code > 0xFFFF;
-                let out_of_range = !at.fits() || cleared(params).contract().is_err();
+                let out_of_range = !at.fits() || cleared(params).check().is_err();
                 let beside_wide = number == 19 && codes.iter().any(wide);
                 let bit_15 = |code: &u32| wide(code) && code & 0x8000 != 0;
                 coverage.reach(Event::ReservedLowVci, number == 10 && any);

@@ -26,8 +26,8 @@ fn kinds(station: &mut Station, start: u64, slots: u64) -> Vec<Option<Kind>> {
 fn t1_starts_with_y_0() {
     // CRM 1. Before the first cell Y is 0, before the second 1 = CRM:
     // 102,400 x 7 / 8 = 89,600.
-    let crm = 1;
-    let mut station = Station::open(&Params { crm, ..paper() });
+    let tbe = 16;
+    let mut station = Station::open(&Params { tbe, ..paper() });
     assert_eq!(station.unanswered(2), [INITIAL, 89_600]);
 }
 

@@ -52,7 +52,8 @@ pub fn paper() -> Params {
         r: 3,      // RIF 1/8
         d: 3,      // RDF 1/8
         c: 3,      // CDF 1/8
-        crm: 3,    // CRM 3
+        tbe: 48,   // CRM 3
+        frtt: 0,   // the initial rate as given
         adtf: 200, // ADTF 2 s
         trm: 7,    // Trm 0.1 s
     }

@@ -4,8 +4,8 @@ use Rattle.moves.specs.Moves.{firstCell}
 use Rattle.moves.proofs.moves.Rate.first_cell.Statement.{statement}
 use Rattle.moves.proofs.moves.Rate.first_cell.Tie as tie
 
-initial-requires : tie.Need-initial-requires
-initial-requires c κs = search needs
+initial-used-requires : tie.Need-initial-used-requires
+initial-used-requires c κs = search needs
 
 lower-requires : tie.Need-lower-requires
 lower-requires c κs = search needs
@@ -18,4 +18,4 @@ unfolding firstCell
 returns c = cc
 
 pub first-cell-spec : {M : Type 1} → statement M
-first-cell-spec = tie.close (tie.spec initial-requires lower-requires moved-requires returns)
+first-cell-spec = tie.close (tie.spec initial-used-requires lower-requires moved-requires returns)

@@ -3,11 +3,11 @@ use borrow.Author.Needs.{needs}
 use Rattle.moves.proofs.moves.Rate.opened.Statement.{statement}
 use Rattle.moves.proofs.moves.Rate.opened.Tie as tie
 
-initial-requires : tie.Need-initial-requires
-initial-requires c κs = search needs
+initial-used-requires : tie.Need-initial-used-requires
+initial-used-requires c κs = search needs
 
 returns : tie.Need-returns
 returns c = cc
 
 pub opened-spec : {M : Type 1} → statement M
-opened-spec = tie.close (tie.spec initial-requires returns)
+opened-spec = tie.close (tie.spec initial-used-requires returns)

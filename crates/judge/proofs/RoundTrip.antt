@@ -1,0 +1,100 @@
+-- Cells that are not too soon are gaps apart, and so TBE of them take a round trip.
+use Prim.Native.Nat.{ℕ, zero, suc, _+_, _*_, _≤_, _<_}
+use mathlib.Core.Path.{_≡_, refl, ap, sym, _∙_}
+use mathlib.Core.Bool.{Bool, true, false, cond, _||_}
+use mathlib.Core.List.{List, [], _∷_, _++_}
+use native.Mathlib.Nat.{le-trans, suc-mul}
+use native.Mathlib.Omega.{arith}
+use lib.Dec.{ltb, eqb}
+use lib.ListN.{length}
+use borrow.Author.Tests.{eqb-true, eqb-false, ne-eqb, ltb-false}
+use Rattle.rate.specs.Gap.{gap}
+use Rattle.rate.proofs.Gaps.{gap-antitone}
+use Rattle.params.specs.declared.params.Params.{Params}
+use Rattle.params.specs.Params.{initialUsed}
+use Rattle.params.specs.Forward.{forwardDue}
+use Rattle.params.specs.Setup.{Exposed}
+use Rattle.params.proofs.Setup.{initial-rate}
+use Rattle.judge.specs.Rules.{Cell, Sent, Verdict, Passes, Breaks, nothingSent, isForward, withSent, tooSoon, brokenRule, judgedFrom}
+use Rattle.judge.specs.RoundTrip.{span, RatesUpTo, RoundTrip}
+
+neither : (a b : Bool) → (a || b) ≡ false → (a ≡ false) × (b ≡ false)
+neither true b e = let z : _≡_ {A = ℕ} 0 1 = cc in absurd (omega arith)
+neither false b e = (refl, e)
+
+-- One cell that passes.
+record Slow (c : Cell) : Type 0 where
+  pub some : 0 < c .rate
+  pub slow : gap (c .rate) ≤ c .since
+
+not-soon : (c : Cell) → tooSoon c ≡ false → Slow c
+unfolding tooSoon
+not-soon c e =
+    let h = neither (eqb (c .rate) 0) (ltb (c .since) (gap (c .rate))) e in
+    let n = eqb-false (c .rate) 0 (h .0) in
+    record { some = omega (arith, n); slow = ltb-false (c .since) (gap (c .rate)) (h .1) }
+
+module _ (nr trm : ℕ) (h : Sent) (c : Cell) where
+  slow-cell : 0 < h .cells → brokenRule nr trm h c ≡ 0 → Slow c
+  unfolding brokenRule
+  slow-cell l e = not-soon c (go (eqb (h .cells) 0) (tooSoon c) (ne-eqb (h .cells) 0 (λ z. omega arith)) e)
+    where
+      first : ℕ
+      first = cond (isForward c) 0 1
+
+      rest : ℕ
+      rest = cond (forwardDue nr trm (h .k) (h .forward) (h .time + c .since)) (cond (isForward c) 0 3) (cond (isForward c) 3 0)
+
+      go : (z b : Bool) → z ≡ false → cond z first (cond b 2 rest) ≡ 0 → b ≡ false
+      go true b q e = let x : _≡_ {A = ℕ} 0 1 = cc in absurd (omega arith)
+      go false true q e = absurd (omega arith)
+      go false false q e = refl
+
+  passed : (cs : List Cell) → judgedFrom nr trm h (c ∷ cs) ≡ Passes → (brokenRule nr trm h c ≡ 0) × (judgedFrom nr trm (withSent h c) cs ≡ Passes)
+  unfolding judgedFrom
+  passed cs e = go (eqb (brokenRule nr trm h c) 0) refl e
+    where
+      go : (b : Bool) → eqb (brokenRule nr trm h c) 0 ≡ b → cond b (judgedFrom nr trm (withSent h c) cs) (Breaks (h .cells + 1) (brokenRule nr trm h c)) ≡ Passes
+          → (brokenRule nr trm h c ≡ 0) × (judgedFrom nr trm (withSent h c) cs ≡ Passes)
+      go true q e = (eqb-true _ _ q, e)
+      go false q e = let z : _≡_ {A = ℕ} 0 1 = cc in absurd (omega arith)
+
+  some-sent : 0 < withSent h c .cells
+  unfolding withSent
+  some-sent = go (isForward c)
+    where
+      go : (b : Bool)
+          → 0 < cond {A = Sent} b (record { cells = h .cells + 1; time = h .time + c .since; forward = h .time + c .since; k = 0 }) (record { cells = h .cells + 1; time = h .time + c .since; forward = h .forward; k = h .k + 1 }) .cells
+      go true = omega arith
+      go false = omega arith
+
+-- The cells after the first.
+spaced : (nr trm a : ℕ) (h : Sent) (cs : List Cell) → 0 < h .cells → judgedFrom nr trm h cs ≡ Passes → RatesUpTo a cs → length cs * gap a ≤ span cs
+unfolding span
+spaced nr trm a h [] l e r = omega arith
+spaced nr trm a h (c ∷ cs) l e r =
+    let p = passed nr trm h c cs e in
+    let s = slow-cell nr trm h c l (p .0) in
+    omega (arith, suc-mul (length cs) (gap a), gap-antitone (s .some) (r .0), s .slow, spaced nr trm a (withSent h c) cs (some-sent nr trm h c) (p .1) (r .1))
+
+-- a later cell was sent at a rate above 0
+some-rate : (nr trm a : ℕ) (h : Sent) (cs : List Cell) → 0 < h .cells → judgedFrom nr trm h cs ≡ Passes → RatesUpTo a cs → 0 < length cs → 0 < a
+some-rate nr trm a h [] l e r n = absurd (omega arith)
+some-rate nr trm a h (c ∷ cs) l e r n = le-trans (slow-cell nr trm h c l (passed nr trm h c cs e .0) .some) (r .0)
+
+few : (nr trm : ℕ) (h : Sent) (cs : List Cell) → 0 < h .cells → judgedFrom nr trm h cs ≡ Passes
+    → (p : Params) → Exposed p → 1 ≤ p .tbe → RatesUpTo (initialUsed p) cs → span cs < 1000 * p .frtt → length cs < p .tbe
+few nr trm h [] l e p x t r s = t
+few nr trm h (c ∷ cs) l e p x t r s =
+    let k : ℕ = length (c ∷ cs) in
+    initial-rate .gaps p x k (some-rate nr trm (initialUsed p) h (c ∷ cs) l e r (omega arith))
+    (omega (arith, spaced nr trm (initialUsed p) h (c ∷ cs) l e r))
+
+-- Behind the cells before.
+from-any : (nr trm : ℕ) (h : Sent) (before : List Cell) (c : Cell) (later : List Cell) → judgedFrom nr trm h (before ++ (c ∷ later)) ≡ Passes
+    → (p : Params) → Exposed p → 1 ≤ p .tbe → RatesUpTo (initialUsed p) later → span later < 1000 * p .frtt → length later < p .tbe
+from-any nr trm h [] c later e = few nr trm (withSent h c) later (some-sent nr trm h c) (passed nr trm h c later e .1)
+from-any nr trm h (b ∷ before) c later e = from-any nr trm (withSent h b) before c later (passed nr trm h b (before ++ (c ∷ later)) e .1)
+
+pub round-trip : RoundTrip
+round-trip n trm before c later e = from-any _ _ nothingSent before c later e

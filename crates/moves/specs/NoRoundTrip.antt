@@ -1,0 +1,18 @@
+-- Without a round trip the moves are those of document 01, the initial rate being the one given and CRM the number that TBE makes. (Document 02, L14.)
+use Prim.Native.Nat.{ℕ, min, max}
+use mathlib.Core.Path.{_≡_}
+use mathlib.Core.Bool.{cond, _&&_, not}
+use lib.Dec.{leb, ltb, eqb}
+use Rattle.params.specs.Params.{least, initial, crm, adtfTime}
+use Rattle.moves.specs.Moves.{Rate, moved, opened, firstCell, idle, cut, unanswered}
+
+-- the moves that ICR and CRM have a part in, as document 01 has them, for the initial rate i and the CRM m; feedback uses neither
+pub record MovesBy (i m : ℕ) (q : Rate) : Type 0 where
+  pub opens : opened (q .params) ≡ moved q i
+  pub first : firstCell q ≡ moved q (min (q .acr) i)
+  pub idles : (passed : ℕ) → idle passed q ≡ moved q (cond (ltb (adtfTime (q .params)) passed) (min (q .acr) i) (q .acr))
+  pub unanswereds :
+      (y : ℕ) → unanswered y q ≡ moved q (cond (leb m y && not (eqb (q .params .c) 7)) (max (least (q .params)) (cut (q .params .c) (q .acr))) (q .acr))
+
+abbrev pub NoRoundTrip : Type 0
+NoRoundTrip = (q : Rate) → q .params .frtt ≡ 0 → MovesBy (initial (q .params)) (crm (q .params)) q
