@@ -1,9 +1,9 @@
 // The connection that a pair's data cells belong to (document 02, L13).
 ghost use Rattle.arrivals.specs.Owner.{FindsOwner, FindsPath};
+use cell::name::NO_NAME;
 use member_words::find::find as find_member;
 use names::find::Found;
 use names::find::find;
-use paths::name::NO_NAME;
 use paths::name::path_of;
 use table::layout::WORDS;
 

@@ -13,6 +13,7 @@ use cell::fields::Fields;
 use cell::name::pair_name;
 use crc::payload::payload_at;
 use loading::load::load;
+use members::path::PATH_VCI;
 use model::answer::Answer;
 use names::find::Found;
 use names::find::find;
@@ -38,7 +39,7 @@ fn receive_data(t: &mut [u64; WORDS], vpi: u32, vci: u32, efci: bool) -> Answer
     ensures { λ r. ⌜ Meets (λ s. readStep s [] (User vpi vci efci)) (now (t .entry)) (now (t .exit)) r ⌝ }
 {
     let name = pair_name(vpi, vci);
-    if name % 65536 == 6 {
+    if name % 65536 == PATH_VCI {
         return Answer::Refused(11);
     }
     let Found::At(i) = find_owner(t, name) else {

@@ -1,10 +1,10 @@
 -- The ranges of fields that fit, as bounds.
-use mathlib.Core.Path.{_≡_, refl}
-use mathlib.Core.Bool.{Bool, true, false, _&&_, and-assoc}
-use Prim.Native.Nat.{ℕ, _≤_}
-use native.Mathlib.Omega.{arith}
+use mathlib.Core.Path.{_≡_}
+use mathlib.Core.Bool.{true, _&&_, and-assoc}
+use Prim.Native.Nat.{_≤_}
 use borrow.Author.Tests.{leb-true}
 use lib.Dec.{leb}
+use Rattle.laws.proofs.Tests.{both}
 use Rattle.cell.specs.Fields.{Fields, fieldsFit}
 
 pub record Fit (f : Fields) : Type 0 where
@@ -21,42 +21,33 @@ pub record Fit (f : Fields) : Type 0 where
   pub ql : f .ql ≤ 4_294_967_295
   pub sn : f .sn ≤ 4_294_967_295
 
--- the two parts of a test
-left : (a b : Bool) → (a && b) ≡ true → a ≡ true
-left true b e = refl
-left false b e = e
-
-right : (a b : Bool) → (a && b) ≡ true → b ≡ true
-right true b e = e
-right false b e = let z : _≡_ {A = ℕ} 0 1 = cc in absurd (omega arith)
-
 pub fit : (f : Fields) → fieldsFit f ≡ true → Fit f
 unfolding fieldsFit
 fit f e0 =
-    let e1 : _ ≡ true = right (leb (f .vpi) 255) _ e0 in
-    let e2 : _ ≡ true = right (leb (f .vci) 65535) _ e1 in
-    let e3 : _ ≡ true = right (leb (f .dir) 1) _ e2 in
-    let e4 : _ ≡ true = right (leb (f .bn) 1) _ e3 in
-    let e5 : _ ≡ true = right (leb (f .ci) 1) _ e4 in
-    let e6 : _ ≡ true = right (leb (f .ni) 1) _ e5 in
-    let e7 : _ ≡ true = right (leb (f .ra) 1) _ e6 in
-    let e8 : _ ≡ true = right (leb (f .er) 32767) _ e7 in
-    let e9 : _ ≡ true = right (leb (f .ccr) 32767) _ e8 in
-    let e10 : _ ≡ true = right (leb (f .mcr) 32767) _ e9 in
-    let e11 : _ ≡ true = right (leb (f .ql) 4294967295) _ e10 in
+    let e1 = both (leb (f .vpi) 255) _ e0 in
+    let e2 = both (leb (f .vci) 65535) _ (e1 .1) in
+    let e3 = both (leb (f .dir) 1) _ (e2 .1) in
+    let e4 = both (leb (f .bn) 1) _ (e3 .1) in
+    let e5 = both (leb (f .ci) 1) _ (e4 .1) in
+    let e6 = both (leb (f .ni) 1) _ (e5 .1) in
+    let e7 = both (leb (f .ra) 1) _ (e6 .1) in
+    let e8 = both (leb (f .er) 32767) _ (e7 .1) in
+    let e9 = both (leb (f .ccr) 32767) _ (e8 .1) in
+    let e10 = both (leb (f .mcr) 32767) _ (e9 .1) in
+    let e11 = both (leb (f .ql) 4294967295) _ (e10 .1) in
     record {
-      vpi = leb-true _ _ (left (leb (f .vpi) 255) _ e0);
-      vci = leb-true _ _ (left (leb (f .vci) 65535) _ e1);
-      dir = leb-true _ _ (left (leb (f .dir) 1) _ e2);
-      bn = leb-true _ _ (left (leb (f .bn) 1) _ e3);
-      ci = leb-true _ _ (left (leb (f .ci) 1) _ e4);
-      ni = leb-true _ _ (left (leb (f .ni) 1) _ e5);
-      ra = leb-true _ _ (left (leb (f .ra) 1) _ e6);
-      er = leb-true _ _ (left (leb (f .er) 32767) _ e7);
-      ccr = leb-true _ _ (left (leb (f .ccr) 32767) _ e8);
-      mcr = leb-true _ _ (left (leb (f .mcr) 32767) _ e9);
-      ql = leb-true _ _ (left (leb (f .ql) 4294967295) _ e10);
-      sn = leb-true _ _ e11;
+      vpi = leb-true _ _ (e1 .0);
+      vci = leb-true _ _ (e2 .0);
+      dir = leb-true _ _ (e3 .0);
+      bn = leb-true _ _ (e4 .0);
+      ci = leb-true _ _ (e5 .0);
+      ni = leb-true _ _ (e6 .0);
+      ra = leb-true _ _ (e7 .0);
+      er = leb-true _ _ (e8 .0);
+      ccr = leb-true _ _ (e9 .0);
+      mcr = leb-true _ _ (e10 .0);
+      ql = leb-true _ _ (e11 .0);
+      sn = leb-true _ _ (e11 .1);
     }
 
 -- the tests in a row

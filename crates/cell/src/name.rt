@@ -2,15 +2,18 @@
 ghost use mathlib.Core.Path.{_≡_};
 ghost use Rattle.cell.specs.Name.{pairName};
 
-// The name of a pair; 2^24, which no connection has, for numbers out of their ranges.
+// One more than the greatest name: no connection has it.
+pub const NO_NAME: u32 = 16777216;
+
+// The name of a pair; of numbers out of their ranges, the one that no connection has.
 pub fn pair_name(vpi: u32, vci: u32) -> u32
     ensures { λ r. ⌜ r ≡ pairName vpi vci ⌝ }
 {
     if vpi > 255 {
-        return 16777216;
+        return NO_NAME;
     }
     if vci > 65535 {
-        return 16777216;
+        return NO_NAME;
     }
     vpi * 65536 + vci
 }

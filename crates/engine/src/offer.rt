@@ -2,6 +2,7 @@
 ghost use Rattle.model.specs.Step.{offerStep};
 ghost use Rattle.engine.specs.Contract.{Meets};
 use loading::load::load;
+use members::path::PATH_VCI;
 use model::answer::Answer;
 use names::find::Found;
 use names::find::find;
@@ -16,7 +17,7 @@ pub fn offer(t: &mut [u64; WORDS], name: u32, cells: u64) -> Answer
     let Found::At(i) = find(t, name) else {
         return Answer::Refused(11);
     };
-    if name % 65536 == 6 {
+    if name % 65536 == PATH_VCI {
         return Answer::Refused(28);
     }
     let c = load(t, i);

@@ -4,6 +4,8 @@ ghost use Rattle.engine.specs.Contract.{Meets};
 use cell::name::pair_name;
 use connection::parts::Connection;
 use member_words::find::find as find_member;
+use members::path::FIRST_VCI;
+use members::path::PATH_VCI;
 use model::answer::Answer;
 use names::find::Found;
 use names::find::find;
@@ -62,7 +64,7 @@ fn admit(t: &mut [u64; WORDS], vpi: u32, vci: u32, time: u64, params: Params) ->
 pub fn open(t: &mut [u64; WORDS], vpi: u32, vci: u32, time: u64, params: Params) -> Answer
     ensures { λ r. ⌜ Meets (λ s. openStep s vpi vci time params) (now (t .entry)) (now (t .exit)) r ⌝ }
 {
-    if vci < 32 {
+    if vci < FIRST_VCI {
         return Answer::Refused(10);
     }
     admit(t, vpi, vci, time, params)
@@ -72,5 +74,5 @@ pub fn open(t: &mut [u64; WORDS], vpi: u32, vci: u32, time: u64, params: Params)
 pub fn open_path(t: &mut [u64; WORDS], vpi: u32, time: u64, params: Params) -> Answer
     ensures { λ r. ⌜ Meets (λ s. openPathStep s vpi time params) (now (t .entry)) (now (t .exit)) r ⌝ }
 {
-    admit(t, vpi, 6, time, params)
+    admit(t, vpi, PATH_VCI, time, params)
 }

@@ -1,3 +1,4 @@
 pub mod Blocks
 pub mod Rows
+pub mod Tests
 pub mod Trailing

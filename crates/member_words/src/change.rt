@@ -6,6 +6,7 @@ ghost use Rattle.cell.specs.Name.{noName};
 ghost use Rattle.member_words.specs.Words.{SetsCells, Adds, Removes, RemovesPath};
 use crate::find::limit;
 use falling::column;
+use members::path::PATH_VCI;
 use table::layout::MEMBER_CAPACITY;
 use table::layout::MEMBERS;
 use table::layout::WORDS;
@@ -50,7 +51,7 @@ pub fn remove(t: &mut [u64; WORDS], name: u32)
 pub fn remove_path(t: &mut [u64; WORDS], name: u32)
     ensures { λ _. ⌜ RemovesPath name (now (t .entry)) (now (t .exit)) ⌝ }
 {
-    if name % 65536 != 6 {
+    if name % 65536 != PATH_VCI {
         return;
     }
     let first = (name / 65536 % 256) as u64 * 65536;

@@ -5,6 +5,7 @@ ghost use Rattle.member_words.specs.Words.{Next, Turns, Serves};
 use crate::find::limit;
 use falling::column::count;
 use falling::column::count_up_to;
+use members::path::PATH_VCI;
 use names::find::Found;
 use table::layout::MEMBER_CAPACITY;
 use table::layout::MEMBERS;
@@ -34,7 +35,7 @@ fn next(t: &[u64; WORDS], first: usize, top: u64) -> Found
 pub fn turn(t: &[u64; WORDS], name: u32, last: u16) -> Found
     ensures { λ r. ⌜ Turns (now (t .entry)) name last r ⌝ }
 {
-    if name % 65536 != 6 {
+    if name % 65536 != PATH_VCI {
         return Found::Nothing;
     }
     let first = (name / 65536 % 256) as u64 * 65536;

@@ -6,7 +6,7 @@ use mathlib.Core.List.{List}
 use native.Mathlib.Omega.{arith}
 use lib.Dec.{leb, T, lit<, ltb}
 use lib.ListN.{length}
-use borrow.Author.Tests.{leb-true, ltb-true, eq-eqb}
+use borrow.Author.Tests.{leb-true, ltb-true, eq-eqb, not-true}
 use Rattle.params.specs.declared.params.Params.{Params}
 use Rattle.rate.specs.Units.{latestTime}
 use Rattle.params.specs.Params.{paramsFit, tbeFits, frttFits}
@@ -33,6 +33,7 @@ use Rattle.model.proofs.Winners.{winner-best}
 use Rattle.model.specs.Call.{Call, opening, closing, receiving, offering, levelling, slot, making, outOfRate, openingPath, adding, offeringMember, removing, Outcome}
 use Rattle.model.specs.Step.{refuse, accept, replay, discard, ofOpen, admit, openStep, openPathStep, closeStep, offerStep, withOffer, withoutOne, addStep, offerMemberStep, removeStep, dataCellStep, readStep, receiveStep, levelStep, sendStep, idleStep, serveEntry, serve, slotStep, makeStep, sendOutside, outOfRateStep, step}
 use Rattle.laws.specs.Require.{require}
+use Rattle.laws.proofs.Tests.{both}
 
 -- an instant that does not lie before the last accepted one
 pub record Timely (s : State) (t : ℕ) : Type 0 where
@@ -120,14 +121,6 @@ pub is-free : (x : Entry) → isFree x ≡ true → x ≡ free
 unfolding isFree
 is-free free e = refl
 is-free (taken c) e = cc
-
-both : (a b : Bool) → (a && b) ≡ true → (a ≡ true) × (b ≡ true)
-both true b e = (refl, e)
-both false b e = (e, cc)
-
-not-true : (b : Bool) → not b ≡ true → b ≡ false
-not-true true e = sym e
-not-true false e = refl
 
 -- what every open has passed, if its VCI is assigned
 admit-effect :

@@ -8,7 +8,7 @@ use mathlib.Core.Option.{Option, none, some}
 use native.Mathlib.Omega.{arith}
 use lib.Dec.{eqb}
 use lib.ListN.{replicate, length}
-use borrow.Author.Tests.{eqb-true, eqb-false, eq-eqb, ne-eqb}
+use borrow.Author.Tests.{eqb-true, eqb-false, eq-eqb, ne-eqb, not-true}
 use Rattle.cell.specs.Name.{vciIn, noName}
 use Rattle.members.specs.Path.{isPath, firstVci, pathOf}
 use Rattle.members.specs.Members.{Member, memberCapacity, named, onPath, anyWhere, cellsWhere, isMember, cellsOf, pathCells, withMember, withoutMember, withoutPath, withCells}
@@ -24,6 +24,7 @@ use Rattle.model.specs.State.{State, Entry, free, taken, capacity, isFre
 use Rattle.model.specs.Invariant.{NamesUnique, MembersOf}
 use Rattle.model.proofs.Entries.{Case, same, other, case, absent-find, each-free}
 use Rattle.model.proofs.Frames.{put-read, put-kept, inserted-read, freed-read}
+use Rattle.laws.proofs.Tests.{both}
 
 -- no member at all
 pub none-members : MembersOf (replicate capacity free) []
@@ -113,13 +114,8 @@ module _ (s : State) (a : NamesUnique (s .entries)) {ms : List Member} (m : Memb
       frees true e = refl
       frees false e = e
 
-      both : (b c : Bool) → (b && not c) ≡ true → (b ≡ true) × (c ≡ false)
-      both true true e = absurd (true≢false (sym e))
-      both true false e = (refl, refl)
-      both false c e = absurd (true≢false (sym e))
-
       stays : (x : ℕ) → isMember x (withoutPath u ms) ≡ true → (isMember x ms ≡ true) × (pathOf x ≢ u)
-      stays x h = let z = both (isMember x ms) (eqb (pathOf x) u) (sym (without-member x (onPath u) ms) ∙ h) in (z .0, eqb-false _ _ (z .1))
+      stays x h = let z = both (isMember x ms) (not (eqb (pathOf x) u)) (sym (without-member x (onPath u) ms) ∙ h) in (z .0, eqb-false _ _ (not-true _ (z .1)))
 
       cleared : (w : ℕ) → Case u w → cond (eqb u w) 0 (pathCells w ms) ≡ pathCells w (withoutPath u ms)
       cleared w (same e) = rw (without-path w u ms, eq-eqb u w e, eq-eqb w u (sym e))
@@ -169,12 +165,8 @@ module _ (s : State) (a : NamesUnique (s .entries)) {ms : List Member} (m : Memb
       (x : ℕ) (d e : Connection) → find (pathOf x) (s .entries) ≡ taken d → e .name ≡ d .name → waiting (e .queue) + cellsOf x ms ≡ waiting (d .queue)
       → MembersOf (put (pathOf x) (taken e) s .entries) (withoutMember x ms)
   removed-members x d e f n q =
-      changed-members (pathOf x) d e f n (withoutMember x ms) (without-valid (named x) ms (m .valid)) (λ y h. left _ _ (sym (without-member y (named x) ms) ∙ h)) sums
+      changed-members (pathOf x) d e f n (withoutMember x ms) (without-valid (named x) ms (m .valid)) (λ y h. both _ _ (sym (without-member y (named x) ms) ∙ h) .0) sums
     where
-      left : (b c : Bool) → (b && c) ≡ true → b ≡ true
-      left true c e = refl
-      left false c e = e
-
       sums : (w : ℕ) → isPath w ≡ true → cond (eqb (pathOf x) w) (waiting (e .queue)) (pathCells w ms) ≡ pathCells w (withoutMember x ms)
       sums w p = go (case (pathOf x) w) (without-one (onPath w) x ms)
         where

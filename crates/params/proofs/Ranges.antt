@@ -7,13 +7,9 @@ use native.Mathlib.Omega.{arith}
 use lib.Dec.{leb}
 use lib.ListN.{getD, List·getD-eq-default}
 use borrow.Author.Tests.{leb-true}
+use Rattle.laws.proofs.Tests.{both}
 use Rattle.params.specs.Params.{Params, peak, least, initial, within, codesFit, ratesFit, numbersFit, paramsFit, tbeFits, frttFits, trmTimes, trmTime}
 use Rattle.params.specs.Ranges.{Fits, SetupFits}
-
--- both sides of a test
-both : (a b : Bool) → (a && b) ≡ true → (a ≡ true) × (b ≡ true)
-both true b e = (refl, e)
-both false b e = let z : _≡_ {A = ℕ} 0 1 = cc in absurd (omega arith)
 
 pub in-range : (low high x : ℕ) → within low high x ≡ true → (low ≤ x) × (x ≤ high)
 unfolding within

@@ -1,12 +1,13 @@
 // Adding a member to a path (document 02, L13).
 ghost use Rattle.engine.specs.Contract.{Meets};
 ghost use Rattle.model.specs.Step.{addStep};
-use crate::name::NO_NAME;
 use crate::name::path_of;
+use cell::name::NO_NAME;
 use cell::name::pair_name;
 use member_words::change;
 use member_words::find::find as find_member;
 use member_words::find::has_room;
+use members::path::FIRST_VCI;
 use model::answer::Answer;
 use names::find::Found;
 use names::find::find;
@@ -16,7 +17,7 @@ use table::layout::WORDS;
 pub fn add(t: &mut [u64; WORDS], vpi: u32, vci: u32) -> Answer
     ensures { λ r. ⌜ Meets (λ s. addStep s vpi vci) (now (t .entry)) (now (t .exit)) r ⌝ }
 {
-    if vci < 32 {
+    if vci < FIRST_VCI {
         return Answer::Refused(10);
     }
     let name = pair_name(vpi, vci);

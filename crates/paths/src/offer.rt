@@ -1,8 +1,8 @@
 // Offering data to a member (document 02, L13).
 ghost use Rattle.engine.specs.Contract.{Meets};
 ghost use Rattle.model.specs.Step.{offerMemberStep};
-use crate::name::NO_NAME;
 use crate::name::path_of;
+use cell::name::NO_NAME;
 use loading::load::load;
 use member_words::change::set_cells;
 use member_words::find::cells_at;

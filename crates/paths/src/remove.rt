@@ -1,8 +1,8 @@
 // Removing a member from its path, with what waits on it (document 02, L13).
 ghost use Rattle.engine.specs.Contract.{Meets};
 ghost use Rattle.model.specs.Step.{removeStep};
-use crate::name::NO_NAME;
 use crate::name::path_of;
+use cell::name::NO_NAME;
 use loading::load::load;
 use member_words::change;
 use member_words::find::cells_at;

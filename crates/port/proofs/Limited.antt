@@ -24,6 +24,7 @@ use Rattle.port.specs.Limit.{Passed, passed, heldEr, withEr, limit}
 use Rattle.port.specs.Limited.{fieldsWithEr, SameButEr, BackwardLimited}
 use Rattle.port.proofs.Octets.{Opened, opened, open-up}
 use Rattle.port.proofs.Cases.{er-le, er-fifteen, limit-backward}
+use Rattle.laws.proofs.Tests.{both}
 
 -- ---- a cell that is read as an RM cell has its header right and is of type 6
 pub record Headed (o : List ℕ) : Type 0 where
@@ -116,11 +117,7 @@ module _ (a b c d e p m x y : ℕ) (r : List ℕ) (n : length r ≡ 44) (code : 
   unfolding ratesClear codesClear reservedClear
   new-clear h g =
       let er : pair 8 new ≡ code = omega (arith, pair-at 2 (omega arith)) in
-      rw (er, pair-at 4 (omega arith), pair-at 6 (omega arith), lt-ltb code 32768 h) (right (reservedClear (pair 8 old)) (reservedClear (pair 10 old) && reservedClear (pair 12 old)) g)
-    where
-      right : (s t : Bool) → (s && t) ≡ true → t ≡ true
-      right true t z = z
-      right false t z = let w : _≡_ {A = ℕ} 0 1 = cc in absurd (omega arith)
+      rw (er, pair-at 4 (omega arith), pair-at 6 (omega arith), lt-ltb code 32768 h) (both (reservedClear (pair 8 old)) (reservedClear (pair 10 old) && reservedClear (pair 12 old)) g .1)
 
   new-read : (f : Fields) → code < 32768 → reading old ≡ Resource f → reading new ≡ Resource (fieldsWithEr code f)
   unfolding headerRight crcRight

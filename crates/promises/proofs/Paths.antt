@@ -83,19 +83,9 @@ own-name : (s : State) (vpi : ℕ) → isPath (pairName vpi pathVci) ≡ true �
 unfolding step
 own-name s vpi p = record { dataCells = λ o e r. own-data s vpi p o e r; offers = λ n c f. own-offer s vpi p n c f }
 
-no-entry : (x : Entry) → isFree x ≡ false → x ≡ free → ⊥
-unfolding isFree
-no-entry x e f = true≢false (sym (ap isFree f) ∙ e)
-
-apart : (cs : List Call) (x : ℕ) → isMember x (final empty cs .members) ≡ true → find x (final empty cs .entries) ≡ free
-apart cs x e = is-free (find x (final empty cs .entries)) (reached-well-formed cs .members .noChannel x e)
-
 pub paths : Paths
 paths = record {
-  apart = apart;
-  onOpenPath = λ cs x e. no-entry _ (reached-well-formed cs .members .onOpenPath x e);
-  few = λ cs. reached-well-formed cs .members .valid .few;
-  sum = λ cs v c p f. let w = reached-well-formed cs in path-sum (final empty cs) (w .unique) (w .members) v c f p;
-  members = λ cs vpi vci e. member-only (final empty cs) (reached-well-formed cs) vpi vci (apart cs (pairName vpi vci) e) e;
+  table = λ cs. reached-well-formed cs .members;
+  members = λ cs vpi vci e. let w = reached-well-formed cs in member-only (final empty cs) w vpi vci (is-free _ (w .members .noChannel (pairName vpi vci) e)) e;
   names = λ cs vpi h. own-name (final empty cs) vpi (path-is vpi h);
 }

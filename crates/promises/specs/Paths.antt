@@ -3,7 +3,6 @@ use Prim.Native.Nat.{ℕ, _≤_}
 use mathlib.Core.Path.{_≡_}
 use mathlib.Core.Bool.{Bool, true}
 use mathlib.Core.List.{List}
-use lib.ListN.{length}
 use Rattle.params.specs.declared.params.Params.{Params}
 use Rattle.rate.specs.Units.{latestTime}
 use Rattle.rate.specs.Code.{codesClear}
@@ -13,13 +12,13 @@ use Rattle.cell.specs.declared.read.Reading.the-variants.{User, Resource}
 use Rattle.cell.specs.Name.{pairName}
 use Rattle.cell.specs.Fields.{cellName}
 use Rattle.cell.specs.Reading.{reading}
-use Rattle.members.specs.Path.{pathVci, isPath, pathOf}
-use Rattle.members.specs.Members.{memberCapacity, isMember, pathCells}
+use Rattle.members.specs.Path.{pathVci}
+use Rattle.members.specs.Members.{isMember}
 use Rattle.connection.specs.declared.parts.Connection.{Connection}
-use Rattle.connection.specs.Parts.{waiting}
-use Rattle.model.specs.State.{State, free, taken, empty, find}
+use Rattle.model.specs.State.{State, taken, empty, find}
 use Rattle.model.specs.declared.acr.Acr.the-variants.{NotOpen}
 use Rattle.model.specs.declared.contract.Contract.the-variants.{NotOpen as NoContract}
+use Rattle.model.specs.Invariant.{MembersOf}
 use Rattle.model.specs.Call.{Call, opening, closing, receiving, offering, making, outOfRate}
 use Rattle.model.specs.Step.{refuse, step}
 use Rattle.model.specs.Queries.{acrOf, contractOf}
@@ -45,13 +44,6 @@ pub record OwnName (s : State) (vpi : ℕ) : Type 0 where
 
 -- after any list of calls from the empty table
 pub record Paths : Type 0 where
-  -- a pair is a channel or a member, never both, and a member's path is open
-  pub apart : (cs : List Call) (x : ℕ) → isMember x (final empty cs .members) ≡ true → find x (final empty cs .entries) ≡ free
-  pub onOpenPath : (cs : List Call) (x : ℕ) → isMember x (final empty cs .members) ≡ true → find (pathOf x) (final empty cs .entries) ≡ free → ⊥
-  pub few : (cs : List Call) → length (final empty cs .members) ≤ memberCapacity
-  -- on a path waits what waits on its members
-  pub sum :
-      (cs : List Call) (v : ℕ) (c : Connection) → isPath v ≡ true → find v (final empty cs .entries) ≡ taken c
-      → waiting (c .queue) ≡ pathCells v (final empty cs .members)
+  pub table : (cs : List Call) → MembersOf (final empty cs .entries) (final empty cs .members)
   pub members : (cs : List Call) (vpi vci : ℕ) → isMember (pairName vpi vci) (final empty cs .members) ≡ true → MemberOnly (final empty cs) vpi vci
   pub names : (cs : List Call) (vpi : ℕ) → vpi ≤ 255 → OwnName (final empty cs) vpi

@@ -48,6 +48,7 @@ use Rattle.model.proofs.Effects.{Timely, Effect, refuses, begins, ends, offers,
 use Rattle.model.proofs.Reached.{step-well-formed}
 use Rattle.promises.specs.All.{All}
 use Rattle.rm_cells.specs.ReservedBit.{TopBitsClear, WrittenClear, OfOctets, NoReservedBit}
+use Rattle.laws.proofs.Tests.{both}
 
 -- of two octets, the high one is below 128 where their code has bit 15 clear
 top : (h l : ℕ) → h < 256 → l < 256 → reservedClear (h * 256 + l) ≡ true → h < 128
@@ -58,10 +59,6 @@ top h l a b e = go (ltb (h * 256 + l) 32768) (ltb 65535 (h * 256 + l)) refl refl
     go true q d f g = omega (arith, ltb-true (h * 256 + l) 32768 d)
     go false true d f g = absurd (omega (arith, a, b, ltb-true 65535 (h * 256 + l) f))
     go false false d f g = let z : _≡_ {A = ℕ} 0 1 = cc in absurd (omega arith)
-
-both : (a b : Bool) → (a && b) ≡ true → (a ≡ true) × (b ≡ true)
-both true b e = (refl, e)
-both false b e = let z : _≡_ {A = ℕ} 0 1 = cc in absurd (omega arith)
 
 top-bits : (o : List ℕ) → AreOctets o → ratesClear o ≡ true → TopBitsClear o
 unfolding ratesClear codesClear

@@ -14,6 +14,7 @@ use connection::parts::Connection;
 use connection::parts::Waiting;
 use loading::load::load;
 use member_words::turn::serve;
+use members::path::PATH_VCI;
 use model::answer::Answer;
 use moves::moves::Rate;
 use params::params::Params;
@@ -87,7 +88,7 @@ fn of_member(kind: Kind, name: u32) -> bool
     match kind {
         Kind::Forward => false,
         Kind::Turned => false,
-        Kind::Data => name % 65536 == 6,
+        Kind::Data => name % 65536 == PATH_VCI,
     }
 }
 
