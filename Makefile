@@ -1,7 +1,7 @@
 # The ABR end-system rate engine.
 #
 #   make lib                prove the library and write target/staticlib/libabr.a
-#   make demo               two connections, slot by slot, and a picture of them
+#   make demo               two connections, slot by slot, and pictures: of them, and of ten sources at a port
 #   make test               the gate: proofs, then every test
 #   make tools              abr-judge and abr-trace, in target/cargo/release
 #   make install PREFIX=    library, header and abr.pc
@@ -36,8 +36,10 @@ demo: $(LIB_GOAL)
 	@mkdir -p $(BUILD)
 	$(CC) -std=c99 $(CFLAGS) -Iinclude examples/two_connections.c $(LIB) -o $(BUILD)/two_connections
 	$(BUILD)/two_connections
-	cargo run --release --quiet -p picture -- $(BUILD)/rates.svg
+	cargo run --release --quiet -p picture -- rates $(BUILD)/rates.svg
+	cargo run --release --quiet -p picture -- closed-loop $(BUILD)/closed-loop.svg
 	@echo "The allowed rates of two connections over time: $(BUILD)/rates.svg"
+	@echo "Those of ten sources that share a port: $(BUILD)/closed-loop.svg"
 
 test:
 	.ci/run

@@ -76,45 +76,24 @@ fn axes(out: &mut String, scale: &Scale) {
     costs(out, scale);
     connections(out);
     let (left, right) = (x(1), x(MOST));
-    let path = format!("M{left} {TOP}V{FLOOR}H{right}");
-    put(
-        out,
-        format_args!("<path d=\"{path}\" fill=\"none\" stroke=\"#333\" stroke-width=\"1.5\"/>\n"),
-    );
+    svg::axes(out, (left, right), (TOP, FLOOR));
     let (middle, bottom) = ((left + right) / 2.0, HEIGHT - 14.0);
     text(out, (middle, bottom), "middle", "busy connections");
     let middle = (TOP + FLOOR) / 2.0;
-    put(
-        out,
-        format_args!(
-            "<text transform=\"translate(22 {middle}) rotate(-90)\" \
-             text-anchor=\"middle\">nanoseconds, best of many rounds</text>\n"
-        ),
-    );
+    svg::upright(out, (22.0, middle), "nanoseconds, best of many rounds");
 }
 
 /// The grid of the costs.
 fn costs(out: &mut String, scale: &Scale) {
-    let (left, right) = (x(1), x(MOST));
     for value in &scale.costs {
-        let at = scale.y(*value);
-        put(
-            out,
-            format_args!("<path d=\"M{left} {at:.1}H{right}\" stroke=\"#ccc\"/>\n"),
-        );
-        text(out, (left - 10.0, at + 5.0), "end", &value.to_string());
+        svg::grid(out, (x(1), x(MOST)), scale.y(*value), &value.to_string());
     }
 }
 
 /// The numbers of connections.
 fn connections(out: &mut String) {
     for connections in [1, 2, 4, 8, 16, 32, 64, 128, 256, 512, 1_024] {
-        let at = x(connections);
-        put(
-            out,
-            format_args!("<path d=\"M{at:.1} {FLOOR}v6\" stroke=\"#333\"/>\n"),
-        );
-        text(out, (at, FLOOR + 24.0), "middle", &connections.to_string());
+        svg::tick(out, (x(connections), FLOOR), &connections.to_string());
     }
 }
 
@@ -130,12 +109,7 @@ fn line(out: &mut String, scale: &Scale, points: &[(u32, f64)], colour: &str) {
             format_args!("<circle cx=\"{x:.1}\" cy=\"{y:.1}\" r=\"3.5\" fill=\"{colour}\"/>\n"),
         );
     }
-    put(
-        out,
-        format_args!(
-            "<path d=\"{path}\" fill=\"none\" stroke=\"{colour}\" stroke-width=\"2.2\"/>\n"
-        ),
-    );
+    svg::path(out, &path, colour, 2.2);
 }
 
 /// Names both lines at their ends, moved apart if they would overlap.
@@ -150,11 +124,6 @@ fn names(out: &mut String, scale: &Scale, points: &[(u32, f64, f64)]) {
         (ours, theirs) = (ours + apart, theirs - apart);
     }
     let x = x(*connections) + 10.0;
-    for (y, name, colour) in [
-        (ours, "library", LIBRARY),
-        (theirs, "reference, a scan", REFERENCE),
-    ] {
-        let anchor = format!("start\" font-weight=\"bold\" fill=\"{colour}");
-        text(out, (x, y), &anchor, name);
-    }
+    svg::name(out, (x, ours), "start", LIBRARY, "library");
+    svg::name(out, (x, theirs), "start", REFERENCE, "reference, a scan");
 }

@@ -2,7 +2,7 @@
 //! to keep, the rate in force, and a red mark where a rule is broken.
 
 use abr::RATE_ONE;
-use picture::svg::{self, put, text, thousands};
+use picture::svg::{self, path, put, text, thousands};
 
 use crate::excerpt::Excerpt;
 use crate::history::gap;
@@ -139,8 +139,7 @@ fn gaps(out: &mut String, cells: &[Cell], scale: &Scale) {
 /// The rate in force before each cell, from the cell before to it.
 fn rates(out: &mut String, cells: &[Cell], scale: &Scale) {
     let ((top, floor), right) = (RATE, WIDTH - RIGHT);
-    let frame = format!("M{LEFT} {top}V{floor}H{right}");
-    path(out, &frame, "#333", 1.2);
+    svg::axes(out, (LEFT, right), (top, floor));
     let most = scale.rate as f64 / RATE_ONE as f64;
     label(out, top, &format!("{most:.0}"));
     label(out, floor, "0");
@@ -188,8 +187,7 @@ fn broken(out: &mut String, excerpt: &Excerpt, scale: &Scale) {
         x if x > 840.0 => "end",
         _ => "middle",
     };
-    let anchor = format!("{anchor}\" font-weight=\"bold\" fill=\"{RED}");
-    text(out, (x, top - 8.0), &anchor, &words);
+    svg::name(out, (x, top - 8.0), anchor, RED, &words);
 }
 
 /// The time and the cells that are shown.
@@ -198,12 +196,7 @@ fn axis(out: &mut String, excerpt: &Excerpt, scale: &Scale) {
     let span = scale.last - scale.first;
     for tick in 0..=4 {
         let time = scale.first + span / 4 * tick;
-        let (x, words) = (scale.x(time), microseconds(time));
-        put(
-            out,
-            format_args!("<path d=\"M{x:.1} {floor}v6\" stroke=\"#333\"/>\n"),
-        );
-        text(out, (x, floor + 22.0), "middle", &words);
+        svg::tick(out, (scale.x(time), floor), &microseconds(time));
     }
     let words = match (excerpt.cells.front(), excerpt.cells.back(), excerpt.last) {
         (Some(first), Some(last), Some(all)) => format!(
@@ -221,12 +214,4 @@ fn axis(out: &mut String, excerpt: &Excerpt, scale: &Scale) {
 /// Nanoseconds as microseconds.
 fn microseconds(time: u64) -> String {
     format!("{}.{:03}", thousands(time / 1_000), time % 1_000)
-}
-
-/// A path without a filling, if there is one.
-fn path(out: &mut String, line: &str, colour: &str, width: f64) {
-    if !line.is_empty() {
-        let style = format!("fill=\"none\" stroke=\"{colour}\" stroke-width=\"{width}\"");
-        put(out, format_args!("<path d=\"{line}\" {style}/>\n"));
-    }
 }

@@ -12,7 +12,6 @@
 //! * [`record`], [`scenario`], [`random`]: traces recorded from a transmitter.
 
 pub mod arguments;
-pub mod console;
 pub mod draw;
 pub mod excerpt;
 pub mod explain;
@@ -26,3 +25,5 @@ pub mod record;
 pub mod scenario;
 pub mod text;
 pub mod trace;
+
+pub use picture::console;

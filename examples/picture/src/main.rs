@@ -1,27 +1,77 @@
-//! Draws the allowed rates of two connections over time, with and without
-//! congestion: `picture [FILE]`, an SVG, to standard output without a file.
+//! Draws a scene: `picture rates [FILE]` or `picture closed-loop [FILE]`.
 
+use std::ffi::OsString;
 use std::process::ExitCode;
 
-use picture::{draw, scenario};
+use picture::console::Console;
+use picture::{closed_loop, draw, scenario};
+
+const CONSOLE: Console = Console { program: "picture" };
+
+const HELP: &str = "\
+usage: picture SCENE [FILE]
+
+Runs a scene over the ABR rate engine and draws the allowed rates over time, as an SVG.
+
+  rates        two connections on one link under changing congestion
+  closed-loop  ten sources that share an explicit-rate port; if a file is named, the feedbacks
+               that each source took to its goals are printed
+  FILE         where the picture goes; standard output without it
+
+Exit status: 0 if the picture is made, 2 if not: the arguments are wrong, a call was refused, a
+source took more feedbacks than it may, or the picture can't be written.
+";
+
+/// A picture, and what is said of it.
+struct Drawn {
+    svg: String,
+    words: String,
+}
 
 fn main() -> ExitCode {
-    let svg = match scenario::tracks() {
-        Ok(tracks) => draw::svg(&tracks),
-        Err(refusal) => {
-            eprintln!("refused: {refusal}");
-            return ExitCode::FAILURE;
-        }
+    let arguments: Vec<OsString> = std::env::args_os().skip(1).collect();
+    let (scene, file) = match &arguments[..] {
+        [help] if help == "--help" => return CONSOLE.help(HELP),
+        [scene] => (scene, None),
+        [scene, file] => (scene, Some(file.as_os_str())),
+        _ => return CONSOLE.wrong_arguments("a scene and at most one file"),
     };
-    let Some(path) = std::env::args().nth(1) else {
-        print!("{svg}");
-        return ExitCode::SUCCESS;
+    let drawn = match scene.to_str() {
+        Some("rates") => rates(),
+        Some("closed-loop") => closed_loop(),
+        _ => return CONSOLE.wrong_arguments("there is no such scene"),
     };
-    match std::fs::write(&path, svg) {
-        Ok(()) => ExitCode::SUCCESS,
-        Err(error) => {
-            eprintln!("{path}: {error}");
-            ExitCode::FAILURE
-        }
+    match drawn {
+        Err(why) => CONSOLE.complain(why),
+        Ok(drawn) => match CONSOLE.write(file, drawn.svg.as_bytes()) {
+            ExitCode::SUCCESS if file.is_some() => CONSOLE.write(None, drawn.words.as_bytes()),
+            code => code,
+        },
     }
+}
+
+/// Two connections.
+fn rates() -> Result<Drawn, String> {
+    let tracks = scenario::tracks().map_err(refused)?;
+    Ok(Drawn {
+        svg: draw::svg(&tracks),
+        words: String::new(),
+    })
+}
+
+/// Ten sources, none of which takes more feedbacks to a goal than it may.
+fn closed_loop() -> Result<Drawn, String> {
+    let histories = closed_loop::run().map_err(refused)?;
+    let shares = closed_loop::shares().map_err(refused)?;
+    match closed_loop::report::late(&histories) {
+        Some(why) => Err(why),
+        None => Ok(Drawn {
+            svg: closed_loop::draw::svg(&histories, &shares),
+            words: closed_loop::report::table(&histories),
+        }),
+    }
+}
+
+fn refused(refusal: abr::Refusal) -> String {
+    format!("refused: {refusal}")
 }

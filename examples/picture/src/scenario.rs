@@ -1,11 +1,12 @@
 //! Two connections on one link, and a network that answers their RM cells.
 
-use std::collections::VecDeque;
-
 use abr::{Cell, Kind, Params, Refusal, Rm, Sent, Table, CELL_OCTETS, RATE_ONE};
 
-/// One millisecond.
-pub const MS: u64 = 1_000_000;
+use crate::delay::{DelayLine, Octets};
+use crate::plot::MS;
+use crate::refusals::accepted_too;
+use crate::track::Track;
+
 /// How long the scenario lasts.
 pub const END: u64 = 1_600 * MS;
 /// The link carries 20,000 cells per second.
@@ -61,26 +62,16 @@ pub const PHASES: [Phase; 3] = [
     },
 ];
 
-/// The allowed rate of one connection over time.
-pub struct Track {
-    /// The connection.
-    pub vci: u32,
-    /// Instants, and the cells per second allowed from then on.
-    pub points: Vec<(u64, f64)>,
-}
-
 /// The allowed rates of both connections, over the scenario.
-pub fn tracks() -> Result<Vec<Track>, Refusal> {
-    let mut tracks = VCIS.map(|vci| Track {
-        vci,
-        points: Vec::new(),
-    });
+pub fn tracks() -> Result<[Track; 2], Refusal> {
+    let mut tracks = [Track::default(), Track::default()];
     run(|slot| {
         for (track, acr) in tracks.iter_mut().zip(slot.after) {
             track.add(slot.time, acr);
         }
     })?;
-    Ok(tracks.into())
+    tracks.iter_mut().for_each(|track| track.end(END));
+    Ok(tracks)
 }
 
 /// A slot of the scenario.
@@ -106,21 +97,22 @@ pub fn run(mut see: impl FnMut(&Slot)) -> Result<(), Refusal> {
     for (vci, params) in VCIS.into_iter().zip(params()?) {
         table.open(VPI, vci, 0, &params)?;
     }
-    let mut answers: VecDeque<(u64, [u8; CELL_OCTETS])> = VecDeque::new();
+    let mut answers = DelayLine::new(ROUND_TRIP);
     for time in (0..=END).step_by(SLOT as usize) {
-        while answers.front().is_some_and(|(due, _)| *due <= time) {
-            let (_, cell) = answers.pop_front().expect("a front");
+        while let Some(cell) = answers.arrived(time) {
             table.receive(&cell)?;
         }
         for vci in VCIS {
-            table.offer(VPI, vci, 1).map(drop).or_else(no_room)?;
+            let offered = table.offer(VPI, vci, 1).map(drop);
+            // A connection with no room for more data needs none.
+            offered.or_else(accepted_too(Refusal::TooMuchData))?;
         }
         let mut cell = [0; CELL_OCTETS];
         let before = rates(&table)?;
         let sent = table.slot(time, &mut cell)?;
         if let Some(sent) = sent {
             if sent.kind == Kind::Forward {
-                answers.push_back((time + ROUND_TRIP, answer(&cell, time + ROUND_TRIP / 2)?));
+                answers.send(time, answer(&cell, time + ROUND_TRIP / 2)?);
             }
         }
         see(&Slot {
@@ -147,17 +139,9 @@ fn contract(peak: u64, initial: u64, r: u32) -> Result<Params, Refusal> {
     Ok(params)
 }
 
-/// A connection with no room for more data needs none.
-fn no_room(refusal: Refusal) -> Result<(), Refusal> {
-    match refusal {
-        Refusal::TooMuchData => Ok(()),
-        other => Err(other),
-    }
-}
-
 /// The backward cell that answers a forward cell: turned by the destination,
 /// marked by the network as at this time.
-fn answer(forward: &[u8], time: u64) -> Result<[u8; CELL_OCTETS], Refusal> {
+fn answer(forward: &[u8], time: u64) -> Result<Octets, Refusal> {
     let Cell::Rm(mut rm) = abr::read(forward)? else {
         return Err(Refusal::PayloadType);
     };
@@ -179,14 +163,4 @@ fn mark(rm: &mut Rm, phase: &Phase) -> Result<(), Refusal> {
     rm.ni |= phase.ni;
     rm.er = rm.er.min(abr::code(phase.cells * RATE_ONE)?);
     Ok(())
-}
-
-impl Track {
-    /// Adds a point if the rate has changed.
-    fn add(&mut self, time: u64, acr: u64) {
-        let cells = acr as f64 / RATE_ONE as f64;
-        if self.points.last().is_none_or(|(_, last)| *last != cells) || time == END {
-            self.points.push((time, cells));
-        }
-    }
 }

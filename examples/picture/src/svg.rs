@@ -1,4 +1,4 @@
-//! Parts of a picture: its frame, lines of text, numbers in words.
+//! Parts of a picture: its frame, lines, axes, lines of text, numbers in words.
 
 use std::fmt::Write;
 
@@ -21,6 +21,76 @@ pub fn text(out: &mut String, (x, y): (f64, f64), anchor: &str, words: &str) {
         out,
         format_args!("<text x=\"{x:.1}\" y=\"{y:.1}\" text-anchor=\"{anchor}\">{words}</text>\n"),
     );
+}
+
+/// A line of text in bold, in the colour of what it names.
+pub fn name(out: &mut String, at: (f64, f64), anchor: &str, colour: &str, words: &str) {
+    let anchor = format!("{anchor}\" font-weight=\"bold\" fill=\"{colour}");
+    text(out, at, &anchor, words);
+}
+
+/// The name of an axis that goes upwards, beside its middle.
+pub fn upright(out: &mut String, (x, y): (f64, f64), words: &str) {
+    let words = escaped(words);
+    put(
+        out,
+        format_args!(
+            "<text transform=\"translate({x} {y}) rotate(-90)\" \
+             text-anchor=\"middle\">{words}</text>\n"
+        ),
+    );
+}
+
+/// A line without a filling, if it has a part.
+pub fn path(out: &mut String, line: &str, colour: &str, width: f64) {
+    if !line.is_empty() {
+        let style = format!("fill=\"none\" stroke=\"{colour}\" stroke-width=\"{width}\"");
+        put(out, format_args!("<path d=\"{line}\" {style}/>\n"));
+    }
+}
+
+/// A filled rectangle, from its upper left corner.
+pub fn rect(out: &mut String, (x, y): (f64, f64), (width, height): (f64, f64), fill: &str) {
+    put(
+        out,
+        format_args!(
+            "<rect x=\"{x:.1}\" y=\"{y:.1}\" width=\"{width:.1}\" height=\"{height:.1}\" \
+             fill=\"{fill}\"/>\n"
+        ),
+    );
+}
+
+/// A dashed line, thin.
+pub fn dashed(out: &mut String, line: &str, colour: &str) {
+    path(
+        out,
+        line,
+        &format!("{colour}\" stroke-dasharray=\"5 3"),
+        1.4,
+    );
+}
+
+/// A line of the grid from left to right, with the value that it stands for.
+pub fn grid(out: &mut String, (left, right): (f64, f64), y: f64, words: &str) {
+    put(
+        out,
+        format_args!("<path d=\"M{left} {y:.1}H{right}\" stroke=\"#ccc\"/>\n"),
+    );
+    text(out, (left - 10.0, y + 5.0), "end", words);
+}
+
+/// A mark below an axis, with the value that it stands for.
+pub fn tick(out: &mut String, (x, floor): (f64, f64), words: &str) {
+    put(
+        out,
+        format_args!("<path d=\"M{x:.1} {floor}v6\" stroke=\"#333\"/>\n"),
+    );
+    text(out, (x, floor + 24.0), "middle", words);
+}
+
+/// Both axes.
+pub fn axes(out: &mut String, (left, right): (f64, f64), (top, floor): (f64, f64)) {
+    path(out, &format!("M{left} {top}V{floor}H{right}"), "#333", 1.5);
 }
 
 /// Writing to a string cannot fail.

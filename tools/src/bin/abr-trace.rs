@@ -5,7 +5,7 @@ use std::io::{self, IsTerminal};
 use std::process::ExitCode;
 
 use abr_tools::arguments::{self, is_option, FILES, STANDARD};
-use abr_tools::console::{self, Console};
+use abr_tools::console::Console;
 use abr_tools::record::Recorder;
 use abr_tools::scenario::{Address, Scenario};
 
@@ -122,20 +122,10 @@ fn record(options: &Options) -> Result<Vec<u8>, String> {
 
 /// Writes the octets of the file.
 fn write(octets: &[u8], options: &Options) -> ExitCode {
-    let Some(file) = &options.file else {
-        if !options.text && io::stdout().is_terminal() {
-            return CONSOLE
-                .complain("octets are not written to a terminal: name a file, or --text");
-        }
-        return match console::print(octets) {
-            Ok(()) => ExitCode::SUCCESS,
-            Err(error) => CONSOLE.not_printed(&error),
-        };
-    };
-    match std::fs::write(file, octets) {
-        Ok(()) => ExitCode::SUCCESS,
-        Err(error) => CONSOLE.complain(format_args!("{}: {error}", file.display())),
+    if options.file.is_none() && !options.text && io::stdout().is_terminal() {
+        return CONSOLE.complain("octets are not written to a terminal: name a file, or --text");
     }
+    CONSOLE.write(options.file.as_deref(), octets)
 }
 
 /// The trace of a connection, of the first one if none is named.

@@ -1,6 +1,7 @@
 //! What the programs print, and their exit status when something is wrong. Nothing here panics:
 //! standard output may be closed or full, and what can't be said on standard error is left out.
 
+use std::ffi::OsStr;
 use std::fmt::Display;
 use std::io::{self, ErrorKind, Write};
 use std::process::ExitCode;
@@ -17,9 +18,20 @@ pub struct Console {
 impl Console {
     /// Prints the help.
     pub fn help(self, help: &str) -> ExitCode {
-        match print(help.as_bytes()) {
+        self.write(None, help.as_bytes())
+    }
+
+    /// Writes a file, or to standard output if none is named.
+    pub fn write(self, file: Option<&OsStr>, octets: &[u8]) -> ExitCode {
+        let Some(file) = file else {
+            return match print(octets) {
+                Ok(()) => ExitCode::SUCCESS,
+                Err(error) => self.not_printed(&error),
+            };
+        };
+        match std::fs::write(file, octets) {
             Ok(()) => ExitCode::SUCCESS,
-            Err(error) => self.not_printed(&error),
+            Err(error) => self.complain(format_args!("{}: {error}", file.display())),
         }
     }
 
