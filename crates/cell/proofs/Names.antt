@@ -1,9 +1,9 @@
 -- A name and its pair: within the ranges each gives the other back, and numbers outside them make no name of another pair.
 use mathlib.Core.Path.{_≡_, refl, sym, _∙_}
-use mathlib.Core.Bool.{Bool, true, false, cond, _&&_}
-use Prim.Native.Nat.{ℕ, _+_, _*_, _/_, _%_, _≤_, _<_}
+use mathlib.Core.Bool.{Bool, true, false, cond, _&&_, and-eq-true-iff}
+use Prim.Native.Nat.{ℕ, _≤_, _<_}
 use native.Mathlib.Omega.{arith}
-use borrow.Author.Tests.{le-leb, lt-leb, leb-true, leb-false}
+use borrow.Author.Tests.{le-leb, lt-leb, leb-true}
 use lib.Dec.{leb}
 use Rattle.cell.specs.Name.{nameOf, vpiIn, vciIn, noName, pairFits, pairName}
 
@@ -49,6 +49,10 @@ module _ (vpi vci : ℕ) where
 pub pair-out : (vpi vci : ℕ) → pairFits vpi vci ≡ false → pairName vpi vci ≡ noName
 unfolding pairName
 pair-out vpi vci e = rw e
+
+-- and within them one
+pub pair-lt : (vpi vci : ℕ) → pairFits vpi vci ≡ true → pairName vpi vci < noName
+pair-lt vpi vci e = let h = and-eq-true-iff (leb vpi 255) (leb vci 65535) .0 e in name-lt vpi vci (leb-true _ _ (h .0)) (leb-true _ _ (h .1))
 
 -- two pairs of one name are one pair
 pub names-apart : (a b c d : ℕ) → pairName a b < noName → pairName a b ≡ pairName c d → (a ≡ c) × (b ≡ d)

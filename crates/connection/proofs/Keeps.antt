@@ -2,9 +2,10 @@
 use Prim.Native.Nat.{ℕ, _+_, _-_, _*_, _≤_, _<_}
 use mathlib.Core.Path.{_≡_, refl, sym, ap, _∙_}
 use mathlib.Core.Logic.{_≢_}
-use mathlib.Core.Bool.{Bool, true, false, cond, _||_}
+use mathlib.Core.Bool.{Bool, true, false, cond}
 use mathlib.Core.List.{List}
 use mathlib.Core.Option.{Option, none, some}
+use mathlib.Mathlib.Data.Bool.Basic.{or-eq-false-eq-eq-false-and-eq-false}
 use native.Mathlib.Nat.{le-refl, le-trans}
 use native.Mathlib.Omega.{arith}
 use lib.Dec.{eqb}
@@ -273,17 +274,13 @@ turned≢forward e = let z : _≡_ {A = ℕ} 0 1 = cc in omega arith
 pub data≢forward : Data ≢ Forward
 data≢forward e = let z : _≡_ {A = ℕ} 0 1 = cc in omega arith
 
-neither : (a b : Bool) → (a || b) ≡ false → a ≡ false
-neither true b e = e
-neither false b e = refl
-
 pace-next :
     (t : ℕ) (c : Connection) (b : Bool) (p : Pace) → PaceFits t (nrm (c .rate .params)) p → isForward t c p ≡ false
     → PaceFits t (nrm (c .rate .params)) (paced t b p)
 unfolding isForward lastBefore paced
 pace-next t c b Unsent h e = tt
 pace-next t c b (Running sent forward k turned) h e =
-    let ne = eqb-false k (nrm (c .rate .params) - 1) (neither _ _ e) in
+    let ne = eqb-false k (nrm (c .rate .params) - 1) (or-eq-false-eq-eq-false-and-eq-false _ _ .0 e .0) in
     (le-trans (h .0) (h .1), le-refl t, below k (nrm (c .rate .params)) (h .2) ne)
   where
     below : (k n : ℕ) → k < n → (k ≡ n - 1 → ⊥) → k + 1 < n

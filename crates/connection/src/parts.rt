@@ -25,7 +25,7 @@ pub struct Queue {
     pub served: u32,
 }
 
-// The allowed rate before the last backward cell and after it; before the first one both are the initial rate (document 02, L9).
+// The allowed rate before the last backward cell and after it; before the first one both are the initial rate used (document 02, L9 and L14).
 pub struct Change {
     pub before: u64,
     pub after: u64,

@@ -2,7 +2,7 @@
 use Prim.Native.Nat.{ℕ, _^_, _≤_, _<_}
 use mathlib.Core.Path.{_≡_, sym, ap, subst, _∙_}
 use mathlib.Core.Logic.{_≢_}
-use mathlib.Core.Bool.{true, false, not}
+use mathlib.Core.Bool.{true, false, not, _&&_}
 use mathlib.Core.List.{List}
 use native.Mathlib.Omega.{arith}
 use lib.Dec.{leb}
@@ -12,7 +12,7 @@ use Rattle.params.specs.declared.params.Params.{Params}
 use Rattle.rate.specs.Units.{latestTime}
 use Rattle.rate.specs.Code.{codesClear}
 use Rattle.params.specs.Params.{paramsFit, tbeFits, frttFits}
-use Rattle.cell.specs.Name.{pairName}
+use Rattle.cell.specs.Name.{pairFits, pairName}
 use Rattle.members.specs.Path.{firstVci}
 use Rattle.members.specs.Members.{isMember}
 use Rattle.connection.specs.declared.parts.Connection.{Connection}
@@ -50,37 +50,27 @@ module _ (s : State) (a b t : ℕ) (p : Params) where
   open-reserved k = rw k
 
   module _ (k : codesClear (p .pcr) (p .mcr) (p .icr) ≡ true) where
-    pub open-far : 255 < a → admit s a b t p ≡ refuse s 7
+    pub open-unfit : (pairFits a b && paramsFit p) ≡ false → admit s a b t p ≡ refuse s 7
     unfolding admit require
-    open-far h = rw (k, lt-leb a 255 h)
+    open-unfit f = rw (k, f)
 
-    pub open-wide : a ≤ 255 → 65535 < b → admit s a b t p ≡ refuse s 7
-    unfolding admit require
-    open-wide g h = rw (k, le-leb a 255 g, lt-leb b 65535 h)
-
-    pub open-unfit : a ≤ 255 → b ≤ 65535 → paramsFit p ≡ false → admit s a b t p ≡ refuse s 7
-    unfolding admit require
-    open-unfit g h f = rw (k, le-leb a 255 g, le-leb b 65535 h, f)
-
-    module _ (g : a ≤ 255) (h : b ≤ 65535) (f : paramsFit p ≡ true) where
+    module _ (f : (pairFits a b && paramsFit p) ≡ true) where
       pub open-tbe : tbeFits p ≡ false → admit s a b t p ≡ refuse s 29
       unfolding admit require
-      open-tbe x = rw (k, le-leb a 255 g, le-leb b 65535 h, f, x)
+      open-tbe x = rw (k, f, x)
 
       pub open-frtt : tbeFits p ≡ true → frttFits p ≡ false → admit s a b t p ≡ refuse s 30
       unfolding admit require
-      open-frtt x y = rw (k, le-leb a 255 g, le-leb b 65535 h, f, x, y)
+      open-frtt x y = rw (k, f, x, y)
 
       pub open-late : tbeFits p ≡ true → frttFits p ≡ true → latestTime < t → admit s a b t p ≡ refuse s 8
       unfolding admit require
-      open-late x y z = rw (k, le-leb a 255 g, le-leb b 65535 h, f, x, y, lt-leb t latestTime z)
+      open-late x y z = rw (k, f, x, y, lt-leb t latestTime z)
 
 -- the tests of the input that an open has passed
 pub record Passed (a b t : ℕ) (p : Params) : Type 0 where
   pub clear : codesClear (p .pcr) (p .mcr) (p .icr) ≡ true
-  pub near : a ≤ 255
-  pub high : b ≤ 65535
-  pub fits : paramsFit p ≡ true
+  pub fits : (pairFits a b && paramsFit p) ≡ true
   pub tbe : tbeFits p ≡ true
   pub frtt : frttFits p ≡ true
   pub timely : t ≤ latestTime
@@ -92,7 +82,7 @@ module _ (s : State) {a b t : ℕ} {p : Params} (i : Passed a b t p) where
       (require (refuse s 27) (not (isMember (pairName a b) (s .members)))
       (require (refuse s 13) (roomLeft s) (require (refuse s 14) (leb (s .last) t) (replay (position isFree (s .entries)) s (withTime t (inserted (fresh (pairName a b) t p) s))))))
   unfolding admit require
-  rest = rw (i .clear, le-leb a 255 (i .near), le-leb b 65535 (i .high), i .fits, i .tbe, i .frtt, le-leb t latestTime (i .timely))
+  rest = rw (i .clear, i .fits, i .tbe, i .frtt, le-leb t latestTime (i .timely))
 
   pub open-taken : (c : Connection) → find (pairName a b) (s .entries) ≡ taken c → admit s a b t p ≡ refuse s 12
   unfolding require isFree

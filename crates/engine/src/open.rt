@@ -1,4 +1,8 @@
 // Opening a channel or a path (document 01, "Opening"; document 02, L6, L7, L13 and L14).
+ghost use mathlib.Core.Path.{_≡_};
+ghost use mathlib.Core.Bool.{_&&_};
+ghost use Rattle.params.specs.Params.{paramsFit};
+ghost use Rattle.cell.specs.Name.{pairFits};
 ghost use Rattle.model.specs.Step.{admit, openStep, openPathStep};
 ghost use Rattle.engine.specs.Contract.{Meets};
 use cell::name::pair_name;
@@ -17,6 +21,13 @@ use storing::store::store;
 use table::layout::LAST;
 use table::layout::WORDS;
 
+// The ranges behind refusal 7.
+fn in_range(vpi: u32, vci: u32, params: Params) -> bool
+    ensures { λ b. ⌜ b ≡ (pairFits vpi vci && paramsFit params) ⌝ }
+{
+    vpi <= 255 && (vci <= 65535 && params.fits())
+}
+
 // What every open refuses: 19, 7, 29, 30, 8, 12, 27, 13, 14.
 fn admit(t: &mut [u64; WORDS], vpi: u32, vci: u32, time: u64, params: Params) -> Answer
     ensures { λ r. ⌜ Meets (λ s. admit s vpi vci time params) (now (t .entry)) (now (t .exit)) r ⌝ }
@@ -24,13 +35,7 @@ fn admit(t: &mut [u64; WORDS], vpi: u32, vci: u32, time: u64, params: Params) ->
     if !codes_clear(params.pcr, params.mcr, params.icr) {
         return Answer::Refused(19);
     }
-    if 255 < vpi {
-        return Answer::Refused(7);
-    }
-    if 65535 < vci {
-        return Answer::Refused(7);
-    }
-    if !params.fits() {
+    if !in_range(vpi, vci, params) {
         return Answer::Refused(7);
     }
     if !params.tbe_fits() {

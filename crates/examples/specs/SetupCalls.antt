@@ -1,7 +1,7 @@
 -- TBE and FRTT of opens, computed from the empty table. (Document 02, L14.)
 use Prim.Native.Nat.{ℕ, _+_}
 use mathlib.Core.Path.{_≡_}
-use mathlib.Core.List.{List, [], _∷_}
+use mathlib.Core.List.{[], _∷_}
 use Rattle.params.specs.declared.params.Params.{Params}
 use Rattle.params.specs.Params.{initialUsed, crm, houseSet}
 use Rattle.params.specs.Setup.{withSetup}
@@ -11,7 +11,7 @@ use Rattle.connection.specs.Parts.{changed}
 use Rattle.model.specs.State.{empty}
 use Rattle.model.specs.declared.acr.Acr.the-variants.{Rate}
 use Rattle.model.specs.declared.contract.Contract.the-variants.{Codes}
-use Rattle.model.specs.Call.{Call, opening, offering, slot, openingPath}
+use Rattle.model.specs.Call.{opening, offering, slot, openingPath}
 use Rattle.model.specs.Queries.{acrOf, contractOf}
 use Rattle.model.specs.Run.{final}
 use Rattle.examples.specs.Unstarred.{refused, accepted, sent, next}

@@ -1,8 +1,9 @@
 -- Cells that are not too soon are gaps apart, and so TBE of them take a round trip.
-use Prim.Native.Nat.{ℕ, zero, suc, _+_, _*_, _≤_, _<_}
-use mathlib.Core.Path.{_≡_, refl, ap, sym, _∙_}
-use mathlib.Core.Bool.{Bool, true, false, cond, _||_}
+use Prim.Native.Nat.{ℕ, _+_, _*_, _≤_, _<_}
+use mathlib.Core.Path.{_≡_, refl}
+use mathlib.Core.Bool.{Bool, true, false, cond}
 use mathlib.Core.List.{List, [], _∷_, _++_}
+use mathlib.Mathlib.Data.Bool.Basic.{or-eq-false-eq-eq-false-and-eq-false}
 use native.Mathlib.Nat.{le-trans, suc-mul}
 use native.Mathlib.Omega.{arith}
 use lib.Dec.{ltb, eqb}
@@ -13,14 +14,10 @@ use Rattle.rate.proofs.Gaps.{gap-antitone}
 use Rattle.params.specs.declared.params.Params.{Params}
 use Rattle.params.specs.Params.{initialUsed}
 use Rattle.params.specs.Forward.{forwardDue}
-use Rattle.params.specs.Setup.{Exposed}
+use Rattle.params.specs.Setup.{cellsAllowed}
 use Rattle.params.proofs.Setup.{initial-rate}
-use Rattle.judge.specs.Rules.{Cell, Sent, Verdict, Passes, Breaks, nothingSent, isForward, withSent, tooSoon, brokenRule, judgedFrom}
+use Rattle.judge.specs.Rules.{Cell, Sent, Passes, Breaks, nothingSent, isForward, withSent, tooSoon, brokenRule, judgedFrom}
 use Rattle.judge.specs.RoundTrip.{span, RatesUpTo, RoundTrip}
-
-neither : (a b : Bool) → (a || b) ≡ false → (a ≡ false) × (b ≡ false)
-neither true b e = let z : _≡_ {A = ℕ} 0 1 = cc in absurd (omega arith)
-neither false b e = (refl, e)
 
 -- One cell that passes.
 record Slow (c : Cell) : Type 0 where
@@ -30,7 +27,7 @@ record Slow (c : Cell) : Type 0 where
 not-soon : (c : Cell) → tooSoon c ≡ false → Slow c
 unfolding tooSoon
 not-soon c e =
-    let h = neither (eqb (c .rate) 0) (ltb (c .since) (gap (c .rate))) e in
+    let h = or-eq-false-eq-eq-false-and-eq-false (eqb (c .rate) 0) (ltb (c .since) (gap (c .rate))) .0 e in
     let n = eqb-false (c .rate) 0 (h .0) in
     record { some = omega (arith, n); slow = ltb-false (c .since) (gap (c .rate)) (h .1) }
 
@@ -68,33 +65,31 @@ module _ (nr trm : ℕ) (h : Sent) (c : Cell) where
       go true = omega arith
       go false = omega arith
 
--- The cells after the first.
-spaced : (nr trm a : ℕ) (h : Sent) (cs : List Cell) → 0 < h .cells → judgedFrom nr trm h cs ≡ Passes → RatesUpTo a cs → length cs * gap a ≤ span cs
+-- The cells after the first, whatever comes behind them.
+spaced :
+    (nr trm a : ℕ) (h : Sent) (cs rest : List Cell) → 0 < h .cells → judgedFrom nr trm h (cs ++ rest) ≡ Passes → RatesUpTo a cs → length cs * gap a ≤ span cs
 unfolding span
-spaced nr trm a h [] l e r = omega arith
-spaced nr trm a h (c ∷ cs) l e r =
-    let p = passed nr trm h c cs e in
+spaced nr trm a h [] rest l e r = omega arith
+spaced nr trm a h (c ∷ cs) rest l e r =
+    let p = passed nr trm h c (cs ++ rest) e in
     let s = slow-cell nr trm h c l (p .0) in
-    omega (arith, suc-mul (length cs) (gap a), gap-antitone (s .some) (r .0), s .slow, spaced nr trm a (withSent h c) cs (some-sent nr trm h c) (p .1) (r .1))
+    omega (arith, suc-mul (length cs) (gap a), gap-antitone (s .some) (r .0), s .slow, spaced nr trm a (withSent h c) cs rest (some-sent nr trm h c) (p .1) (r .1))
 
--- a later cell was sent at a rate above 0
-some-rate : (nr trm a : ℕ) (h : Sent) (cs : List Cell) → 0 < h .cells → judgedFrom nr trm h cs ≡ Passes → RatesUpTo a cs → 0 < length cs → 0 < a
-some-rate nr trm a h [] l e r n = absurd (omega arith)
-some-rate nr trm a h (c ∷ cs) l e r n = le-trans (slow-cell nr trm h c l (passed nr trm h c cs e .0) .some) (r .0)
-
-few : (nr trm : ℕ) (h : Sent) (cs : List Cell) → 0 < h .cells → judgedFrom nr trm h cs ≡ Passes
-    → (p : Params) → Exposed p → 1 ≤ p .tbe → RatesUpTo (initialUsed p) cs → span cs < 1000 * p .frtt → length cs < p .tbe
-few nr trm h [] l e p x t r s = t
-few nr trm h (c ∷ cs) l e p x t r s =
-    let k : ℕ = length (c ∷ cs) in
-    initial-rate .gaps p x k (some-rate nr trm (initialUsed p) h (c ∷ cs) l e r (omega arith))
-    (omega (arith, spaced nr trm (initialUsed p) h (c ∷ cs) l e r))
+-- the first of them was sent at a rate above 0
+few :
+    (nr trm : ℕ) (h : Sent) (cs rest : List Cell) → 0 < h .cells → judgedFrom nr trm h (cs ++ rest) ≡ Passes
+    → (p : Params) → 1 ≤ p .tbe → RatesUpTo (initialUsed p) cs → span cs < 1000 * p .frtt → length cs < cellsAllowed p
+few nr trm h [] rest l e p t r s = omega (arith, t)
+few nr trm h (c ∷ cs) rest l e p t r s =
+    let some = le-trans (slow-cell nr trm h c l (passed nr trm h c (cs ++ rest) e .0) .some) (r .0) in
+    initial-rate .gaps p (length (c ∷ cs)) some (omega (arith, spaced nr trm (initialUsed p) h (c ∷ cs) rest l e r))
 
 -- Behind the cells before.
-from-any : (nr trm : ℕ) (h : Sent) (before : List Cell) (c : Cell) (later : List Cell) → judgedFrom nr trm h (before ++ (c ∷ later)) ≡ Passes
-    → (p : Params) → Exposed p → 1 ≤ p .tbe → RatesUpTo (initialUsed p) later → span later < 1000 * p .frtt → length later < p .tbe
-from-any nr trm h [] c later e = few nr trm (withSent h c) later (some-sent nr trm h c) (passed nr trm h c later e .1)
-from-any nr trm h (b ∷ before) c later e = from-any nr trm (withSent h b) before c later (passed nr trm h b (before ++ (c ∷ later)) e .1)
+from-any :
+    (nr trm : ℕ) (h : Sent) (before : List Cell) (c : Cell) (later rest : List Cell) → judgedFrom nr trm h (before ++ (c ∷ (later ++ rest))) ≡ Passes
+    → (p : Params) → 1 ≤ p .tbe → RatesUpTo (initialUsed p) later → span later < 1000 * p .frtt → length later < cellsAllowed p
+from-any nr trm h [] c later rest e = few nr trm (withSent h c) later rest (some-sent nr trm h c) (passed nr trm h c (later ++ rest) e .1)
+from-any nr trm h (b ∷ before) c later rest e = from-any nr trm (withSent h b) before c later rest (passed nr trm h b (before ++ (c ∷ (later ++ rest))) e .1)
 
 pub round-trip : RoundTrip
-round-trip n trm before c later e = from-any _ _ nothingSent before c later e
+round-trip n trm before c later rest e = from-any _ _ nothingSent before c later rest e

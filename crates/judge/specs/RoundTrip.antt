@@ -1,11 +1,12 @@
--- What a passing trace says of a source before feedback: at rates up to the initial rate used, no more than TBE cells go in a round trip. (Document 02, L14.)
+-- What a passing trace says of a source before feedback: at rates up to the initial rate used, no more than TBE cells go in a round trip, or than the minimum allows.
+-- (Document 02, L14.)
 use Prim.Native.Nat.{ℕ, _+_, _*_, _≤_, _<_}
 use mathlib.Core.Path.{_≡_}
 use mathlib.Core.List.{List, [], _∷_, _++_}
 use lib.ListN.{length}
 use Rattle.params.specs.declared.params.Params.{Params}
 use Rattle.params.specs.Params.{initialUsed}
-use Rattle.params.specs.Setup.{Exposed}
+use Rattle.params.specs.Setup.{cellsAllowed}
 use Rattle.judge.specs.Rules.{Cell, Passes, judgedCells}
 
 -- the nanoseconds that these cells take after the one before them
@@ -18,8 +19,8 @@ abbrev pub RatesUpTo : ℕ → List Cell → Type 0
 RatesUpTo a [] = Unit {0}
 RatesUpTo a (c ∷ cs) = (c .rate ≤ a) × RatesUpTo a cs
 
--- any cell of the trace and all after it, if the last one comes less than a round trip after it: FRTT counts microseconds
+-- any cells in a row, the last of which comes less than a round trip after the first: FRTT counts microseconds
 abbrev pub RoundTrip : Type 0
 RoundTrip =
-    (n trm : ℕ) (before : List Cell) (c : Cell) (later : List Cell) → judgedCells n trm (before ++ (c ∷ later)) ≡ Passes
-    → (p : Params) → Exposed p → 1 ≤ p .tbe → RatesUpTo (initialUsed p) later → span later < 1000 * p .frtt → length (c ∷ later) ≤ p .tbe
+    (n trm : ℕ) (before : List Cell) (c : Cell) (later rest : List Cell) → judgedCells n trm (before ++ (c ∷ (later ++ rest))) ≡ Passes
+    → (p : Params) → 1 ≤ p .tbe → RatesUpTo (initialUsed p) later → span later < 1000 * p .frtt → length (c ∷ later) ≤ cellsAllowed p

@@ -1,12 +1,12 @@
 -- Names of paths, and whether two numbers are one.
-use Prim.Native.Nat.{ℕ, _<_}
+use Prim.Native.Nat.{ℕ}
 use mathlib.Core.Path.{_≡_, refl}
 use mathlib.Core.Bool.{Bool, true, false}
 use native.Mathlib.Omega.{arith}
 use lib.Dec.{eqb}
 use borrow.Author.Tests.{eqb-true, eqb-false, eq-eqb}
 use Rattle.cell.specs.Name.{nameOf, vpiIn, vciIn}
-use Rattle.members.specs.Path.{pathName, isPath, pathOf}
+use Rattle.members.specs.Path.{isPath, pathOf}
 
 pub data Same (x y : ℕ) : Type 0 where
   same : x ≡ y → Same x y
@@ -19,18 +19,9 @@ compare x y = go (eqb x y) refl
     go true e = same (eqb-true x y e)
     go false e = other (eqb-false x y e)
 
--- a name belongs to the path of its VPI
-pub path-of-pair : (vpi vci : ℕ) → vci < 65536 → pathOf (nameOf vpi vci) ≡ pathName vpi
-path-of-pair vpi vci h = omega arith
-
 pub path-is-path : (x : ℕ) → isPath (pathOf x) ≡ true
 unfolding isPath
 path-is-path x = eq-eqb (vciIn (pathOf x)) 6 (omega arith)
-
--- a path is its own
-pub path-of-path : (v : ℕ) → isPath v ≡ true → pathOf v ≡ v
-unfolding isPath
-path-of-path v e = omega (arith, eqb-true (vciIn v) 6 e)
 
 -- a member's name from its path and its VCI
 pub named-again : (v x : ℕ) → pathOf x ≡ v → nameOf (vpiIn v) (vciIn x) ≡ x

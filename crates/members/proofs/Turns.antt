@@ -4,7 +4,7 @@ use mathlib.Core.Path.{_≡_, refl, sym, ap, subst, _∙_}
 use mathlib.Core.Bool.{Bool, true, false, cond, _&&_, _||_, true≢false}
 use mathlib.Core.List.{List, [], _∷_}
 use mathlib.Core.Option.{Option, none, some}
-use native.Mathlib.Nat.{le-trans, not-suc-le-zero}
+use native.Mathlib.Nat.{not-suc-le-zero}
 use native.Mathlib.Omega.{arith}
 use lib.Dec.{leb, ltb, eqb}
 use borrow.Author.Tests.{leb-true, ltb-true, ltb-false, eqb-true, eq-eqb, ne-eqb, le-leb, lt-ltb}
@@ -13,7 +13,7 @@ use Rattle.members.specs.Members.{Member, named, onPath, anyWhere, cells
 use Rattle.members.specs.Turn.{firstFrom, orElse, turn}
 use Rattle.members.specs.Invariant.{Rising}
 use Rattle.members.proofs.Names.{Same, same, other, compare, path-is-path}
-use Rattle.members.proofs.Lists.{all-named, cells-any, cells-on-path}
+use Rattle.members.proofs.Lists.{all-named, cells-any}
 
 none≢some : {x : ℕ} → _≡_ {A = Option ℕ} none (some x) → ⊥
 none≢some e = let z : _≡_ {A = ℕ} 0 1 = cc in omega arith
@@ -142,13 +142,6 @@ either-some v (some y) ms h e = none≢some (sym e)
 pub turn-some : (v q : ℕ) (ms : List Member) → 0 < pathCells v ms → turn v q ms ≡ none → ⊥
 unfolding turn
 turn-some v q ms h e = either-some v _ ms h e
-
--- and where it is somebody's, data waits there
-pub turn-waits : (v q : ℕ) (ms : List Member) (x : ℕ) → turn v q ms ≡ some x → 0 < pathCells v ms
-turn-waits v q ms x e =
-    let p = turn-picks v q ms x e in
-    let n : cellsOf x ms ≤ pathCells v ms = subst (λ w. cellsOf x ms ≤ pathCells w ms) (p .path) (cells-on-path x ms) in
-    le-trans (p .some) n
 
 -- a channel has no members
 pub turn-none : (v q : ℕ) (ms : List Member) → isPath v ≡ false → turn v q ms ≡ none

@@ -3,7 +3,6 @@ use Prim.Native.Nat.{ℕ, suc, _+_, _-_, _*_, _≤_, _<_}
 use mathlib.Core.Path.{_≡_, refl, sym, subst}
 use mathlib.Core.Bool.{Bool, true, false, cond}
 use mathlib.Core.List.{List, [], _∷_}
-use mathlib.Core.Option.{Option, none, some}
 use native.Mathlib.Nat.{le-trans}
 use native.Mathlib.Omega.{arith}
 use lib.Dec.{eqb}
@@ -12,7 +11,6 @@ use borrow.Author.Tests.{eqb-true}
 use Rattle.cell.specs.Name.{noName, vciIn}
 use Rattle.members.specs.Path.{firstVci}
 use Rattle.members.specs.Members.{Member, memberCapacity, named, onPath, cellsWhere, without, isMember, cellsOf, pathCells, withMember, withCells}
-use Rattle.members.specs.Turn.{afterServing}
 use Rattle.members.specs.Invariant.{All, Rising, ValidMember, ValidMembers}
 use Rattle.members.proofs.Lists.{cells-none, without-length, without-all, without-rising, with-member-length, with-member-all, with-member-rising, with-cells-length, with-cells-all, with-cells-rising, absent}
 
@@ -57,11 +55,6 @@ cells-one x (m ∷ ms) r h = go (eqb (m .name) x) refl (cells-one x ms (r .1) (h
 
 pub cells-fit : (x : ℕ) (ms : List Member) → ValidMembers ms → cellsOf x ms ≤ 65535
 cells-fit x ms v = cells-one x ms (v .rising) (v .each)
-
-pub after-serving-valid : (o : Option ℕ) (ms : List Member) → ValidMembers ms → ValidMembers (afterServing o ms)
-unfolding afterServing
-after-serving-valid none ms v = v
-after-serving-valid (some x) ms v = with-cells-valid x (cellsOf x ms - 1) ms v (omega (arith, cells-fit x ms v))
 
 -- on a path waits what a word holds with ease: at most 256 × 65,535 cells
 cells-most : (f : ℕ → Bool) (ms : List Member) → All ValidMember ms → cellsWhere f ms ≤ length ms * 65535

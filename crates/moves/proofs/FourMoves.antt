@@ -13,7 +13,7 @@ use Rattle.moves.proofs.Cuts.{cut-le, cut-mono}
 use Rattle.params.proofs.Ranges.{fits}
 use Rattle.params.proofs.Setup.{initial-rate}
 
-cond-all : (P : ℕ → Type 0) (t : Bool) {x y : ℕ} → P x → P y → P (cond t x y)
+pub cond-all : (P : ℕ → Type 0) (t : Bool) {x y : ℕ} → P x → P y → P (cond t x y)
 cond-all P true p q = p
 cond-all P false p q = q
 

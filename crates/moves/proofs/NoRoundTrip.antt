@@ -9,7 +9,7 @@ use Rattle.moves.specs.NoRoundTrip.{MovesBy, NoRoundTrip}
 -- whatever the round trip, they use the initial rate used
 by-used : (q : Rate) → MovesBy (initialUsed (q .params)) (crm (q .params)) q
 unfolding firstCell idle unanswered
-by-used q = record { opens = refl; first = refl; idles = λ passed. refl; unanswereds = λ y. refl }
+by-used q = record { opens = refl; first = refl; idles = λ passed. refl; cuts = λ y. refl }
 
 pub no-round-trip : NoRoundTrip
 no-round-trip q e = subst (λ (i : ℕ). MovesBy i (crm (q .params)) q) (initial-rate .noTrip (q .params) e) (by-used q)

@@ -11,7 +11,7 @@ pub record MovesBy (i m : ℕ) (q : Rate) : Type 0 where
   pub opens : opened (q .params) ≡ moved q i
   pub first : firstCell q ≡ moved q (min (q .acr) i)
   pub idles : (passed : ℕ) → idle passed q ≡ moved q (cond (ltb (adtfTime (q .params)) passed) (min (q .acr) i) (q .acr))
-  pub unanswereds :
+  pub cuts :
       (y : ℕ) → unanswered y q ≡ moved q (cond (leb m y && not (eqb (q .params .c) 7)) (max (least (q .params)) (cut (q .params .c) (q .acr))) (q .acr))
 
 abbrev pub NoRoundTrip : Type 0

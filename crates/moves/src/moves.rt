@@ -1,7 +1,7 @@
 // The rate record by value and the four moves of its allowed rate (document 01, "Four moves of the allowed rate").
 // No method has a requires: each form below holds for every u64, so that a table with any content is safe.
 ghost use mathlib.Core.Path.{_≡_};
-ghost use Prim.Native.Nat.{_+_, _/_, _^_, min, max};
+ghost use Prim.Native.Nat.{_+_, _/_, _^_, min};
 ghost use Rattle.moves.specs.Moves.{moved, opened, firstCell, idle, unanswered, cut, rateByMarks, feedback};
 use params::extremes::higher;
 use params::extremes::lower;

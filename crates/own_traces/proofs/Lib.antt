@@ -5,4 +5,5 @@ pub mod OneCell
 pub mod Passing
 pub mod Reread
 pub mod Fits
+pub mod Unraised
 pub mod RoundTrip

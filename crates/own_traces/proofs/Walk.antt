@@ -22,6 +22,15 @@ use Rattle.model.proofs.Reached.{step-well-formed}
 use Rattle.own_traces.specs.InRate.{SentCell, sentBy, closes, sentFrom}
 use Rattle.own_traces.proofs.Next.{Stays, cellAt, Next, closed, quiet, goes, effect-next}
 
+-- the cells of a call and of those after it, once it is known whether it closes v and what it sends
+pub cells-are :
+    (P : List SentCell → Type 0) (v : ℕ) (s : State) (c : Call) (cs : List Call) (b : Bool) (ys : List SentCell)
+    → closes v c (isAccepted (step s c .answer)) ≡ b → sentBy v s c (step s c .answer) ≡ ys → P (cond b [] (ys ++ sentFrom v (step s c .state) cs)) → P (sentFrom v s (c ∷ cs))
+unfolding sentFrom
+cells-are P v s c cs b ys h g r =
+    let rest : List SentCell = sentFrom v (step s c .state) cs in
+    subst (λ (z : Bool). P (cond z [] (sentBy v s c (step s c .answer) ++ rest))) (sym h) (subst (λ (z : List SentCell). P (cond b [] (z ++ rest))) (sym g) r)
+
 -- Q of the time of the last call, of the connection then, and of the cells that are still to come
 pub record CellByCell (Q : ℕ → Connection → List SentCell → Type 0) : Type 0 where
   pub none : (now : ℕ) (d : Connection) → Q now d []
@@ -39,15 +48,13 @@ module _ {Q : ℕ → Connection → List SentCell → Type 0} (q : CellByCell Q
       rest : List SentCell
       rest = sentFrom v (step s c .state) cs
 
-      -- the call closes v or not, and sends this
+      -- what the call closes and sends
       with : (b : Bool) (ys : List SentCell) → closes v c (isAccepted (step s c .answer)) ≡ b → sentBy v s c (step s c .answer) ≡ ys → Q (s .last) d (cond b [] (ys ++ rest))
-          → Q (s .last) d (cond (closes v c (isAccepted (step s c .answer))) [] (sentBy v s c (step s c .answer) ++ rest))
-      with b ys h g r =
-          subst (λ (z : Bool). Q (s .last) d (cond z [] (sentBy v s c (step s c .answer) ++ rest))) (sym h)
-          (subst (λ (z : List SentCell). Q (s .last) d (cond b [] (z ++ rest))) (sym g) r)
+          → Q (s .last) d (sentFrom v s (c ∷ cs))
+      with = cells-are (Q (s .last) d) v s c cs
 
       go : Next v s d c (step s c) → ((x : Connection) → find v (step s c .state .entries) ≡ taken x → Q (step s c .state .last) x rest)
-          → Q (s .last) d (cond (closes v c (isAccepted (step s c .answer))) [] (sentBy v s c (step s c .answer) ++ rest))
+          → Q (s .last) d (sentFrom v s (c ∷ cs))
       go (closed h) ih = with true (sentBy v s c (step s c .answer)) h refl (q .none (s .last) d)
       go (quiet h g l y) ih = with false [] h g (q .waits (s .last) (step s c .state .last) d (y .now) rest l (y .stays) (ih (y .now) (y .found)))
       go (goes t i h g l n r due f) ih =

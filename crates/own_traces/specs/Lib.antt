@@ -1,4 +1,4 @@
--- What the engine sends on one connection, and that its trace passes.
+-- What the engine sends on one connection: its trace passes, and before feedback no more goes in a round trip than TBE, or the minimum, allows.
 pub mod InRate
 pub mod Written
 pub mod Traces

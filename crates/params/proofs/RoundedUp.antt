@@ -1,6 +1,6 @@
 -- A part 1/2^n rounded up, in the form that the code computes.
 use mathlib.Core.Path.{_≡_, sym, ap, _∙_}
-use Prim.Native.Nat.{ℕ, zero, suc, _+_, _-_, _*_, _/_, _^_, _≤_, _<_}
+use Prim.Native.Nat.{ℕ, _+_, _-_, _/_, _^_, _≤_, _<_}
 use native.Mathlib.Nat.{lt-of-lt-of-le, add-div-right, div-eq-of-lt}
 use native.Mathlib.Omega.{arith}
 use lib.Pow.{pow-pos, pow-mono}
@@ -17,5 +17,5 @@ part-rounded x n h = sym (ap (λ (y : ℕ). y / 2 ^ n) less ∙ add-div-right (x
 pub part-of-few : (x n : ℕ) → 0 < x → x < 2 ^ 32 → 32 ≤ n → 1 ≡ (x + 2 ^ n - 1) / 2 ^ n
 part-of-few x n h u l =
     let below : x - 1 < 2 ^ 32 = omega arith in
-    let zero : (x - 1) / 2 ^ n ≡ 0 = div-eq-of-lt (lt-of-lt-of-le below (pow-mono l)) in
-    ap (λ (y : ℕ). y + 1) (sym zero) ∙ part-rounded x n h
+    let none : (x - 1) / 2 ^ n ≡ 0 = div-eq-of-lt (lt-of-lt-of-le below (pow-mono l)) in
+    ap (λ (y : ℕ). y + 1) (sym none) ∙ part-rounded x n h

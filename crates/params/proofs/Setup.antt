@@ -10,8 +10,8 @@ use lib.Pow.{pow-pos}
 use borrow.Author.Tests.{eq-eqb, ne-eqb}
 use Rattle.rate.specs.Gap.{gap}
 use Rattle.rate.proofs.Gaps.{gap-enough}
-use Rattle.params.specs.Params.{Params, least, initial, exposed, lowered, initialUsed, tbeFits, nrm, crm, houseSet}
-use Rattle.params.specs.Setup.{withSetup, Exposed, InitialRate, Crm}
+use Rattle.params.specs.Params.{Params, least, initial, tbeRate, lowered, initialUsed, tbeFits, nrm, crm, houseSet}
+use Rattle.params.specs.Setup.{withSetup, cellsAllowed, InitialRate, Crm}
 use Rattle.params.proofs.Ranges.{in-range}
 
 -- The two cases of the initial rate.
@@ -64,18 +64,20 @@ max-times : (a b f m : ℕ) → a * f ≤ m → b * f ≤ m → max a b * f ≤ 
 max-times a b f m h k =
     by-cases (decLe a b) (λ l. let q : max a b ≡ b = omega arith in rw q k) (λ l. let q : max a b ≡ a = omega arith in rw q h)
 
-most : (p : Params) → Exposed p → initialUsed p * p .frtt ≤ 512_000_000 * p .tbe
-most p x =
-    let l : min (initial p) (exposed p) ≤ exposed p = omega arith in
-    rw (with-trip p (x .trip))
-    (max-times (least p) (min (initial p) (exposed p)) (p .frtt) (512_000_000 * p .tbe) (x .minimum)
-    (le-trans (mul-le-mul-right (p .frtt) l) (div-mul-le-self (512_000_000 * p .tbe) (p .frtt))))
+most : (p : Params) → initialUsed p * p .frtt ≤ max (512_000_000 * p .tbe) (least p * p .frtt)
+most p =
+    let m : ℕ = max (512_000_000 * p .tbe) (least p * p .frtt) in
+    let l : min (initial p) (tbeRate p) ≤ tbeRate p = omega arith in
+    let rounded : min (initial p) (tbeRate p) * p .frtt ≤ 512_000_000 * p .tbe = le-trans (mul-le-mul-right (p .frtt) l) (div-mul-le-self (512_000_000 * p .tbe) (p .frtt)) in
+    by-trip p
+    (λ e. let none : p .frtt ≤ 0 = omega arith in omega (arith, mul-le-mul-left (initialUsed p) none))
+    (λ t. rw (with-trip p t) (max-times (least p) (min (initial p) (tbeRate p)) (p .frtt) m (omega arith) (omega (arith, rounded))))
 
 not-lower : (p : Params) → initialUsed p < initial p → 512_000_000 * p .tbe < (initialUsed p + 1) * p .frtt
 not-lower p h =
     by-trip p (λ e. let q = no-trip p e in absurd (omega arith))
     (λ t. let q = with-trip p t in
-    let l : exposed p ≤ initialUsed p = omega arith in
+    let l : tbeRate p ≤ initialUsed p = omega arith in
     lt-of-lt-of-le (lt-div-mul-add {a = 512_000_000 * p .tbe} t)
     (omega (arith, mul-le-mul-right (p .frtt) l, add-mul (initialUsed p) 1 (p .frtt))))
 
@@ -87,12 +89,12 @@ at-minimum p h t m =
     omega arith
 
 -- k gaps take at least 512,000,000,000 k over the rate
-gaps : (p : Params) → Exposed p → (k : ℕ) → 0 < initialUsed p → k * gap (initialUsed p) < 1000 * p .frtt → k < p .tbe
-gaps p x k h l =
+gaps : (p : Params) (k : ℕ) → 0 < initialUsed p → k * gap (initialUsed p) < 1000 * p .frtt → k < cellsAllowed p
+gaps p k h l =
     let a : ℕ = initialUsed p in
     let each = mul-le-mul-left k (gap-enough a h) in
     let all = mul-le-mul-right a l in
-    omega (arith, each, mul-assoc k (gap a) a, all, add-mul (k * gap a) 1 a, mul-assoc 1000 (p .frtt) a, mul-comm (p .frtt) a, most p x)
+    omega (arith, each, mul-assoc k (gap a) a, all, add-mul (k * gap a) 1 a, mul-assoc 1000 (p .frtt) a, mul-comm (p .frtt) a, most p)
 
 -- CRM.
 enough : (p : Params) → p .tbe ≤ crm p * nrm p

@@ -18,12 +18,12 @@ abbrev pub initial : Params → ℕ
 initial p = rateOf (p .icr)
 
 -- the rate at which TBE cells leave in one round trip, rounded down: in units of 1/512 cell a second, FRTT in microseconds (document 02, L14)
-abbrev pub exposed : Params → ℕ
-exposed p = 512_000_000 * p .tbe / p .frtt
+abbrev pub tbeRate : Params → ℕ
+tbeRate p = 512_000_000 * p .tbe / p .frtt
 
 -- the initial rate lowered to that, but never under the minimum
 abbrev pub lowered : Params → ℕ
-lowered p = max (least p) (min (initial p) (exposed p))
+lowered p = max (least p) (min (initial p) (tbeRate p))
 
 -- the initial rate used: a round trip of 0 lowers nothing
 unfoldable pub initialUsed : Params → ℕ

@@ -125,8 +125,8 @@ impl Params {
         if self.frtt == 0 {
             return self.initial();
         }
-        let exposed = 512000000 * (self.tbe as u64) / (self.frtt as u64);
-        higher(self.least(), lower(self.initial(), exposed))
+        let tbe_rate = 512000000 * (self.tbe as u64) / (self.frtt as u64);
+        higher(self.least(), lower(self.initial(), tbe_rate))
     }
 
     // CRM.

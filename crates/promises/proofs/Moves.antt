@@ -31,7 +31,7 @@ use Rattle.model.proofs.Frames.{put-read, inserted-read, freed-read}
 use Rattle.model.specs.declared.answer.Answer.{Answer}
 use Rattle.model.specs.declared.answer.Answer.the-variants.{Refused, Accepted, Idle, Sent}
 use Rattle.model.specs.Call.{Call, opening, closing, receiving, offering, levelling, slot, making, outOfRate, openingPath, adding, offeringMember, removing, Outcome}
-use Rattle.model.specs.Step.{refuse, accept, replay, discard, withOffer, withoutOne, nameTold, sendFrom, sendStep, idleStep, sendOutside}
+use Rattle.model.specs.Step.{refuse, accept, replay, discard, withOffer, withoutOne, nameTold, sendFrom, sendStep, idleStep, sendOutside, step}
 use Rattle.model.specs.Run.{final}
 use Rattle.model.proofs.Effects.{Effect, refuses, begins, ends, offers, marks, works, levels, idles, sends, makes, leaves, beginsPath, adds, offersMember, removes, effect}
 use Rattle.model.proofs.Reached.{reached-well-formed}
@@ -118,8 +118,11 @@ effect-moves v {s} a (adds vpi vci d f j) = rests v (adding vpi vci) (Accepted 0
 effect-moves v {s} a (offersMember vpi vci n d f i h) = changes v (pathOf (pairName vpi vci)) s a d (offered n d) f refl (offeringMember vpi vci n) _ (λ _. stays)
 effect-moves v {s} a (removes vpi vci d f i) = changes v (pathOf (pairName vpi vci)) s a d _ f refl (removing vpi vci) _ (λ _. stays)
 
+-- in a table whose names are unique
+pub moves-at :
+    (s : State) → NamesUnique (s .entries) → (c : Call) (v : ℕ) (d e : Connection) → find v (s .entries) ≡ taken d → find v (step s c .state .entries) ≡ taken e
+    → Moves v d c (step s c .answer) (e .rate)
+moves-at s a c v d e f h = let m = effect-moves v a (effect s a c) in rw (f, h) at m
+
 pub four-moves : FourMoves
-four-moves cs c v d e f h =
-    let a = reached-well-formed cs .unique in
-    let m = effect-moves v a (effect (final empty cs) a c) in
-    rw (f, h) at m
+four-moves cs = moves-at (final empty cs) (reached-well-formed cs .unique)

@@ -1,18 +1,18 @@
 -- Pairs out of their ranges are unknown, and every cell that is written carries its connection's VPI and VCI.
 use Prim.Native.Nat.{ℕ, _≤_, _<_}
-use mathlib.Core.Path.{_≡_, refl, sym, ap, subst, _∙_}
-use mathlib.Core.Bool.{Bool, true, false, _&&_}
+use mathlib.Core.Path.{_≡_, refl, ap, subst}
+use mathlib.Core.Bool.{true, false}
 use mathlib.Core.List.{List, _++_}
 use native.Mathlib.Omega.{arith}
-use lib.Dec.{leb, lit≤}
-use borrow.Author.Tests.{le-leb, lt-leb, leb-true}
+use lib.Dec.{lit≤}
+use borrow.Author.Tests.{le-leb, lt-leb}
 use Rattle.params.specs.declared.params.Params.{Params}
 use Rattle.rate.specs.Code.{codesClear}
 use Rattle.cell.specs.Name.{vpiIn, vciIn, noName, pairFits, pairName}
 use Rattle.cell.specs.Header.{vpiOf, vciOf, header}
 use Rattle.cell.specs.Fields.{resourceCell}
 use Rattle.cell.specs.Turning.{turnedCell}
-use Rattle.cell.proofs.Names.{name-lt, names-apart, pair-back}
+use Rattle.cell.proofs.Names.{pair-lt, names-apart, pair-back}
 use Rattle.members.specs.Path.{pathOf}
 use Rattle.members.specs.Members.{Member}
 use Rattle.connection.specs.declared.parts.Connection.{Connection}
@@ -88,16 +88,8 @@ unfolding step
 no-path-over-255 cs vpi t p h k = path-out (final empty cs) vpi t p h k
 
 -- Within them.
-fits-lt : (a b : ℕ) → pairFits a b ≡ true → pairName a b < noName
-fits-lt a b e = go (leb a 255) (leb b 65535) refl refl e
-  where
-    go : (x y : Bool) → leb a 255 ≡ x → leb b 65535 ≡ y → (x && y) ≡ true → pairName a b < noName
-    go true true p q e = name-lt a b (leb-true _ _ p) (leb-true _ _ q)
-    go true false p q e = let z : _≡_ {A = ℕ} 0 1 = cc in absurd (omega arith)
-    go false y p q e = let z : _≡_ {A = ℕ} 0 1 = cc in absurd (omega arith)
-
 pub pairs-apart : PairsApart
-pairs-apart a b c d e = names-apart a b c d (fits-lt a b e)
+pairs-apart a b c d e = names-apart a b c d (pair-lt a b e)
 
 -- The cells: a header of the name's own pair gives the name back.
 header-vpi : (clp v : ℕ) (l : List ℕ) → v < noName → vpiOf (header clp (vpiIn v) (vciIn v) ++ l) ≡ vpiIn v

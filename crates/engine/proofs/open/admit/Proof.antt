@@ -1,13 +1,13 @@
 use Prim.Native.Nat.{ℕ, _<_, _≤_}
 use mathlib.Core.Path.{_≡_, sym, ap, subst, _∙_}
-use mathlib.Core.Bool.{true}
+use mathlib.Core.Bool.{true, _&&_, and-eq-true-iff}
 use native.Mathlib.Omega.{arith}
 use borrow.Author.Needs.{needs}
 use borrow.Author.Tests.{not-true, not-false}
 use Rattle.rate.specs.Code.{codesClear}
 use Rattle.params.specs.Params.{paramsFit, tbeFits}
-use Rattle.cell.specs.Name.{noName, pairName}
-use Rattle.cell.proofs.Names.{name-lt}
+use Rattle.cell.specs.Name.{noName, pairFits, pairName}
+use Rattle.cell.proofs.Names.{pair-lt}
 use Rattle.connection.specs.Parts.{fresh}
 use Rattle.connection.specs.Range.{InRange}
 use Rattle.connection.proofs.Ranged.{fresh-ranged}
@@ -19,7 +19,7 @@ use Rattle.names.proofs.Found.{found-at, room-at}
 use Rattle.member_words.specs.Words.{Finds as FindsMember}
 use Rattle.engine.proofs.Outcomes.{refused-out, missing, standing}
 use Rattle.engine.proofs.Members.{no-member, member-at}
-use Rattle.engine.proofs.OpenCases.{open-reserved, open-far, open-wide, open-unfit, open-tbe, open-frtt, open-late, Passed, open-taken, open-member, open-full, open-early, open-done, lowest, entry-below, no-room, last-at, open-out}
+use Rattle.engine.proofs.OpenCases.{open-reserved, open-unfit, open-tbe, open-frtt, open-late, Passed, open-taken, open-member, open-full, open-early, open-done, lowest, entry-below, no-room, last-at, open-out}
 use Rattle.engine.proofs.open.admit.Statement.{statement}
 use Rattle.engine.proofs.open.admit.Tie as tie
 
@@ -27,35 +27,38 @@ use Rattle.engine.proofs.open.admit.Tie as tie
 clear : (c : tie.Else1) → let p = c .before .before .args .params in codesClear (p .pcr) (p .mcr) (p .icr) ≡ true
 clear c = sym (c .before .codes-clear .ensures) ∙ not-false _ (c .if1 .left)
 
+-- the pair and the parameters in their ranges
+fitted : (c : tie.Else2) → let a = c .before .before .before .before .args in (pairFits (a .vpi) (a .vci) && paramsFit (a .params)) ≡ true
+fitted c = sym (c .before .in-range .ensures) ∙ not-false _ (c .if2 .left)
+
+tbe-fitted : (c : tie.Else3) → tbeFits (c .before .before .before .before .before .before .args .params) ≡ true
+tbe-fitted c = sym (c .before .tbe-fits .ensures) ∙ not-false _ (c .if3 .left)
+
 -- what is known past the tests of the input
-passed : (c : tie.Else7) → let a = c .before .before .before .before .before .before .before .before .before .before .before .args in Passed (a .vpi) (a .vci) (a .time) (a .params)
+passed : (c : tie.Else5) → let a = c .before .before .before .before .before .before .before .before .before .args in Passed (a .vpi) (a .vci) (a .time) (a .params)
 passed c =
-    let e6 = c .before in
-    let e5 = e6 .before .before in
-    let e4 = e5 .before .before in
+    let e4 = c .before in
     let e3 = e4 .before .before in
-    let e1 = e3 .before .before in
+    let e2 = e3 .before .before in
     record {
-      clear = clear e1;
-      near = e3 .before .if2 .left;
-      high = e3 .if3 .left;
-      fits = sym (e4 .before .fits2 .ensures) ∙ not-false _ (e4 .if4 .left);
-      tbe = sym (e5 .before .tbe-fits .ensures) ∙ not-false _ (e5 .if5 .left);
-      frtt = sym (e6 .before .frtt-fits .ensures) ∙ not-false _ (e6 .if6 .left);
-      timely = c .if7 .left;
+      clear = clear (e2 .before .before);
+      fits = fitted e2;
+      tbe = tbe-fitted e3;
+      frtt = sym (e4 .before .frtt-fits .ensures) ∙ not-false _ (e4 .if4 .left);
+      timely = c .if5 .left;
     }
 
 -- the name that was looked for is the pair's
-finds : (c : tie.After-find) → let a = c .before .before .before .before .before .before .before .before .before .before .before .before .before .before .args in Finds (a .t .now) (pairName (a .vpi) (a .vci)) (c .find .result)
+finds : (c : tie.After-find) → let a = c .before .before .before .before .before .before .before .before .before .before .before .before .args in Finds (a .t .now) (pairName (a .vpi) (a .vci)) (c .find .result)
 finds c =
-    subst (λ (n : ℕ). Finds (c .before .before .before .before .before .before .before .before .before .before .before .before .before .before .args .t .now) n (c .find .result)) (c .before .before .pair-name .ensures) (c .find .ensures)
+    subst (λ (n : ℕ). Finds (c .before .before .before .before .before .before .before .before .before .before .before .before .args .t .now) n (c .find .result)) (c .before .before .pair-name .ensures) (c .find .ensures)
 
 -- among the members too
 finds-member :
-    (c : tie.After-find2) → let f = c .before .before .before .before in let a = f .before .before .before .before .before .before .before .before .before .before .before .before .before .before .args in FindsMember (a .t .now) (pairName (a .vpi) (a .vci)) (c .find2 .result)
+    (c : tie.After-find2) → let f = c .before .before .before .before in let a = f .before .before .before .before .before .before .before .before .before .before .before .before .args in FindsMember (a .t .now) (pairName (a .vpi) (a .vci)) (c .find2 .result)
 finds-member c =
     let f = c .before .before .before .before in
-    subst (λ (n : ℕ). FindsMember (f .before .before .before .before .before .before .before .before .before .before .before .before .before .before .args .t .now) n (c .find2 .result)) (f .before .before .pair-name .ensures) (c .find2 .ensures)
+    subst (λ (n : ℕ). FindsMember (f .before .before .before .before .before .before .before .before .before .before .before .before .args .t .now) n (c .find2 .result)) (f .before .before .pair-name .ensures) (c .find2 .ensures)
 
 -- the entry that was found is one
 entry : (c : tie.After-i) → c .i .given .0 .0 < capacity
@@ -68,171 +71,134 @@ returns c =
 
 returns-2 : tie.Need-returns-2
 returns-2 c =
-    let e1 = c .before in
+    let e1 = c .before .before in
     let a = e1 .before .before .args in
-    record { meets = λ s w e. refused-out s 7 e (open-far s (a .vpi) (a .vci) (a .time) (a .params) (clear e1) (c .if2 .taken)) }
+    record { meets = λ s w e. refused-out s 7 e (open-unfit s (a .vpi) (a .vci) (a .time) (a .params) (clear e1) (sym (c .before .in-range .ensures) ∙ not-true _ (c .if2 .taken))) }
 
 returns-3 : tie.Need-returns-3
 returns-3 c =
-    let e2 = c .before in
-    let e1 = e2 .before in
+    let e2 = c .before .before in
+    let e1 = e2 .before .before in
     let a = e1 .before .before .args in
-    record { meets = λ s w e. refused-out s 7 e (open-wide s (a .vpi) (a .vci) (a .time) (a .params) (clear e1) (e2 .if2 .left) (c .if3 .taken)) }
+    record {
+      meets = λ s w e.
+          refused-out s 29 e (open-tbe s (a .vpi) (a .vci) (a .time) (a .params) (clear e1) (fitted e2) (sym (c .before .tbe-fits .ensures) ∙ not-true _ (c .if3 .taken)));
+    }
 
 returns-4 : tie.Need-returns-4
 returns-4 c =
-    let f = c .before in
-    let e3 = f .before in
-    let e2 = e3 .before in
-    let e1 = e2 .before in
-    let a = e1 .before .before .args in
-    record {
-      meets = λ s w e.
-          refused-out s 7 e (open-unfit s (a .vpi) (a .vci) (a .time) (a .params) (clear e1) (e2 .if2 .left) (e3 .if3 .left) (sym (f .fits2 .ensures) ∙ not-true _ (c .if4 .taken)));
-    }
-
--- what is known where the other parameters were found to fit
-fitted : (c : tie.Else4) → paramsFit (c .before .before .before .before .before .before .args .params) ≡ true
-fitted c = sym (c .before .fits2 .ensures) ∙ not-false _ (c .if4 .left)
-
-returns-5 : tie.Need-returns-5
-returns-5 c =
-    let tb = c .before in
-    let e4 = tb .before in
-    let e3 = e4 .before .before in
-    let e2 = e3 .before in
-    let e1 = e2 .before in
-    let a = e1 .before .before .args in
-    record {
-      meets = λ s w e.
-          refused-out s 29 e
-          (open-tbe s (a .vpi) (a .vci) (a .time) (a .params) (clear e1) (e2 .if2 .left) (e3 .if3 .left) (fitted e4) (sym (tb .tbe-fits .ensures) ∙ not-true _ (c .if5 .taken)));
-    }
-
--- and where TBE was too
-tbe-in-range : (c : tie.Else5) → tbeFits (c .before .before .before .before .before .before .before .before .args .params) ≡ true
-tbe-in-range c = sym (c .before .tbe-fits .ensures) ∙ not-false _ (c .if5 .left)
-
-returns-6 : tie.Need-returns-6
-returns-6 c =
-    let ft = c .before in
-    let e5 = ft .before in
-    let e4 = e5 .before .before in
-    let e3 = e4 .before .before in
-    let e2 = e3 .before in
-    let e1 = e2 .before in
+    let e3 = c .before .before in
+    let e2 = e3 .before .before in
+    let e1 = e2 .before .before in
     let a = e1 .before .before .args in
     record {
       meets = λ s w e.
           refused-out s 30 e
-          (open-frtt s (a .vpi) (a .vci) (a .time) (a .params) (clear e1) (e2 .if2 .left) (e3 .if3 .left) (fitted e4) (tbe-in-range e5) (sym (ft .frtt-fits .ensures) ∙ not-true _ (c .if6 .taken)));
+          (open-frtt s (a .vpi) (a .vci) (a .time) (a .params) (clear e1) (fitted e2) (tbe-fitted e3) (sym (c .before .frtt-fits .ensures) ∙ not-true _ (c .if4 .taken)));
     }
 
-returns-7 : tie.Need-returns-7
-returns-7 c =
-    let e6 = c .before in
-    let ft = e6 .before in
-    let e5 = ft .before in
-    let e4 = e5 .before .before in
+returns-5 : tie.Need-returns-5
+returns-5 c =
+    let e4 = c .before in
     let e3 = e4 .before .before in
-    let e2 = e3 .before in
-    let e1 = e2 .before in
+    let e2 = e3 .before .before in
+    let e1 = e2 .before .before in
     let a = e1 .before .before .args in
     record {
       meets = λ s w e.
           refused-out s 8 e
-          (open-late s (a .vpi) (a .vci) (a .time) (a .params) (clear e1) (e2 .if2 .left) (e3 .if3 .left) (fitted e4) (tbe-in-range e5) (sym (ft .frtt-fits .ensures) ∙ not-false _ (e6 .if6 .left)) (c .if7 .taken));
+          (open-late s (a .vpi) (a .vci) (a .time) (a .params) (clear e1) (fitted e2) (tbe-fitted e3) (sym (e4 .before .frtt-fits .ensures) ∙ not-false _ (e4 .if4 .left)) (c .if5 .taken));
     }
 
-returns-8 : tie.Need-returns-8
-returns-8 c =
+returns-6 : tie.Need-returns-6
+returns-6 c =
     let fd = c .before .before in
-    let e7 = fd .before .before .before in
+    let e5 = fd .before .before .before in
     record {
       meets = λ s w e.
           let p = standing s w e _ (finds fd) (c .enum-told2 .given .1) in
-          refused-out s 12 e (open-taken s (passed e7) (p .holder) (found-at p));
+          refused-out s 12 e (open-taken s (passed e5) (p .holder) (found-at p));
     }
 
 find-requires-2 : tie.Need-find-requires-2
 find-requires-2 c κs =
     let pn = c .before .before .before .before .before in
     let i = passed (pn .before) in
-    subst (λ (n : ℕ). n < noName) (sym (pn .pair-name .ensures)) (name-lt _ _ (i .near) (i .high))
+    subst (λ (n : ℕ). n < noName) (sym (pn .pair-name .ensures)) (pair-lt _ _ (and-eq-true-iff _ _ .0 (i .fits) .0))
 
-returns-9 : tie.Need-returns-9
-returns-9 c =
+returns-7 : tie.Need-returns-7
+returns-7 c =
     let fm = c .before .before in
     let new = fm .before .before in
     let fd = new .before .before in
-    let e7 = fd .before .before .before in
+    let e5 = fd .before .before .before in
     record {
       meets = λ s w e.
           refused-out s 27 e
-          (open-member s (passed e7) (missing s w e _ (finds fd) (new .enum-told .given .1)) (member-at s w e (finds-member fm) (c .enum-told4 .given .1) .member));
+          (open-member s (passed e5) (missing s w e _ (finds fd) (new .enum-told .given .1)) (member-at s w e (finds-member fm) (c .enum-told4 .given .1) .member));
     }
 
-returns-10 : tie.Need-returns-10
-returns-10 c =
+returns-8 : tie.Need-returns-8
+returns-8 c =
     let sk = c .before .before in
     let apart = sk .before .before in
     let fm = apart .before .before in
     let new = fm .before .before in
     let fd = new .before .before in
-    let e7 = fd .before .before .before in
+    let e5 = fd .before .before .before in
     record {
       meets = λ s w e.
           refused-out s 13 e
-          (open-full s (passed e7) (missing s w e _ (finds fd) (new .enum-told .given .1)) (no-member s w e (finds-member fm) (apart .enum-told3 .given .1))
+          (open-full s (passed e5) (missing s w e _ (finds fd) (new .enum-told .given .1)) (no-member s w e (finds-member fm) (apart .enum-told3 .given .1))
           (no-room (sk .find-free .ensures) s w e (c .enum-told5 .given .1)));
     }
 
-returns-11 : tie.Need-returns-11
-returns-11 c =
+returns-9 : tie.Need-returns-9
+returns-9 c =
     let i = c .before .before .before in
     let sk = i .before .before in
     let apart = sk .before .before in
     let fm = apart .before .before in
     let new = fm .before .before in
     let fd = new .before .before in
-    let e7 = fd .before .before .before in
-    let a = e7 .before .before .before .before .before .before .before .before .before .before .before .args in
+    let e5 = fd .before .before .before in
+    let a = e5 .before .before .before .before .before .before .before .before .before .args in
     record {
       meets = λ s w e.
           let at = lowest (sk .find-free .ensures) s w e (i .i .given .1) in
           refused-out s 14 e
-          (open-early s (passed e7) (missing s w e _ (finds fd) (new .enum-told .given .1)) (no-member s w e (finds-member fm) (apart .enum-told3 .given .1))
-          (room-at s w (i .i .given .0 .0) (entry i) at) (subst (λ x. a .time < x) (last-at s e) (c .if8 .taken)));
+          (open-early s (passed e5) (missing s w e _ (finds fd) (new .enum-told .given .1)) (no-member s w e (finds-member fm) (apart .enum-told3 .given .1))
+          (room-at s w (i .i .given .0 .0) (entry i) at) (subst (λ x. a .time < x) (last-at s e) (c .if6 .taken)));
     }
 
 store-requires : tie.Need-store-requires
 store-requires c κs =
     let i = c .before .before .before .before .before in
     let pn = i .before .before .before .before .before .before .before .before .before .before .before .before in
-    let e7 = pn .before in
-    let a = e7 .before .before .before .before .before .before .before .before .before .before .before .args in
-    (entry i, subst InRange (sym (c .fresh .ensures)) (fresh-ranged (pn .pair-name .result) (a .time) (a .params) (omega (arith, e7 .if7 .left))))
+    let e5 = pn .before in
+    let a = e5 .before .before .before .before .before .before .before .before .before .args in
+    (entry i, subst InRange (sym (c .fresh .ensures)) (fresh-ranged (pn .pair-name .result) (a .time) (a .params) (omega (arith, e5 .if5 .left))))
 
-returns-12 : tie.Need-returns-12
-returns-12 c =
+returns-10 : tie.Need-returns-10
+returns-10 c =
     let fr = c .before in
-    let e8 = fr .before .before in
-    let i = e8 .before .before .before in
+    let e6 = fr .before .before in
+    let i = e6 .before .before .before in
     let sk = i .before .before in
     let apart = sk .before .before in
     let fm = apart .before .before in
     let new = fm .before .before in
     let fd = new .before .before in
     let pn = fd .before .before in
-    let e7 = pn .before in
-    let a = e7 .before .before .before .before .before .before .before .before .before .before .before .args in
+    let e5 = pn .before in
+    let a = e5 .before .before .before .before .before .before .before .before .before .args in
     record {
       meets = λ s w e.
           let at = lowest (sk .find-free .ensures) s w e (i .i .given .1) in
           let none = missing s w e _ (finds fd) (new .enum-told .given .1) in
-          open-out s w e (a .vpi) (a .vci) (a .time) (a .params) (i .i .given .0 .0) at (e7 .if7 .left) none
-          (open-done s (passed e7) none (no-member s w e (finds-member fm) (apart .enum-told3 .given .1)) (room-at s w (i .i .given .0 .0) (entry i) at)
-          (subst (λ x. x ≤ a .time) (last-at s e) (e8 .if8 .left)))
+          open-out s w e (a .vpi) (a .vci) (a .time) (a .params) (i .i .given .0 .0) at (e5 .if5 .left) none
+          (open-done s (passed e5) none (no-member s w e (finds-member fm) (apart .enum-told3 .given .1)) (room-at s w (i .i .given .0 .0) (entry i) at)
+          (subst (λ x. x ≤ a .time) (last-at s e) (e6 .if6 .left)))
           (subst (λ (x : Connection). Takes (a .t .now) (c .store .last .0) (i .i .given .0 .0) x (c .store .result))
           (fr .fresh .ensures ∙ ap (λ (n : ℕ). fresh n (a .time) (a .params)) (pn .pair-name .ensures)) (c .store .ensures));
     }
@@ -240,4 +206,4 @@ returns-12 c =
 pub admit-spec : {M : Type 1} → statement M
 admit-spec =
     tie.close
-    (tie.spec (λ c κs. search needs) returns returns-2 returns-3 (λ c κs. search needs) returns-4 (λ c κs. search needs) returns-5 (λ c κs. search needs) returns-6 returns-7 (λ c κs. search needs) (λ c κs. search needs) (λ c. search needs) (λ c. search needs) returns-8 find-requires-2 (λ c. search needs) (λ c. search needs) returns-9 (λ c κs. search needs) (λ c. search needs) (λ c. search needs) returns-10 (λ c. search needs) returns-11 (λ c κs. search needs) store-requires (λ c. search needs) returns-12)
+    (tie.spec (λ c κs. search needs) returns (λ c κs. search needs) returns-2 (λ c κs. search needs) returns-3 (λ c κs. search needs) returns-4 returns-5 (λ c κs. search needs) (λ c κs. search needs) (λ c. search needs) (λ c. search needs) returns-6 find-requires-2 (λ c. search needs) (λ c. search needs) returns-7 (λ c κs. search needs) (λ c. search needs) (λ c. search needs) returns-8 (λ c. search needs) returns-9 (λ c κs. search needs) store-requires (λ c. search needs) returns-10)

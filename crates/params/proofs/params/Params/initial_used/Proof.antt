@@ -12,17 +12,17 @@ returns : tie.Need-returns
 unfolding initialUsed
 returns c = simp (eq-eqb _ _ (c .before .if1 .taken)) (c .initial .ensures)
 
-cast-exposed : tie.Need-cast-exposed
-cast-exposed c = search needs
+cast-tbe-rate : tie.Need-cast-tbe-rate
+cast-tbe-rate c = search needs
 
-mul-exposed : tie.Need-mul-exposed
-mul-exposed c = search needs
+mul-tbe-rate : tie.Need-mul-tbe-rate
+mul-tbe-rate c = search needs
 
-cast-exposed-2 : tie.Need-cast-exposed-2
-cast-exposed-2 c = search needs
+cast-tbe-rate-2 : tie.Need-cast-tbe-rate-2
+cast-tbe-rate-2 c = search needs
 
-div-exposed : tie.Need-div-exposed
-div-exposed c = search needs
+div-tbe-rate : tie.Need-div-tbe-rate
+div-tbe-rate c = search needs
 
 least-requires : tie.Need-least-requires
 least-requires c κs = search needs
@@ -46,10 +46,10 @@ initial-used-spec =
     (tie.spec
     initial-requires
     returns
-    cast-exposed
-    mul-exposed
-    cast-exposed-2
-    div-exposed
+    cast-tbe-rate
+    mul-tbe-rate
+    cast-tbe-rate-2
+    div-tbe-rate
     least-requires
     initial-requires-2
     lower-requires
