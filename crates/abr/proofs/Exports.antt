@@ -171,4 +171,5 @@ exports-are-run = record {
   last = last;
   acr = λ cs os t v r h. h .meets (final empty cs) (reached-well-formed cs) (last cs os t);
   contract = λ cs os t v n r h. h .meets (final empty cs) (reached-well-formed cs) (last cs os t);
+  next = λ cs os t r h. h .is (final empty cs) (reached-well-formed cs) (last cs os t);
 }

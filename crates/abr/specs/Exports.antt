@@ -10,9 +10,10 @@ use Rattle.model.specs.State.{State, empty}
 use Rattle.model.specs.Invariant.{WellFormed}
 use Rattle.model.specs.Call.{Call, opening, closing, receiving, offering, levelling, slot, making, outOfRate, openingPath, adding, offeringMember, removing, Outcome, closedCells}
 use Rattle.model.specs.Step.{openStep, closeStep, receiveStep, offerStep, levelStep, slotStep, makeStep, outOfRateStep, openPathStep, addStep, offerMemberStep, removeStep}
-use Rattle.model.specs.Queries.{acrOf, contractOf}
+use Rattle.model.specs.Queries.{acrOf, contractOf, nextReady}
 use Rattle.model.specs.Run.{run, final}
 use Rattle.table.specs.Layout.{words, size}
+use Rattle.tournament.specs.Next.{TellsNext}
 use Rattle.engine.specs.Contract.{bufferContent}
 use Rattle.answers.specs.declared.calls.SlotAnswer.{SlotAnswer}
 use Rattle.answers.specs.declared.calls.AcrAnswer.{AcrAnswer}
@@ -102,3 +103,5 @@ pub record ExportsAreRun : Type 0 where
   pub contract :
       (cs : List Call) (os : List Observation) → Trace cs zeros os → (v n : ℕ) (r : Exported) → AnswersExport v (finalWords zeros os) n r
       → ExportedAs (contractOf (final empty cs) v) n r
+  -- or asking for the next ready instant, which is the ensures of abr_next
+  pub next : (cs : List Call) (os : List Observation) → Trace cs zeros os → (r : ℕ) → TellsNext (finalWords zeros os) r → r ≡ nextReady (final empty cs)

@@ -1,6 +1,8 @@
-// The calls on the link as a whole: received cells, the congestion level, slots (document 01, "Turning cells round" and "Slots"; document 02, L6).
+// The calls on the link as a whole: received cells, the congestion level, slots, and when the next slot can send (document 01, "Turning cells round" and "Slots";
+// document 02, L6).
 ghost use lib.ListN.{length};
 ghost use Rattle.model.specs.Step.{receiveStep, levelStep, slotStep};
+ghost use Rattle.tournament.specs.Next.{TellsNext};
 ghost use Rattle.abr.specs.Contract.{Answers, Numbered, AnswersSlot};
 use answers::calls::CallAnswer;
 use answers::calls::SlotAnswer;
@@ -10,6 +12,7 @@ use arrivals::receive::receive;
 use engine::level::set_level;
 use slots::slot::slot;
 use table::layout::WORDS;
+use tournament::next::next_ready;
 
 // Refusals 1, 2, 4, then 5, 6 and 19 for RM cells, 11.
 #[no_mangle]
@@ -34,4 +37,12 @@ pub extern "C" fn abr_slot(table: &mut [u64; WORDS], time: u64, cell: &mut [u8])
     ensures { λ r. ⌜ AnswersSlot (λ s. slotStep s time (length (now (cell .entry)))) (now (table .entry)) (now (table .exit)) r (now (cell .entry)) (now (cell .exit)) ⌝ }
 {
     slot_answer(slot(table, time, cell))
+}
+
+// No refusal: 2^64 - 1 if no connection is ever ready as things stand.
+#[no_mangle]
+pub extern "C" fn abr_next(table: &[u64; WORDS]) -> u64
+    ensures { λ r. ⌜ TellsNext (now (table .entry)) r ⌝ }
+{
+    next_ready(table)
 }

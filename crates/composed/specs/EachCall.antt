@@ -5,6 +5,7 @@ use mathlib.Core.List.{List, [], _∷_}
 use lib.ListN.{length}
 use Rattle.cell.specs.Name.{pairName}
 use Rattle.model.specs.Call.{Call, opening, closing, receiving, offering, levelling, slot, making, outOfRate}
+use Rattle.tournament.specs.Next.{TellsNext}
 use Rattle.answers.specs.declared.calls.AcrAnswer.{AcrAnswer}
 use Rattle.abr.specs.Contract.{AnswersAcr}
 use Rattle.abr.specs.Exports.{Observation, Trace}
@@ -16,7 +17,7 @@ calls a received old between =
     opening (a .vpi) (a .vci) (a .time) (a .params) ∷ offering (a .vpi) (a .vci) (a .cells) ∷ levelling (a .level) ∷ receiving received ∷ slot (a .time) (length old)
     ∷ outOfRate (a .vpi) (a .vci) (a .time) (length between) ∷ making (a .vpi) (a .vci) (a .time) ∷ closing (a .vpi) (a .vci) ∷ []
 
--- what was observed of each call on the way; the ACR is read before the close
+-- what was observed of each call on the way; the next ready instant is asked for before the slot, the ACR is read before the close
 pub record EachCall (a : Arguments) (received before after : List ℕ) (r : AcrAnswer) (old new : List ℕ) : Type 0 where
   pub opened : Observation
   pub offered : Observation
@@ -26,6 +27,8 @@ pub record EachCall (a : Arguments) (received before after : List ℕ) (r : AcrA
   pub left : Observation
   pub made : Observation
   pub closed : Observation
+  pub next : ℕ
+  pub told : TellsNext (taken .table) next
   pub rate : AnswersAcr (pairName (a .vpi) (a .vci)) (made .table) r
   pub table : closed .table ≡ after
   pub buffer : left .new ≡ new

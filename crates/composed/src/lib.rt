@@ -7,6 +7,7 @@ use abr::connections::abr_make;
 use abr::connections::abr_offer;
 use abr::connections::abr_open;
 use abr::connections::abr_out_of_rate;
+use abr::link::abr_next;
 use abr::link::abr_receive;
 use abr::link::abr_set_level;
 use abr::link::abr_slot;
@@ -35,6 +36,7 @@ pub fn each_call(t: &mut [u64; WORDS], a: Arguments, received: &[u8], cell: &mut
     let offered = abr_offer(t, a.vpi, a.vci, a.cells);
     let levelled = abr_set_level(t, a.level);
     let taken = abr_receive(t, received);
+    let next = abr_next(t);
     let sent = abr_slot(t, a.time, cell);
     let left = abr_out_of_rate(t, a.vpi, a.vci, a.time, cell);
     let made = abr_make(t, a.vpi, a.vci, a.time);

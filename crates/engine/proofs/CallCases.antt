@@ -26,7 +26,8 @@ use Rattle.storing.specs.Updates.{Updates, SourceMoved, Leaves}
 use Rattle.tournament.specs.Replaying.{Ordered}
 use Rattle.member_words.specs.Words.{RemovesPath}
 use Rattle.engine.specs.Contract.{MeetsReading}
-use Rattle.engine.proofs.Outcomes.{refused-out, replayed-out, discarded-out, replay-well-formed, ordered, put-ordered, below, missing, standing, valid-in, pair-of, loaded-is, put-at, put-becomes, updated-is}
+use Rattle.tournament.proofs.Orders.{ordered}
+use Rattle.engine.proofs.Outcomes.{refused-out, replayed-out, discarded-out, replay-well-formed, put-ordered, below, missing, standing, valid-in, pair-of, loaded-is, put-at, put-becomes, updated-is}
 use Rattle.engine.proofs.Members.{front, with-members, members-changed}
 use Rattle.laws.specs.Require.{require}
 

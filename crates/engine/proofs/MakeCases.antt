@@ -23,7 +23,8 @@ use Rattle.tournament.specs.Replaying.{Ordered}
 use Rattle.table.specs.Layout.{words, lastAt}
 use Rattle.names.specs.Finding.{Located}
 use Rattle.model.specs.State.{capacity}
-use Rattle.engine.proofs.Outcomes.{pair-of, replayed-out, replay-well-formed, ordered, time-word, later-put, put-at, put-becomes, same-fixed}
+use Rattle.tournament.proofs.Orders.{ordered}
+use Rattle.engine.proofs.Outcomes.{pair-of, replayed-out, replay-well-formed, time-word, later-put, put-at, put-becomes, same-fixed}
 
 module _ (s : State) (v t : ℕ) where
   pub make-late : latestTime < t → makeStep s v t ≡ refuse s 8

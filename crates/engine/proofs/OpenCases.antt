@@ -33,7 +33,8 @@ use Rattle.model.specs.Tournament.{replayed}
 use Rattle.model.specs.declared.answer.Answer.the-variants.{Accepted}
 use Rattle.storing.specs.Updates.{withEntry, Takes}
 use Rattle.tournament.specs.Replaying.{Ordered}
-use Rattle.engine.proofs.Outcomes.{replayed-out, ordered, time-word, last-word}
+use Rattle.tournament.proofs.Orders.{ordered}
+use Rattle.engine.proofs.Outcomes.{replayed-out, time-word, last-word}
 use Rattle.laws.specs.Require.{require}
 
 module _ (s : State) (a b t : ℕ) (p : Params) where

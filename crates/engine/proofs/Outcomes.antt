@@ -1,10 +1,9 @@
 -- What a call on the words of a reached state finds and leaves: shared by the calls' proofs.
-use Prim.Native.Nat.{ℕ, _≤_, _<_, _%_}
+use Prim.Native.Nat.{ℕ, _<_, _%_}
 use mathlib.Core.Path.{_≡_, refl, sym, ap, subst, _∙_}
 use mathlib.Core.List.{List}
 use native.Mathlib.Omega.{arith}
-use lib.ListN.{length, getD, set, length-set}
-use Rattle.rate.specs.Units.{latestTime}
+use lib.ListN.{getD, set, length-set}
 use Rattle.cell.specs.Name.{vpiIn, vciIn, noName, pairName}
 use Rattle.cell.proofs.Names.{pair-back}
 use Rattle.connection.specs.declared.parts.Connection.{Connection}
@@ -15,13 +14,12 @@ use Rattle.connection.proofs.Keeps.{Same}
 use Rattle.names.specs.declared.find.Found.{Found}
 use Rattle.names.specs.declared.find.Found.the-variants.{At, Nothing}
 use Rattle.model.specs.State.{State, Entry, free, taken, find, leafOf, put, position, holds, withTime, withLevel, capacity}
-use Rattle.model.specs.Invariant.{WellFormed, OnEntry, Each, NamesUnique}
+use Rattle.model.specs.Invariant.{WellFormed, OnEntry}
 use Rattle.table.specs.Layout.{words, sourceWords, fixedWords, levelAt, lastAt}
 use Rattle.table.specs.Loading.{connectionAt}
 use Rattle.table.specs.Storing.{efciUpdated, outsideUpdated}
 use Rattle.names.specs.Finding.{FoundInRange, Located, Names, Finds}
-use Rattle.model.proofs.Entries.{each-get, each-map, each-set, entry-map, unique-set, freed-absent}
-use Rattle.connection.proofs.Reached.{in-range, ready-below}
+use Rattle.model.proofs.Entries.{each-get, each-set, entry-map, unique-set, freed-absent}
 use Rattle.table.proofs.Loaded.{load-ranged, load-room}
 use Rattle.table.proofs.Words.{lead-same, load-at, efci-at, outside-at}
 use Rattle.model.specs.declared.answer.Answer.{Answer}
@@ -34,6 +32,7 @@ use Rattle.model.proofs.Reached.{step-well-formed}
 use Rattle.engine.specs.Contract.{Meets}
 use Rattle.storing.specs.Updates.{Sized, Becomes, Updates}
 use Rattle.tournament.specs.Replaying.{Ordered, Leads}
+use Rattle.tournament.proofs.Orders.{entries-ordered}
 
 -- a call whose step is another's on every state
 pub same-meets : {f g : State → Outcome} {l m : List ℕ} {r : Answer} → ((s : State) → g s ≡ f s) → Meets f l m r → Meets g l m r
@@ -67,15 +66,7 @@ pub replay-well-formed : {s : State} → WellFormed s → (c : Call) (x : ℕ) (
 unfolding replay accept
 replay-well-formed w c x r q = subst (λ (o : Outcome). WellFormed (o .state)) q (step-well-formed w c)
 
--- its entries are those that a tournament orders
-entries-ordered : (now : ℕ) (ss : List Entry) → now ≤ latestTime → length ss ≡ capacity → NamesUnique ss → Each (ValidAt now) ss → Ordered ss
-entries-ordered now ss h g u v =
-    record { size = g; unique = u; below = each-map (ValidAt now) _ (λ c p. ready-below c (in-range now c h p)) ss v }
-
-pub ordered : {r : State} → WellFormed r → Ordered (r .entries)
-ordered {r} w = entries-ordered (r .last) (r .entries) (w .timely) (w .size) (w .unique) (w .each)
-
--- so are those with a valid connection in the entry of its name, or with none there
+-- with a valid connection in the entry of its name, or with none there, the entries are still those that a tournament orders
 pub put-ordered : {s : State} → WellFormed s → (v : ℕ) (x : Entry) → OnEntry (ValidAt (s .last)) x → OnEntry (λ c. c .name ≡ v) x → Ordered (put v x s .entries)
 unfolding put
 put-ordered {s} w v x p q =

@@ -4,6 +4,7 @@ pub mod Frames
 pub mod Winners
 pub mod Places
 pub mod Scanned
+pub mod NextReady
 pub mod Replays
 pub mod Members
 pub mod Preserved

@@ -1,5 +1,10 @@
--- Reading one connection's allowed rate, with those before and after its last backward cell, or the rate codes of its contract: calls that leave the table as it is. 11. (Document 01, "Slots"; document 02, L8 and L9.)
-use Prim.Native.Nat.{ℕ}
+-- What the calls read that leave the table as it is. Of one connection its allowed rate, with those before and after its last backward cell, or the rate codes of its
+-- contract: 11. (Document 01, "Slots"; document 02, L8 and L9.) Of all connections the next ready instant: no refusal.
+use Prim.Native.Nat.{ℕ, _-_, _^_, min}
+use mathlib.Core.List.{List, [], _∷_}
+use Rattle.connection.specs.declared.ready.Instant.{Instant}
+use Rattle.connection.specs.declared.ready.Instant.the-variants.{Never, At}
+use Rattle.connection.specs.Ready.{readyInstant}
 use Rattle.model.specs.State.{State, Entry, free, taken, find}
 use Rattle.model.specs.declared.acr.Acr.{Acr}
 use Rattle.model.specs.declared.acr.Acr.the-variants.{NotOpen, Rate}
@@ -20,3 +25,29 @@ entryContract (taken c) = Codes (c .rate .params .pcr) (c .rate .params .mcr) (c
 
 unfoldable pub contractOf : State → (name : ℕ) → Contract
 contractOf s v = entryContract (find v (s .entries))
+
+-- when the connection in an entry is ready
+unfoldable pub entryReady : Entry → Instant
+entryReady free = Never
+entryReady (taken c) = readyInstant c
+
+unfoldable pub earlier : Instant → Instant → Instant
+earlier Never b = b
+earlier (At i) Never = At i
+earlier (At i) (At j) = At (min i j)
+
+-- the earliest ready instant of all entries; never, if no connection is ever ready as things stand
+unfoldable pub earliest : List Entry → Instant
+earliest [] = Never
+earliest (s ∷ ss) = earlier (entryReady s) (earliest ss)
+
+-- an instant as a number: for never the greatest of 64 bits, which is after every instant
+abbrev pub neverTold : ℕ
+neverTold = 2 ^ 64 - 1
+
+unfoldable pub instantTold : Instant → ℕ
+instantTold Never = neverTold
+instantTold (At i) = i
+
+unfoldable pub nextReady : State → ℕ
+nextReady s = instantTold (earliest (s .entries))

@@ -45,6 +45,11 @@ unfoldable pub inTime : (t : ℕ) → Lead → Winner
 inTime t noLead = noneReady
 inTime t (leads i v x) = candidateFrom t v (At i)
 
+-- its ready instant
+unfoldable pub leadInstant : Lead → Instant
+leadInstant noLead = Never
+leadInstant (leads i v x) = At i
+
 -- the other place of a place's match
 abbrev pub neighbour : (place : ℕ) → ℕ
 neighbour p = p + 1 - 2 * (p % 2)

@@ -30,7 +30,8 @@ use Rattle.names.specs.Finding.{Located}
 use Rattle.names.proofs.Found.{found-at}
 use Rattle.member_words.specs.Place.{MemberAt}
 use Rattle.member_words.specs.Words.{CellsAt, HasRoom, SetsCells, Adds, Removes}
-use Rattle.engine.proofs.Outcomes.{accepted-out, replayed-out, discarded-out, replay-well-formed, ordered, valid-in, loaded-is, updated-is}
+use Rattle.tournament.proofs.Orders.{ordered}
+use Rattle.engine.proofs.Outcomes.{accepted-out, replayed-out, discarded-out, replay-well-formed, valid-in, loaded-is, updated-is}
 use Rattle.engine.proofs.Members.{front, with-members, members-changed}
 use Rattle.engine.proofs.CallCases.{offered-same, offered-moved}
 

@@ -2,5 +2,6 @@
 pub mod Spacing
 pub mod SentWaited
 pub mod Liveness
+pub mod NextReady
 pub mod Restart
 pub mod Fairness

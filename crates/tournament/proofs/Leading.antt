@@ -1,4 +1,4 @@
--- What the winners in the words of a state say: the levels that a leaf leads, and the connection that a slot goes to.
+-- What the winners in the words of a state say: the levels that a leaf leads, the connection that a slot goes to, and the next ready instant.
 use Prim.Native.Nat.{ℕ, suc, _+_, _-_, _/_, _^_, _≤_, _<_}
 use mathlib.Core.Path.{_≡_, refl, sym, ap, subst, _∙_}
 use mathlib.Core.Logic.{_≢_}
@@ -14,16 +14,23 @@ use Rattle.rate.specs.Units.{latestTime}
 use Rattle.model.specs.State.{State, Entry, free, taken, capacity}
 use Rattle.model.specs.Invariant.{WellFormed}
 use Rattle.model.specs.Choice.{noneReady, wins, candidateFrom}
-use Rattle.model.specs.Tournament.{levels, Lead, noLead, leads, winnerAt, leadWord, inTime, replayedFrom, replayed}
+use Rattle.model.specs.Tournament.{levels, Lead, noLead, leads, winnerAt, leadWord, leadInstant, inTime, replayedFrom, replayed}
+use Rattle.model.specs.Queries.{instantTold, nextReady}
 use Rattle.model.proofs.Entries.{entry-place}
 use Rattle.model.proofs.Places.{above, Stands, upper, root-stands, OnLead, Comes, lead-entry}
 use Rattle.model.proofs.Scanned.{root-winner}
+use Rattle.model.proofs.NextReady.{root-earliest}
 use Rattle.table.specs.Layout.{key, liveOf, fixedOf, nodeWord, nodes, words, nodesFrom, keysFrom, memberWords}
 use Rattle.table.proofs.Nodes.{above-leaves, node-at, length-nodes}
 use Rattle.table.proofs.Splits.{front, length-front, winners-split}
 use Rattle.tournament.specs.declared.choose.Choice.the-variants.{Entry as InEntry, NoneReady}
-use Rattle.tournament.specs.Replaying.{Leads}
 use Rattle.tournament.specs.Choosing.{Won, Chooses}
+use Rattle.tournament.specs.declared.standing.Standing.{Standing}
+use Rattle.tournament.specs.Standing.{standing, wordStanding, wordName}
+use Rattle.tournament.specs.Replaying.{withNodes, Leads}
+use Rattle.tournament.specs.Next.{TellsNext}
+use Rattle.tournament.proofs.Orders.{ordered}
+use Rattle.tournament.proofs.Matches.{Known, all-known, word-in}
 use Rattle.tournament.proofs.Stored.{Sized, keyNumber, node-in, key-in}
 use Rattle.tournament.proofs.Replaying.{count-on, count-end, count-done, ends-yes, ends-no, level-stands}
 
@@ -149,3 +156,26 @@ module _ (l : List ℕ) (t : ℕ) (timely : t ≤ latestTime) where
               due = due s w q i v x c z;
               won = root-winner t (s .entries) (w .size) ∙ ap (inTime t) e ∙ rw (le-leb i t (due s w q i v x c z)) (ap (wins i) (sym (c .named)));
             }
+
+-- ---- the next ready instant
+
+-- out of a winner's key
+key-told : (n : ℕ → ℕ) (a : Lead) → OnLead (Known n) a → 18446744073709551615 - standing a .key ≡ instantTold (leadInstant a)
+unfolding instantTold leadInstant
+key-told n noLead k = refl
+key-told n (leads i v x) k = omega (arith, k .keyed)
+
+pub tells-next : (l : List ℕ) (first : Standing) → first ≡ wordStanding l (getD l (nodesFrom + 1) 0) → TellsNext l (18446744073709551615 - first .key)
+unfolding nextReady
+tells-next l first e = record { is = go }
+  where
+    go : (s : State) → WellFormed s → l ≡ words s → 18446744073709551615 - first .key ≡ nextReady s
+    go s w q =
+        let ss = s .entries in
+        let comes = lead-entry ss levels 1 root-stands in
+        let root : first ≡ standing (winnerAt ss levels 1) =
+        e ∙ ap (wordStanding l) (node-word l s w q root-stands) ∙ ap (λ (m : List ℕ). wordStanding m (leadWord (winnerAt ss levels 1))) (q ∙ winners-split s)
+        ∙ word-in (front s) (nodes ss) ss (behind s) (sized s w) (ordered w .below) levels 1 (winnerAt ss levels 1) comes in
+        ap (λ (x : Standing). 18446744073709551615 - x .key) root
+        ∙ key-told (wordName (withNodes (front s) (nodes ss) ss (behind s))) (winnerAt ss levels 1) (all-known (front s) (nodes ss) ss (behind s) (sized s w) (ordered w .below) levels 1 (winnerAt ss levels 1) comes)
+        ∙ sym (ap instantTold (root-earliest ss (w .size) (w .unique)))

@@ -1,4 +1,5 @@
 -- The laws of the tournament in the words of a table.
+pub mod Orders
 pub mod Standings
 pub mod Stored
 pub mod Matches

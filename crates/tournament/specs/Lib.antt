@@ -1,3 +1,4 @@
 pub mod Standing
 pub mod Replaying
 pub mod Choosing
+pub mod Next

@@ -11,7 +11,8 @@ returns c =
     let m = a .before .before in
     let u = m .before .before .before .before in
     let s = u .before .before .before .before .before in
-    let r = s .before .before .before in
+    let n = s .before .before .before in
+    let r = n .before .before in
     let l = r .before .before in
     let f = l .before .before in
     let o = f .before .before in
@@ -31,6 +32,8 @@ returns c =
       };
       made = noSlot (m .abr-make .last .0) (m .abr-make .result);
       closed = afterClose (c .abr-close .last .0) (c .abr-close .result);
+      next = n .abr-next .result;
+      told = n .abr-next .ensures;
       rate = a .abr-acr .ensures;
       table = refl;
       buffer = refl;
@@ -48,4 +51,4 @@ returns c =
 pub each-call-spec : {M : Type 1} → statement M
 each-call-spec =
     tie.close
-    (tie.spec (λ c κs. search needs) (λ c κs. search needs) (λ c κs. search needs) (λ c κs. search needs) (λ c κs. search needs) (λ c κs. search needs) (λ c κs. search needs) (λ c κs. search needs) (λ c κs. search needs) (λ c. search needs) returns)
+    (tie.spec (λ c κs. search needs) (λ c κs. search needs) (λ c κs. search needs) (λ c κs. search needs) (λ c κs. search needs) (λ c κs. search needs) (λ c κs. search needs) (λ c κs. search needs) (λ c κs. search needs) (λ c κs. search needs) (λ c. search needs) returns)
