@@ -4,14 +4,14 @@
 #   make demo               two connections, slot by slot, and pictures: of them, and of ten sources at a port
 #   make test               the gate: proofs, then every test
 #   make tools              abr-judge and abr-trace, in target/cargo/release
-#   make install PREFIX=    library, header and abr.pc
+#   make install PREFIX=    library, as an archive and as a shared object linked from it, header and abr.pc
 #   make dist               the tarball that is sold; only of a commit for which make test has passed
 #   make bench              the cost of each call, library and reference
 #   make soak [SEED=n]      random lists without end
 #
 # ABR_LIB names another archive than the proved one, which then is not built.
 
-VERSION := 0.15.0
+VERSION := 0.16.0
 PREFIX ?= /usr/local
 DESTDIR ?=
 CC ?= gcc
@@ -55,11 +55,12 @@ $(BUILD)/abr.pc: abr.pc.in Makefile FORCE
 install: $(LIB_GOAL) $(BUILD)/abr.pc
 	install -d $(DESTDIR)$(PREFIX)/lib/pkgconfig $(DESTDIR)$(PREFIX)/include
 	install -m 644 $(LIB) $(DESTDIR)$(PREFIX)/lib/libabr.a
+	CC="$(CC)" scripts/shared $(LIB) $(VERSION) $(DESTDIR)$(PREFIX)/lib
 	install -m 644 include/abr.h $(DESTDIR)$(PREFIX)/include/abr.h
 	install -m 644 $(BUILD)/abr.pc $(DESTDIR)$(PREFIX)/lib/pkgconfig/abr.pc
 
 dist: $(LIB_GOAL)
-	scripts/dist $(DIST) $(LIB) $(VERSION)
+	CC="$(CC)" scripts/dist $(DIST) $(LIB) $(VERSION)
 
 bench: $(LIB_GOAL)
 	bench/run

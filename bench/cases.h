@@ -66,6 +66,7 @@ static abr_contract contract;
 static abr_imported imported;
 static abr_share share;
 static abr_verdict verdict;
+static uint64_t next;
 
 static void call_slot(void) { sent = abr_slot(&table, 3 * SECOND, cell, sizeof cell); }
 static void call_idle(void) { sent = abr_slot(&table, SECOND, cell, sizeof cell); }
@@ -84,6 +85,7 @@ static void call_out_of_rate(void)
     refusal = abr_out_of_rate(&table, at.vpi, at.vci, 3 * SECOND, cell, sizeof cell);
 }
 static void call_acr(void) { allowed = abr_acr(&table, at.vpi, at.vci); }
+static void call_next(void) { next = abr_next(&table); }
 static void call_export(void) { contract = abr_export(&table, at.vpi, at.vci, &refusal); }
 static void call_write_rm(void) { refusal = abr_write_rm(rm, cell, sizeof cell); }
 static void call_read(void) { content = abr_read(cell, sizeof cell); }
@@ -121,6 +123,7 @@ static const abr_case cases[] = {
     {"out-of-rate cell", OUTSIDE, LOWEST, call_out_of_rate, 0},
     {"acr", NOTHING, LOWEST, call_acr, 0},
     {"export", NOTHING, LOWEST, call_export, 0},
+    {"next", NOTHING, LOWEST, call_next, 0},
     {"write", NOTHING, LOWEST, call_write_rm, 0},
     {"read, RM cell", FORWARD_CELL, LOWEST, call_read, ABR_CELL_RM},
     {"read, data", DATA_CELL, LOWEST, call_read, ABR_CELL_DATA},
@@ -308,6 +311,9 @@ static int accepted(const abr_case *which)
     }
     if (which->call == call_export) {
         return refusal == ABR_OK && contract.pcr > 0;
+    }
+    if (which->call == call_next) {
+        return next > SECOND && next < 3 * SECOND;
     }
     return (refusal | answer.refusal | closed.refusal | sent.refusal | allowed.refusal | coded.refusal | rated.refusal |
             imported.refusal | share.refusal | verdict.refusal | verdict.rule) == ABR_OK;

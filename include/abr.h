@@ -10,6 +10,7 @@
  * L8 (abr_export, abr_import), L9 (what the last feedback did), L10 (abr_port,
  * abr_fair_share, abr_limit), L11 (abr_judge), L12 (the cells of a close), L13
  * (abr_open_path and the members of paths) and L14 (TBE and round trip) of document 02.
+ * abr_next tells a caller the ready instant of section "Slots".
  *
  * Addresses. A connection is named by its VPI and its VCI together, as VPI * 65,536
  * + VCI (document 02, L6): the same VCI on another VPI is another connection. Every
@@ -97,8 +98,8 @@ extern "C" {
 
 /* ---- Version ------------------------------------------------------------ */
 
-/* 0.15.0: major, minor and patch number, eight bits each. */
-#define ABR_VERSION 0x000f00u
+/* 0.16.0: major, minor and patch number, eight bits each. */
+#define ABR_VERSION 0x001000u
 
 /* The words of a table, which has 288,920 octets. */
 #define ABR_TABLE_WORDS 36115u
@@ -129,6 +130,9 @@ extern "C" {
 
 /* The latest time, 2^62 nanoseconds. */
 #define ABR_TIME_MAX UINT64_C(4611686018427387904)
+
+/* The answer of abr_next if no connection is ever ready as things stand; later than every time. */
+#define ABR_NEVER UINT64_C(18446744073709551615)
 
 /* The most data cells that wait on one channel, and on one member of a path. */
 #define ABR_WAITING_MAX 65535u
@@ -573,6 +577,19 @@ ABR_MUST_USE abr_answer abr_make(abr_table *table, uint32_t vpi, uint32_t vci, u
  *       cell
  */
 ABR_MUST_USE abr_sent abr_slot(abr_table *table, uint64_t time, uint8_t *cell, size_t len);
+
+/*
+ * The earliest ready instant of all open connections (section "Slots"), in nanoseconds:
+ * an accepted slot is idle exactly when its time is before it. So a caller with nothing
+ * else to send can sleep until then. It is ABR_NEVER if no connection is ever ready as
+ * things stand: none is open, or each one waits for data, a cell or feedback. It may have
+ * passed already, if a connection is due and was not served, and it may be after
+ * ABR_TIME_MAX, where no slot is accepted.
+ * Every accepted call on a connection, for a received cell too, may make it earlier or
+ * later: ask again after each. Nothing is refused, the table is only read, and no
+ * comparison is made.
+ */
+uint64_t abr_next(const abr_table *table);
 
 /*
  * Writes an out-of-rate forward RM cell of a connection (document 02, L5; source

@@ -35,6 +35,7 @@ pub trait Engine {
     fn out_of_rate(&mut self, at: Address, time: u64, buffer: &mut Octets);
     fn acr(&self, at: Address);
     fn export(&self, at: Address);
+    fn next(&self);
 
     fn write_rm(rm: &Self::Rm, buffer: &mut Octets);
     fn read(cell: &Octets);
@@ -133,6 +134,10 @@ impl Engine for Library {
         let mut refusal = 0;
         black_box(&unsafe { ffi::abr_export(&*self.table, at.vpi, at.vci, &mut refusal) });
         black_box(refusal);
+    }
+
+    fn next(&self) {
+        black_box(unsafe { ffi::abr_next(&*self.table) });
     }
 
     fn write_rm(rm: &ffi::abr_rm, buffer: &mut Octets) {
@@ -269,6 +274,11 @@ impl Engine for Reference {
     #[inline(never)]
     fn export(&self, at: Address) {
         black_box(&self.engine.export(at));
+    }
+
+    #[inline(never)]
+    fn next(&self) {
+        black_box(&self.engine.next());
     }
 
     #[inline(never)]

@@ -77,8 +77,10 @@ impl<E: Engine> Fixture<E> {
         if workload.sends() && workload != Workload::LastFirst {
             fixture.spread(params_of(0, workload).n);
         }
-        if workload == Workload::Make {
-            fixture.engine.set_level(2);
+        match workload {
+            Workload::Make => fixture.engine.set_level(2),
+            Workload::Next => fixture.offer_all(1),
+            _ => {}
         }
         fixture
     }
@@ -173,6 +175,7 @@ impl<E: Engine> Fixture<E> {
             }),
             Workload::Acr => repeat(times, |_| self.engine.acr(black_box(self.last))),
             Workload::Export => repeat(times, |_| self.engine.export(black_box(self.last))),
+            Workload::Next => repeat(times, |_| self.engine.next()),
             Workload::Level => repeat(times, |_| self.engine.set_level(black_box(1))),
             other => self.run_without_table(other, times, &mut buffer),
         }

@@ -108,7 +108,7 @@ fn the_last_opened_sends_first() {
 /// Both sides give a measured cell the answer of its sort.
 #[test]
 fn both_sides_answer_the_same() {
-    for row in &ROWS {
+    for row in ROWS {
         let expected = match row.workload {
             Workload::Receive(Sort::Damaged) => CRC,
             Workload::Receive(_) => 0,
@@ -175,6 +175,19 @@ fn out_of_rate_cells_are_accepted() {
     }
 }
 
+/// Where the next ready instant is asked for there is one, and it is that of both sides.
+#[test]
+fn a_next_ready_instant_is_found() {
+    for connections in [1, 1_024] {
+        let library = Fixture::<Library>::new(connections, Workload::Next);
+        let reference = Fixture::<Reference>::new(connections, Workload::Next);
+        // SAFETY: the pointer is live.
+        let ours = unsafe { ffi::abr_next(&*library.engine.table) };
+        assert_ne!(ours, ffi::ABR_NEVER);
+        assert_eq!(reference.engine.engine.next(), Some(ours));
+    }
+}
+
 /// The measured exports are accepted, and the two imports are one with and one without a
 /// remainder.
 #[test]
@@ -191,7 +204,7 @@ fn doubles_are_accepted() {
 /// lowered.
 #[test]
 fn ports_limit() {
-    for row in &ROWS {
+    for row in ROWS {
         let fixture = Fixture::<Reference>::new(0, row.workload);
         let share = reference::fair_share(fixture.capacity, &fixture.demands).unwrap();
         let rate = match row.workload {

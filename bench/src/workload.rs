@@ -58,6 +58,8 @@ pub enum Workload {
     Acr,
     /// The contract of the last connection as doubles.
     Export,
+    /// The next ready instant; data waits on every connection.
+    Next,
     /// The congestion level set.
     Level,
     /// The code of a rate.
@@ -144,352 +146,87 @@ pub struct Row {
     pub workload: Workload,
 }
 
-const fn row(name: &'static str, text: &'static str, connections: u32, workload: Workload) -> Row {
-    Row {
-        name,
-        text,
-        connections,
-        workload,
-    }
+/// All rows, each as a name, a text, the open connections and the workload.
+macro_rules! rows {
+    ($($name:literal: $text:literal, $connections:literal,
+        $sort:ident $({ $($field:tt)* })? $(($of:expr))?;)*) => {
+        /// All rows.
+        pub static ROWS: &[Row] = &[$(Row {
+            name: $name,
+            text: $text,
+            connections: $connections,
+            workload: Workload::$sort $({ $($field)* })? $(($of))?,
+        },)*];
+    };
 }
 
-/// All rows.
-pub static ROWS: [Row; 66] = [
-    row(
-        "slot-1",
-        "slot, 1 busy connection",
-        1,
-        Workload::Turns { n: 5 },
-    ),
-    row(
-        "slot-64",
-        "slot, 64 busy connections",
-        64,
-        Workload::Turns { n: 5 },
-    ),
-    row(
-        "slot-1024",
-        "slot, 1,024 busy connections",
-        1_024,
-        Workload::Turns { n: 5 },
-    ),
-    row(
-        "slot-64-rm",
-        "slot, 64 busy, every second cell forward",
-        64,
-        Workload::Turns { n: 1 },
-    ),
-    row(
-        "slot-1024-rm",
-        "slot, 1,024 busy, every second cell forward",
-        1_024,
-        Workload::Turns { n: 1 },
-    ),
-    row(
-        "slot-64-mixed",
-        "slot, 64 busy, each at a rate of its own",
-        64,
-        Workload::Mixed,
-    ),
-    row(
-        "slot-1024-mixed",
-        "slot, 1,024 busy, each at a rate of its own",
-        1_024,
-        Workload::Mixed,
-    ),
-    row(
-        "slot-64-last",
-        "slot, 64 busy, due from last to first",
-        64,
-        Workload::LastFirst,
-    ),
-    row(
-        "slot-path-1",
-        "slot, a busy path with 1 member",
-        0,
-        Workload::Members { members: 1 },
-    ),
-    row(
-        "slot-path-256",
-        "slot, a busy path with 256 members",
-        0,
-        Workload::Members { members: 256 },
-    ),
-    row(
-        "slot-path-lone",
-        "slot, a busy path, 1 of 256 members with data",
-        0,
-        Workload::LoneMember { members: 256 },
-    ),
-    row(
-        "slot-idle-1",
-        "slot, 1 open, nothing waits",
-        1,
-        Workload::Idle,
-    ),
-    row(
-        "slot-idle-64",
-        "slot, 64 open, nothing waits",
-        64,
-        Workload::Idle,
-    ),
-    row(
-        "slot-idle-1024",
-        "slot, 1,024 open, nothing waits",
-        1_024,
-        Workload::Idle,
-    ),
-    row(
-        "backward-1",
-        "receive backward RM cell, 1 open",
-        1,
-        Workload::Receive(Sort::Backward),
-    ),
-    row(
-        "backward-64",
-        "receive backward RM cell, last of 64",
-        64,
-        Workload::Receive(Sort::Backward),
-    ),
-    row(
-        "backward-1024",
-        "receive backward RM cell, last of 1,024",
-        1_024,
-        Workload::Receive(Sort::Backward),
-    ),
-    row(
-        "moving-64",
-        "receive backward RM cells that move the rate, last of 64",
-        64,
-        Workload::Receive(Sort::Moving),
-    ),
-    row(
-        "moving-1024",
-        "receive backward RM cells that move the rate, last of 1,024",
-        1_024,
-        Workload::Receive(Sort::Moving),
-    ),
-    row(
-        "forward-1",
-        "receive forward RM cell, 1 open",
-        1,
-        Workload::Receive(Sort::Forward),
-    ),
-    row(
-        "forward-64",
-        "receive forward RM cell, last of 64",
-        64,
-        Workload::Receive(Sort::Forward),
-    ),
-    row(
-        "forward-1024",
-        "receive forward RM cell, last of 1,024",
-        1_024,
-        Workload::Receive(Sort::Forward),
-    ),
-    row(
-        "data-1",
-        "receive data cell, 1 open",
-        1,
-        Workload::Receive(Sort::Data),
-    ),
-    row(
-        "data-64",
-        "receive data cell, last of 64",
-        64,
-        Workload::Receive(Sort::Data),
-    ),
-    row(
-        "data-1024",
-        "receive data cell, last of 1,024",
-        1_024,
-        Workload::Receive(Sort::Data),
-    ),
-    row(
-        "crc-64",
-        "receive RM cell with a wrong CRC-10, 64 open",
-        64,
-        Workload::Receive(Sort::Damaged),
-    ),
-    row(
-        "unknown-rm-1024",
-        "receive backward RM cell, none of 1,024",
-        1_024,
-        Workload::Unknown(Sort::Backward),
-    ),
-    row(
-        "unknown-data-1024",
-        "receive data cell, none of 1,024",
-        1_024,
-        Workload::Unknown(Sort::Data),
-    ),
-    row("write", "write RM cell", 0, Workload::Write),
-    row("read", "read RM cell", 0, Workload::Read(Sort::Backward)),
-    row("read-data", "read data cell", 0, Workload::Read(Sort::Data)),
-    row("offer-1", "offer, 1 open", 1, Workload::Offer),
-    row("offer-64", "offer, last of 64", 64, Workload::Offer),
-    row("offer-1024", "offer, last of 1,024", 1_024, Workload::Offer),
-    row(
-        "offer-member-256",
-        "offer to a member, last of 256",
-        0,
-        Workload::OfferMember { members: 256 },
-    ),
-    row(
-        "add-remove-255",
-        "add and remove a member below 255 others",
-        0,
-        Workload::AddRemove { members: 255 },
-    ),
-    row(
-        "open-close-0",
-        "open and close, no other open",
-        0,
-        Workload::OpenClose,
-    ),
-    row(
-        "open-close-63",
-        "open and close a name above 63 others",
-        63,
-        Workload::OpenClose,
-    ),
-    row(
-        "open-close-1023",
-        "open and close a name above 1,023 others",
-        1_023,
-        Workload::OpenClose,
-    ),
-    row(
-        "open-close-low-1023",
-        "open and close a name below 1,023 others",
-        1_023,
-        Workload::OpenCloseLow,
-    ),
-    row("make-1", "make a backward cell, 1 open", 1, Workload::Make),
-    row(
-        "make-64",
-        "make a backward cell, last of 64",
-        64,
-        Workload::Make,
-    ),
-    row(
-        "make-1024",
-        "make a backward cell, last of 1,024",
-        1_024,
-        Workload::Make,
-    ),
-    row(
-        "out-of-rate-1",
-        "write an out-of-rate cell, 1 open",
-        1,
-        Workload::OutOfRate,
-    ),
-    row(
-        "out-of-rate-64",
-        "write an out-of-rate cell, last of 64",
-        64,
-        Workload::OutOfRate,
-    ),
-    row(
-        "out-of-rate-1024",
-        "write an out-of-rate cell, last of 1,024",
-        1_024,
-        Workload::OutOfRate,
-    ),
-    row("acr-1", "ask for the rate, 1 open", 1, Workload::Acr),
-    row("acr-64", "ask for the rate, last of 64", 64, Workload::Acr),
-    row(
-        "acr-1024",
-        "ask for the rate, last of 1,024",
-        1_024,
-        Workload::Acr,
-    ),
-    row(
-        "export-1",
-        "export a contract as doubles, 1 open",
-        1,
-        Workload::Export,
-    ),
-    row(
-        "export-64",
-        "export a contract as doubles, last of 64",
-        64,
-        Workload::Export,
-    ),
-    row(
-        "export-1024",
-        "export a contract as doubles, last of 1,024",
-        1_024,
-        Workload::Export,
-    ),
-    row("level", "set the congestion level", 64, Workload::Level),
-    row("code", "code of a rate", 0, Workload::Code),
-    row("rate", "rate of a code", 0, Workload::Rate),
-    row(
-        "import",
-        "import a double that is a code rate",
-        0,
-        Workload::Import { exact: true },
-    ),
-    row(
-        "import-rest",
-        "import a double with a remainder",
-        0,
-        Workload::Import { exact: false },
-    ),
-    row(
-        "share-16",
-        "share of a capacity, 16 demands",
-        0,
-        Workload::FairShare { demands: 16 },
-    ),
-    row(
-        "share-256",
-        "share of a capacity, 256 demands",
-        0,
-        Workload::FairShare { demands: 256 },
-    ),
-    row(
-        "share-1024",
-        "share of a capacity, 1,024 demands",
-        0,
-        Workload::FairShare { demands: 1_024 },
-    ),
-    row(
-        "limit",
-        "limit ER of a backward RM cell",
-        0,
-        Workload::Limit,
-    ),
-    row(
-        "port-16",
-        "port, backward RM cell, 16 demands",
-        0,
-        Workload::Port { demands: 16 },
-    ),
-    row(
-        "port-1024",
-        "port, backward RM cell, 1,024 demands",
-        0,
-        Workload::Port { demands: 1_024 },
-    ),
-    row(
-        "judge",
-        "judge a trace, 256 cells of 7 octets",
-        0,
-        Workload::Judge {
-            cells: 256,
-            numbers: Numbers::Usual,
-        },
-    ),
-    row(
-        "judge-long",
-        "judge a trace, 256 cells of 15 octets",
-        0,
-        Workload::Judge {
-            cells: 256,
-            numbers: Numbers::Long,
-        },
-    ),
-    row("house", "house set of parameters", 0, Workload::House),
-];
+rows! {
+    "slot-1": "slot, 1 busy connection", 1, Turns { n: 5 };
+    "slot-64": "slot, 64 busy connections", 64, Turns { n: 5 };
+    "slot-1024": "slot, 1,024 busy connections", 1_024, Turns { n: 5 };
+    "slot-64-rm": "slot, 64 busy, every second cell forward", 64, Turns { n: 1 };
+    "slot-1024-rm": "slot, 1,024 busy, every second cell forward", 1_024, Turns { n: 1 };
+    "slot-64-mixed": "slot, 64 busy, each at a rate of its own", 64, Mixed;
+    "slot-1024-mixed": "slot, 1,024 busy, each at a rate of its own", 1_024, Mixed;
+    "slot-64-last": "slot, 64 busy, due from last to first", 64, LastFirst;
+    "slot-path-1": "slot, a busy path with 1 member", 0, Members { members: 1 };
+    "slot-path-256": "slot, a busy path with 256 members", 0, Members { members: 256 };
+    "slot-path-lone": "slot, a busy path, 1 of 256 members with data", 0, LoneMember { members: 256 };
+    "slot-idle-1": "slot, 1 open, nothing waits", 1, Idle;
+    "slot-idle-64": "slot, 64 open, nothing waits", 64, Idle;
+    "slot-idle-1024": "slot, 1,024 open, nothing waits", 1_024, Idle;
+    "backward-1": "receive backward RM cell, 1 open", 1, Receive(Sort::Backward);
+    "backward-64": "receive backward RM cell, last of 64", 64, Receive(Sort::Backward);
+    "backward-1024": "receive backward RM cell, last of 1,024", 1_024, Receive(Sort::Backward);
+    "moving-64": "receive backward RM cells that move the rate, last of 64", 64, Receive(Sort::Moving);
+    "moving-1024": "receive backward RM cells that move the rate, last of 1,024", 1_024, Receive(Sort::Moving);
+    "forward-1": "receive forward RM cell, 1 open", 1, Receive(Sort::Forward);
+    "forward-64": "receive forward RM cell, last of 64", 64, Receive(Sort::Forward);
+    "forward-1024": "receive forward RM cell, last of 1,024", 1_024, Receive(Sort::Forward);
+    "data-1": "receive data cell, 1 open", 1, Receive(Sort::Data);
+    "data-64": "receive data cell, last of 64", 64, Receive(Sort::Data);
+    "data-1024": "receive data cell, last of 1,024", 1_024, Receive(Sort::Data);
+    "crc-64": "receive RM cell with a wrong CRC-10, 64 open", 64, Receive(Sort::Damaged);
+    "unknown-rm-1024": "receive backward RM cell, none of 1,024", 1_024, Unknown(Sort::Backward);
+    "unknown-data-1024": "receive data cell, none of 1,024", 1_024, Unknown(Sort::Data);
+    "write": "write RM cell", 0, Write;
+    "read": "read RM cell", 0, Read(Sort::Backward);
+    "read-data": "read data cell", 0, Read(Sort::Data);
+    "offer-1": "offer, 1 open", 1, Offer;
+    "offer-64": "offer, last of 64", 64, Offer;
+    "offer-1024": "offer, last of 1,024", 1_024, Offer;
+    "offer-member-256": "offer to a member, last of 256", 0, OfferMember { members: 256 };
+    "add-remove-255": "add and remove a member below 255 others", 0, AddRemove { members: 255 };
+    "open-close-0": "open and close, no other open", 0, OpenClose;
+    "open-close-63": "open and close a name above 63 others", 63, OpenClose;
+    "open-close-1023": "open and close a name above 1,023 others", 1_023, OpenClose;
+    "open-close-low-1023": "open and close a name below 1,023 others", 1_023, OpenCloseLow;
+    "make-1": "make a backward cell, 1 open", 1, Make;
+    "make-64": "make a backward cell, last of 64", 64, Make;
+    "make-1024": "make a backward cell, last of 1,024", 1_024, Make;
+    "out-of-rate-1": "write an out-of-rate cell, 1 open", 1, OutOfRate;
+    "out-of-rate-64": "write an out-of-rate cell, last of 64", 64, OutOfRate;
+    "out-of-rate-1024": "write an out-of-rate cell, last of 1,024", 1_024, OutOfRate;
+    "acr-1": "ask for the rate, 1 open", 1, Acr;
+    "acr-64": "ask for the rate, last of 64", 64, Acr;
+    "acr-1024": "ask for the rate, last of 1,024", 1_024, Acr;
+    "export-1": "export a contract as doubles, 1 open", 1, Export;
+    "export-64": "export a contract as doubles, last of 64", 64, Export;
+    "export-1024": "export a contract as doubles, last of 1,024", 1_024, Export;
+    "next-1": "ask for the next ready instant, 1 open", 1, Next;
+    "next-1024": "ask for the next ready instant, 1,024 open", 1_024, Next;
+    "level": "set the congestion level", 64, Level;
+    "code": "code of a rate", 0, Code;
+    "rate": "rate of a code", 0, Rate;
+    "import": "import a double that is a code rate", 0, Import { exact: true };
+    "import-rest": "import a double with a remainder", 0, Import { exact: false };
+    "share-16": "share of a capacity, 16 demands", 0, FairShare { demands: 16 };
+    "share-256": "share of a capacity, 256 demands", 0, FairShare { demands: 256 };
+    "share-1024": "share of a capacity, 1,024 demands", 0, FairShare { demands: 1_024 };
+    "limit": "limit ER of a backward RM cell", 0, Limit;
+    "port-16": "port, backward RM cell, 16 demands", 0, Port { demands: 16 };
+    "port-1024": "port, backward RM cell, 1,024 demands", 0, Port { demands: 1_024 };
+    "judge": "judge a trace, 256 cells of 7 octets", 0, Judge { cells: 256, numbers: Numbers::Usual };
+    "judge-long": "judge a trace, 256 cells of 15 octets", 0, Judge { cells: 256, numbers: Numbers::Long };
+    "house": "house set of parameters", 0, House;
+}

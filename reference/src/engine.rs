@@ -252,6 +252,13 @@ impl Engine {
         }))
     }
 
+    /// The earliest ready instant of all open connections; nothing if none of them is ever
+    /// ready as things stand.
+    pub fn next(&self) -> Option<u64> {
+        let connections = self.table.values().map(|entry| &entry.connection);
+        connections.filter_map(Connection::ready).min()
+    }
+
     /// The allowed rate of a connection, and what its last backward cell made of it.
     /// Refusal: 11.
     pub fn allowed(&self, at: Address) -> Result<Allowed, Refusal> {

@@ -53,6 +53,8 @@ mod export_tests;
 #[cfg(test)]
 mod make_tests;
 #[cfg(test)]
+mod next_tests;
+#[cfg(test)]
 mod no_minimum_tests;
 #[cfg(test)]
 mod out_of_rate_tests;

@@ -8,7 +8,7 @@
 #include "check.h"
 
 /* The limits are numbers for the preprocessor too. */
-#if ABR_TIME_MAX >> 62 != 1 || ABR_RATE_MAX != 1023 * ABR_RATE_ONE * 4194304 || ABR_VERSION >> 24
+#if ABR_TIME_MAX >> 62 != 1 || ABR_NEVER >> 63 != 1 || ABR_RATE_MAX != 1023 * ABR_RATE_ONE * 4194304 || ABR_VERSION >> 24
 #error "a limit is wrong in #if"
 #endif
 
@@ -195,9 +195,12 @@ static void the_whole_table(void)
         CHECK(abr_out_of_rate(&lent.table, vpi, vci, 0, octets, sizeof octets) == ABR_REFUSED_TOO_OFTEN);
     }
     CHECK(abr_open(&lent.table, 0, 40, 0, params).refusal == ABR_REFUSED_FULL);
-    all_send(&lent.table, 0, ABR_SENT_FORWARD);
-    all_send(&lent.table, 1000000, ABR_SENT_TURNED);
-    all_send(&lent.table, 2000000, ABR_SENT_DATA);
+    for (uint64_t i = 0; i < 3; i++) {
+        static const uint32_t kinds[3] = {ABR_SENT_FORWARD, ABR_SENT_TURNED, ABR_SENT_DATA};
+        CHECK(abr_next(&lent.table) == i * 1000000);
+        all_send(&lent.table, i * 1000000, kinds[i]);
+    }
+    CHECK(abr_next(&lent.table) == 100000000); /* Trm after the forward cells */
     for (int i = 0; i < 8; i++) {
         CHECK(lent.after[i] == 0);
     }
@@ -256,6 +259,7 @@ static void a_copy_answers_the_same(void)
         CHECK(sent.refusal == ABR_OK && sent.kind != ABR_SENT_IDLE && same(sent, other));
         CHECK(memcmp(octets, others, sizeof octets) == 0);
         CHECK(memcmp(&first, second, sizeof first) == 0);
+        CHECK(abr_next(&first) == abr_next(second));
     }
 }
 

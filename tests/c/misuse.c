@@ -16,7 +16,7 @@ enum { TABLE, CELL, REFUSAL, DEMANDS, TRACE, OBJECTS };
 enum { TRACE_OCTETS = 48 };
 enum {
     OPEN, CLOSE, RECEIVE, OFFER, SET_LEVEL, MAKE, SLOT, OUT_OF_RATE, OPEN_PATH, ADD, OFFER_MEMBER, REMOVE, ACR, EXPORT,
-    WRITE_RM, READ, CODE, RATE, IMPORT, FAIR_SHARE, LIMIT, PORT, JUDGE, HOUSE, CALLS
+    NEXT, WRITE_RM, READ, CODE, RATE, IMPORT, FAIR_SHARE, LIMIT, PORT, JUDGE, HOUSE, CALLS
 };
 
 typedef struct {
@@ -205,6 +205,8 @@ static uint32_t zeros_beside(abr_closed closed)
     return closed.refusal && (closed.comparisons || closed.cells) ? ~0u : closed.refusal;
 }
 
+static volatile uint64_t next_instant; /* of a table that no call made it may be any */
+
 /* Makes one call; its refusal. The comparisons of a table that no call made may be any. */
 static uint32_t one_call(int call)
 {
@@ -224,6 +226,7 @@ static uint32_t one_call(int call)
     case REMOVE: return zeros_beside(abr_remove(at(TABLE), to.vpi, to.vci));
     case ACR: return abr_acr(at(TABLE), to.vpi, to.vci).refusal;
     case EXPORT: return export_call(to);
+    case NEXT: next_instant = abr_next(at(TABLE)); return ABR_OK;
     default: return without_table(call);
     }
 }
@@ -236,7 +239,7 @@ static uint32_t one_call(int call)
 static int may_write(int which, int call, uint32_t refusal)
 {
     if (which == TABLE) {
-        return call != ACR && call != EXPORT;
+        return call != ACR && call != EXPORT && call != NEXT;
     }
     if (which == REFUSAL) {
         return call == EXPORT;
@@ -309,7 +312,8 @@ static int places_are_right(void)
            words[DIRECTORY + 1] == (3 * 65536 + 34) * LEAVES + 2 && words[DIRECTORY + 2] == (2 * 65536 + 41) * LEAVES &&
            words[DIRECTORY + 3] == 0 && words[NODES + 1] == 2 && words[NODES + LEAVES / 2] == 2 &&
            words[NODES + LEAVES / 2 + 1] == 0 && words[NONE] == 0 && words[KEYS] == 0 &&
-           words[KEYS + 1] == ~UINT64_C(9) && words[NAMES] == 2 * 65536 + 40 && words[NAMES + 1] == (1 << 24) - 1;
+           words[KEYS + 1] == ~UINT64_C(9) && abr_next(at(TABLE)) == 9 && words[NAMES] == 2 * 65536 + 40 &&
+           words[NAMES + 1] == (1 << 24) - 1;
 }
 
 /* An out-of-rate cell on leaf 1, at the time of the last call, changes one word: the last live one of that leaf. */

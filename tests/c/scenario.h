@@ -29,13 +29,20 @@ static const uint32_t thousand = 0x53E8, slowest = 0x4000;
 static abr_table table;
 static uint8_t cell[ABR_CELL_OCTETS];
 
-/* The slot at a time goes to a connection with this kind and rate. */
+/* The earliest ready instant. */
+static int next_is(uint64_t time)
+{
+    return abr_next(&table) == time;
+}
+
+/* The slot at a time goes to a connection with this kind and rate; it is idle exactly before the earliest ready instant. */
 static int slot_is(uint64_t time, uint32_t vpi, uint32_t vci, uint32_t kind, uint64_t acr)
 {
+    int early = time < abr_next(&table);
     abr_sent sent = abr_slot(&table, time, cell, sizeof cell);
     uint32_t comparisons = kind == ABR_SENT_IDLE ? 0 : ABR_COMPARISONS_MAX;
     return sent.refusal == ABR_OK && sent.comparisons == comparisons && sent.vpi == vpi && sent.vci == vci &&
-           sent.kind == kind && sent.acr == acr;
+           sent.kind == kind && sent.acr == acr && early == (kind == ABR_SENT_IDLE);
 }
 
 /* Refusal and comparisons of an answer. The second connection has leaf 0 of the tournament and the first leaf 1. */
@@ -74,11 +81,14 @@ static void opens(void)
     CHECK(params.c == ABR_HOUSE_C && params.tbe == ABR_HOUSE_TBE && params.frtt == ABR_HOUSE_FRTT);
     CHECK(params.adtf == ABR_HOUSE_ADTF && params.trm == ABR_HOUSE_TRM);
     CHECK(is(abr_open(&table, 256, 31, 0, params), ABR_REFUSED_LOW_VCI, 0));
+    CHECK(next_is(ABR_NEVER));
     CHECK(is(abr_open(&table, SECOND, 0, params), ABR_OK, 1));
     CHECK(is(abr_open(&table, FIRST, 0, params), ABR_OK, 1));
     CHECK(is(abr_open(&table, FIRST, 0, params), ABR_REFUSED_ALREADY_OPEN, 0));
+    CHECK(next_is(ABR_NEVER)); /* nothing waits */
     CHECK(is(abr_offer(&table, FIRST, 100), ABR_OK, 10));
     CHECK(is(abr_offer(&table, SECOND, 100), ABR_OK, 1));
+    CHECK(next_is(0));
     CHECK(is(abr_offer(&table, NOT_OPEN, 100), ABR_REFUSED_NOT_OPEN, 0));
     CHECK(is(abr_offer(&table, SECOND, ABR_WAITING_MAX), ABR_REFUSED_TOO_MUCH_DATA, 0));
 }
@@ -118,18 +128,18 @@ static void both_send(void)
     rm = rm_in_cell();
     CHECK(rm.vpi == 0 && rm.vci == 33 && rm.dir == 0);
     CHECK(rm.er == thousand && rm.ccr == thousand && rm.mcr == slowest);
-    CHECK(slot_is(1, SECOND, ABR_SENT_FORWARD, 512000));
+    CHECK(next_is(0) && slot_is(1, SECOND, ABR_SENT_FORWARD, 512000) && next_is(1 * MS));
     CHECK(slot_is(2, NOBODY, ABR_SENT_IDLE, 0));
     CHECK(slot_is(1 * MS, FIRST, ABR_SENT_DATA, 512000));
-    CHECK(slot_is(1 * MS + 1, SECOND, ABR_SENT_DATA, 512000));
+    CHECK(next_is(1 * MS + 1) && slot_is(1 * MS + 1, SECOND, ABR_SENT_DATA, 512000) && next_is(2 * MS));
 }
 
 static void feedback_moves_the_rates(void)
 {
     CHECK(is(feedback(FIRST, 1, ABR_CODE_MAX), ABR_OK, 10));
-    CHECK(acr_is(FIRST, 480000, -32000) && acr_is(SECOND, 512000, 0));
+    CHECK(acr_is(FIRST, 480000, -32000) && acr_is(SECOND, 512000, 0) && next_is(2 * MS + 1));
     CHECK(is(feedback(SECOND, 0, 0x4E00), ABR_OK, 10)); /* 128 cells per second */
-    CHECK(acr_is(SECOND, 65536, 65536 - 512000));
+    CHECK(acr_is(SECOND, 65536, 65536 - 512000) && next_is(2 * MS + 66667));
     CHECK(slot_is(2 * MS + 66666, NOBODY, ABR_SENT_IDLE, 0)); /* the gap is 1,066,667 */
     CHECK(slot_is(2 * MS + 66667, FIRST, ABR_SENT_DATA, 480000));
     CHECK(slot_is(8 * MS + 812500, FIRST, ABR_SENT_DATA, 480000));
@@ -340,7 +350,7 @@ static void closes(void)
     CHECK(closed_is(abr_close(&table, FIRST), ABR_REFUSED_NOT_OPEN, 0, 0));
     allowed = abr_acr(&table, FIRST);
     CHECK(allowed.refusal == ABR_REFUSED_NOT_OPEN && allowed.acr == 0 && allowed.change == 0);
-    CHECK(closed_is(abr_close(&table, SECOND), ABR_OK, 10, 98));
+    CHECK(closed_is(abr_close(&table, SECOND), ABR_OK, 10, 98) && next_is(ABR_NEVER));
 }
 
 /* The refusals of an out-of-rate cell in their order; nothing else is open, and the last time is 121 ms. */
@@ -363,7 +373,7 @@ static void without_a_minimum(void)
     CHECK(is(abr_open(&table, THIRD, 121 * MS, abr_house(thousand, 0x01FF, thousand)), ABR_OK, 1));
     CHECK(is(abr_offer(&table, THIRD, 10), ABR_OK, 10));
     CHECK(is(feedback(THIRD, 0, 0), ABR_OK, 10));
-    CHECK(acr_is(THIRD, 0, -512000) && slot_is(121 * MS, NOBODY, ABR_SENT_IDLE, 0));
+    CHECK(acr_is(THIRD, 0, -512000) && next_is(ABR_NEVER) && slot_is(121 * MS, NOBODY, ABR_SENT_IDLE, 0));
     out_of_rate_refused();
     CHECK(cell[0] == 0x0F && cell[1] == 0xF0 && cell[2] == 0x02 && cell[3] == 0x2D); /* payload type 6, CLP 1 */
     rm = rm_in_cell();
@@ -372,7 +382,8 @@ static void without_a_minimum(void)
     CHECK(abr_slot(&table, 300 * MS - 1, cell, sizeof cell).refusal == ABR_REFUSED_TIME_BACKWARD);
     CHECK(slot_is(300 * MS, NOBODY, ABR_SENT_IDLE, 0));
     CHECK(is(feedback(THIRD, 0, ABR_CODE_MAX), ABR_OK, 10));
-    CHECK(acr_is(THIRD, 32000, 32000) && slot_is(300 * MS, THIRD, ABR_SENT_FORWARD, 32000));
+    CHECK(acr_is(THIRD, 32000, 32000) && next_is(121 * MS)); /* its opening */
+    CHECK(slot_is(300 * MS, THIRD, ABR_SENT_FORWARD, 32000) && next_is(316 * MS));
     rm = rm_in_cell();
     CHECK(rm.er == thousand && rm.ccr == 0x4BE8 && rm.mcr == 0 && cell[3] == 0x2C);
     CHECK(slot_is(316 * MS - 1, NOBODY, ABR_SENT_IDLE, 0)); /* the gap is 16 ms */
@@ -414,7 +425,9 @@ static void a_path_with_members(void)
     CHECK(is(abr_add(&table, UPPER), ABR_OK, 0));
     members_refused(params);
     CHECK(is(abr_add(&table, LOWER), ABR_OK, 0));
+    CHECK(next_is(ABR_NEVER));
     CHECK(is(abr_offer_member(&table, UPPER, 3), ABR_OK, 10) && is(abr_offer_member(&table, LOWER, 2), ABR_OK, 10));
+    CHECK(next_is(400 * MS));
     CHECK(slot_is(400 * MS, PATH, ABR_SENT_FORWARD, 512000));
     rm = rm_in_cell();
     CHECK(rm.vpi == 7 && rm.vci == 6 && cell[0] == 0 && cell[1] == 0x70 && cell[2] == 0 && cell[3] == 0x6C);
@@ -459,7 +472,7 @@ static void tbe_and_round_trip(void)
 
 static void nothing_is_left(void)
 {
-    CHECK(slot_is(ABR_TIME_MAX, NOBODY, ABR_SENT_IDLE, 0));
+    CHECK(next_is(ABR_NEVER) && slot_is(ABR_TIME_MAX, NOBODY, ABR_SENT_IDLE, 0));
     CHECK(strcmp(abr_refusal_text(ABR_OK), "accepted") == 0);
     CHECK(strcmp(abr_refusal_text(30), abr_refusal_text(31)) != 0);
     CHECK(strcmp(abr_refusal_text(3), abr_refusal_text(31)) == 0); /* withdrawn (document 02, L6) */

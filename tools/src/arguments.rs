@@ -1,15 +1,50 @@
 //! What both programs make of their arguments.
 
 use std::ffi::{OsStr, OsString};
+use std::process::ExitCode;
+
+use crate::console::Console;
 
 /// Standard input or output, where a file is named.
 pub const STANDARD: &str = "-";
 /// Behind it every argument is a file.
 pub const FILES: &str = "--";
 
-/// The arguments of this program.
-pub fn given() -> Vec<OsString> {
-    std::env::args_os().skip(1).collect()
+/// What the arguments of this program ask for, by a function that says what is wrong with them;
+/// its exit status if they are wrong or ask for help.
+pub fn options<T>(
+    console: Console,
+    help_text: &str,
+    options: impl FnOnce(Vec<OsString>) -> Result<T, String>,
+) -> Result<T, ExitCode> {
+    let arguments: Vec<OsString> = std::env::args_os().skip(1).collect();
+    if help(&arguments) {
+        return Err(console.help(help_text));
+    }
+    options(arguments).map_err(|why| console.wrong_arguments(why))
+}
+
+/// The files that arguments name. Each option goes to `take`, which has the arguments behind it
+/// for its value and says whether there is such an option.
+pub fn files(
+    arguments: Vec<OsString>,
+    mut take: impl FnMut(&str, &mut dyn Iterator<Item = OsString>) -> Result<bool, String>,
+) -> Result<Vec<OsString>, String> {
+    let mut files = Vec::new();
+    let mut arguments = arguments.into_iter();
+    while let Some(argument) = arguments.next() {
+        if argument == FILES {
+            files.extend(arguments.by_ref());
+        } else if !is_option(&argument) {
+            files.push(argument);
+        } else {
+            let known = argument.to_str().map(|name| take(name, &mut arguments));
+            if !known.transpose()?.unwrap_or(false) {
+                return Err(format!("unknown option {}", argument.display()));
+            }
+        }
+    }
+    Ok(files)
 }
 
 /// Whether help is asked for.

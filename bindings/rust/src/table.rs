@@ -382,6 +382,31 @@ impl Table {
         Ok(sent.into())
     }
 
+    /// The earliest ready instant of all open connections; none if no connection is ever
+    /// ready as things stand. An accepted slot is idle exactly when its time is before it.
+    /// It may have passed already, and may be after [`TIME_MAX`]. Every accepted call on a
+    /// connection may change it.
+    ///
+    /// ```
+    /// use abr::{Params, Table, CELL_OCTETS};
+    /// let mut table = Table::new();
+    /// table.open(1, 32, 5, &Params::house(0x53E8, 0x4000, 0x53E8))?;
+    /// assert_eq!(table.next(), None); // nothing waits
+    /// table.offer(1, 32, 2)?;
+    /// assert_eq!(table.next(), Some(5)); // its opening
+    /// let mut cell = [0; CELL_OCTETS];
+    /// assert!(table.slot(7, &mut cell)?.is_some());
+    /// assert_eq!(table.next(), Some(1_000_007)); // a thousand cells a second
+    /// assert_eq!(table.slot(1_000_006, &mut cell), Ok(None));
+    /// assert!(table.slot(1_000_007, &mut cell)?.is_some());
+    /// # Ok::<(), abr::Refusal>(())
+    /// ```
+    pub fn next(&self) -> Option<u64> {
+        // SAFETY: the pointer is live for the call.
+        let next = unsafe { ffi::abr_next(self.words.as_ptr().cast()) };
+        (next != ffi::ABR_NEVER).then_some(next)
+    }
+
     /// Writes an out-of-rate forward RM cell of a connection to the buffer, with
     /// CLP 1 and the allowed rate as it stands, for the caller to send beside the
     /// slots. A source whose allowed rate is 0 learns in this way when it may rise.

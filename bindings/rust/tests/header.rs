@@ -56,6 +56,7 @@ fn the_limits_are_those_of_the_header() {
     assert_eq!(value("ABR_FRTT_MAX"), u64::from(abr::FRTT_MAX));
     assert_eq!(value("ABR_RATE_ONE"), abr::RATE_ONE);
     assert_eq!(value("ABR_TIME_MAX"), abr::TIME_MAX);
+    assert_eq!(value("ABR_NEVER"), ffi::ABR_NEVER);
     assert_eq!(value("ABR_RATE_MAX"), abr::RATE_MAX);
     assert_eq!(abr::rate(value("ABR_CODE_MAX") as u32), Ok(abr::RATE_MAX));
 }
@@ -202,5 +203,5 @@ fn every_prototype_of_the_header_is_declared_and_no_other() {
     let ffi = include_str!("../src/ffi.rs");
     let foreign = |line: &&str| line.starts_with("    pub fn ");
     assert_eq!(header, names(ffi.lines().filter(foreign)));
-    assert_eq!(header.len(), 26);
+    assert_eq!(header.len(), 27);
 }

@@ -1,5 +1,5 @@
-//! One call made on both sides; answer, octets, allowed rate with its last change, waiting
-//! data and table compared.
+//! One call made on both sides; answer, octets, allowed rate with its last change, next
+//! ready instant, waiting data and table compared.
 
 use reference::{Address, Allowed, Engine};
 
@@ -28,6 +28,8 @@ pub struct Both {
     engine: Engine,
     /// What fills the next buffers.
     fill: u8,
+    /// The next ready instant after the last call; none if no connection is ever ready.
+    pub next: Option<u64>,
     /// The allowed rates compared.
     pub rates: u64,
     /// How often the waiting cells were compared.
@@ -55,6 +57,7 @@ impl Both {
                 "library wrote {ours:02x?}, reference {theirs:02x?}"
             ));
         }
+        self.same_next(call, &outcome)?;
         if compared && self.library != self.before {
             return Err(format!("{outcome:x?}, but the table changed"));
         }
@@ -78,6 +81,26 @@ impl Both {
         }
         self.leaving += 1;
         self.leaving % LEAVES_TABLE == 1
+    }
+
+    /// Compares the next ready instants after a call. An accepted slot was idle exactly if
+    /// its time was before the one that the library gave before it.
+    fn same_next(&mut self, call: &Call, outcome: &Outcome) -> Result<(), Difference> {
+        let before = self.next;
+        self.next = self.library.next();
+        let theirs = self.engine.next();
+        if self.next != theirs {
+            let ours = self.next;
+            return Err(format!("next: library {ours:?}, reference {theirs:?}"));
+        }
+        match (call, outcome) {
+            (Call::Slot { time, .. }, Ok(Answer::Sent(sent)))
+                if (sent.kind == 0) != before.is_none_or(|next| *time < next) =>
+            {
+                Err(format!("next was {before:?}, and the slot {sent:?}"))
+            }
+            _ => Ok(()),
+        }
     }
 
     /// Compares the allowed rate and its last change of one address, open or not.

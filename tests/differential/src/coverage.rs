@@ -1,6 +1,6 @@
 //! Counts of what the lists reached.
 
-use abr::COMPARISONS_MAX;
+use abr::{COMPARISONS_MAX, TIME_MAX};
 
 use crate::call::{Call, Outcome, SORTS};
 
@@ -552,6 +552,9 @@ pub struct Coverage {
     pub on_member: [u64; SORTS.len()],
     /// By damaged octet of a refused cell.
     pub damaged: [u64; 53],
+    /// After each call, by the next ready instant: never, before the last accepted time, at
+    /// it, after it, or even after 2^62.
+    pub nexts: [u64; 5],
     events: [u64; EVENTS.len()],
 }
 
@@ -569,6 +572,7 @@ impl Default for Coverage {
             on_path: [0; SORTS.len()],
             on_member: [0; SORTS.len()],
             damaged: [0; 53],
+            nexts: [0; 5],
             events: [0; EVENTS.len()],
         }
     }
@@ -658,6 +662,18 @@ impl Coverage {
         self.on_member[call.sort()] += 1;
     }
 
+    /// Counts the next ready instant after a call, the last accepted time being `last`.
+    pub fn count_next(&mut self, next: Option<u64>, last: u64) {
+        let place = match next {
+            None => 0,
+            Some(next) if next < last => 1,
+            Some(next) if next == last => 2,
+            Some(next) if next <= TIME_MAX => 3,
+            Some(_) => 4,
+        };
+        self.nexts[place] += 1;
+    }
+
     /// Counts an event if it happened.
     pub fn reach(&mut self, event: Event, happened: bool) {
         self.events[event as usize] += u64::from(happened);
@@ -692,6 +708,7 @@ impl Coverage {
         add(&mut self.on_path, &other.on_path);
         add(&mut self.on_member, &other.on_member);
         add(&mut self.damaged, &other.damaged);
+        add(&mut self.nexts, &other.nexts);
         add(&mut self.events, &other.events);
     }
 
@@ -760,7 +777,7 @@ impl Coverage {
             .map(|event| format!("{event:?} {}", self.reached(*event)))
             .collect();
         format!(
-            "{} calls, {} rates compared, {} cells recorded; slots idle {}, forward {}, turned {}, data {}; {}",
+            "{} calls, {} rates compared, {} cells recorded; slots idle {}, forward {}, turned {}, data {}; next {:?}; {}",
             self.calls,
             self.rates,
             self.recorded,
@@ -768,6 +785,7 @@ impl Coverage {
             self.kinds[1],
             self.kinds[2],
             self.kinds[3],
+            self.nexts,
             events.join(", ")
         )
     }

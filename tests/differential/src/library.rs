@@ -98,6 +98,13 @@ impl Library {
         answered(unsafe { ffi::abr_acr(&*self.table, at.vpi, at.vci) })
     }
 
+    /// The earliest ready instant; none if no connection is ever ready.
+    pub fn next(&self) -> Option<u64> {
+        // SAFETY: the pointer is live.
+        let next = unsafe { ffi::abr_next(&*self.table) };
+        (next != ffi::ABR_NEVER).then_some(next)
+    }
+
     /// Closes an address or removes it as a member, whichever it is, if it is either, and
     /// gives the data cells that waited.
     pub fn drain(&mut self, at: Address) -> Result<u64, Difference> {

@@ -64,6 +64,7 @@ impl List {
         let acr = allowed.map(|allowed| allowed.acr);
         self.recorder.add(call, &outcome, at, acr);
         self.seen.add(call, &outcome, acr.unwrap_or(0), coverage);
+        coverage.count_next(self.both.next, self.seen.last);
         if let Some(allowed) = allowed {
             self.seen.same_change(at, allowed)?;
         }

@@ -19,6 +19,10 @@ const RATES: u64 = 100_000_000;
 /// So many cells of connections must be recorded and judged.
 const RECORDED: u64 = 8_000_000;
 
+/// After so many calls the next ready instant must be never, before the last accepted time,
+/// at it, after it, and after 2^62.
+const NEXTS: [u64; 5] = [5_000_000, 8_000_000, 1_000_000, 15_000_000, 2_000_000];
+
 /// Runs the lists of a job: a profile's place, and the number of the first.
 fn run_job((place, first): (usize, u64)) -> Result<Coverage, Difference> {
     let mut coverage = Coverage::default();
@@ -52,4 +56,11 @@ fn library_and_reference_agree_on_lists_that_reach_every_edge() {
     assert!(total.rates >= RATES, "{} rates", total.rates);
     let recorded = total.recorded;
     assert!(recorded >= RECORDED, "{recorded} cells recorded");
+    let nexts = total.nexts;
+    assert_eq!(nexts.iter().sum::<u64>(), total.calls);
+    let enough = nexts
+        .iter()
+        .zip(NEXTS)
+        .all(|(count, least)| *count >= least);
+    assert!(enough, "next {nexts:?}");
 }

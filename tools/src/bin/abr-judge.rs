@@ -4,7 +4,7 @@ use std::ffi::{OsStr, OsString};
 use std::io;
 use std::process::ExitCode;
 
-use abr_tools::arguments::{self, is_option, FILES, STANDARD};
+use abr_tools::arguments::{self, is_option, STANDARD};
 use abr_tools::console::{self, Console, FAILED};
 use abr_tools::fault::Unit;
 use abr_tools::progress::Progress;
@@ -54,13 +54,9 @@ struct Options {
 }
 
 fn main() -> ExitCode {
-    let arguments = arguments::given();
-    if arguments::help(&arguments) {
-        return CONSOLE.help(HELP);
-    }
-    let options = match options(arguments) {
+    let options = match arguments::options(CONSOLE, HELP, options) {
         Ok(options) => options,
-        Err(why) => return CONSOLE.wrong_arguments(why),
+        Err(status) => return status,
     };
     let mut status = 0;
     for file in &options.files {
@@ -75,22 +71,18 @@ fn main() -> ExitCode {
 /// The options of these arguments, or what is wrong with them.
 fn options(arguments: Vec<OsString>) -> Result<Options, String> {
     let mut options = Options::default();
-    let mut arguments = arguments.into_iter();
-    while let Some(argument) = arguments.next() {
-        match argument.to_str() {
-            Some("--text") => options.text = true,
-            Some("--svg") => {
+    options.files = arguments::files(arguments, |option, behind| {
+        match option {
+            "--text" => options.text = true,
+            "--svg" => {
                 let named = |file: &OsString| file != STANDARD && !is_option(file);
-                let file = arguments.next().filter(named);
+                let file = behind.next().filter(named);
                 options.svg = Some(file.ok_or("--svg needs a file")?);
             }
-            Some(FILES) => options.files.extend(arguments.by_ref()),
-            _ if is_option(&argument) => {
-                return Err(format!("unknown option {}", argument.display()))
-            }
-            _ => options.files.push(argument),
+            _ => return Ok(false),
         }
-    }
+        Ok(true)
+    })?;
     let standard = options.files.iter().filter(|file| *file == STANDARD);
     match (options.files.len(), standard.count(), &options.svg) {
         (0, ..) => Err("no trace is named".to_owned()),

@@ -4,7 +4,7 @@ use std::ffi::OsString;
 use std::io::{self, IsTerminal};
 use std::process::ExitCode;
 
-use abr_tools::arguments::{self, is_option, FILES, STANDARD};
+use abr_tools::arguments::{self, STANDARD};
 use abr_tools::console::Console;
 use abr_tools::record::Recorder;
 use abr_tools::scenario::{Address, Scenario};
@@ -45,13 +45,9 @@ struct Options {
 }
 
 fn main() -> ExitCode {
-    let arguments = arguments::given();
-    if arguments::help(&arguments) {
-        return CONSOLE.help(HELP);
-    }
-    let options = match options(arguments) {
+    let options = match arguments::options(CONSOLE, HELP, options) {
         Ok(options) => options,
-        Err(why) => return CONSOLE.wrong_arguments(why),
+        Err(status) => return status,
     };
     match record(&options) {
         Ok(octets) => write(&octets, &options),
@@ -62,29 +58,23 @@ fn main() -> ExitCode {
 /// The options of these arguments, or what is wrong with them.
 fn options(arguments: Vec<OsString>) -> Result<Options, String> {
     let mut options = Options::default();
-    let mut files = Vec::new();
-    let mut arguments = arguments.into_iter();
-    while let Some(argument) = arguments.next() {
+    let mut files = arguments::files(arguments, |option, behind| {
         let mut value = || {
-            let value = arguments.next();
-            let text = value.and_then(|value| value.into_string().ok());
-            text.ok_or(format!("{} needs a value", argument.display()))
+            let text = behind.next().and_then(|value| value.into_string().ok());
+            text.ok_or(format!("{option} needs a value"))
         };
-        match argument.to_str() {
-            Some("--text") => options.text = true,
-            Some("--scenario") => options.random = random(&value()?)?,
-            Some("--seed") => {
+        match option {
+            "--text" => options.text = true,
+            "--scenario" => options.random = random(&value()?)?,
+            "--seed" => {
                 let seed = value()?.parse().map_err(|_| "a seed is a number")?;
                 options.seed = Some(seed);
             }
-            Some("--connection") => options.connection = Some(value()?.parse()?),
-            Some(FILES) => files.extend(arguments.by_ref()),
-            _ if is_option(&argument) => {
-                return Err(format!("unknown option {}", argument.display()))
-            }
-            _ => files.push(argument),
+            "--connection" => options.connection = Some(value()?.parse()?),
+            _ => return Ok(false),
         }
-    }
+        Ok(true)
+    })?;
     match (files.len(), options.seed) {
         (2.., _) => Err("more than one file is named".to_owned()),
         (_, Some(_)) if !options.random => Err("--seed goes with --scenario random".to_owned()),

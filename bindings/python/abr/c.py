@@ -1,0 +1,127 @@
+"""The C interface: structs and functions as include/abr.h declares them, and the shared object."""
+
+from ctypes import POINTER, PyDLL, Structure, c_char_p, c_double, c_int64, c_size_t, c_uint8, c_uint32, c_uint64
+import os
+from pathlib import Path
+
+from .constants import TABLE_WORDS, VERSION
+
+
+class abr_table(Structure):
+    _fields_ = [("words", c_uint64 * TABLE_WORDS)]
+
+
+class abr_params(Structure):
+    _fields_ = [(name, c_uint32) for name in "pcr mcr icr n r d c tbe frtt adtf trm".split()]
+
+
+class abr_rm(Structure):
+    _fields_ = [(name, c_uint32) for name in "vpi vci dir bn ci ni ra er ccr mcr ql sn".split()]
+
+
+class abr_answer(Structure):
+    _fields_ = [("refusal", c_uint32), ("comparisons", c_uint32)]
+
+
+class abr_closed(Structure):
+    _fields_ = [("refusal", c_uint32), ("comparisons", c_uint32), ("cells", c_uint64)]
+
+
+class abr_sent(Structure):
+    _fields_ = [(name, c_uint32) for name in "refusal comparisons kind vpi vci".split()] + [("acr", c_uint64)]
+
+
+class abr_allowed(Structure):
+    _fields_ = [("refusal", c_uint32), ("acr", c_uint64), ("change", c_int64)]
+
+
+class abr_cell(Structure):
+    _fields_ = [("refusal", c_uint32), ("kind", c_uint32), ("efci", c_uint32), ("rm", abr_rm)]
+
+
+class abr_coded(Structure):
+    _fields_ = [("refusal", c_uint32), ("code", c_uint32)]
+
+
+class abr_rated(Structure):
+    _fields_ = [("refusal", c_uint32), ("rate", c_uint64)]
+
+
+class abr_contract(Structure):
+    _fields_ = [("pcr", c_double), ("mcr", c_double), ("icr", c_double)]
+
+
+class abr_imported(Structure):
+    _fields_ = [("refusal", c_uint32), ("code", c_uint32), ("remainder", c_double)]
+
+
+class abr_share(Structure):
+    _fields_ = [("refusal", c_uint32), ("limited", c_uint32), ("rate", c_uint64)]
+
+
+class abr_verdict(Structure):
+    _fields_ = [("refusal", c_uint32), ("rule", c_uint32), ("cell", c_uint64)]
+
+
+TABLE, RATES, READ, WRITTEN = POINTER(abr_table), POINTER(c_uint64), c_char_p, POINTER(c_uint8)
+
+# What each function returns, and its arguments.
+FUNCTIONS = {
+    "abr_version": (c_uint32, []),
+    "abr_table_words": (c_uint32, []),
+    "abr_open": (abr_answer, [TABLE, c_uint32, c_uint32, c_uint64, abr_params]),
+    "abr_close": (abr_closed, [TABLE, c_uint32, c_uint32]),
+    "abr_offer": (abr_answer, [TABLE, c_uint32, c_uint32, c_uint64]),
+    "abr_acr": (abr_allowed, [TABLE, c_uint32, c_uint32]),
+    "abr_export": (abr_contract, [TABLE, c_uint32, c_uint32, POINTER(c_uint32)]),
+    "abr_open_path": (abr_answer, [TABLE, c_uint32, c_uint64, abr_params]),
+    "abr_add": (abr_answer, [TABLE, c_uint32, c_uint32]),
+    "abr_offer_member": (abr_answer, [TABLE, c_uint32, c_uint32, c_uint64]),
+    "abr_remove": (abr_closed, [TABLE, c_uint32, c_uint32]),
+    "abr_receive": (abr_answer, [TABLE, READ, c_size_t]),
+    "abr_set_level": (c_uint32, [TABLE, c_uint32]),
+    "abr_make": (abr_answer, [TABLE, c_uint32, c_uint32, c_uint64]),
+    "abr_slot": (abr_sent, [TABLE, c_uint64, WRITTEN, c_size_t]),
+    "abr_next": (c_uint64, [TABLE]),
+    "abr_out_of_rate": (c_uint32, [TABLE, c_uint32, c_uint32, c_uint64, WRITTEN, c_size_t]),
+    "abr_write_rm": (c_uint32, [abr_rm, WRITTEN, c_size_t]),
+    "abr_read": (abr_cell, [READ, c_size_t]),
+    "abr_code": (abr_coded, [c_uint64]),
+    "abr_rate": (abr_rated, [c_uint32]),
+    "abr_import": (abr_imported, [c_double]),
+    "abr_house": (abr_params, [c_uint32, c_uint32, c_uint32]),
+    "abr_fair_share": (abr_share, [c_uint64, RATES, c_size_t]),
+    "abr_limit": (c_uint32, [c_uint64, WRITTEN, c_size_t]),
+    "abr_port": (c_uint32, [c_uint64, RATES, c_size_t, WRITTEN, c_size_t]),
+    "abr_judge": (abr_verdict, [READ, c_size_t]),
+}
+
+
+def path() -> str:
+    """The shared object: the one that ABR_SHARED names, else, in an unpacked delivery, that of its lib, else the one that
+    the loader finds by its name."""
+    major_minor = f"{VERSION >> 16}.{VERSION >> 8 & 0xFF}"
+    delivered = Path(__file__).resolve().parents[2] / "lib" / f"libabr.so.{major_minor}"
+    return os.environ.get("ABR_SHARED") or (str(delivered) if delivered.is_file() else delivered.name)
+
+
+def load(name: str) -> PyDLL:
+    """Loads the shared object, which must be of this binding's version: with another one a table may be too short. The
+    interpreter is held while a call runs (PyDLL), so that no two threads are in one table."""
+    library = PyDLL(name)
+    found = tuple(function(library, name) for name in ("abr_version", "abr_table_words"))
+    if tuple(call() for call in found) != (VERSION, TABLE_WORDS):
+        raise ImportError(f"{name} is of another version than this binding")
+    for each in FUNCTIONS:
+        function(library, each)
+    return library
+
+
+def function(library: PyDLL, name: str):
+    """A function of the shared object, with its types."""
+    found = getattr(library, name)
+    found.restype, found.argtypes = FUNCTIONS[name]
+    return found
+
+
+library = load(path())

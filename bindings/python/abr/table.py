@@ -1,0 +1,154 @@
+"""The table of connections and the calls on it."""
+
+from __future__ import annotations
+
+import ctypes
+import enum
+from typing import NamedTuple
+
+from .c import abr_answer, abr_closed, abr_table, library
+from .cell import Buffer
+from .constants import NEVER
+from .arguments import octets, u32, u64
+from .params import Params
+from .rates import Contract
+from .refusal import accepted
+
+
+class Kind(enum.IntEnum):
+    """What a slot sends; a made cell counts as a turned one."""
+
+    FORWARD = 1
+    TURNED = 2
+    DATA = 3
+
+
+class Sent(NamedTuple):
+    """What a slot sends, and the allowed rate afterwards."""
+
+    kind: Kind
+    vpi: int
+    vci: int  # of data of a path that of the member
+    acr: int
+    cell: bytes | None  # the octets of an RM cell; the caller has those of data
+    comparisons: int
+
+
+class Closed(NamedTuple):
+    """The data cells that waited, and the comparisons."""
+
+    cells: int
+    comparisons: int
+
+
+class Allowed(NamedTuple):
+    """The allowed rate, and what the last backward cell changed."""
+
+    acr: int
+    change: int
+
+
+class Table:
+    """The connections of one link, none at first. A connection is named by VPI and VCI, a path by its VPI and PATH_VCI.
+    Times are nanoseconds, rates whole numbers of 1/512 cell per second. A refused call raises Refused and changes
+    nothing; include/abr.h has the refusals of each in order."""
+
+    def __init__(self):
+        self._table = abr_table()
+
+    def copy(self) -> Table:
+        """Another table with the same connections."""
+        table = Table()
+        table._table = abr_table.from_buffer_copy(self._table)
+        return table
+
+    def open(self, vpi: int, vci: int, time: int, params: Params) -> int:
+        """Opens a channel; the comparisons."""
+        return _comparisons(library.abr_open(self._table, *_pair(vpi, vci), u64("time", time), params.as_c()))
+
+    def close(self, vpi: int, vci: int) -> Closed:
+        """Closes a connection, a path with its members, and drops what waits."""
+        return _closed(library.abr_close(self._table, *_pair(vpi, vci)))
+
+    def offer(self, vpi: int, vci: int, cells: int) -> int:
+        """Adds data cells to those that wait on a channel; the comparisons."""
+        return _comparisons(library.abr_offer(self._table, *_pair(vpi, vci), u64("cells", cells)))
+
+    def acr(self, vpi: int, vci: int) -> Allowed:
+        """The allowed rate of a connection, and what its last backward cell changed."""
+        allowed = library.abr_acr(self._table, *_pair(vpi, vci))
+        accepted(allowed.refusal)
+        return Allowed(allowed.acr, allowed.change)
+
+    def export(self, vpi: int, vci: int) -> Contract:
+        """The rates that the open of a connection gave, as doubles in cells per second, exactly."""
+        refusal = ctypes.c_uint32()
+        contract = library.abr_export(self._table, *_pair(vpi, vci), refusal)
+        accepted(refusal.value)
+        return Contract(contract.pcr, contract.mcr, contract.icr)
+
+    def open_path(self, vpi: int, time: int, params: Params) -> int:
+        """Opens a path, without members; the comparisons."""
+        return _comparisons(library.abr_open_path(self._table, u32("vpi", vpi), u64("time", time), params.as_c()))
+
+    def add(self, vpi: int, vci: int) -> None:
+        """Makes a VCI a member of the path of its VPI."""
+        _comparisons(library.abr_add(self._table, *_pair(vpi, vci)))
+
+    def offer_member(self, vpi: int, vci: int, cells: int) -> int:
+        """Adds data cells to those that wait on a member; the comparisons."""
+        return _comparisons(library.abr_offer_member(self._table, *_pair(vpi, vci), u64("cells", cells)))
+
+    def remove(self, vpi: int, vci: int) -> Closed:
+        """Removes a member from its path, and drops what waits on it."""
+        return _closed(library.abr_remove(self._table, *_pair(vpi, vci)))
+
+    def receive(self, cell: bytes) -> int:
+        """Receives a cell; the comparisons."""
+        cell = octets("cell", cell)
+        return _comparisons(library.abr_receive(self._table, cell, len(cell)))
+
+    def set_level(self, level: int) -> None:
+        """Sets the congestion level: 0 none, 1 no increase, 2 congestion."""
+        accepted(library.abr_set_level(self._table, u32("level", level)))
+
+    def make(self, vpi: int, vci: int, time: int) -> int:
+        """Makes a backward RM cell on a connection; the comparisons."""
+        return _comparisons(library.abr_make(self._table, *_pair(vpi, vci), u64("time", time)))
+
+    def slot(self, time: int) -> Sent | None:
+        """Gives the slot at a time to the connection with the earliest ready instant; None if it is idle."""
+        cell = Buffer()
+        sent = library.abr_slot(self._table, u64("time", time), cell, len(cell))
+        accepted(sent.refusal)
+        if not sent.kind:
+            return None
+        kind = Kind(sent.kind)
+        written = None if kind is Kind.DATA else bytes(cell)
+        return Sent(kind, sent.vpi, sent.vci, sent.acr, written, sent.comparisons)
+
+    def next(self) -> int | None:
+        """The earliest ready instant: an accepted slot before it is idle, and one from then on is not. None if no
+        connection is ever ready as things stand. Every accepted call on a connection may change it."""
+        instant = library.abr_next(self._table)
+        return None if instant == NEVER else instant
+
+    def out_of_rate(self, vpi: int, vci: int, time: int) -> bytes:
+        """An out-of-rate forward RM cell of a connection, to be sent beside the slots."""
+        cell = Buffer()
+        accepted(library.abr_out_of_rate(self._table, *_pair(vpi, vci), u64("time", time), cell, len(cell)))
+        return bytes(cell)
+
+
+def _pair(vpi: int, vci: int) -> tuple[int, int]:
+    return u32("vpi", vpi), u32("vci", vci)
+
+
+def _comparisons(answer: abr_answer) -> int:
+    accepted(answer.refusal)
+    return answer.comparisons
+
+
+def _closed(closed: abr_closed) -> Closed:
+    accepted(closed.refusal)
+    return Closed(closed.cells, closed.comparisons)

@@ -1,0 +1,202 @@
+"""Every call through the binding, with numbers computed by hand from documents 01 and 02."""
+
+from dataclasses import replace
+import math
+import pickle
+import subprocess
+import sys
+from pathlib import Path
+import unittest
+
+import abr
+from abr import Kind, Refusal, Rm
+
+MS = 1_000_000
+THOUSAND = 0x53E8  # the code of 1,000 cells per second
+RATE = 512_000
+HOUSE = abr.Params.house(THOUSAND, 0x4000, THOUSAND)
+
+
+class Calls(unittest.TestCase):
+    def setUp(self):
+        self.table = abr.Table()
+
+    def refused(self, refusal, call, *arguments):
+        """The call is refused so, and leaves every octet of the table."""
+        before = bytes(self.table._table)
+        with self.assertRaises(abr.Refused) as caught:
+            call(*arguments)
+        self.assertIs(caught.exception.refusal, refusal)
+        self.assertEqual(bytes(self.table._table), before)
+
+    def opened(self, cells=0):
+        """VCI 32 on VPI 1, with so many data cells."""
+        self.assertEqual(self.table.open(1, 32, 0, HOUSE), 1)
+        if cells:
+            self.assertEqual(self.table.offer(1, 32, cells), abr.COMPARISONS_MAX)
+
+    def kinds(self, *times):
+        """What the slots at these times send."""
+        return [sent and sent.kind for sent in map(self.table.slot, times)]
+
+
+class Connections(Calls):
+    def test_open_and_close(self):
+        self.opened(7)
+        self.refused(Refusal.ALREADY_OPEN, self.table.open, 1, 32, 0, HOUSE)
+        self.refused(Refusal.LOW_VCI, self.table.open, 1, 31, 0, HOUSE)
+        self.refused(Refusal.RANGE, self.table.open, 256, 32, 0, HOUSE)
+        self.refused(Refusal.TBE, self.table.open, 2, 32, 0, replace(HOUSE, tbe=0))
+        self.refused(Refusal.FRTT, self.table.open, 2, 32, 0, replace(HOUSE, frtt=abr.FRTT_MAX + 1))
+        self.refused(Refusal.TIME, self.table.open, 2, 32, abr.TIME_MAX + 1, HOUSE)
+        self.assertEqual(self.table.close(1, 32), abr.Closed(cells=7, comparisons=10))
+        self.refused(Refusal.NOT_OPEN, self.table.close, 1, 32)
+
+    def test_offers_fill_a_connection(self):
+        self.opened(abr.WAITING_MAX)
+        self.refused(Refusal.TOO_MUCH_DATA, self.table.offer, 1, 32, 1)
+        self.refused(Refusal.NOT_OPEN, self.table.offer, 0, 65_568, 1)  # not 1 and 32
+
+    def test_slots_and_the_next_ready_instant(self):
+        self.assertIsNone(self.table.next())
+        self.assertIsNone(self.table.slot(0))
+        self.opened(2)
+        self.assertEqual(self.table.next(), 0)
+        sent = self.table.slot(5)
+        self.assertEqual(sent[:4], (Kind.FORWARD, 1, 32, RATE))
+        self.assertEqual(abr.read(sent.cell), Rm(1, 32, er=THOUSAND, ccr=THOUSAND, mcr=0x4000))
+        self.assertEqual(self.table.next(), 5 + MS)
+        self.assertIsNone(self.table.slot(4 + MS))
+        self.assertEqual(self.table.slot(5 + MS), abr.Sent(Kind.DATA, 1, 32, RATE, None, 10))
+        self.refused(Refusal.TIME_BACKWARD, self.table.slot, 4 + MS)
+
+    def test_feedback_moves_the_rate(self):
+        self.opened()
+        self.assertEqual(self.table.acr(1, 32), abr.Allowed(acr=RATE, change=0))
+        self.assertEqual(self.table.receive(abr.write_rm(Rm(1, 32, dir=1, ci=1, er=0x7FFF))), 1)
+        self.assertEqual(self.table.acr(1, 32), abr.Allowed(acr=480_000, change=-32_000))
+        self.refused(Refusal.NOT_OPEN, self.table.acr, 1, 33)
+        self.refused(Refusal.NOT_OPEN, self.table.receive, abr.write_rm(Rm(2, 32, dir=1)))
+
+    def test_a_cell_is_turned_and_one_is_made(self):
+        self.opened()
+        self.refused(Refusal.NOT_CONGESTED, self.table.make, 1, 32, 0)
+        self.table.set_level(2)
+        self.refused(Refusal.TOO_LARGE, self.table.set_level, 3)
+        self.assertEqual(self.table.receive(abr.write_rm(Rm(1, 32, er=0x4000, ccr=0x4000, mcr=0x4000))), 10)
+        self.assertEqual(self.table.make(1, 32, 0), 10)
+        self.refused(Refusal.TOO_SOON, self.table.make, 1, 32, abr.MAKE_INTERVAL - 1)
+        self.assertIs(self.table.slot(0).kind, Kind.FORWARD)
+        turned, made = self.table.slot(MS), self.table.slot(2 * MS)
+        self.assertEqual((turned.kind, made.kind), (Kind.TURNED, Kind.TURNED))
+        self.assertEqual(abr.read(turned.cell), Rm(1, 32, dir=1, ci=1, er=0x4000, ccr=0x4000, mcr=0x4000))
+        self.assertEqual(abr.read(made.cell), Rm(1, 32, dir=1, bn=1, ci=1, er=THOUSAND))
+
+    def test_out_of_rate_cells_at_rate_0(self):
+        self.table.open(1, 32, 0, abr.Params.house(THOUSAND, 0, 0))
+        self.assertEqual(self.table.offer(1, 32, 1), 1)
+        self.assertIsNone(self.table.next())
+        cell = self.table.out_of_rate(1, 32, 9)
+        self.assertEqual(abr.read(cell), Rm(1, 32, er=THOUSAND))
+        self.assertEqual(cell[3] & 1, 1)  # CLP
+        self.refused(Refusal.TOO_OFTEN, self.table.out_of_rate, 1, 32, 8 + abr.OUT_OF_RATE_INTERVAL)
+
+    def test_a_path_and_its_members(self):
+        self.assertEqual(self.table.open_path(7, 0, HOUSE), 1)
+        for vci in (50, 40):
+            self.assertIsNone(self.table.add(7, vci))
+            self.assertEqual(self.table.offer_member(7, vci, 2), 10)
+        self.refused(Refusal.ALREADY_MEMBER, self.table.add, 7, 40)
+        self.refused(Refusal.NOT_A_MEMBER, self.table.offer, 7, abr.PATH_VCI, 1)
+        self.refused(Refusal.NOT_A_MEMBER, self.table.remove, 7, 41)
+        sent = [self.table.slot(time * MS)[:3] for time in range(3)]
+        self.assertEqual(sent, [(Kind.FORWARD, 7, 6), (Kind.DATA, 7, 40), (Kind.DATA, 7, 50)])
+        self.assertEqual(self.table.remove(7, 40), abr.Closed(cells=1, comparisons=10))
+        self.assertEqual(self.table.acr(7, abr.PATH_VCI).acr, RATE)
+        self.assertEqual(self.table.close(7, abr.PATH_VCI).cells, 1)
+
+    def test_the_setup_lowers_the_initial_rate_and_the_export_does_not_show_it(self):
+        self.table.open(1, 32, 0, replace(HOUSE, tbe=64, frtt=128_000))
+        self.assertEqual(self.table.acr(1, 32).acr, 256_000)
+        self.assertEqual(self.table.export(1, 32), abr.Contract(pcr=1000.0, mcr=1.0, icr=1000.0))
+        self.refused(Refusal.NOT_OPEN, self.table.export, 1, 33)
+
+    def test_a_copy_is_another_table(self):
+        self.opened(2)
+        other = self.table.copy()
+        self.assertEqual(other.slot(0), self.table.copy().slot(0))
+        self.assertEqual((self.table.next(), other.next()), (0, MS))
+
+
+class WithoutATable(unittest.TestCase):
+    def refused(self, refusal, call, *arguments):
+        with self.assertRaises(abr.Refused) as caught:
+            call(*arguments)
+        self.assertIs(caught.exception.refusal, refusal)
+
+    def test_codes_and_rates(self):
+        self.assertEqual((abr.code(RATE), abr.code(511), abr.code(abr.RATE_MAX)), (THOUSAND, 0, abr.CODE_MAX))
+        self.assertEqual((abr.rate(0x4000), abr.rate(abr.CODE_MAX)), (512, abr.RATE_MAX))
+        self.refused(Refusal.TOO_LARGE, abr.code, abr.RATE_MAX + 1)
+        self.refused(Refusal.RESERVED_BIT, abr.rate, 0x8000)
+        self.refused(Refusal.RANGE, abr.rate, 0x10000)
+
+    def test_doubles(self):
+        self.assertEqual(abr.import_rate(1000.75), abr.Imported(THOUSAND, 0.75))
+        self.assertEqual(abr.import_rate(-0.0), abr.Imported(0, 0.0))
+        for cells in (1.0, 1.001953125, 333.3, 4294967295.5, math.nextafter(1000.0, 0)):
+            code, remainder = abr.import_rate(cells)
+            self.assertEqual(abr.rate(code) / abr.RATE_ONE + remainder, cells)
+            self.assertGreaterEqual(remainder, 0)
+        for wrong in (0.5, -1.0, math.nan, math.inf, 2.0**32, 2**32, 5e-324):
+            self.refused(Refusal.DOUBLE, abr.import_rate, wrong)
+
+    def test_every_code_comes_back_from_its_double(self):
+        for code in range(0x4000, 0x8000):
+            self.assertEqual(abr.import_rate(abr.rate(code) / abr.RATE_ONE), (code, 0.0))
+
+    def test_cells(self):
+        rm = Rm(vpi=255, vci=65535, dir=1, bn=0, ci=1, ni=0, ra=1, er=0x4001, ccr=0x5002, mcr=0x6003, ql=1 << 31, sn=7)
+        cell = abr.write_rm(rm)
+        self.assertEqual((len(cell), abr.read(cell)), (abr.CELL_OCTETS, rm))
+        self.refused(Refusal.RANGE, abr.write_rm, replace(rm, vpi=256))
+        self.refused(Refusal.CRC, abr.read, cell[:20] + bytes([cell[20] ^ 1]) + cell[21:])
+        self.refused(Refusal.LENGTH, abr.read, cell[1:])
+        data = bytes([0, 0, 0, 1, 0x52]) + bytes(48)
+        self.assertEqual(abr.read(data), abr.Data(vpi=0, vci=0, efci=0))
+
+    def test_shares_and_ports(self):
+        self.assertEqual(abr.fair_share(10, [2, 8, 8]), 4)
+        self.assertEqual(abr.fair_share(0, [1]), 0)
+        self.assertIsNone(abr.fair_share(18, (2, 8, 8)))
+        self.assertIsNone(abr.fair_share(0, iter([])))
+        self.refused(Refusal.DEMANDS, abr.fair_share, 0, [0] * 1025)
+        self.refused(Refusal.DEMAND, abr.fair_share, 0, [abr.RATE_MAX + 1])
+        backward, forward = (abr.write_rm(Rm(1, 32, dir=way, er=0x7FFF)) for way in (1, 0))
+        self.assertEqual(abr.read(abr.port(2 * RATE, [RATE, 9 * RATE], backward)).er, THOUSAND)
+        self.assertEqual(abr.port(2 * RATE, [RATE, RATE], backward), backward)
+        self.assertEqual(abr.limit(RATE, forward), forward)
+        self.assertEqual(abr.limit(RATE, backward), abr.write_rm(Rm(1, 32, dir=1, er=THOUSAND)))
+        self.refused(Refusal.LENGTH, abr.port, 0, [], b"")
+
+    def test_the_judge(self):
+        trace = bytes([5, 7, 0, 1, 0, 0xC0, 0x84, 0x3D, 3, 0x80, 0xA0, 0x1F])
+        self.assertIsNone(abr.judge(trace))
+        early = trace[:5] + bytes([trace[5] - 1]) + trace[6:]
+        self.assertEqual(abr.judge(early), abr.Breach(cell=2, rule=abr.Rule.GAP))
+        self.refused(Refusal.TRACE_END, abr.judge, b"")
+        self.refused(Refusal.TRACE_NUMBER, abr.judge, b"\x85\x00")
+        self.refused(Refusal.TRACE_RANGE, abr.judge, b"\x09")
+
+    def test_a_refusal_has_number_and_text(self):
+        refused = abr.Refused(11)
+        self.assertEqual((refused.number, refused.text), (11, "connection is not open"))
+        self.assertEqual(str(refused), "refused (11): connection is not open")
+        self.assertEqual(pickle.loads(pickle.dumps(refused)).refusal, Refusal.NOT_OPEN)
+
+
+class Example(unittest.TestCase):
+    def test_the_plan_prints_what_it_should(self):
+        plan = Path(__file__).resolve().parents[1] / "examples/plan.py"
+        run = subprocess.run([sys.executable, plan], capture_output=True, text=True, check=True)
+        self.assertEqual(run.stdout, plan.with_suffix(".out").read_text())

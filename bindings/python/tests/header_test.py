@@ -1,0 +1,122 @@
+"""The binding compared with include/abr.h: functions with their types, structs, numbers and texts."""
+
+import ast
+import ctypes
+from pathlib import Path
+import re
+import unittest
+import unittest.mock
+
+import abr
+from abr import c
+
+ROOT = Path(__file__).resolve().parents[3]
+HEADER = (ROOT / "include/abr.h").read_text()
+PACKAGE = Path(abr.__file__).parent
+
+# C's types but for the structs. Octets that a call only reads are passed as bytes.
+TYPES = {
+    "uint32_t": ctypes.c_uint32,
+    "uint64_t": ctypes.c_uint64,
+    "int64_t": ctypes.c_int64,
+    "size_t": ctypes.c_size_t,
+    "double": ctypes.c_double,
+    "const uint8_t *": ctypes.c_char_p,
+    "uint8_t *": ctypes.POINTER(ctypes.c_uint8),
+    "uint32_t *": ctypes.POINTER(ctypes.c_uint32),
+    "const uint64_t *": ctypes.POINTER(ctypes.c_uint64),
+    "abr_table *": ctypes.POINTER(c.abr_table),
+    "const abr_table *": ctypes.POINTER(c.abr_table),
+}
+
+
+def c_type(declared):
+    """The type of a declaration without its name."""
+    return TYPES.get(declared) or getattr(c, declared)
+
+
+def prototypes():
+    """Of each function of the header what it returns and its arguments."""
+    found = {}
+    for returned, name, arguments in re.findall(r"^(?:ABR_MUST_USE )?(\w+) (abr_\w+)\((.*)\);$", HEADER, re.M):
+        declared = [] if arguments == "void" else [re.sub(r"\w+$", "", each).strip() for each in arguments.split(", ")]
+        found[name] = (c_type(returned), [c_type(each) for each in declared])
+    return found
+
+
+def defined(prefix=""):
+    """The numbers that the header defines under names with a prefix, and the comment beside each."""
+    lines = re.findall(rf"^#define ABR_{prefix}(\w+) (?:UINT64_C\()?(0x[0-9A-Fa-f]+|\d+)[u)](?: +/\* (.*) \*/)?$", HEADER, re.M)
+    return {name: (int(number, 0), comment) for name, number, comment in lines}
+
+
+class Header(unittest.TestCase):
+    def test_every_function_is_declared_with_its_types_and_no_other(self):
+        self.assertEqual(prototypes(), c.FUNCTIONS)
+        self.assertEqual(len(c.FUNCTIONS), 27)
+
+    def test_every_function_is_called_by_the_binding(self):
+        called = set()
+        for path in PACKAGE.glob("*.py"):
+            for node in ast.walk(ast.parse(path.read_text())):
+                if isinstance(node, ast.Attribute) and node.attr.startswith("abr_"):
+                    called.add(node.attr)
+        self.assertEqual(called | {"abr_version", "abr_table_words"}, set(prototypes()))
+
+    def test_every_struct_has_its_fields_in_order(self):
+        structs = re.findall(r"^typedef struct \{\n(.*?)^\} (abr_\w+);", HEADER, re.M | re.S)
+        self.assertEqual(len(structs), 14)
+        for body, name in structs:
+            fields = re.findall(r"^    (\w+) (\w+)(?:\[(\w+)\])?;", body, re.M)
+            expected = [(field, c_type(kind) * c.TABLE_WORDS if count else c_type(kind)) for kind, field, count in fields]
+            self.assertEqual(getattr(c, name)._fields_, expected, name)
+
+    def test_sizes_and_offsets_are_those_of_c(self):
+        sizes = re.findall(r"^ABR_LAYOUT\(\w+, sizeof\((\w+)\) == ([\w* ]+)\);", HEADER, re.M)
+        self.assertEqual(len(sizes), 14)
+        for name, size in sizes:
+            expected = 8 * abr.TABLE_WORDS if name == "abr_table" else int(size)
+            self.assertEqual(ctypes.sizeof(getattr(c, name)), expected, name)
+        offsets = re.findall(r"^ABR_LAYOUT\(\w+, offsetof\((\w+), (\w+)\) == (\d+)\);", HEADER, re.M)
+        self.assertGreater(len(offsets), 20)
+        for name, field, offset in offsets:
+            self.assertEqual(getattr(getattr(c, name), field).offset, int(offset), f"{name}.{field}")
+
+    def test_the_constants(self):
+        others = ("REFUSED_", "RULE_", "SENT_", "HOUSE_")
+        numbers = {name: number for name, (number, _) in defined().items() if not name.startswith(others)}
+        for name in ("OK", "CELL_DATA", "CELL_RM"):
+            del numbers[name]
+        self.assertGreater(len(numbers), 20)
+        constants = {name: value for name, value in vars(abr.constants).items() if name.isupper()}
+        self.assertEqual(constants, numbers)
+
+    def test_the_refusals_with_their_texts(self):
+        self.assertEqual(defined("REFUSED_"), {each.name: (each.value, each.text) for each in abr.Refusal})
+
+    def test_kinds_and_rules(self):
+        sent = {name: number for name, (number, _) in defined("SENT_").items() if name != "IDLE"}
+        self.assertEqual(sent, {each.name: each.value for each in abr.Kind})
+        rules = {name: number for name, (number, _) in defined("RULE_").items() if name != "NONE"}
+        self.assertEqual(rules, {each.name: each.value for each in abr.Rule})
+        self.assertEqual(defined("CELL_")["RM"][0], abr.cell.RM)
+
+    def test_the_house_set(self):
+        house = abr.Params.house(3, 2, 1)
+        self.assertEqual((house.pcr, house.mcr, house.icr), (3, 2, 1))
+        for name, (number, _) in defined("HOUSE_").items():
+            self.assertEqual(getattr(house, name.lower()), number, name)
+
+
+class Loading(unittest.TestCase):
+    def test_another_version_or_table_is_not_loaded(self):
+        for name, wrong in (("VERSION", abr.VERSION + 1), ("TABLE_WORDS", abr.TABLE_WORDS + 1)):
+            with self.subTest(name), unittest.mock.patch.object(c, name, wrong):
+                self.assertRaisesRegex(ImportError, "another version", c.load, c.path())
+
+    def test_where_the_shared_object_is_looked_for(self):
+        with unittest.mock.patch.dict("os.environ", {"ABR_SHARED": "x/y.so"}):
+            self.assertEqual(c.path(), "x/y.so")
+        with unittest.mock.patch.dict("os.environ"):
+            del c.os.environ["ABR_SHARED"]
+            self.assertEqual(c.path(), "libabr.so.0.16")
