@@ -4,6 +4,7 @@
 #   make demo               two connections, slot by slot, and pictures: of them, and of ten sources at a port
 #   make test               the gate: proofs, then every test
 #   make tools              abr-judge and abr-trace, in target/cargo/release
+#   make transmitter        a whole transmitter, both ends of a link, and its picture; make demo runs it too
 #   make install PREFIX=    library, as an archive and as a shared object linked from it, header and abr.pc
 #   make dist               the tarball that is sold; only of a commit for which make test has passed
 #   make bench              the cost of each call, library and reference
@@ -47,6 +48,15 @@ test:
 tools: $(LIB_GOAL)
 	cargo build --release --quiet -p tools
 	@echo "target/cargo/release/abr-judge and abr-trace; --help says how they are called"
+
+.PHONY: transmitter
+demo: transmitter
+transmitter: $(LIB_GOAL)
+	@mkdir -p $(BUILD)
+	$(CC) -std=c99 $(CFLAGS) -Iinclude examples/transmitter.c $(LIB) -o $(BUILD)/transmitter
+	$(BUILD)/transmitter $(BUILD)/transmitter.numbers
+	cargo run --release --quiet -p picture --bin draw_transmitter -- $(BUILD)/transmitter.numbers >$(BUILD)/transmitter.svg
+	@echo "The allowed rates of three connections, and the queue of the network: $(BUILD)/transmitter.svg"
 
 $(BUILD)/abr.pc: abr.pc.in Makefile FORCE
 	@mkdir -p $(BUILD)

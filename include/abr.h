@@ -2,8 +2,9 @@
  * abr.h: the ABR end-system rate engine.
  *
  * A transmitter asks once per cell slot which of up to 1,024 connections of one
- * link sends, what kind of cell, and what rate it is allowed afterwards. The
- * sections named below are those of document 01, "The ABR end-system rate
+ * link sends, what kind of cell, and what rate it is allowed afterwards. The manual,
+ * docs/MANUAL.md, says all that a caller needs beside this header. For whoever has
+ * the sources: the sections named below are those of document 01, "The ABR end-system rate
  * engine", which says what every call does, with requests L1 (abr_make), L2
  * (marks of a replaced cell), L4 (1,024 connections, comparisons), L5 (no minimum
  * rate, abr_out_of_rate), L6 (full addresses), L7 (the reserved bit of a rate code),

@@ -174,14 +174,14 @@ fn the_layouts_are_those_of_the_header() {
     assert_eq!(offset_of!(ffi::abr_verdict, cell), 8);
 }
 
-/// Header and INTEGRATION.md say how many octets a table has.
+/// Header and manual say how many octets a table has.
 #[test]
 fn the_size_of_a_table_is_said() {
     let octets = size_of::<ffi::abr_table>();
     let words = format!("{},{:03} octets", octets / 1_000, octets % 1_000);
     assert_eq!(HEADER.matches(&words).count(), 2, "{words} in abr.h");
-    let page = include_str!("../../../docs/INTEGRATION.md");
-    assert!(page.contains(&words), "{words} in INTEGRATION.md");
+    let page = include_str!("../../../docs/MANUAL.md");
+    assert!(page.contains(&words), "{words} in MANUAL.md");
 }
 
 /// The names of the functions that lines declare, each the word before its

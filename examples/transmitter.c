@@ -1,0 +1,499 @@
+/*
+ * A whole transmitter, twice: both ends of a link of 10,000 cells per second each way, with a network between them.
+ * Three connections are open at both ends. The near end sends most of the data, one connection steadily, one in bursts,
+ * one without a minimum rate; the far end sends a little, and turns the near end's RM cells round. The network delays
+ * cells by 5 ms each way. Towards the far end it has room for 6,000 cells per second, for a while for 1,500 only: it
+ * marks data cells (EFCI) while cells queue, and writes explicit rates into the backward cells on their way to the near
+ * end. For a while the far end's memory is short, and for a while the network gives the third connection a rate of 0.
+ *
+ *   transmitter          prints what happened, a line every 20 ms
+ *   transmitter FILE     and writes the numbers of a picture to a file
+ *
+ * Every answer is checked. A refusal that should not be ends the program.
+ */
+#include <inttypes.h>
+#include <stdio.h>
+#include <stdlib.h>
+#include <string.h>
+
+#include "abr.h"
+
+#define US UINT64_C(1000)
+#define MS UINT64_C(1000000)
+#define SLOT (100 * US)
+#define DELAY (5 * MS)
+#define END (600 * MS)
+#define LINE 4096u /* cells that a line holds */
+
+enum { NEAR, FAR, ENDS };
+enum { STEADY, BURSTS, LATE, CONNECTIONS };
+enum { LITTLE_ROOM, SHORT_MEMORY, NO_RATE, PHASES };
+
+/* Times of trouble. */
+static const struct {
+    uint64_t from, to;
+    const char *name;
+} phases[PHASES] = {
+    {200 * MS, 300 * MS, "room for 1,500"},
+    {340 * MS, 380 * MS, "far memory short"},
+    {410 * MS, 460 * MS, "rate 0 for 1/100"},
+};
+
+/* A connection at one end, beside what the engine has of it: its accounts. */
+typedef struct {
+    uint32_t vpi, vci;
+    int open;
+    uint64_t offered, closed;      /* data cells */
+    uint64_t sent[4], outside;     /* cells by ABR_SENT_..., and out of rate */
+    uint64_t next_out, next_in;    /* numbers of data cells */
+} connection;
+
+/* Cells on their way, each with the time of its arrival, in the order in which they arrive. */
+typedef struct {
+    uint64_t arrival[LINE];
+    uint8_t cell[LINE][ABR_CELL_OCTETS];
+    size_t first, count;
+} line;
+
+typedef struct {
+    const char *name;
+    abr_table table;
+    connection connections[CONNECTIONS];
+    line in;
+    uint64_t unknown; /* received cells of connections that are not open */
+    uint64_t idle;    /* slots */
+} station;
+
+static station ends[ENDS] = {{.name = "near"}, {.name = "far"}};
+
+/* The network: when its queue will be empty, who sent data when, and the cells that it marked. */
+static uint64_t queue_end, last_data[CONNECTIONS], marked;
+
+/* ---- Checks ------------------------------------------------------------- */
+
+static void fail(const char *what, const char *why)
+{
+    fprintf(stderr, "%s: %s\n", what, why);
+    exit(1);
+}
+
+static void accepted(const char *what, uint32_t refusal)
+{
+    if (refusal != ABR_OK) {
+        fail(what, abr_refusal_text(refusal));
+    }
+}
+
+static void must(int condition, const char *what)
+{
+    if (!condition) {
+        fail(what, "not so");
+    }
+}
+
+/* ---- Rates and octets --------------------------------------------------- */
+
+/* The least code whose rate is not below this one, for what was sold. */
+static uint32_t code_up(uint64_t rate)
+{
+    abr_coded coded = abr_code(rate);
+    accepted("code", coded.refusal);
+    abr_rated rated = abr_rate(coded.code);
+    accepted("rate", rated.refusal);
+    if (rated.rate == rate) {
+        return coded.code;
+    }
+    return coded.code == 0 ? 0x4000 : coded.code + 1;
+}
+
+/* Octet 5 of a header: the remainder of octets 1 to 4, times x^8, by x^8 + x^2 + x + 1, exclusive-or 0x55. */
+static uint8_t header_check(const uint8_t *header)
+{
+    uint8_t remainder = 0;
+    for (int octet = 0; octet < 4; octet++) {
+        remainder ^= header[octet];
+        for (int bit = 0; bit < 8; bit++) {
+            remainder = (uint8_t)(remainder & 0x80 ? remainder << 1 ^ 0x07 : remainder << 1);
+        }
+    }
+    return remainder ^ 0x55;
+}
+
+/* The header of a data cell: GFC 0, CLP 0, payload type 0, or 2 with the congestion mark. */
+static void write_header(uint8_t *cell, uint32_t vpi, uint32_t vci, int efci)
+{
+    cell[0] = (uint8_t)(vpi >> 4);
+    cell[1] = (uint8_t)(vpi << 4 | vci >> 12);
+    cell[2] = (uint8_t)(vci >> 4);
+    cell[3] = (uint8_t)(vci << 4 | (efci ? 2u : 0u) << 1);
+    cell[4] = header_check(cell);
+}
+
+/* A data cell: its header, and its number as payload. */
+static void write_data(uint8_t *cell, uint32_t vpi, uint32_t vci, uint64_t number)
+{
+    memset(cell, 0, ABR_CELL_OCTETS);
+    write_header(cell, vpi, vci, 0);
+    memcpy(cell + 5, &number, sizeof number);
+}
+
+/* ---- The network -------------------------------------------------------- */
+
+static void put(line *to, uint64_t arrival, const uint8_t *cell)
+{
+    must(to->count < LINE, "a line has room");
+    size_t place = (to->first + to->count++) % LINE;
+    to->arrival[place] = arrival;
+    memcpy(to->cell[place], cell, ABR_CELL_OCTETS);
+}
+
+/* The connection of a pair at an end. */
+static connection *at(station *end, uint32_t vpi, uint32_t vci)
+{
+    for (int which = 0; which < CONNECTIONS; which++) {
+        connection *found = &end->connections[which];
+        if (found->vpi == vpi && found->vci == vci) {
+            return found;
+        }
+    }
+    fail("a connection", "not known");
+    return NULL;
+}
+
+static int during(int phase, uint64_t now)
+{
+    return now >= phases[phase].from && now < phases[phase].to;
+}
+
+/* What the network has room for towards the far end, in cells per second. */
+static uint64_t room(uint64_t now)
+{
+    return during(LITTLE_ROOM, now) ? 1500 : 6000;
+}
+
+/* The cells that have not left the queue. */
+static uint64_t queue_length(uint64_t now)
+{
+    const line *to = &ends[FAR].in;
+    uint64_t length = 0;
+    for (size_t place = 0; place < to->count; place++) {
+        length += to->arrival[(to->first + place) % LINE] > now + DELAY;
+    }
+    return length;
+}
+
+/* A cell from the near end waits its turn, is marked if many wait, and arrives. */
+static void towards_far(uint64_t now, uint8_t *cell)
+{
+    abr_cell read = abr_read(cell, ABR_CELL_OCTETS);
+    accepted("read", read.refusal);
+    if (read.kind == ABR_CELL_DATA) {
+        last_data[at(&ends[NEAR], read.rm.vpi, read.rm.vci) - ends[NEAR].connections] = now;
+        if (queue_length(now) > 25) {
+            write_header(cell, read.rm.vpi, read.rm.vci, 1);
+            marked++;
+        }
+    }
+    queue_end = (queue_end > now ? queue_end : now) + 1000 * MS / room(now);
+    put(&ends[FAR].in, queue_end + DELAY, cell);
+}
+
+/* The explicit rate for those that sent data in the last 20 ms: a fair share of 15/16 of the room. */
+static abr_share share(uint64_t now)
+{
+    uint64_t demands[CONNECTIONS];
+    size_t count = 0;
+    for (int which = 0; which < CONNECTIONS; which++) {
+        if (last_data[which] != 0 && now - last_data[which] < 20 * MS) {
+            demands[count++] = 5000 * ABR_RATE_ONE;
+        }
+    }
+    abr_share found = abr_fair_share(room(now) * ABR_RATE_ONE * 15 / 16, demands, count);
+    accepted("share", found.refusal);
+    return found;
+}
+
+/* A cell from the far end; if it is a backward one, its explicit rate is limited. */
+static void towards_near(uint64_t now, uint8_t *cell)
+{
+    abr_share limit = share(now);
+    abr_cell read = abr_read(cell, ABR_CELL_OCTETS);
+    accepted("read", read.refusal);
+    if (during(NO_RATE, now) && read.rm.vpi == 1) {
+        accepted("limit", abr_limit(0, cell, ABR_CELL_OCTETS));
+    } else if (limit.limited) {
+        accepted("limit", abr_limit(limit.rate, cell, ABR_CELL_OCTETS));
+    }
+    put(&ends[NEAR].in, now + DELAY, cell);
+}
+
+static void send(station *from, uint64_t now, uint8_t *cell)
+{
+    if (from == &ends[NEAR]) {
+        towards_far(now, cell);
+    } else {
+        towards_near(now, cell);
+    }
+}
+
+/* ---- The transmitter ---------------------------------------------------- */
+
+/* In an idle slot, a connection whose rate is 0 asks for one. */
+static void ask_for_a_rate(station *end, uint64_t now)
+{
+    for (int which = 0; which < CONNECTIONS; which++) {
+        connection *it = &end->connections[which];
+        uint8_t cell[ABR_CELL_OCTETS];
+        if (!it->open) {
+            continue;
+        }
+        abr_allowed allowed = abr_acr(&end->table, it->vpi, it->vci);
+        accepted("acr", allowed.refusal);
+        if (allowed.acr == 0) {
+            uint32_t refusal = abr_out_of_rate(&end->table, it->vpi, it->vci, now, cell, sizeof cell);
+            if (refusal == ABR_OK) {
+                it->outside++;
+                send(end, now, cell);
+                return; /* the slot is used */
+            }
+            must(refusal == ABR_REFUSED_TOO_OFTEN, "an out-of-rate cell");
+        }
+    }
+}
+
+/* One slot of the link. Before the earliest ready instant it is idle, and the engine need not be asked. */
+static void transmit(station *end, uint64_t now)
+{
+    uint8_t cell[ABR_CELL_OCTETS];
+    if (now < abr_next(&end->table)) {
+        end->idle++;
+        ask_for_a_rate(end, now);
+        return;
+    }
+    abr_sent sent = abr_slot(&end->table, now, cell, sizeof cell);
+    accepted("slot", sent.refusal);
+    must(sent.kind != ABR_SENT_IDLE, "who is ready sends");
+    connection *it = at(end, sent.vpi, sent.vci);
+    it->sent[sent.kind]++;
+    if (sent.kind == ABR_SENT_DATA) {
+        write_data(cell, sent.vpi, sent.vci, it->next_out++);
+    }
+    send(end, now, cell);
+}
+
+/* A data cell arrived: none was lost before it. */
+static void take_data(connection *it, const uint8_t *cell)
+{
+    uint64_t number;
+    memcpy(&number, cell + 5, sizeof number);
+    must(number == it->next_in, "data in order");
+    it->next_in++;
+}
+
+/* All cells that have arrived. Those of a connection that was closed are refused, and no others. */
+static void receive(station *end, uint64_t now)
+{
+    line *in = &end->in;
+    while (in->count > 0 && in->arrival[in->first] <= now) {
+        const uint8_t *cell = in->cell[in->first];
+        abr_cell read = abr_read(cell, ABR_CELL_OCTETS);
+        accepted("read", read.refusal);
+        connection *it = at(end, read.rm.vpi, read.rm.vci);
+        uint32_t refusal = abr_receive(&end->table, cell, ABR_CELL_OCTETS).refusal;
+        must(refusal == (it->open ? ABR_OK : ABR_REFUSED_NOT_OPEN), "who is open receives");
+        if (!it->open) {
+            end->unknown++;
+        } else if (read.kind == ABR_CELL_DATA) {
+            take_data(it, cell);
+        }
+        in->first = (in->first + 1) % LINE;
+        in->count--;
+    }
+}
+
+/* ---- What happens when -------------------------------------------------- */
+
+/* Rates in cells per second; Nrm 32, Trm 6.25 ms, ADTF 50 ms, CRM 8. */
+static abr_params contract(uint64_t peak, uint64_t minimum, uint64_t initial)
+{
+    abr_params params = abr_house(code_up(peak * ABR_RATE_ONE), code_up(minimum * ABR_RATE_ONE),
+                                  code_up(initial * ABR_RATE_ONE));
+    params.tbe = 256;
+    params.frtt = 10000;
+    params.adtf = 5;
+    params.trm = 3;
+    return params;
+}
+
+static void open_both(uint64_t now, int which, uint32_t vpi, uint32_t vci, abr_params params)
+{
+    for (int end = NEAR; end <= FAR; end++) {
+        connection *it = &ends[end].connections[which];
+        it->vpi = vpi;
+        it->vci = vci;
+        it->open = 1;
+        accepted("open", abr_open(&ends[end].table, vpi, vci, now, params).refusal);
+    }
+    printf("%5.1f ms  %u/%u is opened\n", (double)now / 1e6, (unsigned)vpi, (unsigned)vci);
+}
+
+static void close_one(uint64_t now, int end, int which)
+{
+    connection *it = &ends[end].connections[which];
+    abr_closed closed = abr_close(&ends[end].table, it->vpi, it->vci);
+    accepted("close", closed.refusal);
+    it->open = 0;
+    it->closed += closed.cells;
+    printf("%5.1f ms  %u/%u is closed at the %s end; %" PRIu64 " data cells waited\n", (double)now / 1e6,
+           (unsigned)it->vpi, (unsigned)it->vci, ends[end].name, closed.cells);
+}
+
+static void offer(int end, int which, uint64_t cells)
+{
+    connection *it = &ends[end].connections[which];
+    accepted("offer", abr_offer(&ends[end].table, it->vpi, it->vci, cells).refusal);
+    it->offered += cells;
+}
+
+static void burst(uint64_t now, int end, int which, uint64_t cells)
+{
+    connection *it = &ends[end].connections[which];
+    offer(end, which, cells);
+    printf("%5.1f ms  %" PRIu64 " cells for %u/%u at the %s end\n", (double)now / 1e6, cells, (unsigned)it->vpi,
+           (unsigned)it->vci, ends[end].name);
+}
+
+/* The far end's memory. At level 2 it does not wait for forward cells, and makes a backward one on each connection. */
+static void set_level(uint64_t now, uint32_t level)
+{
+    station *far = &ends[FAR];
+    accepted("level", abr_set_level(&far->table, level));
+    printf("%5.1f ms  the far end's memory: level %u\n", (double)now / 1e6, (unsigned)level);
+    for (int which = 0; level == 2 && which < CONNECTIONS; which++) {
+        connection *it = &far->connections[which];
+        accepted("make", abr_make(&far->table, it->vpi, it->vci, now).refusal);
+    }
+}
+
+static void connections_at(uint64_t now)
+{
+    if (now == 0) {
+        open_both(now, STEADY, 0, 100, contract(5000, 100, 1000));
+        open_both(now, BURSTS, 0, 101, contract(5000, 100, 1000));
+    } else if (now == 100 * MS) {
+        open_both(now, LATE, 1, 100, contract(5000, 0, 1000));
+        burst(now, NEAR, LATE, 1500);
+    } else if (now == 570 * MS) {
+        close_one(now, NEAR, LATE);
+    } else if (now == 590 * MS) {
+        close_one(now, FAR, LATE);
+    }
+}
+
+static void events_at(uint64_t now)
+{
+    connections_at(now);
+    if (now % MS == 0) {
+        offer(NEAR, STEADY, 3);
+    }
+    if (now % (50 * MS) == 0) {
+        offer(FAR, STEADY, 20);
+    }
+    if (now % (170 * MS) == 30 * MS) {
+        burst(now, NEAR, BURSTS, 150);
+    }
+    if (now == phases[SHORT_MEMORY].from) {
+        set_level(now, 1);
+    } else if (now == phases[SHORT_MEMORY].from + 20 * MS) {
+        set_level(now, 2);
+    } else if (now == phases[SHORT_MEMORY].to) {
+        set_level(now, 0);
+    }
+    for (int phase = 0; phase < PHASES; phase++) {
+        if (now == phases[phase].from || now == phases[phase].to) {
+            printf("%5.1f ms  %s %s\n", (double)now / 1e6, now == phases[phase].from ? "begins:" : "ends:",
+                   phases[phase].name);
+        }
+    }
+}
+
+/* ---- What is shown ------------------------------------------------------ */
+
+/* The allowed rate of a connection of the near end, 0 if it is closed. */
+static uint64_t allowed(int which)
+{
+    connection *it = &ends[NEAR].connections[which];
+    if (!it->open) {
+        return 0;
+    }
+    abr_allowed found = abr_acr(&ends[NEAR].table, it->vpi, it->vci);
+    accepted("acr", found.refusal);
+    return found.acr;
+}
+
+static void show(uint64_t now)
+{
+    printf("%5.1f ms  allowed", (double)now / 1e6);
+    for (int which = 0; which < CONNECTIONS; which++) {
+        printf(" %7.1f", (double)allowed(which) / ABR_RATE_ONE);
+    }
+    printf("   queue %3" PRIu64 "   marked %4" PRIu64 "\n", queue_length(now), marked);
+}
+
+/* For the picture: the phases, and at each millisecond the allowed rates and the queue. */
+static void write_numbers(FILE *numbers, uint64_t now)
+{
+    for (int phase = 0; now == 0 && phase < PHASES; phase++) {
+        fprintf(numbers, "phase %" PRIu64 " %" PRIu64 " %s\n", phases[phase].from, phases[phase].to, phases[phase].name);
+    }
+    if (now % MS == 0) {
+        fprintf(numbers, "%" PRIu64 " %" PRIu64 " %" PRIu64 " %" PRIu64 " %" PRIu64 "\n", now, allowed(STEADY),
+                allowed(BURSTS), allowed(LATE), queue_length(now));
+    }
+}
+
+/* What each connection sent. No data cell is unaccounted for. */
+static void accounts(void)
+{
+    printf("\n               offered    data  closed  forward  turned  out of rate\n");
+    for (int end = NEAR; end <= FAR; end++) {
+        for (int which = 0; which < CONNECTIONS; which++) {
+            connection *it = &ends[end].connections[which];
+            const uint64_t *sent = it->sent;
+            printf("%-4s %u/%u     %7" PRIu64 " %7" PRIu64 " %7" PRIu64 "  %7" PRIu64 " %7" PRIu64 "  %11" PRIu64 "\n",
+                   ends[end].name, (unsigned)it->vpi, (unsigned)it->vci, it->offered, sent[ABR_SENT_DATA], it->closed,
+                   sent[ABR_SENT_FORWARD], sent[ABR_SENT_TURNED], it->outside);
+            must(it->offered == sent[ABR_SENT_DATA] + it->closed, "every data cell is accounted for");
+            must(it->next_out == sent[ABR_SENT_DATA], "a data cell for each data slot");
+        }
+        printf("%-4s had %" PRIu64 " idle slots, and %" PRIu64 " cells of closed connections\n", ends[end].name,
+               ends[end].idle, ends[end].unknown);
+    }
+}
+
+int main(int argc, char **argv)
+{
+    FILE *numbers = argc > 1 ? fopen(argv[1], "w") : NULL;
+    must(argc < 2 || numbers != NULL, "the file for the picture");
+    must(abr_matches(), "header and archive belong together");
+    for (uint64_t now = 0; now < END; now += SLOT) {
+        events_at(now);
+        for (int end = NEAR; end <= FAR; end++) {
+            receive(&ends[end], now);
+            transmit(&ends[end], now);
+        }
+        if (now % (20 * MS) == 0) {
+            show(now);
+        }
+        if (numbers != NULL) {
+            write_numbers(numbers, now);
+        }
+    }
+    for (int end = NEAR; end <= FAR; end++) {
+        close_one(END, end, STEADY);
+        close_one(END, end, BURSTS);
+    }
+    accounts();
+    must(numbers == NULL || fclose(numbers) == 0, "the file for the picture");
+    return 0;
+}

@@ -1,0 +1,706 @@
+/*
+ * The worked examples of docs/MANUAL.md, made by the library: every block that this prints stands in the manual line by
+ * line, and every block of plain text in the manual is printed here or by examples/transmitter.c (tests/manual compares
+ * them). What the manual says in sentences with numbers is a CHECK here. The functions of the manual are in
+ * manual_functions.h, which tests/manual takes out of it.
+ */
+#include <inttypes.h>
+#include <string.h>
+
+#include "abr.h"
+#include "check.h"
+#include "manual_functions.h"
+
+#define MS UINT64_C(1000000)
+#define CELLS(number) ((uint64_t)(number) * ABR_RATE_ONE)
+#define PAIR 0u, 32u /* VPI and VCI of most examples, as two arguments */
+
+static abr_table table;
+static uint8_t cell[ABR_CELL_OCTETS];
+
+/* ---- Short forms of the calls, each of which must be accepted ------------ */
+
+static uint32_t code(uint64_t cells)
+{
+    abr_coded coded = abr_code(CELLS(cells));
+    CHECK(coded.refusal == ABR_OK);
+    return coded.code;
+}
+
+static abr_params house(uint64_t peak, uint64_t minimum, uint64_t initial)
+{
+    return abr_house(code(peak), code(minimum), code(initial));
+}
+
+/* An empty table with one connection, opened at 0. */
+static void begin(abr_params params)
+{
+    memset(&table, 0, sizeof table);
+    CHECK(abr_open(&table, PAIR, 0, params).refusal == ABR_OK);
+}
+
+static void offer(uint64_t cells)
+{
+    CHECK(abr_offer(&table, PAIR, cells).refusal == ABR_OK);
+}
+
+/* Every slot is idle exactly before the earliest ready instant. */
+static abr_sent slot(uint64_t time)
+{
+    int early = time < abr_next(&table);
+    abr_sent sent = abr_slot(&table, time, cell, sizeof cell);
+    CHECK(sent.refusal == ABR_OK && early == (sent.kind == ABR_SENT_IDLE));
+    return sent;
+}
+
+static uint64_t acr(void)
+{
+    abr_allowed allowed = abr_acr(&table, PAIR);
+    CHECK(allowed.refusal == ABR_OK);
+    return allowed.acr;
+}
+
+/* A cell of the example's pair is received, with these fields. */
+static void receive(uint32_t dir, uint32_t bn, uint32_t ci, uint32_t ni, uint32_t er)
+{
+    abr_rm rm = {PAIR, 0, 0, 0, 0, 0, 0, 0, 0, 0, 0};
+    uint8_t octets[ABR_CELL_OCTETS];
+    rm.dir = dir;
+    rm.bn = bn;
+    rm.ci = ci;
+    rm.ni = ni;
+    rm.er = er;
+    CHECK(abr_write_rm(rm, octets, sizeof octets) == ABR_OK);
+    CHECK(abr_receive(&table, octets, sizeof octets).refusal == ABR_OK);
+}
+
+static void forward_arrives(void) { receive(0, 0, 0, 0, ABR_CODE_MAX); }
+
+static void backward_arrives(void) { receive(1, 0, 0, 0, ABR_CODE_MAX); }
+
+static void data_arrives(int efci)
+{
+    uint8_t octets[ABR_CELL_OCTETS] = {0};
+    write_header(octets, PAIR, efci);
+    CHECK(abr_receive(&table, octets, sizeof octets).refusal == ABR_OK);
+}
+
+/* Slots from a time to another, a step apart; how many sent, all of them of one kind. */
+static int run(uint64_t from, uint64_t to, uint64_t step, uint32_t kind)
+{
+    int count = 0;
+    for (uint64_t time = from; time <= to; time += step) {
+        abr_sent sent = slot(time);
+        CHECK(sent.kind == kind || sent.kind == ABR_SENT_IDLE);
+        count += sent.kind == kind;
+    }
+    return count;
+}
+
+/* Octets in hexadecimal, in a row. */
+static void print_octets(const uint8_t *octets, size_t count)
+{
+    for (size_t place = 0; place < count; place++) {
+        printf("%s%02x", place == 0 ? "" : " ", octets[place]);
+    }
+    printf("\n");
+}
+
+/* ---- The line of slots --------------------------------------------------- */
+
+enum { SLOTS = 32, ROWS = 4, WIDTH = 3 };
+
+/* A row of the drawing: a letter for each slot, or a blank; no blanks at its end. */
+static void print_row(const char *name, const char *letters)
+{
+    char row[SLOTS * WIDTH + 1];
+    size_t length = 0;
+    for (int at = 0; at < SLOTS; at++) {
+        length += (size_t)sprintf(row + length, "%c  ", letters[at]);
+    }
+    while (length > 0 && row[length - 1] == ' ') {
+        length--;
+    }
+    row[length] = 0;
+    printf("%-15s%s\n", name, row);
+}
+
+static void print_milliseconds(void)
+{
+    printf("%-15s", "ms");
+    for (int at = 0; at < SLOTS - 2; at += 2) {
+        printf("%-6d", at / 2);
+    }
+    printf("%d\n", SLOTS / 2 - 1);
+}
+
+/* What is done before a slot of the drawing. */
+static void line_events(int at, char *arrives)
+{
+    if (at == 3 || at == 4 || at == 12) {
+        forward_arrives();
+        arrives[at] = 'f';
+    }
+    if (at == 6) {
+        CHECK(abr_offer(&table, 0, 33, 3).refusal == ABR_OK);
+    }
+}
+
+/* Two connections of 1,000 cells per second and a slot every 0.5 ms: 0/32 with Nrm 8, 0/33 with Nrm 4, Trm 6.25 ms. */
+static void line_of_slots(void)
+{
+    static const char letters[] = ".FTD";
+    char arrives[SLOTS], lower[SLOTS], upper[SLOTS], since[SLOTS];
+    abr_params params = house(1000, 1, 1000);
+    int k = 0;
+    memset(arrives, ' ', sizeof arrives);
+    memset(since, ' ', sizeof since);
+    params.trm = 3;
+    params.n = 3;
+    begin(params);
+    params.n = 2;
+    CHECK(abr_open(&table, 0, 33, 0, params).refusal == ABR_OK);
+    offer(7);
+    for (int at = 0; at < SLOTS; at++) {
+        line_events(at, arrives);
+        abr_sent sent = slot((uint64_t)at * MS / 2);
+        lower[at] = sent.vci == 33 ? '.' : letters[sent.kind];
+        upper[at] = sent.vci == 33 ? letters[sent.kind] : '.';
+        if (sent.vci == 32) {
+            k = sent.kind == ABR_SENT_FORWARD ? 0 : k + 1;
+            since[at] = (char)('0' + k);
+        }
+    }
+    print_milliseconds();
+    print_row("0/32 receives", arrives);
+    print_row("0/32 sends", lower);
+    print_row("k of 0/32", since);
+    print_row("0/33 sends", upper);
+}
+
+/* ---- Rates and codes ------------------------------------------------------ */
+
+static void print_code(const char *name, uint64_t rate, uint32_t found)
+{
+    abr_rated rated = abr_rate(found);
+    CHECK(rated.refusal == ABR_OK);
+    printf("%-22s rate %13" PRIu64 "   code 0x%04X   its rate %13" PRIu64 "\n", name, rate, (unsigned)found, rated.rate);
+}
+
+static void codes(void)
+{
+    print_code("1 cell/s", CELLS(1), code(1));
+    print_code("1,000 cells/s", CELLS(1000), code(1000));
+    print_code("10,001 cells/s", CELLS(10001), code(10001));
+    print_code("10,001 cells/s, up", CELLS(10001), code_up(CELLS(10001)));
+    print_code("353,207 cells/s", CELLS(353207), code(353207));
+    print_code("353,207 cells/s, up", CELLS(353207), code_up(CELLS(353207)));
+    print_code("less than 1 cell/s", 511, abr_code(511).code);
+    print_code("less than 1, up", 511, code_up(511));
+    print_code("the largest", ABR_RATE_MAX, ABR_CODE_MAX);
+    CHECK(code_up(0) == 0 && code_up(1) == 0x4000 && code_up(ABR_RATE_MAX) == ABR_CODE_MAX);
+    for (uint32_t each = 0x4000; each < ABR_CODE_MAX; each++) {
+        uint64_t below = abr_rate(each).rate, above = abr_rate(each + 1).rate;
+        CHECK(below < above && (above - below) * 512 <= below);
+        CHECK(code_up(below) == each && code_up(below + 1) == each + 1 && code_up(above) == each + 1);
+    }
+    CHECK(abr_code(ABR_RATE_MAX + 1).refusal == ABR_REFUSED_TOO_LARGE);
+    CHECK(abr_rate(0x8000).refusal == ABR_REFUSED_RESERVED_BIT && abr_rate(0x10000).refusal == ABR_REFUSED_RANGE);
+    CHECK(abr_rate(0x3FFF).refusal == ABR_OK && abr_rate(0x3FFF).rate == 0);
+}
+
+/* How long after a cell at this rate the next may go, tried nanosecond by nanosecond around the formula. */
+static uint64_t gap(uint64_t rate)
+{
+    uint64_t nanoseconds = (UINT64_C(512000000000) + rate - 1) / rate;
+    abr_params params = abr_house(ABR_CODE_MAX, 0, abr_code(rate).code);
+    begin(params);
+    offer(9);
+    CHECK(slot(0).kind == ABR_SENT_FORWARD && acr() == rate);
+    CHECK(slot(nanoseconds - 1).kind == ABR_SENT_IDLE);
+    CHECK(slot(nanoseconds).kind == ABR_SENT_DATA);
+    return nanoseconds;
+}
+
+static void gaps(void)
+{
+    CHECK(gap(CELLS(1)) == 1000 * MS && gap(CELLS(3)) == 333333334);
+    CHECK(gap(CELLS(1000)) == MS && gap(CELLS(10000)) == 100000);
+    CHECK(gap(ABR_RATE_MAX) == 1);
+}
+
+/* ---- The four moves ------------------------------------------------------- */
+
+static void print_rate(const char *what, uint64_t rate)
+{
+    printf("%-58s %7" PRIu64 " = %7.1f cells/s\n", what, rate, (double)rate / ABR_RATE_ONE);
+}
+
+static void first_cell(void)
+{
+    begin(house(2000, 100, 1000));
+    offer(9);
+    print_rate("opened with PCR 2,000 and ICR 1,000", acr());
+    backward_arrives();
+    print_rate("a backward cell without marks, ER at its largest", acr());
+    CHECK(slot(0).kind == ABR_SENT_FORWARD);
+    print_rate("the first cell, a forward one", acr());
+}
+
+/* Two data cells after a forward one at 0, then a forward cell at a time; the rate after it. */
+static uint64_t forward_at(uint64_t time)
+{
+    begin(house(2000, 100, 1000));
+    offer(9);
+    CHECK(slot(0).kind == ABR_SENT_FORWARD);
+    for (int cells = 0; cells < 4; cells++) {
+        backward_arrives();
+    }
+    CHECK(acr() == CELLS(1500));
+    CHECK(slot(1 * MS).kind == ABR_SENT_DATA && slot(2 * MS).kind == ABR_SENT_DATA);
+    CHECK(slot(time).kind == ABR_SENT_FORWARD);
+    return acr();
+}
+
+static void idle(void)
+{
+    print_rate("forward cell 500,000,000 ns after the last, ADTF 50", forward_at(500 * MS));
+    print_rate("forward cell 500,000,001 ns after the last, ADTF 50", forward_at(500 * MS + 1));
+}
+
+/* CRM is 2: TBE 64 and Nrm 32. A forward cell whenever 31 others went. */
+static void unanswered(void)
+{
+    abr_params params = house(1000, 100, 1000);
+    uint64_t time = 0;
+    params.tbe = 64;
+    begin(params);
+    offer(1000);
+    for (int number = 1; number <= 5; number++) {
+        char what[80];
+        CHECK(slot(time).kind == ABR_SENT_FORWARD);
+        sprintf(what, "forward cell %d, of which %d had no answer before", number, number - 1);
+        print_rate(what, acr());
+        CHECK(run(time + 2 * MS, time + 62 * MS, 2 * MS, ABR_SENT_DATA) == 31);
+        time += 64 * MS;
+    }
+    receive(1, 1, 0, 1, ABR_CODE_MAX);
+    CHECK(slot(time).kind == ABR_SENT_FORWARD);
+    print_rate("a backward cell with BN 1 and NI 1, then forward cell 6", acr());
+    receive(1, 0, 0, 1, ABR_CODE_MAX);
+    CHECK(run(time + 2 * MS, time + 62 * MS, 2 * MS, ABR_SENT_DATA) == 31);
+    CHECK(slot(time + 64 * MS).kind == ABR_SENT_FORWARD);
+    print_rate("a backward cell with BN 0 and NI 1, then forward cell 7", acr());
+}
+
+/* The rate after one backward cell at 1,000 cells per second, with PCR 2,000, MCR 100, RIF and RDF 1/16. */
+static void print_feedback(const char *what, uint32_t ci, uint32_t ni, uint32_t er)
+{
+    begin(house(2000, 100, 1000));
+    receive(1, 0, ci, ni, er);
+    print_rate(what, acr());
+}
+
+static void feedback(void)
+{
+    print_feedback("CI 0, NI 0, ER largest:  1,000 + 2,000 / 16", 0, 0, ABR_CODE_MAX);
+    print_feedback("CI 0, NI 0, ER 1,050:    no more than ER", 0, 0, code(1050));
+    print_feedback("CI 0, NI 1, ER largest:  as it was", 0, 1, ABR_CODE_MAX);
+    print_feedback("CI 0, NI 1, ER 600:      ER holds with NI too", 0, 1, code(600));
+    print_feedback("CI 1, NI 0, ER largest:  1,000 x 15 / 16", 1, 0, ABR_CODE_MAX);
+    print_feedback("CI 1, NI 1, ER largest:  the same, CI decides", 1, 1, ABR_CODE_MAX);
+    print_feedback("CI 1, NI 0, ER 500:      ER holds with CI too", 1, 0, code(500));
+    print_feedback("CI 0, NI 0, ER 10:       never below MCR", 0, 0, code(10));
+    begin(house(2000, 1, 1000));
+    receive(1, 0, 0, 0, abr_code(1000).code);
+    CHECK(acr() == 1000);
+    receive(1, 0, 1, 0, ABR_CODE_MAX);
+    CHECK(acr() == 937);
+}
+
+/* ---- Setup ---------------------------------------------------------------- */
+
+static void print_setup(uint32_t tbe, uint32_t frtt)
+{
+    abr_params params = house(2000, 100, 1000);
+    uint32_t refusal;
+    params.tbe = tbe;
+    params.frtt = frtt;
+    begin(params);
+    CHECK(abr_export(&table, PAIR, &refusal).icr == 1000.0 && refusal == ABR_OK);
+    printf("TBE %8u  FRTT %8u us   CRM %7u   starts at %7.1f cells/s\n", (unsigned)tbe, (unsigned)frtt,
+           (unsigned)((tbe + 31) / 32), (double)acr() / ABR_RATE_ONE);
+}
+
+static void setup(void)
+{
+    print_setup(16777215, 0);
+    print_setup(64, 0);
+    print_setup(64, 32000);
+    print_setup(64, 128000);
+    print_setup(64, 1280000);
+    print_setup(65, 128000);
+}
+
+/* ---- Marks ---------------------------------------------------------------- */
+
+/* What happens to a destination, a letter each: d and e are data cells without and with EFCI, f a forward cell, c one
+ * with CI 1, n one with NI 1, 0 to 2 the level, m a made cell. */
+static void happens(char letter, uint64_t time)
+{
+    switch (letter) {
+    case 'd': data_arrives(0); break;
+    case 'e': data_arrives(1); break;
+    case 'f': forward_arrives(); break;
+    case 'c': receive(0, 0, 1, 0, ABR_CODE_MAX); break;
+    case 'n': receive(0, 0, 0, 1, ABR_CODE_MAX); break;
+    case 'm': CHECK(abr_make(&table, PAIR, time).refusal == ABR_OK); break;
+    default: CHECK(abr_set_level(&table, (uint32_t)(letter - '0')) == ABR_OK);
+    }
+}
+
+/* The backward cells that a connection sends after some events, by their BN, CI and NI. */
+static void print_marks(const char *events, const char *words)
+{
+    uint64_t time = 0;
+    begin(house(1000, 1, 1000));
+    offer(1);
+    CHECK(slot(time).kind == ABR_SENT_FORWARD);
+    for (; *events != 0; events++) {
+        happens(*events, time);
+    }
+    printf("%-52s", words);
+    for (time = MS; time < 5 * MS; time += MS) {
+        if (slot(time).kind == ABR_SENT_TURNED) {
+            abr_rm rm = abr_read(cell, sizeof cell).rm;
+            CHECK(rm.dir == 1 && rm.er == (rm.bn ? code(1000) : ABR_CODE_MAX));
+            printf("  BN %u CI %u NI %u", (unsigned)rm.bn, (unsigned)rm.ci, (unsigned)rm.ni);
+        }
+    }
+    printf("\n");
+}
+
+static void marks(void)
+{
+    print_marks("ef", "data with EFCI, forward");
+    print_marks("edf", "data with EFCI, data without, forward");
+    print_marks("fe", "forward, data with EFCI");
+    print_marks("eff", "data with EFCI, forward, forward");
+    print_marks("c", "forward with CI");
+    print_marks("n", "forward with NI");
+    print_marks("cf", "forward with CI, forward");
+    print_marks("nf", "forward with NI, forward");
+    print_marks("1f", "level 1, forward");
+    print_marks("2f", "level 2, forward");
+    print_marks("f2", "forward, level 2");
+    print_marks("2f0", "level 2, forward, level 0");
+    print_marks("2f0f", "level 2, forward, level 0, forward");
+    print_marks("2m0f", "level 2, made, level 0, forward");
+    print_marks("e1m", "data with EFCI, level 1, made");
+}
+
+/* The mark of a turned cell that was sent is used up. */
+static void mark_used_up(void)
+{
+    begin(house(1000, 1, 1000));
+    offer(1);
+    CHECK(slot(0).kind == ABR_SENT_FORWARD && slot(MS).kind == ABR_SENT_DATA);
+    data_arrives(1);
+    for (uint64_t time = 2 * MS; time <= 3 * MS; time += MS) {
+        forward_arrives();
+        CHECK(slot(time).kind == ABR_SENT_TURNED);
+        CHECK(abr_read(cell, sizeof cell).rm.ci == (time == 2 * MS));
+    }
+}
+
+/* ---- Octets --------------------------------------------------------------- */
+
+static void print_header(const char *what, uint32_t vpi, uint32_t vci, int efci)
+{
+    uint8_t octets[ABR_CELL_OCTETS] = {0};
+    write_header(octets, vpi, vci, efci);
+    abr_cell read = abr_read(octets, sizeof octets);
+    CHECK(read.refusal == ABR_OK && read.kind == ABR_CELL_DATA && read.efci == (uint32_t)efci);
+    CHECK(read.rm.vpi == vpi && read.rm.vci == vci);
+    printf("%-22s ", what);
+    print_octets(octets, 5);
+}
+
+static void headers(void)
+{
+    print_header("1/100, data", 1, 100, 0);
+    print_header("1/100, data with EFCI", 1, 100, 1);
+    print_header("255/65535, data", 255, 65535, 0);
+    print_header("0/0, unassigned", 0, 0, 0);
+}
+
+/* GFC, CLP and the low bit of the payload type do not matter to a reader. */
+static void ignored_bits(void)
+{
+    uint8_t octets[ABR_CELL_OCTETS] = {0}, idle_cell[ABR_CELL_OCTETS] = {0, 0, 0, 1, 0x52};
+    write_header(octets, 1, 100, 1);
+    octets[0] |= 0xA0;
+    octets[3] |= 0x03;
+    octets[4] = header_check(octets);
+    abr_cell read = abr_read(octets, sizeof octets);
+    CHECK(read.refusal == ABR_OK && read.efci == 1 && read.rm.vpi == 1 && read.rm.vci == 100);
+    CHECK(header_check(idle_cell) == 0x52);
+    memset(&table, 0, sizeof table);
+    CHECK(abr_receive(&table, idle_cell, sizeof idle_cell).refusal == ABR_REFUSED_NOT_OPEN);
+    write_header(octets, 0, 0, 0);
+    CHECK(octets[4] == 0x55 && abr_receive(&table, octets, sizeof octets).refusal == ABR_REFUSED_NOT_OPEN);
+    for (uint8_t type = 4; type < 8; type++) {
+        write_header(octets, 1, 100, 0);
+        octets[3] = (uint8_t)(octets[3] | type << 1);
+        octets[4] = header_check(octets);
+        CHECK(abr_read(octets, sizeof octets).refusal == (type == 6 ? ABR_REFUSED_PROTOCOL : ABR_REFUSED_PAYLOAD_TYPE));
+    }
+}
+
+/* A forward cell of a slot, whole. */
+static void rm_octets(void)
+{
+    begin(house(2000, 100, 1000));
+    offer(1);
+    CHECK(slot(0).kind == ABR_SENT_FORWARD);
+    for (size_t at = 0; at < sizeof cell; at += 16) {
+        printf("octets %2zu to %2zu   ", at + 1, at + 16 < sizeof cell ? at + 16 : sizeof cell);
+        print_octets(cell + at, at + 16 < sizeof cell ? 16 : sizeof cell - at);
+    }
+    abr_rm rm = abr_read(cell, sizeof cell).rm;
+    CHECK(rm.er == code(2000) && rm.ccr == code(1000) && rm.mcr == code(100) && rm.vci == 32);
+    CHECK(!rm.dir && !rm.bn && !rm.ci && !rm.ni && !rm.ra && !rm.ql && !rm.sn);
+}
+
+/* What is turned keeps all but DIR, BN, the marks, the header and the CRC-10: reserved octets too. */
+static void turned_keeps(void)
+{
+    abr_rm rm = {PAIR, 0, 1, 0, 0, 1, 0x5000, 0x4C00, 0x4200, 7, 9}, back;
+    uint8_t octets[ABR_CELL_OCTETS];
+    CHECK(abr_write_rm(rm, octets, sizeof octets) == ABR_OK);
+    begin(house(1000, 1, 1000));
+    CHECK(abr_receive(&table, octets, sizeof octets).refusal == ABR_OK);
+    CHECK(slot(0).kind == ABR_SENT_FORWARD && slot(MS).kind == ABR_SENT_TURNED);
+    back = abr_read(cell, sizeof cell).rm;
+    CHECK(back.dir == 1 && back.bn == 0 && back.ra == 1 && back.ql == 7 && back.sn == 9);
+    CHECK(back.er == rm.er && back.ccr == rm.ccr && back.mcr == rm.mcr && !back.ci && !back.ni);
+    CHECK(memcmp(cell + 7, octets + 7, 44) == 0);
+}
+
+/* ---- When a connection is ready ------------------------------------------- */
+
+/* A late slot is not made up for: the gap counts from the actual last cell, at the rate that holds when it is asked. */
+static void gap_after_the_last(void)
+{
+    begin(house(1000, 1, 1000));
+    CHECK(slot(3 * MS).kind == ABR_SENT_IDLE);
+    offer(9);
+    CHECK(slot(4 * MS + 300000).kind == ABR_SENT_FORWARD && slot(5 * MS).kind == ABR_SENT_IDLE);
+    CHECK(slot(5 * MS + 300000).kind == ABR_SENT_DATA && slot(9 * MS).kind == ABR_SENT_DATA);
+    CHECK(slot(9 * MS).kind == ABR_SENT_IDLE && slot(10 * MS - 1).kind == ABR_SENT_IDLE);
+    receive(1, 0, 0, 0, code(500));
+    CHECK(slot(11 * MS - 1).kind == ABR_SENT_IDLE);
+    receive(1, 0, 0, 0, code(1000));
+    CHECK(acr() == CELLS(500) + CELLS(1000) / 16);
+    CHECK(slot(11 * MS - 1).kind == ABR_SENT_DATA); /* 1.78 ms after the last cell */
+}
+
+/* With nothing waiting: no cell before two went, one at Trm, none after it; and one cell only with Nrm 2. */
+static void nothing_waits(void)
+{
+    abr_params params = house(1000, 1, 1000);
+    begin(params);
+    CHECK(slot(200 * MS).kind == ABR_SENT_IDLE);
+    offer(1);
+    CHECK(slot(200 * MS).kind == ABR_SENT_FORWARD && slot(201 * MS).kind == ABR_SENT_DATA);
+    CHECK(run(202 * MS, 400 * MS, MS, ABR_SENT_FORWARD) == 0);
+    offer(1);
+    CHECK(slot(401 * MS).kind == ABR_SENT_DATA && slot(402 * MS - 1).kind == ABR_SENT_IDLE);
+    CHECK(slot(402 * MS).kind == ABR_SENT_FORWARD); /* Trm has passed long ago, so at the gap */
+    CHECK(run(403 * MS, 900 * MS, MS, ABR_SENT_FORWARD) == 0);
+    params.n = 1;
+    begin(params);
+    offer(1);
+    CHECK(slot(0).kind == ABR_SENT_FORWARD && slot(MS).kind == ABR_SENT_DATA);
+    CHECK(slot(2 * MS).kind == ABR_SENT_FORWARD && slot(3 * MS).kind == ABR_SENT_IDLE);
+}
+
+/* After a long silence the first cells are data at the old rate, until two have gone. */
+static void data_before_the_idle_move(void)
+{
+    begin(house(2000, 100, 1000));
+    offer(1);
+    CHECK(slot(0).kind == ABR_SENT_FORWARD && slot(1 * MS).kind == ABR_SENT_DATA);
+    for (int cells = 0; cells < 9; cells++) {
+        backward_arrives();
+    }
+    CHECK(acr() == CELLS(2000));
+    offer(9);
+    CHECK(slot(1000 * MS).kind == ABR_SENT_DATA && acr() == CELLS(2000));
+    CHECK(slot(1000 * MS + 500000).kind == ABR_SENT_FORWARD && acr() == CELLS(1000));
+}
+
+/* A made cell before the first cell makes the connection ready; the first cell is a forward one all the same. */
+static void made_first(void)
+{
+    begin(house(1000, 1, 1000));
+    CHECK(abr_set_level(&table, 2) == ABR_OK);
+    CHECK(abr_make(&table, PAIR, 0).refusal == ABR_OK);
+    CHECK(slot(0).kind == ABR_SENT_FORWARD && slot(MS).kind == ABR_SENT_TURNED);
+    CHECK(abr_make(&table, PAIR, 100 * MS - 1).refusal == ABR_REFUSED_TOO_SOON);
+    CHECK(abr_make(&table, PAIR, 100 * MS).refusal == ABR_OK);
+}
+
+/* When the next cell goes, after each sort of call. */
+static void sleeping(void)
+{
+    begin(house(1000, 1, 1000));
+    CHECK(abr_next(&table) == ABR_NEVER);
+    offer(2);
+    CHECK(abr_next(&table) == 0);
+    CHECK(slot(3 * MS).kind == ABR_SENT_FORWARD && abr_next(&table) == 4 * MS);
+    CHECK(slot(4 * MS).kind == ABR_SENT_DATA && slot(5 * MS).kind == ABR_SENT_DATA);
+    CHECK(abr_next(&table) == 103 * MS); /* Trm after the forward cell */
+    forward_arrives();
+    CHECK(abr_next(&table) == 6 * MS);
+    receive(1, 0, 0, 0, code(500));
+    CHECK(abr_next(&table) == 7 * MS && slot(8 * MS).kind == ABR_SENT_TURNED);
+    CHECK(abr_close(&table, PAIR).refusal == ABR_OK && abr_next(&table) == ABR_NEVER);
+}
+
+/* ---- Paths ---------------------------------------------------------------- */
+
+static void members(void)
+{
+    abr_params params = house(1000, 1, 1000);
+    memset(&table, 0, sizeof table);
+    CHECK(abr_open_path(&table, 7, 0, params).refusal == ABR_OK);
+    for (uint32_t vci = 40; vci <= 60; vci += 10) {
+        CHECK(abr_add(&table, 7, vci).refusal == ABR_OK);
+        CHECK(abr_offer_member(&table, 7, vci, vci == 50 ? 2 : 4).refusal == ABR_OK);
+    }
+    for (uint64_t time = 0; time <= 10 * MS; time += MS) {
+        abr_sent sent = slot(time);
+        CHECK((sent.kind == ABR_SENT_FORWARD) == (sent.vci == ABR_PATH_VCI));
+        printf("%s7/%u", time == 0 ? "" : "  ", (unsigned)sent.vci);
+    }
+    printf("\n");
+    CHECK(abr_offer(&table, 7, ABR_PATH_VCI, 1).refusal == ABR_REFUSED_NOT_A_MEMBER);
+    CHECK(abr_offer(&table, 7, 40, 1).refusal == ABR_REFUSED_NOT_OPEN);
+    CHECK(abr_open(&table, 7, 40, 10 * MS, params).refusal == ABR_REFUSED_ALREADY_MEMBER);
+    CHECK(abr_open(&table, 7, 41, 10 * MS, params).refusal == ABR_OK);
+    CHECK(abr_remove(&table, 7, 60).cells == 0);
+}
+
+/* ---- A rate of 0 ---------------------------------------------------------- */
+
+static void rate_of_zero(void)
+{
+    begin(house(1000, 0, 1000));
+    offer(9);
+    CHECK(slot(0).kind == ABR_SENT_FORWARD);
+    receive(1, 0, 0, 0, 0);
+    CHECK(acr() == 0 && slot(1000 * MS).kind == ABR_SENT_IDLE);
+    CHECK(abr_out_of_rate(&table, PAIR, 1000 * MS, cell, sizeof cell) == ABR_OK);
+    CHECK((cell[3] & 1) == 1 && abr_read(cell, sizeof cell).rm.ccr == 0);
+    CHECK(abr_out_of_rate(&table, PAIR, 1100 * MS - 1, cell, sizeof cell) == ABR_REFUSED_TOO_OFTEN);
+    CHECK(acr() == 0 && slot(1100 * MS - 1).kind == ABR_SENT_IDLE);
+    backward_arrives();
+    CHECK(acr() == CELLS(1000) / 16 && slot(1100 * MS - 1).kind == ABR_SENT_DATA);
+    CHECK(slot(1100 * MS - 2 + 16 * MS).kind == ABR_SENT_IDLE && slot(1100 * MS - 1 + 16 * MS).kind == ABR_SENT_DATA);
+}
+
+/* ---- When things go wrong ------------------------------------------------- */
+
+/* A time far ahead is accepted and then stands in the way of every earlier one, but of no call without a time. */
+static void time_far_ahead(void)
+{
+    abr_params params = house(1000, 100, 1000);
+    begin(params);
+    offer(9);
+    CHECK(slot(MS).kind == ABR_SENT_FORWARD);
+    CHECK(slot(ABR_TIME_MAX).kind == ABR_SENT_DATA);
+    CHECK(abr_slot(&table, 3 * MS, cell, sizeof cell).refusal == ABR_REFUSED_TIME_BACKWARD);
+    CHECK(abr_open(&table, 0, 33, 3 * MS, params).refusal == ABR_REFUSED_TIME_BACKWARD);
+    CHECK(abr_slot(&table, ABR_TIME_MAX + 1, cell, sizeof cell).refusal == ABR_REFUSED_TIME);
+    backward_arrives();
+    offer(1);
+    CHECK(abr_close(&table, PAIR).cells == 9);
+    CHECK(abr_open(&table, PAIR, 3 * MS, params).refusal == ABR_REFUSED_TIME_BACKWARD);
+    begin(params);
+    CHECK(abr_slot(&table, 3 * MS, cell, sizeof cell).refusal == ABR_OK);
+}
+
+/* After a jump each connection has one cell at once, and the next one a gap later. */
+static void clock_jumps(void)
+{
+    begin(house(1000, 100, 1000));
+    offer(9);
+    CHECK(slot(0).kind == ABR_SENT_FORWARD && slot(MS).kind == ABR_SENT_DATA);
+    CHECK(slot(60000 * MS).kind == ABR_SENT_DATA && slot(60001 * MS - 1).kind == ABR_SENT_IDLE);
+    CHECK(slot(60001 * MS).kind == ABR_SENT_FORWARD);
+}
+
+/* A copy goes on from where it was taken. */
+static void copy_goes_on(void)
+{
+    static abr_table copy;
+    begin(house(1000, 100, 1000));
+    offer(9);
+    CHECK(slot(0).kind == ABR_SENT_FORWARD && slot(MS).kind == ABR_SENT_DATA);
+    memcpy(&copy, &table, sizeof copy);
+    CHECK(slot(5 * MS).kind == ABR_SENT_DATA);
+    CHECK(abr_slot(&copy, 2 * MS, cell, sizeof cell).kind == ABR_SENT_DATA);
+    CHECK(abr_close(&table, PAIR).cells == 7 && abr_close(&copy, PAIR).cells == 7);
+}
+
+/* A time that is checked before it is passed never goes back, and at most a second ahead. */
+static void checked_times(void)
+{
+    CHECK(checked(5 * MS, 4 * MS) == 5 * MS && checked(5 * MS, 6 * MS) == 6 * MS);
+    CHECK(checked(0, 1000 * MS) == 1000 * MS && checked(5, ABR_TIME_MAX) == 1000 * MS + 5);
+}
+
+/* What slots sent, written down as a trace, passes; a data cell too early is the third cell, and breaks rule 2. */
+static void judged(void)
+{
+    uint8_t trace[64];
+    size_t length = put_number(trace, 5);
+    abr_verdict verdict;
+    length += put_number(trace + length, 7);
+    CHECK(abr_judge(trace, length).refusal == ABR_OK);
+    for (uint64_t number = 0; number < 3; number++) {
+        length += put_number(trace + length, number == 0 ? 0 : number == 1 ? MS : MS - 1);
+        length += put_number(trace + length, number == 0 ? ABR_SENT_FORWARD : ABR_SENT_DATA);
+        length += put_number(trace + length, CELLS(1000));
+        verdict = abr_judge(trace, length);
+        CHECK(verdict.refusal == ABR_OK && verdict.rule == (number < 2 ? ABR_RULE_NONE : ABR_RULE_GAP));
+    }
+    CHECK(verdict.cell == 3 && abr_judge(trace, length - 1).refusal == ABR_REFUSED_TRACE_END);
+}
+
+int main(void)
+{
+    static const struct {
+        const char *name;
+        void (*print)(void);
+    } blocks[] = {
+        {"line of slots", line_of_slots}, {"codes", codes},       {"first cell", first_cell},
+        {"idle", idle},                   {"unanswered", unanswered}, {"feedback", feedback},
+        {"setup", setup},                 {"marks", marks},       {"headers", headers},
+        {"RM octets", rm_octets},         {"members", members},
+    };
+    static void (*const checks[])(void) = {
+        gaps,          mark_used_up, ignored_bits,   turned_keeps, gap_after_the_last, nothing_waits,
+        data_before_the_idle_move, made_first, rate_of_zero, time_far_ahead, clock_jumps, copy_goes_on,
+        checked_times, judged, sleeping,
+    };
+    for (size_t each = 0; each < sizeof blocks / sizeof blocks[0]; each++) {
+        printf("-- %s\n", blocks[each].name);
+        blocks[each].print();
+    }
+    for (size_t each = 0; each < sizeof checks / sizeof checks[0]; each++) {
+        checks[each]();
+    }
+    return checks_failed != 0;
+}
