@@ -586,7 +586,7 @@ ABR_MUST_USE abr_sent abr_slot(abr_table *table, uint64_t time, uint8_t *cell, s
  * things stand: none is open, or each one waits for data, a cell or feedback. It may have
  * passed already, if a connection is due and was not served, and it may be after
  * ABR_TIME_MAX, where no slot is accepted.
- * Every accepted call on a connection, for a received cell too, may make it earlier or
+ * Every accepted call on a connection and every received cell may make it earlier or
  * later: ask again after each. Nothing is refused, the table is only read, and no
  * comparison is made.
  */

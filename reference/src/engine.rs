@@ -276,6 +276,11 @@ impl Engine {
         Ok(self.entry(at)?.connection.export())
     }
 
+    /// How many connections are open.
+    pub fn connections(&self) -> usize {
+        self.table.len()
+    }
+
     /// The data cells that wait on a channel, a path or a member; none if it is not open.
     pub fn waiting(&self, at: Address) -> u64 {
         let of_member = self.path_of(at).and_then(|path| path.waiting(at.vci).ok());

@@ -201,6 +201,8 @@ static void the_whole_table(void)
         all_send(&lent.table, i * 1000000, kinds[i]);
     }
     CHECK(abr_next(&lent.table) == 100000000); /* Trm after the forward cells */
+    CHECK(abr_offer(&lent.table, vpi_at(0), vci_at(0), 1).refusal == ABR_OK); /* the one that was opened last */
+    CHECK(abr_next(&lent.table) == 3000000);
     for (int i = 0; i < 8; i++) {
         CHECK(lent.after[i] == 0);
     }

@@ -392,6 +392,7 @@ static void marks(void)
     print_marks("nf", "forward with NI, forward");
     print_marks("1f", "level 1, forward");
     print_marks("2f", "level 2, forward");
+    print_marks("2n", "level 2, forward with NI");
     print_marks("f2", "forward, level 2");
     print_marks("2f0", "level 2, forward, level 0");
     print_marks("2f0f", "level 2, forward, level 0, forward");
@@ -449,6 +450,10 @@ static void ignored_bits(void)
     CHECK(abr_receive(&table, idle_cell, sizeof idle_cell).refusal == ABR_REFUSED_NOT_OPEN);
     write_header(octets, 0, 0, 0);
     CHECK(octets[4] == 0x55 && abr_receive(&table, octets, sizeof octets).refusal == ABR_REFUSED_NOT_OPEN);
+    for (uint32_t vci = 0; vci < ABR_VCI_MIN; vci++) {
+        write_header(octets, 1, vci, 0);
+        CHECK(abr_receive(&table, octets, sizeof octets).refusal == ABR_REFUSED_NOT_OPEN);
+    }
     for (uint8_t type = 4; type < 8; type++) {
         write_header(octets, 1, 100, 0);
         octets[3] = (uint8_t)(octets[3] | type << 1);
@@ -549,6 +554,10 @@ static void made_first(void)
     CHECK(slot(0).kind == ABR_SENT_FORWARD && slot(MS).kind == ABR_SENT_TURNED);
     CHECK(abr_make(&table, PAIR, 100 * MS - 1).refusal == ABR_REFUSED_TOO_SOON);
     CHECK(abr_make(&table, PAIR, 100 * MS).refusal == ABR_OK);
+    CHECK(abr_set_level(&table, 1) == ABR_OK);
+    CHECK(abr_make(&table, PAIR, 200 * MS).refusal == ABR_OK); /* instead of the one before, with its own mark */
+    CHECK(slot(200 * MS).kind == ABR_SENT_TURNED);
+    CHECK(abr_read(cell, sizeof cell).rm.ci == 0 && abr_read(cell, sizeof cell).rm.ni == 1);
 }
 
 /* When the next cell goes, after each sort of call. */
@@ -590,6 +599,9 @@ static void members(void)
     CHECK(abr_open(&table, 7, 40, 10 * MS, params).refusal == ABR_REFUSED_ALREADY_MEMBER);
     CHECK(abr_open(&table, 7, 41, 10 * MS, params).refusal == ABR_OK);
     CHECK(abr_remove(&table, 7, 60).cells == 0);
+    CHECK(abr_offer_member(&table, 7, 40, 3).refusal == ABR_OK && abr_offer_member(&table, 7, 50, 4).refusal == ABR_OK);
+    CHECK(abr_close(&table, 7, ABR_PATH_VCI).cells == 7);
+    CHECK(abr_open(&table, 7, 40, 10 * MS, params).refusal == ABR_OK);
 }
 
 /* ---- A rate of 0 ---------------------------------------------------------- */
@@ -608,6 +620,15 @@ static void rate_of_zero(void)
     backward_arrives();
     CHECK(acr() == CELLS(1000) / 16 && slot(1100 * MS - 1).kind == ABR_SENT_DATA);
     CHECK(slot(1100 * MS - 2 + 16 * MS).kind == ABR_SENT_IDLE && slot(1100 * MS - 1 + 16 * MS).kind == ABR_SENT_DATA);
+}
+
+/* With an initial rate of 0 the first cell takes a rise back. */
+static void initial_rate_of_zero(void)
+{
+    begin(house(1000, 0, 0));
+    offer(9);
+    backward_arrives();
+    CHECK(acr() == CELLS(1000) / 16 && slot(0).kind == ABR_SENT_FORWARD && acr() == 0);
 }
 
 /* ---- When things go wrong ------------------------------------------------- */
@@ -634,11 +655,15 @@ static void time_far_ahead(void)
 /* After a jump each connection has one cell at once, and the next one a gap later. */
 static void clock_jumps(void)
 {
-    begin(house(1000, 100, 1000));
+    begin(house(1500, 100, 1000));
     offer(9);
     CHECK(slot(0).kind == ABR_SENT_FORWARD && slot(MS).kind == ABR_SENT_DATA);
-    CHECK(slot(60000 * MS).kind == ABR_SENT_DATA && slot(60001 * MS - 1).kind == ABR_SENT_IDLE);
-    CHECK(slot(60001 * MS).kind == ABR_SENT_FORWARD);
+    for (int cells = 0; cells < 8; cells++) {
+        backward_arrives();
+    }
+    CHECK(acr() == CELLS(1500) && slot(60000 * MS).kind == ABR_SENT_DATA);
+    CHECK(slot(60000 * MS + 666666).kind == ABR_SENT_IDLE && slot(60000 * MS + 666667).kind == ABR_SENT_FORWARD);
+    CHECK(acr() == CELLS(1000));
 }
 
 /* A copy goes on from where it was taken. */
@@ -693,7 +718,7 @@ int main(void)
     static void (*const checks[])(void) = {
         gaps,          mark_used_up, ignored_bits,   turned_keeps, gap_after_the_last, nothing_waits,
         data_before_the_idle_move, made_first, rate_of_zero, time_far_ahead, clock_jumps, copy_goes_on,
-        checked_times, judged, sleeping,
+        checked_times, judged, sleeping, initial_rate_of_zero,
     };
     for (size_t each = 0; each < sizeof blocks / sizeof blocks[0]; each++) {
         printf("-- %s\n", blocks[each].name);

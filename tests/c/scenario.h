@@ -470,6 +470,16 @@ static void tbe_and_round_trip(void)
     CHECK(closed_is(abr_close(&table, FIRST), ABR_OK, 10, 5));
 }
 
+/* A cell at the latest time: the next ready instant is after it, where no slot is accepted. */
+static void at_the_latest_time(void)
+{
+    CHECK(is(abr_open(&table, FIRST, ABR_TIME_MAX, abr_house(thousand, slowest, thousand)), ABR_OK, 1));
+    CHECK(is(abr_offer(&table, FIRST, 2), ABR_OK, 10) && next_is(ABR_TIME_MAX));
+    CHECK(slot_is(ABR_TIME_MAX, FIRST, ABR_SENT_FORWARD, 512000) && next_is(ABR_TIME_MAX + 1 * MS));
+    CHECK(slot_is(ABR_TIME_MAX, NOBODY, ABR_SENT_IDLE, 0));
+    CHECK(closed_is(abr_close(&table, FIRST), ABR_OK, 10, 2));
+}
+
 static void nothing_is_left(void)
 {
     CHECK(next_is(ABR_NEVER) && slot_is(ABR_TIME_MAX, NOBODY, ABR_SENT_IDLE, 0));
@@ -543,6 +553,7 @@ static int scenario(const char *name)
     without_a_minimum();
     a_path_with_members();
     tbe_and_round_trip();
+    at_the_latest_time();
     nothing_is_left();
     printf("%s: %s\n", name, checks_failed ? "FAILED" : "ok");
     return checks_failed != 0;

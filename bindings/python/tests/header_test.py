@@ -119,4 +119,5 @@ class Loading(unittest.TestCase):
             self.assertEqual(c.path(), "x/y.so")
         with unittest.mock.patch.dict("os.environ"):
             del c.os.environ["ABR_SHARED"]
-            self.assertEqual(c.path(), "libabr.so.0.16")
+            version = re.search(r"^/\* (\d+\.\d+)\.\d+: major", HEADER, re.M)[1]
+            self.assertEqual(c.path(), f"libabr.so.{version}")

@@ -23,6 +23,7 @@
 //! assert_eq!((sent.vpi, sent.vci), (1, 32));
 //! assert_eq!((sent.kind, sent.acr), (Kind::Forward, 512_000));
 //! // The next cell is allowed a millisecond later.
+//! assert_eq!(table.next(), Some(1_000_000));
 //! assert_eq!(table.slot(999_999, &mut cell)?, None);
 //! let sent = table.slot(1_000_000, &mut cell)?.expect("data waits");
 //! assert_eq!(sent.kind, Kind::Data);

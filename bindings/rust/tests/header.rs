@@ -76,6 +76,13 @@ fn one_version_everywhere() {
     let makefile = include_str!("../../../Makefile");
     let line = format!("VERSION := {text}");
     assert!(makefile.lines().any(|l| l == line), "{line} in Makefile");
+    let delivery = include_str!("../../../docs/DELIVERY.md");
+    let shared = format!("`lib/libabr.so.{text}`");
+    assert!(delivery.contains(&shared), "{shared} in DELIVERY.md");
+    let (minor, _) = text.rsplit_once('.').expect("three numbers");
+    let python = include_str!("../../python/README.md");
+    let shared = format!("`libabr.so.{minor}`");
+    assert!(python.contains(&shared), "{shared} in README.md of Python");
     let changes = include_str!("../../../docs/CHANGES.md");
     let first = changes.lines().find(|line| line.starts_with("## "));
     let title = format!(" ({text}): ");

@@ -132,7 +132,8 @@ discards-matches {s} w c u b m r h = record {
   buffer = nothing-written (step s c .buffer) (effect-plain (effect s (w .unique) c) u .buffer b);
 }
 
-performs-matches : {s : State} → WellFormed s → {c : Call} {l : List ℕ} {o : Observation} → Performs c l o → l ≡ words s → Matches (step s c) o
+-- one call, on the words of any well-formed table
+pub performs-matches : {s : State} → WellFormed s → {c : Call} {l : List ℕ} {o : Observation} → Performs c l o → l ≡ words s → Matches (step s c) o
 unfolding step
 performs-matches {s} w (opens {vpi} {vci} {t} {p} {l} {m} {r} h) e = plain-matches w (opening vpi vci t p) tt tt tt m r (h .meets s w e)
 performs-matches {s} w (closes {vpi} {vci} {l} {m} {r} h) e = discards-matches w (closing vpi vci) tt tt m r (h .meets s w e)

@@ -13,7 +13,7 @@ use Rattle.model.specs.Step.{openStep, closeStep, receiveStep, offerStep, level
 use Rattle.model.specs.Queries.{acrOf, contractOf, nextReady}
 use Rattle.model.specs.Run.{run, final}
 use Rattle.table.specs.Layout.{words, size}
-use Rattle.tournament.specs.Next.{TellsNext}
+use Rattle.tournament.specs.Next.{GivesNext}
 use Rattle.engine.specs.Contract.{bufferContent}
 use Rattle.answers.specs.declared.calls.SlotAnswer.{SlotAnswer}
 use Rattle.answers.specs.declared.calls.AcrAnswer.{AcrAnswer}
@@ -104,4 +104,4 @@ pub record ExportsAreRun : Type 0 where
       (cs : List Call) (os : List Observation) → Trace cs zeros os → (v n : ℕ) (r : Exported) → AnswersExport v (finalWords zeros os) n r
       → ExportedAs (contractOf (final empty cs) v) n r
   -- or asking for the next ready instant, which is the ensures of abr_next
-  pub next : (cs : List Call) (os : List Observation) → Trace cs zeros os → (r : ℕ) → TellsNext (finalWords zeros os) r → r ≡ nextReady (final empty cs)
+  pub next : (cs : List Call) (os : List Observation) → Trace cs zeros os → (r : ℕ) → GivesNext (finalWords zeros os) r → r ≡ nextReady (final empty cs)

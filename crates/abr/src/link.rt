@@ -2,7 +2,7 @@
 // document 02, L6).
 ghost use lib.ListN.{length};
 ghost use Rattle.model.specs.Step.{receiveStep, levelStep, slotStep};
-ghost use Rattle.tournament.specs.Next.{TellsNext};
+ghost use Rattle.tournament.specs.Next.{GivesNext};
 ghost use Rattle.abr.specs.Contract.{Answers, Numbered, AnswersSlot};
 use answers::calls::CallAnswer;
 use answers::calls::SlotAnswer;
@@ -42,7 +42,7 @@ pub extern "C" fn abr_slot(table: &mut [u64; WORDS], time: u64, cell: &mut [u8])
 // No refusal: 2^64 - 1 if no connection is ever ready as things stand.
 #[no_mangle]
 pub extern "C" fn abr_next(table: &[u64; WORDS]) -> u64
-    ensures { λ r. ⌜ TellsNext (now (table .entry)) r ⌝ }
+    ensures { λ r. ⌜ GivesNext (now (table .entry)) r ⌝ }
 {
     next_ready(table)
 }

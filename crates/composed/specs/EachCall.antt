@@ -5,7 +5,7 @@ use mathlib.Core.List.{List, [], _∷_}
 use lib.ListN.{length}
 use Rattle.cell.specs.Name.{pairName}
 use Rattle.model.specs.Call.{Call, opening, closing, receiving, offering, levelling, slot, making, outOfRate}
-use Rattle.tournament.specs.Next.{TellsNext}
+use Rattle.tournament.specs.Next.{GivesNext}
 use Rattle.answers.specs.declared.calls.AcrAnswer.{AcrAnswer}
 use Rattle.abr.specs.Contract.{AnswersAcr}
 use Rattle.abr.specs.Exports.{Observation, Trace}
@@ -28,7 +28,7 @@ pub record EachCall (a : Arguments) (received before after : List ℕ) (r : AcrA
   pub made : Observation
   pub closed : Observation
   pub next : ℕ
-  pub told : TellsNext (taken .table) next
+  pub asked : GivesNext (taken .table) next
   pub rate : AnswersAcr (pairName (a .vpi) (a .vci)) (made .table) r
   pub table : closed .table ≡ after
   pub buffer : left .new ≡ new

@@ -3,6 +3,7 @@ pub mod Told
 pub mod Exports
 pub mod Comparisons
 pub mod NextReady
+pub mod Changes
 pub mod Planning
 pub mod Recorded
 pub mod Conservation

@@ -2,25 +2,23 @@
 use Prim.Native.Nat.{ℕ, _≤_, _<_}
 use mathlib.Core.Path.{_≡_, sym, ap, subst, _∙_}
 use mathlib.Core.Logic.{_≢_}
-use mathlib.Core.List.{List, [], _∷_}
 use mathlib.Core.Option.{some}
 use native.Mathlib.Omega.{arith}
 use borrow.Author.Tests.{eq-eqb}
 use Rattle.connection.specs.declared.kind.Kind.the-variants.{Forward, Turned, Data}
-use Rattle.model.specs.State.{State, empty}
+use Rattle.model.specs.State.{empty}
 use Rattle.model.specs.declared.answer.Answer.{Answer}
 use Rattle.model.specs.declared.answer.Answer.the-variants.{Refused, Accepted, Closed, Idle, Sent}
-use Rattle.model.specs.Call.{Call, slot, Outcome, goesTo}
+use Rattle.model.specs.Call.{slot, goesTo}
 use Rattle.model.specs.Step.{step}
 use Rattle.model.specs.Run.{final}
 use Rattle.model.proofs.Reached.{reached-well-formed}
 use Rattle.answers.specs.declared.calls.SlotAnswer.{SlotAnswer}
 use Rattle.answers.specs.Calls.{slotAnswer}
-use Rattle.abr.specs.Exports.{Observation, then, ended, Matches, AllMatch, neither, both}
-use Rattle.abr.proofs.Exports.{exports-are-run}
+use Rattle.abr.proofs.Exports.{performs-matches, exports-are-run}
 use Rattle.service.specs.Liveness.{IsAccepted}
 use Rattle.service.proofs.NextReady.{next-ready}
-use Rattle.exports.specs.NextReady.{SentFrom, ExportsNextReady}
+use Rattle.exports.specs.NextReady.{ExportsNextReady}
 use Rattle.exports.proofs.Exports.{accepted-seen}
 
 sent-kind : (v : ℕ) (a : Answer) → goesTo a ≡ some v → slotAnswer a .kind ≢ 0
@@ -33,15 +31,12 @@ sent-kind v (Sent u x Forward a n) e = λ z. omega (arith, z)
 sent-kind v (Sent u x Turned a n) e = λ z. omega (arith, z)
 sent-kind v (Sent u x Data a n) e = λ z. omega (arith, z)
 
-only : {p : Outcome} {o : Observation} → AllMatch (p ∷ []) (o ∷ []) → Matches p o
-only (both m neither) = m
-
 pub exports-next-ready : ExportsNextReady
 exports-next-ready cs os tr next h t room o p z =
     let s = final empty cs in
     let w = reached-well-formed cs in
     let n = exports-are-run .next cs os tr next h in
-    let m = only (exports-are-run .onward s w (slot t room ∷ []) _ (o ∷ []) (then p ended) (exports-are-run .last cs os tr) .0) in
+    let m = performs-matches w p (exports-are-run .last cs os tr) in
     let a : IsAccepted (step s (slot t room)) = sym (accepted-seen w (slot t room) m) ∙ eq-eqb (o .returned .refusal) 0 z in
     let k : o .returned .kind ≡ slotAnswer (step s (slot t room) .answer) .kind = ap (λ (r : SlotAnswer). r .kind) (m .returned) in
     record {

@@ -8,7 +8,6 @@ use native.Mathlib.Omega.{arith}
 use lib.Dec.{leb}
 use lib.ListN.{length}
 use borrow.Author.Tests.{leb-true, leb-false, le-leb}
-use Rattle.connection.specs.declared.parts.Connection.{Connection}
 use Rattle.connection.specs.declared.ready.Instant.{Instant}
 use Rattle.connection.specs.declared.ready.Instant.the-variants.{Never, At}
 use Rattle.connection.specs.Ready.{readyInstant}
@@ -49,7 +48,7 @@ second-not-after n (At i) Never p = absurd p
 second-not-after n (At i) (At j) p = omega arith
 
 -- it is one of the entries', or never
-pub earliest-from : (n : ℕ) (ss : List Entry) → Each (λ d. (j : ℕ) → readyInstant d ≡ At j → n ≤ j) ss → NotBefore n (earliest ss)
+earliest-from : (n : ℕ) (ss : List Entry) → Each (λ d. (j : ℕ) → readyInstant d ≡ At j → n ≤ j) ss → NotBefore n (earliest ss)
 unfolding earliest entryReady
 earliest-from n [] h = tt
 earliest-from n (free ∷ ss) h = both-not-before n Never (earliest ss) tt (earliest-from n ss (h .1))

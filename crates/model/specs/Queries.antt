@@ -41,13 +41,13 @@ unfoldable pub earliest : List Entry → Instant
 earliest [] = Never
 earliest (s ∷ ss) = earlier (entryReady s) (earliest ss)
 
--- an instant as a number: for never the greatest of 64 bits, which is after every instant
-abbrev pub neverTold : ℕ
-neverTold = 2 ^ 64 - 1
+-- a ready instant in a word of 64 bits: for never the greatest, which is after every instant
+abbrev pub neverWord : ℕ
+neverWord = 2 ^ 64 - 1
 
-unfoldable pub instantTold : Instant → ℕ
-instantTold Never = neverTold
-instantTold (At i) = i
+unfoldable pub readyWord : Instant → ℕ
+readyWord Never = neverWord
+readyWord (At i) = i
 
 unfoldable pub nextReady : State → ℕ
-nextReady s = instantTold (earliest (s .entries))
+nextReady s = readyWord (earliest (s .entries))

@@ -18,11 +18,10 @@ use Rattle.connection.proofs.Reached.{in-range, ready-below}
 use Rattle.model.specs.State.{State, Entry, free, taken, empty, withTime}
 use Rattle.model.specs.Invariant.{Each, WellFormed}
 use Rattle.model.specs.Choice.{winner}
-use Rattle.model.specs.declared.answer.Answer.{Answer}
 use Rattle.model.specs.declared.answer.Answer.the-variants.{Idle}
 use Rattle.model.specs.Call.{slot, Outcome, goesTo}
 use Rattle.model.specs.Step.{refuse, idleStep, sendFrom, sendStep, serve, slotStep, step}
-use Rattle.model.specs.Queries.{earliest, neverTold, instantTold, nextReady}
+use Rattle.model.specs.Queries.{earliest, neverWord, readyWord, nextReady}
 use Rattle.model.specs.Run.{run, final, isAccepted}
 use Rattle.model.proofs.Entries.{each-map}
 use Rattle.model.proofs.NextReady.{NotBefore, NotAfter, earliest-each, later-earliest, chosen-earliest}
@@ -30,32 +29,32 @@ use Rattle.model.proofs.Effects.{Effect, refuses, idles, sends, effect}
 use Rattle.model.proofs.Reached.{step-well-formed, reached-well-formed}
 use Rattle.promises.specs.All.{All}
 use Rattle.service.specs.Liveness.{IsAccepted, slots}
-use Rattle.service.specs.NextReady.{GoesToNext, Sleeps, NextReady}
+use Rattle.service.specs.NextReady.{GoesToNext, NextReady}
 
--- the instant as a number
-told-after : (n : ℕ) (r : Instant) → n ≤ neverTold → NotBefore n r → n ≤ instantTold r
-unfolding instantTold
-told-after n Never l h = l
-told-after n (At i) l h = h
+-- the instant in a word
+word-after : (n : ℕ) (r : Instant) → n ≤ neverWord → NotBefore n r → n ≤ readyWord r
+unfolding readyWord
+word-after n Never l h = l
+word-after n (At i) l h = h
 
-told-by : (n : ℕ) (r : Instant) → NotAfter n r → instantTold r ≤ n
-unfolding instantTold
-told-by n Never h = absurd h
-told-by n (At i) h = h
+word-by : (n : ℕ) (r : Instant) → NotAfter n r → readyWord r ≤ n
+unfolding readyWord
+word-by n Never h = absurd h
+word-by n (At i) h = h
 
 first : (s : State) → Each (λ c. (i : ℕ) → readyInstant c ≡ At i → nextReady s ≤ i) (s .entries)
 unfolding nextReady
-first s = each-map _ _ (λ c h i e. told-by i (earliest (s .entries)) (h i e)) (s .entries) (earliest-each (s .entries))
+first s = each-map _ _ (λ c h i e. word-by i (earliest (s .entries)) (h i e)) (s .entries) (earliest-each (s .entries))
 
--- no ready instant is as late as the number for never
-only-never : (c : Connection) (s : State) → s .last ≤ latestTime → ValidAt (s .last) c → ((i : ℕ) → readyInstant c ≡ At i → neverTold ≤ i) → readyInstant c ≡ Never
+-- no ready instant is as late as the word for never
+only-never : (c : Connection) (s : State) → s .last ≤ latestTime → ValidAt (s .last) c → ((i : ℕ) → readyInstant c ≡ At i → neverWord ≤ i) → readyInstant c ≡ Never
 only-never c s l v h = go (readyInstant c) (ready-below c (in-range (s .last) c l v)) h
   where
-    go : (r : Instant) → InstantBelow r → ((i : ℕ) → r ≡ At i → neverTold ≤ i) → r ≡ Never
+    go : (r : Instant) → InstantBelow r → ((i : ℕ) → r ≡ At i → neverWord ≤ i) → r ≡ Never
     go Never b k = refl
     go (At i) b k = absurd (omega (arith, k i refl))
 
-each-never : (s : State) → WellFormed s → nextReady s ≡ neverTold → Each (λ c. readyInstant c ≡ Never) (s .entries)
+each-never : (s : State) → WellFormed s → nextReady s ≡ neverWord → Each (λ c. readyInstant c ≡ Never) (s .entries)
 each-never s w e = go (s .entries) (w .each) (first s)
   where
     go : (ss : List Entry) → Each (ValidAt (s .last)) ss → Each (λ c. (i : ℕ) → readyInstant c ≡ At i → nextReady s ≤ i) ss → Each (λ c. readyInstant c ≡ Never) ss
@@ -70,12 +69,12 @@ data Slotted (s : State) (t : ℕ) : Outcome → Type 0 where
   sent : {o : Outcome} → nextReady s ≤ t → GoesToNext s o → Slotted s t o
 
 slotted : {s : State} (t room : ℕ) {o : Outcome} → Effect s (slot t room) o → Slotted s t o
-unfolding nextReady instantTold sendFrom sendStep goesTo
+unfolding nextReady readyWord sendFrom sendStep goesTo
 slotted t room (refuses _ n h) = refused n
-slotted {s} t room (idles _ _ g b) = idled (g .since) (told-after (suc t) (earliest (s .entries)) (omega (arith, g .until)) (later-earliest t (s .entries) b))
+slotted {s} t room (idles _ _ g b) = idled (g .since) (word-after (suc t) (earliest (s .entries)) (omega (arith, g .until)) (later-earliest t (s .entries) b))
 slotted {s} t room (sends _ _ i v g b) =
     let e = chosen-earliest t i v (s .entries) b in
-    let n : nextReady s ≡ i = ap instantTold e in
+    let n : nextReady s ≡ i = ap readyWord e in
     sent (omega (arith, b .due)) (record { name = v; holder = b .holder; found = b .found; readyAt = b .readyAt ∙ ap At (sym n); goes = refl })
 
 zero-not-one : {A : Type 0} → _≡_ {A = ℕ} 0 1 → A

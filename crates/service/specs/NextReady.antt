@@ -12,7 +12,7 @@ use Rattle.model.specs.Invariant.{Each}
 use Rattle.model.specs.declared.answer.Answer.the-variants.{Idle}
 use Rattle.model.specs.Call.{Call, slot, Outcome, goesTo}
 use Rattle.model.specs.Step.{step}
-use Rattle.model.specs.Queries.{neverTold, nextReady}
+use Rattle.model.specs.Queries.{neverWord, nextReady}
 use Rattle.model.specs.Run.{run, final}
 use Rattle.promises.specs.All.{All}
 use Rattle.service.specs.Liveness.{IsAccepted, slots}
@@ -26,10 +26,10 @@ pub record GoesToNext (s : State) (o : Outcome) : Type 0 where
   pub goes : goesTo (o .answer) ≡ some name
 
 -- In every table s that calls make from the empty one:
-pub record Sleeps (s : State) : Type 0 where
-  -- no connection is ready before it, and if it is told as never none is ever ready
+pub record SendsFromNext (s : State) : Type 0 where
+  -- no connection is ready before it, and if it is the word for never none is ever ready
   pub first : Each (λ c. (i : ℕ) → readyInstant c ≡ At i → nextReady s ≤ i) (s .entries)
-  pub never : nextReady s ≡ neverTold → Each (λ c. readyInstant c ≡ Never) (s .entries)
+  pub never : nextReady s ≡ neverWord → Each (λ c. readyInstant c ≡ Never) (s .entries)
   -- an accepted slot is idle exactly if its time is before it; a later one goes to a connection that is ready then
   pub idle : (t room : ℕ) → IsAccepted (step s (slot t room)) → t < nextReady s → step s (slot t room) .answer ≡ Idle
   pub early : (t room : ℕ) → step s (slot t room) .answer ≡ Idle → t < nextReady s
@@ -38,4 +38,4 @@ pub record Sleeps (s : State) : Type 0 where
   pub skipped : (ts us : List ℕ) → All (λ t. t < nextReady s) ts → All IsAccepted (run s (slots (ts ++ us))) → run (final s (slots ts)) (slots us) ≡ run s (slots us)
 
 abbrev pub NextReady : Type 0
-NextReady = (cs : List Call) → Sleeps (final empty cs)
+NextReady = (cs : List Call) → SendsFromNext (final empty cs)

@@ -15,7 +15,7 @@ use Rattle.model.specs.State.{State, Entry, free, taken, capacity}
 use Rattle.model.specs.Invariant.{WellFormed}
 use Rattle.model.specs.Choice.{noneReady, wins, candidateFrom}
 use Rattle.model.specs.Tournament.{levels, Lead, noLead, leads, winnerAt, leadWord, leadInstant, inTime, replayedFrom, replayed}
-use Rattle.model.specs.Queries.{instantTold, nextReady}
+use Rattle.model.specs.Queries.{readyWord, nextReady}
 use Rattle.model.proofs.Entries.{entry-place}
 use Rattle.model.proofs.Places.{above, Stands, upper, root-stands, OnLead, Comes, lead-entry}
 use Rattle.model.proofs.Scanned.{root-winner}
@@ -28,7 +28,7 @@ use Rattle.tournament.specs.Choosing.{Won, Chooses}
 use Rattle.tournament.specs.declared.standing.Standing.{Standing}
 use Rattle.tournament.specs.Standing.{standing, wordStanding, wordName}
 use Rattle.tournament.specs.Replaying.{withNodes, Leads}
-use Rattle.tournament.specs.Next.{TellsNext}
+use Rattle.tournament.specs.Next.{GivesNext}
 use Rattle.tournament.proofs.Orders.{ordered}
 use Rattle.tournament.proofs.Matches.{Known, all-known, word-in}
 use Rattle.tournament.proofs.Stored.{Sized, keyNumber, node-in, key-in}
@@ -160,14 +160,14 @@ module _ (l : List ℕ) (t : ℕ) (timely : t ≤ latestTime) where
 -- ---- the next ready instant
 
 -- out of a winner's key
-key-told : (n : ℕ → ℕ) (a : Lead) → OnLead (Known n) a → 18446744073709551615 - standing a .key ≡ instantTold (leadInstant a)
-unfolding instantTold leadInstant
-key-told n noLead k = refl
-key-told n (leads i v x) k = omega (arith, k .keyed)
+key-ready : (n : ℕ → ℕ) (a : Lead) → OnLead (Known n) a → 18446744073709551615 - standing a .key ≡ readyWord (leadInstant a)
+unfolding readyWord leadInstant
+key-ready n noLead k = refl
+key-ready n (leads i v x) k = omega (arith, k .keyed)
 
-pub tells-next : (l : List ℕ) (first : Standing) → first ≡ wordStanding l (getD l (nodesFrom + 1) 0) → TellsNext l (18446744073709551615 - first .key)
+pub gives-next : (l : List ℕ) (first : Standing) → first ≡ wordStanding l (getD l (nodesFrom + 1) 0) → GivesNext l (18446744073709551615 - first .key)
 unfolding nextReady
-tells-next l first e = record { is = go }
+gives-next l first e = record { is = go }
   where
     go : (s : State) → WellFormed s → l ≡ words s → 18446744073709551615 - first .key ≡ nextReady s
     go s w q =
@@ -177,5 +177,5 @@ tells-next l first e = record { is = go }
         e ∙ ap (wordStanding l) (node-word l s w q root-stands) ∙ ap (λ (m : List ℕ). wordStanding m (leadWord (winnerAt ss levels 1))) (q ∙ winners-split s)
         ∙ word-in (front s) (nodes ss) ss (behind s) (sized s w) (ordered w .below) levels 1 (winnerAt ss levels 1) comes in
         ap (λ (x : Standing). 18446744073709551615 - x .key) root
-        ∙ key-told (wordName (withNodes (front s) (nodes ss) ss (behind s))) (winnerAt ss levels 1) (all-known (front s) (nodes ss) ss (behind s) (sized s w) (ordered w .below) levels 1 (winnerAt ss levels 1) comes)
-        ∙ sym (ap instantTold (root-earliest ss (w .size) (w .unique)))
+        ∙ key-ready (wordName (withNodes (front s) (nodes ss) ss (behind s))) (winnerAt ss levels 1) (all-known (front s) (nodes ss) ss (behind s) (sized s w) (ordered w .below) levels 1 (winnerAt ss levels 1) comes)
+        ∙ sym (ap readyWord (root-earliest ss (w .size) (w .unique)))

@@ -7,6 +7,6 @@ use Rattle.model.specs.Invariant.{WellFormed}
 use Rattle.model.specs.Queries.{nextReady}
 use Rattle.table.specs.Layout.{words}
 
--- of the words of a state: the earliest ready instant of all its connections, or the number for never
-pub record TellsNext (l : List ℕ) (r : ℕ) : Type 0 where
+-- of the words of a state: the earliest ready instant of all its connections, or the word for never
+pub record GivesNext (l : List ℕ) (r : ℕ) : Type 0 where
   pub is : (s : State) → WellFormed s → l ≡ words s → r ≡ nextReady s

@@ -1,12 +1,12 @@
 // The earliest ready instant of all connections, so that a transmitter can sleep until then: that of the winner of the tournament.
-ghost use Rattle.tournament.specs.Next.{TellsNext};
+ghost use Rattle.tournament.specs.Next.{GivesNext};
 use crate::standing::word_standing;
 use table::layout::NODES;
 use table::layout::WORDS;
 
 // A key is 2^64 - 1 less its instant, and 0 where there is no winner: so never is 2^64 - 1 without a branch.
 pub fn next_ready(t: &[u64; WORDS]) -> u64
-    ensures { λ r. ⌜ TellsNext (now (t .entry)) r ⌝ }
+    ensures { λ r. ⌜ GivesNext (now (t .entry)) r ⌝ }
 {
     let first = word_standing(t, t[NODES + 1]);
     18446744073709551615 - first.key

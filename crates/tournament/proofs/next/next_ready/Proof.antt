@@ -1,10 +1,10 @@
-use Rattle.tournament.proofs.Leading.{tells-next}
+use Rattle.tournament.proofs.Leading.{gives-next}
 use borrow.Author.Needs.{needs}
 use Rattle.tournament.proofs.next.next_ready.Statement.{statement}
 use Rattle.tournament.proofs.next.next_ready.Tie as tie
 
 returns : tie.Need-returns
-returns c = let w = c .before in tells-next (w .before .before .args .t .now) (w .word-standing .result) (w .word-standing .ensures)
+returns c = let w = c .before in gives-next (w .before .before .args .t .now) (w .word-standing .result) (w .word-standing .ensures)
 
 pub next-ready-spec : {M : Type 1} → statement M
 next-ready-spec =
