@@ -22,7 +22,7 @@ use Rattle.connection.specs.Sending.{movedBy, paced, sentForward, sentData, aft
 use Rattle.model.specs.State.{empty, position, isFree, holds, find, put, inserted, roomLeft, withTime, withMembers}
 use Rattle.model.specs.Choice.{candidateFrom, candidate, better, winner}
 use Rattle.model.specs.Call.{goesTo}
-use Rattle.model.specs.Step.{accept, replay, ofOpen, admit, openStep, offerStep, readStep, receiveStep, nameTold, sendFrom, sendStep, serveEntry, serve, slotStep, step}
+use Rattle.model.specs.Step.{accept, replay, ofOpen, admit, openStep, offerStep, readStep, receiveStep, nameAnswered, sendFrom, sendStep, serveEntry, serve, slotStep, step}
 use Rattle.model.specs.Run.{entryRate}
 use Rattle.promises.specs.Congestion.{Backward, AtLeastAsCongested}
 use Rattle.promises.specs.Demand3.{equal, congested}
@@ -31,7 +31,7 @@ use Rattle.laws.specs.Require.{require}
 
 -- its unfolding line opens all that these calls compute with, wherever it is itself unfolded
 unfoldable pub computing : Unit {0}
-unfolding reservedClear codesClear rateOf codeBelow codeOf within ratesFit codesFit numbersFit paramsFit tbeFits frttFits initialUsed crm trmTimes trmTime gap firstCell idle cut unanswered rateByMarks feedback markLevel bring divide remainder bits octetBits headerCheck payloadCheck pairName headerRight header fieldsOf ratesClear withCrc resourceCell crcRight reading fresh offered afterBackwardCell afterResourceCell waits backwardWaits anyWaits lastBefore readyFrom readyInstant isForward isTurned kindAt movedBy paced sentForward sentData after memberServed withServed isPath anyWhere firstFrom orElse turn afterServing lastAfter empty position isFree holds find put inserted roomLeft withTime withMembers candidateFrom candidate better winner goesTo accept replay require ofOpen admit openStep offerStep readStep receiveStep nameTold sendFrom sendStep serveEntry serve slotStep step entryRate
+unfolding reservedClear codesClear rateOf codeBelow codeOf within ratesFit codesFit numbersFit paramsFit tbeFits frttFits initialUsed crm trmTimes trmTime gap firstCell idle cut unanswered rateByMarks feedback markLevel bring divide remainder bits octetBits headerCheck payloadCheck pairName headerRight header fieldsOf ratesClear withCrc resourceCell crcRight reading fresh offered afterBackwardCell afterResourceCell waits backwardWaits anyWaits lastBefore readyFrom readyInstant isForward isTurned kindAt movedBy paced sentForward sentData after memberServed withServed isPath anyWhere firstFrom orElse turn afterServing lastAfter empty position isFree holds find put inserted roomLeft withTime withMembers candidateFrom candidate better winner goesTo accept replay require ofOpen admit openStep offerStep readStep receiveStep nameAnswered sendFrom sendStep serveEntry serve slotStep step entryRate
 computing = tt
 
 backward : Backward congestedCell

@@ -25,12 +25,12 @@ use Rattle.answers.specs.Calls.{slotAnswer}
 use Rattle.abr.specs.Exports.{Observation, Trace, zeros, Matches, AllMatch, neither, both}
 use Rattle.abr.proofs.Exports.{exports-are-run}
 use Rattle.exports.specs.Conservation.{dataReturned, sumObserved, slotsFrom, offersObserved, slotsObserved, closesObserved, ExportsConservation}
-use Rattle.exports.specs.Told.{noMember, memberSeen}
-use Rattle.exports.proofs.Told.{Knows, none-known, knows-after, Tells, tells, told}
+use Rattle.exports.specs.Returned.{noMember, memberSeen}
+use Rattle.exports.proofs.Returned.{Knows, none-known, knows-after, NamesConnection, names-connection, connection-back}
 use Rattle.exports.proofs.Exports.{accepted-seen}
 
 -- what one call returned says what its answer says
-data-number : (v : ℕ) (f : ℕ → Bool) (a : Answer) → Tells f a → dataReturned v f (slotAnswer a) ≡ dataSlotOf v a
+data-number : (v : ℕ) (f : ℕ → Bool) (a : Answer) → NamesConnection f a → dataReturned v f (slotAnswer a) ≡ dataSlotOf v a
 unfolding dataSlotOf dataCells
 data-number v f (Refused n) h = refl
 data-number v f (Accepted n) h = refl
@@ -38,13 +38,13 @@ data-number v f (Closed n k) h = refl
 data-number v f Idle h = refl
 data-number v f (Sent u x Forward a n) h = sym (cond-zero (eqb u v))
 data-number v f (Sent u x Turned a n) h = sym (cond-zero (eqb u v))
-data-number v f (Sent u x Data a n) h = ap (λ (w : ℕ). cond (eqb w v) 1 0) (told f u x h)
+data-number v f (Sent u x Data a n) h = ap (λ (w : ℕ). cond (eqb w v) 1 0) (connection-back f u x h)
 
 slots-from :
     (v : ℕ) (s : State) → WellFormed s → (f : ℕ → Bool) → Knows f s → (cs : List Call) (os : List Observation) → AllMatch (run s cs) os → slotsFrom v f cs os ≡ sumOver (λ c a. dataSlotOf v a) s cs
 slots-from v s w f k [] [] neither = refl
 slots-from v s w f k (c ∷ cs) (o ∷ os) (both m ms) =
-    ap (λ (n : ℕ). n + slotsFrom v (memberSeen c o f) cs os) (ap (dataReturned v f) (m .returned) ∙ data-number v f (step s c .answer) (tells w f k c))
+    ap (λ (n : ℕ). n + slotsFrom v (memberSeen c o f) cs os) (ap (dataReturned v f) (m .returned) ∙ data-number v f (step s c .answer) (names-connection w f k c))
     ∙ ap (λ (n : ℕ). dataSlotOf v (step s c .answer) + n) (slots-from v (step s c .state) (step-well-formed w c) (memberSeen c o f) (knows-after w c f k _ (accepted-seen w c m)) cs os ms)
 
 -- each term of one sum is that of the other

@@ -33,8 +33,8 @@ use Rattle.engine.specs.Contract.{bufferContent}
 use Rattle.abr.proofs.Exports.{zeros-words, exports-are-run}
 use Rattle.promises.specs.Demand3.{Bounded, InPlace, SamePlace, NotAbove, neither as noneOpen, both as bothOpen, Agree}
 use Rattle.exports.specs.Exports.{paramsObserved, rateReturned, SameConnection, RateNotAbove, ObservedAgree, RefusedLeave, ExportsDemand1, ExportsDemand3}
-use Rattle.exports.specs.Told.{noMember, wentTo, placesSeen}
-use Rattle.exports.proofs.Told.{Knows, none-known, knows-after, tells, went-to}
+use Rattle.exports.specs.Returned.{noMember, wentTo, placesSeen}
+use Rattle.exports.proofs.Returned.{Knows, none-known, knows-after, names-connection, went-to}
 use Rattle.promises.proofs.Demand3.{demand3}
 
 -- What the numbers say of the answers: 0 of an accepted call alone.
@@ -151,7 +151,7 @@ place-from w z f g k l [] [] neither neither e = tt
 place-from w z f g k l [] (y ∷ ys) neither (both h hs) e = absurd e
 place-from w z f g k l (x ∷ xs) [] (both m ms) neither e = absurd e
 place-from {s₁} {s₂} w z f g k l (x ∷ xs) (y ∷ ys) (both m ms) (both h hs) e = (
-  sym (went-to f (step s₁ x .answer) (tells w f k x)) ∙ ap (wentTo f) (sym (m .returned)) ∙ e .0 ∙ ap (wentTo g) (h .returned) ∙ went-to g (step s₂ y .answer) (tells z g l y),
+  sym (went-to f (step s₁ x .answer) (names-connection w f k x)) ∙ ap (wentTo f) (sym (m .returned)) ∙ e .0 ∙ ap (wentTo g) (h .returned) ∙ went-to g (step s₂ y .answer) (names-connection z g l y),
   place-from (step-well-formed w x) (step-well-formed z y) _ _ (knows-after w x f k _ (accepted-seen w x m)) (knows-after z y g l _ (accepted-seen z y h)) xs ys ms hs (e .1),
 )
 

@@ -1,5 +1,5 @@
 -- They hold.
-pub mod Told
+pub mod Returned
 pub mod Exports
 pub mod Comparisons
 pub mod NextReady

@@ -34,20 +34,20 @@ use Rattle.own_traces.specs.Written.{traceOctets}
 use Rattle.own_traces.specs.Traces.{Opening, cellsOf}
 use Rattle.own_traces.proofs.Fits.{own-trace-passes}
 use Rattle.exports.specs.Recorded.{cellReturned, recorded, RatesRead, readThen, RecordedPasses}
-use Rattle.exports.specs.Told.{noMember, memberSeen, membersSeen}
-use Rattle.exports.proofs.Told.{Knows, none-known, knows-after, Tells, tells, told}
+use Rattle.exports.specs.Returned.{noMember, memberSeen, membersSeen}
+use Rattle.exports.proofs.Returned.{Knows, none-known, knows-after, NamesConnection, names-connection, connection-back}
 use Rattle.exports.proofs.Exports.{accepted-seen}
 
 -- the cell that a slot returned is the one of its answer
-cell-returned : (v : ℕ) (f : ℕ → Bool) (t rate : ℕ) (a : Answer) → Tells f a → cellReturned v f t rate (slotAnswer a) ≡ cellIn v t rate a
+cell-returned : (v : ℕ) (f : ℕ → Bool) (t rate : ℕ) (a : Answer) → NamesConnection f a → cellReturned v f t rate (slotAnswer a) ≡ cellIn v t rate a
 unfolding cellIn
 cell-returned v f t rate (Refused n) h = refl
 cell-returned v f t rate (Accepted n) h = refl
 cell-returned v f t rate (Closed n k) h = refl
 cell-returned v f t rate Idle h = refl
-cell-returned v f t rate (Sent u x Forward a n) h = ap (λ (z : ℕ). cond (eqb z v) (record { time = t; kind = 1; rate = rate } ∷ []) []) (told f u x h)
-cell-returned v f t rate (Sent u x Turned a n) h = ap (λ (z : ℕ). cond (eqb z v) (record { time = t; kind = 2; rate = rate } ∷ []) []) (told f u x h)
-cell-returned v f t rate (Sent u x Data a n) h = ap (λ (z : ℕ). cond (eqb z v) (record { time = t; kind = 3; rate = rate } ∷ []) []) (told f u x h)
+cell-returned v f t rate (Sent u x Forward a n) h = ap (λ (z : ℕ). cond (eqb z v) (record { time = t; kind = 1; rate = rate } ∷ []) []) (connection-back f u x h)
+cell-returned v f t rate (Sent u x Turned a n) h = ap (λ (z : ℕ). cond (eqb z v) (record { time = t; kind = 2; rate = rate } ∷ []) []) (connection-back f u x h)
+cell-returned v f t rate (Sent u x Data a n) h = ap (λ (z : ℕ). cond (eqb z v) (record { time = t; kind = 3; rate = rate } ∷ []) []) (connection-back f u x h)
 
 rate-returned : (x : Acr) → acrAnswer x .acr ≡ acrIn x
 unfolding acrIn
@@ -76,7 +76,7 @@ unfolding sentBy
 sent-seen v s w f k c o m a e =
     at-slot c (λ t. cellReturned v f t (a .acr) (o .returned)) (λ t. cellIn v t (acrIn (acrOf s v)) (step s c .answer)) λ t.
     ap (cellReturned v f t (a .acr)) (m .returned)
-    ∙ cell-returned v f t (a .acr) (step s c .answer) (tells w f k c)
+    ∙ cell-returned v f t (a .acr) (step s c .answer) (names-connection w f k c)
     ∙ ap (λ (x : ℕ). cellIn v t x (step s c .answer)) (ap (λ (x : AcrAnswer). x .acr) e ∙ rate-returned (acrOf s v))
 
 recorded-sent :

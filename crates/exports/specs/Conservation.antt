@@ -14,11 +14,11 @@ use Rattle.answers.specs.declared.calls.SlotAnswer.{SlotAnswer}
 use Rattle.answers.specs.declared.calls.ClosedAnswer.{ClosedAnswer}
 use Rattle.abr.specs.Contract.{AnswersClosed}
 use Rattle.abr.specs.Exports.{Observation, Trace, finalWords, zeros}
-use Rattle.exports.specs.Told.{noMember, memberSeen, connectionTold}
+use Rattle.exports.specs.Returned.{noMember, memberSeen, connectionReturned}
 
 -- 1 for a slot that returned kind 3, data, and a pair of the connection v
 abbrev pub dataReturned : (v : ℕ) → (member : ℕ → Bool) → SlotAnswer → ℕ
-dataReturned v f r = cond (eqb (r .kind) 3 && eqb (connectionTold f r) v) 1 0
+dataReturned v f r = cond (eqb (r .kind) 3 && eqb (connectionReturned f r) v) 1 0
 
 -- a sum over the calls of a list and what was observed of them
 abbrev pub sumObserved : (Call → Observation → ℕ) → List Call → List Observation → ℕ

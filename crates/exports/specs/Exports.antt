@@ -13,7 +13,7 @@ use Rattle.answers.specs.declared.calls.AcrAnswer.{AcrAnswer}
 use Rattle.abr.specs.Contract.{AnswersAcr}
 use Rattle.abr.specs.Exports.{Observation, Trace, finalWords, zeros}
 use Rattle.promises.specs.Demand3.{Bounded, InPlace, Comparable}
-use Rattle.exports.specs.Told.{noMember, placesSeen}
+use Rattle.exports.specs.Returned.{noMember, placesSeen}
 
 -- the parameters under which a name is open, from the calls and the numbers that they returned: 0 is no refusal
 abbrev pub paramsObserved : ℕ → Option Params → List Call → List Observation → Option Params

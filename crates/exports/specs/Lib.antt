@@ -1,5 +1,5 @@
 -- The promises on whole lists of exported calls.
-pub mod Told
+pub mod Returned
 pub mod Exports
 pub mod Comparisons
 pub mod NextReady

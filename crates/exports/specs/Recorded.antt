@@ -16,11 +16,11 @@ use Rattle.abr.specs.Exports.{Observation, Trace, finalWords, zeros}
 use Rattle.own_traces.specs.InRate.{SentCell, atSlot, closes}
 use Rattle.own_traces.specs.Written.{traceOctets}
 use Rattle.own_traces.specs.Traces.{Opening, cellsOf}
-use Rattle.exports.specs.Told.{noMember, memberSeen, membersSeen, connectionTold}
+use Rattle.exports.specs.Returned.{noMember, memberSeen, membersSeen, connectionReturned}
 
 -- the cell that a slot at this time returned, if it is one of v: kind 0 is none
 abbrev pub cellReturned : (v : ℕ) → (member : ℕ → Bool) → (time rate : ℕ) → SlotAnswer → List SentCell
-cellReturned v f t rate r = cond (not (eqb (r .kind) 0) && eqb (connectionTold f r) v) (record { time = t; kind = r .kind; rate = rate } ∷ []) []
+cellReturned v f t rate r = cond (not (eqb (r .kind) 0) && eqb (connectionReturned f r) v) (record { time = t; kind = r .kind; rate = rate } ∷ []) []
 
 -- the cells of v, from the calls, what they returned and the rate that was read before each of them, until v is closed: 0 is no refusal
 abbrev pub recorded : (v : ℕ) → (member : ℕ → Bool) → List Call → List Observation → List AcrAnswer → List SentCell

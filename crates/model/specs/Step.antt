@@ -143,9 +143,9 @@ unfoldable pub levelStep : State → (level : ℕ) → Outcome
 levelStep s l = require (refuse s 9) (leb l 2) (accept 0 (withLevel l s))
 
 -- the name that a slot tells: the member's, if its cell is taken from one (document 02, L13)
-unfoldable pub nameTold : (connection : ℕ) → Option ℕ → ℕ
-nameTold v none = v
-nameTold v (some x) = x
+unfoldable pub nameAnswered : (connection : ℕ) → Option ℕ → ℕ
+nameAnswered v none = v
+nameAnswered v (some x) = x
 
 -- a slot's cell of this kind, from the connection c of the name v and, of a path's data, from this member
 unfoldable pub sendFrom : State → (t v : ℕ) → Connection → Kind → (member : Option ℕ) → Outcome
@@ -153,7 +153,7 @@ sendFrom s t v c k x =
     let r = put v (taken (withServed x (after k t c))) s in
     record {
       state = withMembers (afterServing x (s .members)) r;
-      answer = Sent v (nameTold v x) k (after k t c .rate .acr) (replayed (leafOf v s) (s .entries) (r .entries));
+      answer = Sent v (nameAnswered v x) k (after k t c .rate .acr) (replayed (leafOf v s) (s .entries) (r .entries));
       buffer = bufferAfter k c (after k t c);
     }
 

@@ -29,11 +29,11 @@ use Rattle.model.specs.State.{State, Entry, taken, empty, find, put, inserted, 
 use Rattle.model.specs.Invariant.{NamesUnique, WellFormed}
 use Rattle.model.proofs.Frames.{put-read, inserted-read, freed-read}
 use Rattle.model.specs.Call.{Call, Outcome, goesTo}
-use Rattle.model.specs.Step.{refuse, accept, replay, discard, withOffer, withoutOne, nameTold, sendFrom, sendStep, idleStep, sendOutside}
+use Rattle.model.specs.Step.{refuse, accept, replay, discard, withOffer, withoutOne, nameAnswered, sendFrom, sendStep, idleStep, sendOutside}
 use Rattle.model.specs.Run.{final}
 use Rattle.model.proofs.Effects.{Effect, refuses, begins, ends, offers, marks, works, levels, idles, sends, makes, leaves, beginsPath, adds, offersMember, removes, effect}
 use Rattle.model.proofs.Reached.{reached-well-formed}
-use Rattle.promises.specs.Interference.{readName, names, tells, touches, SameMember, NoInterference}
+use Rattle.promises.specs.Interference.{readName, names, answersName, touches, SameMember, NoInterference}
 
 same : Entry → Entry
 same x = x
@@ -94,20 +94,20 @@ swapped x y e = ne-eqb y x (λ q. eqb-false x y e (sym q))
 
 -- a slot takes from no other member than the one it names
 served-kept :
-    (x u : ℕ) (k : Kind) (c : Connection) (ms : List Member) → Rising ms → eqb (nameTold u (memberServed k c ms)) x ≡ false
+    (x u : ℕ) (k : Kind) (c : Connection) (ms : List Member) → Rising ms → eqb (nameAnswered u (memberServed k c ms)) x ≡ false
     → SameMember x ms (afterServing (memberServed k c ms) ms)
-unfolding memberServed nameTold afterServing
+unfolding memberServed nameAnswered afterServing
 served-kept x u Forward c ms r e = kept x ms
 served-kept x u Turned c ms r e = kept x ms
 served-kept x u Data c ms r e = go (turn (c .name) (c .queue .served) ms) refl e
   where
-    go : (o : Option ℕ) → turn (c .name) (c .queue .served) ms ≡ o → eqb (nameTold u o) x ≡ false → SameMember x ms (afterServing o ms)
+    go : (o : Option ℕ) → turn (c .name) (c .queue .served) ms ≡ o → eqb (nameAnswered u o) x ≡ false → SameMember x ms (afterServing o ms)
     go none q e = kept x ms
     go (some y) q e = with-cells-kept x y _ ms r (turn-picks (c .name) (c .queue .served) ms y q .member) e
 
 effect-member :
     (x : ℕ) {s : State} → WellFormed s → {c : Call} {o : Outcome} → Effect s c o → touches x c (o .answer) ≡ false → SameMember x (s .members) (o .state .members)
-unfolding touches tells refuse accept replay discard sendFrom sendStep idleStep sendOutside put inserted withTime withLevel withMembers withOffer withoutOne
+unfolding touches answersName refuse accept replay discard sendFrom sendStep idleStep sendOutside put inserted withTime withLevel withMembers withOffer withoutOne
 effect-member x {s} w (refuses c n z) h = kept x (s .members)
 effect-member x {s} w (begins a b t p g) h = kept x (s .members)
 effect-member x {s} w (ends a b d f) h = without-kept x (onPath (pairName a b)) (s .members) (swapped (pairName a b) (pathOf x) h)

@@ -31,25 +31,32 @@ use Rattle.model.proofs.Frames.{put-read, inserted-read, freed-read}
 use Rattle.model.specs.declared.answer.Answer.{Answer}
 use Rattle.model.specs.declared.answer.Answer.the-variants.{Refused, Accepted, Idle, Sent}
 use Rattle.model.specs.Call.{Call, opening, closing, receiving, offering, levelling, slot, making, outOfRate, openingPath, adding, offeringMember, removing, Outcome}
-use Rattle.model.specs.Step.{refuse, accept, replay, discard, withOffer, withoutOne, nameTold, sendFrom, sendStep, idleStep, sendOutside, step}
+use Rattle.model.specs.Step.{refuse, accept, replay, discard, withOffer, withoutOne, nameAnswered, sendFrom, sendStep, idleStep, sendOutside, step}
 use Rattle.model.specs.Run.{final}
 use Rattle.model.proofs.Effects.{Effect, refuses, begins, ends, offers, marks, works, levels, idles, sends, makes, leaves, beginsPath, adds, offersMember, removes, effect}
 use Rattle.model.proofs.Reached.{reached-well-formed}
 use Rattle.promises.specs.Moves.{Moves, stays, first, later, fed, FourMoves}
 
+-- the call is a close of v
+pub record Closes (v : ℕ) (c : Call) : Type 0 where
+  pub vpi : ℕ
+  pub vci : ℕ
+  pub is : c ≡ closing vpi vci
+  pub name : pairName vpi vci ≡ v
+
 -- from the entry of v before the call to the entry after it
 abbrev MovesTo : ℕ → Call → Answer → Entry → Entry → Type 0
 MovesTo v c a free y = Unit
-MovesTo v c a (taken d) free = Unit
+MovesTo v c a (taken d) free = Closes v c
 MovesTo v c a (taken d) (taken e) = Moves v d c a (e .rate)
 
 rests : (v : ℕ) (c : Call) (a : Answer) (x : Entry) → MovesTo v c a x x
 rests v c a free = tt
 rests v c a (taken d) = stays
 
-closed : (v : ℕ) (c : Call) (a : Answer) (x : Entry) → MovesTo v c a x free
-closed v c a free = tt
-closed v c a (taken d) = tt
+closed : (v vpi vci : ℕ) (a : Answer) (x : Entry) → pairName vpi vci ≡ v → MovesTo v (closing vpi vci) a x free
+closed v vpi vci a free h = tt
+closed v vpi vci a (taken d) h = record { vpi = vpi; vci = vci; is = refl; name = h }
 
 self : Entry → Entry
 self x = x
@@ -86,8 +93,8 @@ forward-moves v t room acr n d Unsent e = first e
 forward-moves v t room acr n d (Running sent forward k turned) e = later e
 
 sent-moves :
-    (v t room acr n : ℕ) (k : Kind) (d : Connection) (ms : List Member) → Moves v d (slot t room) (Sent v (nameTold v (memberServed k d ms)) k acr n) (after k t d .rate)
-unfolding after sentForward sentTurned sentData memberServed nameTold
+    (v t room acr n : ℕ) (k : Kind) (d : Connection) (ms : List Member) → Moves v d (slot t room) (Sent v (nameAnswered v (memberServed k d ms)) k acr n) (after k t d .rate)
+unfolding after sentForward sentTurned sentData memberServed nameAnswered
 sent-moves v t room acr n Forward d ms = forward-moves v t room acr n d (d .pace) refl
 sent-moves v t room acr n Turned d ms = stays
 sent-moves v t room acr n Data d ms = stays
@@ -98,7 +105,7 @@ effect-moves v {s} a (refuses c n h) = rests v c (Refused n) (find v (s .entries
 effect-moves v {s} a (begins vpi vci t p g) =
     rw (inserted-read self v s (fresh (pairName vpi vci) t p) (g .new) (g .room))
     (read-moves v (pairName vpi vci) s (opening vpi vci t p) _ (taken (fresh (pairName vpi vci) t p)) (λ h. rw (ap (λ w. find w (s .entries)) (sym h) ∙ g .new) tt))
-effect-moves v {s} a (ends vpi vci d f) = rw (freed-read self v (pairName vpi vci) s a) (read-moves v (pairName vpi vci) s (closing vpi vci) _ free (λ _. closed v (closing vpi vci) _ (find v (s .entries))))
+effect-moves v {s} a (ends vpi vci d f) = rw (freed-read self v (pairName vpi vci) s a) (read-moves v (pairName vpi vci) s (closing vpi vci) _ free (closed v vpi vci _ (find v (s .entries))))
 effect-moves v {s} a (offers vpi vci n d f i b) = changes v (pairName vpi vci) s a d (offered n d) f refl (offering vpi vci n) _ (λ _. stays)
 effect-moves v {s} a (marks o vpi vci e u d r i z f) = changes v u s a d (afterDataCell e d) f refl (receiving o) _ (λ _. stays)
 effect-moves v {s} a (works o q d r f) =
@@ -118,11 +125,26 @@ effect-moves v {s} a (adds vpi vci d f j) = rests v (adding vpi vci) (Accepted 0
 effect-moves v {s} a (offersMember vpi vci n d f i h) = changes v (pathOf (pairName vpi vci)) s a d (offered n d) f refl (offeringMember vpi vci n) _ (λ _. stays)
 effect-moves v {s} a (removes vpi vci d f i) = changes v (pathOf (pairName vpi vci)) s a d _ f refl (removing vpi vci) _ (λ _. stays)
 
--- in a table whose names are unique
+-- in any table without a name twice: the connection stays open, if the call is no close of it
+pub record StillOpen (v : ℕ) (s : State) : Type 0 where
+  pub holder : Connection
+  pub found : find v (s .entries) ≡ taken holder
+
+pub still-open :
+    (s : State) → NamesUnique (s .entries) → (c : Call) (v : ℕ) (d : Connection) → find v (s .entries) ≡ taken d → (Closes v c → ⊥) → StillOpen v (step s c .state)
+still-open s a c v d f n = go (find v (step s c .state .entries)) refl (effect-moves v a (effect s a c))
+  where
+    go :
+        (y : Entry) → find v (step s c .state .entries) ≡ y → MovesTo v c (step s c .answer) (find v (s .entries)) (find v (step s c .state .entries))
+        → StillOpen v (step s c .state)
+    go free e m = let k : Closes v c = rw (f, e) at m in absurd (n k)
+    go (taken h) e m = record { holder = h; found = e }
+
+-- and its rate moves so
 pub moves-at :
     (s : State) → NamesUnique (s .entries) → (c : Call) (v : ℕ) (d e : Connection) → find v (s .entries) ≡ taken d → find v (step s c .state .entries) ≡ taken e
     → Moves v d c (step s c .answer) (e .rate)
 moves-at s a c v d e f h = let m = effect-moves v a (effect s a c) in rw (f, h) at m
 
 pub four-moves : FourMoves
-four-moves cs = moves-at (final empty cs) (reached-well-formed cs .unique)
+four-moves cs c v d e f h = moves-at (final empty cs) (reached-well-formed cs .unique) c v d e f h

@@ -43,7 +43,7 @@ use Rattle.model.proofs.Preserved.{valid-at}
 use Rattle.model.specs.declared.answer.Answer.{Answer}
 use Rattle.model.specs.declared.answer.Answer.the-variants.{Refused, Accepted, Closed, Idle, Sent}
 use Rattle.model.specs.Call.{Call, opening, closing, receiving, offering, levelling, slot, making, outOfRate, openingPath, adding, offeringMember, removing, Outcome, goesTo}
-use Rattle.model.specs.Step.{refuse, accept, replay, discard, ofOpen, admit, openStep, openPathStep, closeStep, offerStep, withOffer, withoutOne, addStep, offerMemberStep, removeStep, dataCellStep, readStep, receiveStep, levelStep, nameTold, sendFrom, sendStep, idleStep, serveEntry, serve, slotStep, makeStep, sendOutside, outOfRateStep, step}
+use Rattle.model.specs.Step.{refuse, accept, replay, discard, ofOpen, admit, openStep, openPathStep, closeStep, offerStep, withOffer, withoutOne, addStep, offerMemberStep, removeStep, dataCellStep, readStep, receiveStep, levelStep, nameAnswered, sendFrom, sendStep, idleStep, serveEntry, serve, slotStep, makeStep, sendOutside, outOfRateStep, step}
 use Rattle.promises.specs.Demand3.{Comparable, equal, congested, SamePlace}
 use Rattle.promises.proofs.Relation.{lowered, Lower, vacant, lower, Tables, tables, isFree-same, find-lower, put-tables, inserted-tables, roomLeft-same, last-same, withTime-tables, withLevel-tables, withMembers-tables, members-same}
 use Rattle.promises.proofs.Readings.{MoreCongested, NotLessCongested, alike, moreCongested, reading-congested}
@@ -274,7 +274,7 @@ unfolding sendFrom
 send-both (tables l u ms hs) t v c a z h k x =
     record {
       states = withMembers-tables (afterServing x ms) (put-tables v (served-lower x (after-lower k t c a z h)) (tables l u ms hs));
-      answers = sends v (nameTold v x) k _ _ _ _;
+      answers = sends v (nameAnswered v x) k _ _ _ _;
     }
 
 entry-both : {s₁ s₂ : State} → Tables s₁ s₂ → (t v : ℕ) {x y : Entry} → Lower x y → Both (serveEntry s₁ t v x) (serveEntry s₂ t v y)

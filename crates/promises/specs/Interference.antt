@@ -41,13 +41,13 @@ names ms (adding vpi vci) a = none
 names ms (offeringMember vpi vci n) a = some (pathOf (pairName vpi vci))
 names ms (removing vpi vci) a = some (pathOf (pairName vpi vci))
 
--- a slot's answer tells the name x
-unfoldable pub tells : (x : ℕ) → Answer → Bool
-tells x (NotDone n) = false
-tells x (Accepted n) = false
-tells x (Closed n k) = false
-tells x Idle = false
-tells x (Sent v y k a n) = eqb y x
+-- it is a slot's answer with the name x
+unfoldable pub answersName : (x : ℕ) → Answer → Bool
+answersName x (NotDone n) = false
+answersName x (Accepted n) = false
+answersName x (Closed n k) = false
+answersName x Idle = false
+answersName x (Sent v y k a n) = eqb y x
 
 -- a call is about the member x: it names it, closes its path, or is a slot that names it
 unfoldable pub touches : (x : ℕ) → Call → Answer → Bool
@@ -56,7 +56,7 @@ touches x (closing vpi vci) a = eqb (pairName vpi vci) (pathOf x)
 touches x (receiving o) a = false
 touches x (offering vpi vci n) a = false
 touches x (levelling l) a = false
-touches x (slot t room) a = tells x a
+touches x (slot t room) a = answersName x a
 touches x (making vpi vci t) a = false
 touches x (outOfRate vpi vci t room) a = false
 touches x (openingPath vpi t p) a = false

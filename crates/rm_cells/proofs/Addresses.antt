@@ -29,7 +29,7 @@ use Rattle.model.specs.State.{State, Entry, free, taken, empty, find, withTime}
 use Rattle.model.specs.Invariant.{WellFormed}
 use Rattle.model.specs.declared.answer.Answer.the-variants.{Refused}
 use Rattle.model.specs.Call.{Call, opening, closing, receiving, offering, levelling, slot, making, outOfRate, openingPath, adding, offeringMember, removing, Outcome}
-use Rattle.model.specs.Step.{refuse, accept, replay, discard, ofOpen, admit, openStep, openPathStep, addStep, offerMemberStep, removeStep, nameTold, sendFrom, sendStep, idleStep, sendOutside, step}
+use Rattle.model.specs.Step.{refuse, accept, replay, discard, ofOpen, admit, openStep, openPathStep, addStep, offerMemberStep, removeStep, nameAnswered, sendFrom, sendStep, idleStep, sendOutside, step}
 use Rattle.model.specs.Queries.{entryAcr, acrOf, entryContract, contractOf}
 use Rattle.model.specs.Run.{final}
 use Rattle.model.proofs.Frames.{name-of}
@@ -112,8 +112,8 @@ backward-name v p (Cell w) level h = header-name 0 v _ (lit≤ tt) h
 
 sent-name :
     (k : Kind) (c d : Connection) (ms : List Member) → d .name ≡ c .name → c .name < noName
-    → SentCarries k (c .name) (nameTold (c .name) (memberServed k c ms)) (bufferAfter k c d)
-unfolding bufferAfter resourceCell forwardFields memberServed nameTold
+    → SentCarries k (c .name) (nameAnswered (c .name) (memberServed k c ms)) (bufferAfter k c d)
+unfolding bufferAfter resourceCell forwardFields memberServed nameAnswered
 sent-name Forward c d ms e h = (refl, rw e (header-name 0 (c .name) _ (lit≤ tt) h))
 sent-name Turned c d ms e h = (refl, backward-name (c .name) (c .rate .params) (c .destination .turned) (c .destination .made .level) h)
 sent-name Data c d ms e h = refl
@@ -148,7 +148,7 @@ effect-named w (levels l h) = refl
 effect-named w (idles t room g b) = refl
 effect-named {s} w (sends t room i u g b) =
     let k = kindAt t (b .holder) in
-    subst (λ (v : ℕ). SentCarries k v (nameTold v (memberServed k (b .holder) (s .members))) (bufferAfter k (b .holder) (after k t (b .holder)))) (name-of u s (b .holder) (b .found))
+    subst (λ (v : ℕ). SentCarries k v (nameAnswered v (memberServed k (b .holder) (s .members))) (bufferAfter k (b .holder) (after k t (b .holder)))) (name-of u s (b .holder) (b .found))
     (sent-name k (b .holder) (after k t (b .holder)) (s .members) (after-same k t (b .holder) .name) (valid-at w u (b .holder) (b .found) .0 .coded))
 effect-named w (makes vpi vci t d f g b m) = refl
 effect-named w (beginsPath vpi t p g) = refl

@@ -26,7 +26,6 @@ use Rattle.connection.specs.Receiving.{offered, afterDataCell, fedBack, afterBa
 use Rattle.connection.specs.Sending.{after, withServed, sentForward, sentTurned, sentData}
 use Rattle.connection.specs.OutOfRate.{afterOutOfRate}
 use Rattle.connection.proofs.Differences.{change-within}
-use Rattle.connection.proofs.Keeps.{work-same}
 use Rattle.model.specs.declared.acr.Acr.{Acr}
 use Rattle.model.specs.declared.acr.Acr.the-variants.{NotOpen, Rate}
 use Rattle.model.specs.declared.answer.Answer.{Answer}
@@ -38,12 +37,11 @@ use Rattle.model.specs.Step.{refuse, accept, replay, discard, step}
 use Rattle.model.specs.Queries.{entryAcr, acrOf}
 use Rattle.model.specs.Run.{final, paramsGiven}
 use Rattle.model.proofs.Entries.{find-each, Case, same, other, case}
-use Rattle.model.proofs.Frames.{put-read, inserted-read, freed-read}
+use Rattle.model.proofs.Frames.{inserted-read, freed-read}
 use Rattle.model.proofs.Given.{entryParams, params-given}
 use Rattle.model.proofs.Effects.{Enters, Effect, refuses, begins, ends, beginsPath, effect}
 use Rattle.model.proofs.Reached.{reached-well-formed}
-use Rattle.promises.proofs.Pairs.{work-backward}
-use Rattle.promises.proofs.Received.{step-works}
+use Rattle.promises.proofs.Received.{step-fed}
 use Rattle.rm_cells.specs.Changes.{ChangeBounded, notOpen, between, ChangedFrom, NotFedBack, Changes}
 use Rattle.rm_cells.proofs.Kept.{Has, KeptBy, effect-kept}
 
@@ -94,16 +92,9 @@ fed-entry f a c e = record { after = fedBack f (c .rate) .acr; is = rw (← e) r
 
 fed : (s : State) → NamesUnique (s .entries) → (o : List ℕ) (f : Fields) (a : ℕ) → reading o ≡ Resource f → f .dir ≡ 1 → (x : Entry)
     → find (cellName f) (s .entries) ≡ x → Has (λ d. d .rate .acr ≡ a) x → ChangedFrom a (acrOf (step s (receiving o) .state) (cellName f))
-unfolding acrOf accept replay
+unfolding acrOf
 fed s u o f a e d free q h = absurd h
-fed s u o f a e d (taken c) q h =
-    rw (
-      step-works s o f c e q,
-      put-read (λ (x : Entry). x) (cellName f) (cellName f) s u c (afterResourceCell (s .level) o f c) q (work-same (s .level) o f c .name),
-      eq-eqb (cellName f) (cellName f) refl,
-      work-backward (s .level) o f c d,
-    )
-    (fed-entry f a c h)
+fed s u o f a e d (taken c) q h = rw (step-fed s u o f c e d q) (fed-entry f a c h)
 
 has-map : {P Q : Connection → Type 0} → ((d : Connection) → P d → Q d) → (x : Entry) → Has P x → Has Q x
 has-map g free h = h

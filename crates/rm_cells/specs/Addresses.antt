@@ -55,7 +55,7 @@ Carries v untouched = ⊥
 Carries v (written o) = pairName (vpiOf o) (vciOf o) ≡ v
 
 -- by the kind of cell that a slot sends, the connection that it goes to and the name that it tells: for data nothing is written
-abbrev pub SentCarries : Kind → (connection told : ℕ) → Buffer → Type 0
+abbrev pub SentCarries : Kind → (connection name : ℕ) → Buffer → Type 0
 SentCarries Forward v x b = (x ≡ v) × Carries v b
 SentCarries Turned v x b = (x ≡ v) × Carries v b
 SentCarries Data v x b = b ≡ untouched

@@ -35,7 +35,7 @@ use Rattle.model.specs.Invariant.{NamesUnique, WellFormed}
 use Rattle.model.specs.declared.answer.Answer.{Answer}
 use Rattle.model.specs.declared.answer.Answer.the-variants.{Refused, Accepted, Closed, Idle, Sent}
 use Rattle.model.specs.Call.{Call, opening, closing, receiving, offering, levelling, slot, making, outOfRate, openingPath, adding, offeringMember, removing, Outcome}
-use Rattle.model.specs.Step.{refuse, accept, replay, discard, ofOpen, closeStep, withOffer, withoutOne, nameTold, sendFrom, sendStep, sendOutside, idleStep, step}
+use Rattle.model.specs.Step.{refuse, accept, replay, discard, ofOpen, closeStep, withOffer, withoutOne, nameAnswered, sendFrom, sendStep, sendOutside, idleStep, step}
 use Rattle.model.specs.Run.{final, isAccepted}
 use Rattle.model.specs.Conservation.{dataCells}
 use Rattle.model.proofs.Entries.{Case, same, other, case}
@@ -95,8 +95,8 @@ ended-served v u s a n = freed-read entryServed v u s a ∙ rw (ne-eqb u v n)
 
 -- Slots.
 -- a slot's name is the turn's, for a pair that is no connection
-told-turn : (x u : ℕ) (m : Option ℕ) → u ≢ x → cond (eqb (nameTold u m) x) 1 0 ≡ turnOf x m
-unfolding nameTold turnOf
+told-turn : (x u : ℕ) (m : Option ℕ) → u ≢ x → cond (eqb (nameAnswered u m) x) 1 0 ≡ turnOf x m
+unfolding nameAnswered turnOf
 told-turn x u none n = rw (ne-eqb u x n)
 told-turn x u (some y) n = refl
 
@@ -127,7 +127,7 @@ module _ (v x : ℕ) (s : State) (a : NamesUnique (s .entries)) (t u : ℕ) (d :
   -- a data cell
   data-follows :
       (e : Connection) (m : Option ℕ) → e .name ≡ d .name → e .queue .served ≡ lastAfter m (d .queue .served) → m ≡ turn u (d .queue .served) (s .members)
-      → cond (eqb (nameTold u m) x) 1 0 + turnsOf v x (servedAt v (put u (taken e) s)) l ≡ turnsOf v x (servedAt v s) (cond (eqb u v && true) (s .members ∷ l) l)
+      → cond (eqb (nameAnswered u m) x) 1 0 + turnsOf v x (servedAt v (put u (taken e) s)) l ≡ turnsOf v x (servedAt v s) (cond (eqb u v && true) (s .members ∷ l) l)
   unfolding entryServed
   data-follows e m q h g = rw (told-turn x u m n, put-read entryServed v u s a d e f q) (by (case u v))
     where
@@ -141,7 +141,7 @@ module _ (v x : ℕ) (s : State) (a : NamesUnique (s .entries)) (t u : ℕ) (d :
           rw (ne-eqb u v z, another-turn v x u m (λ y k. turn-picks u (d .queue .served) (s .members) y (sym g ∙ k) .path) p z) (same-turns v x l refl)
 
   sent-follows : (k : Kind) → Follows v x s (sendStep s t u d k) l
-  unfolding sendStep sendFrom memberServed withServed withMembers nameTold lastAfter after sentForward sentTurned sentData dataTold dataCells withSlot isData
+  unfolding sendStep sendFrom memberServed withServed withMembers nameAnswered lastAfter after sentForward sentTurned sentData dataTold dataCells withSlot isData
   sent-follows Forward = other-follows (withServed none (sentForward t d)) refl refl
   sent-follows Turned = other-follows (withServed none (sentTurned t d)) refl refl
   sent-follows Data =
@@ -263,23 +263,23 @@ fair cs ds a b e g =
 
 -- Whose turn it is.
 kind-in-turn :
-    (k : Kind) (c : Connection) (ms : List Member) (u x : ℕ) → k ≡ Data → nameTold u (memberServed k c ms) ≡ x → c .name ≡ u → 0 < pathCells u ms
+    (k : Kind) (c : Connection) (ms : List Member) (u x : ℕ) → k ≡ Data → nameAnswered u (memberServed k c ms) ≡ x → c .name ≡ u → 0 < pathCells u ms
     → turn u (c .queue .served) ms ≡ some x
-unfolding memberServed nameTold
+unfolding memberServed nameAnswered
 kind-in-turn Forward c ms u x q h n w = let z : _≡_ {A = ℕ} 0 1 = cc in absurd (omega arith)
 kind-in-turn Turned c ms u x q h n w = let z : _≡_ {A = ℕ} 0 1 = cc in absurd (omega arith)
 kind-in-turn Data c ms u x q h n w =
-    go (turn u (c .queue .served) ms) refl (ap (λ (i : ℕ). nameTold u (turn i (c .queue .served) ms)) (sym n) ∙ h)
+    go (turn u (c .queue .served) ms) refl (ap (λ (i : ℕ). nameAnswered u (turn i (c .queue .served) ms)) (sym n) ∙ h)
   where
-    go : (m : Option ℕ) → turn u (c .queue .served) ms ≡ m → nameTold u m ≡ x → m ≡ some x
+    go : (m : Option ℕ) → turn u (c .queue .served) ms ≡ m → nameAnswered u m ≡ x → m ≡ some x
     go none e h = absurd (turn-some u (c .queue .served) ms w e)
     go (some y) e h = ap some h
 
-kind-own : (k : Kind) (c : Connection) (ms : List Member) (u x : ℕ) → nameTold u (memberServed k c ms) ≡ x → c .name ≡ u → isPath u ≡ false → x ≡ u
-unfolding memberServed nameTold
+kind-own : (k : Kind) (c : Connection) (ms : List Member) (u x : ℕ) → nameAnswered u (memberServed k c ms) ≡ x → c .name ≡ u → isPath u ≡ false → x ≡ u
+unfolding memberServed nameAnswered
 kind-own Forward c ms u x h n i = sym h
 kind-own Turned c ms u x h n i = sym h
-kind-own Data c ms u x h n i = sym h ∙ ap (nameTold u) (turn-none (c .name) (c .queue .served) ms (ap isPath n ∙ i))
+kind-own Data c ms u x h n i = sym h ∙ ap (nameAnswered u) (turn-none (c .name) (c .queue .served) ms (ap isPath n ∙ i))
 
 -- what a data slot's answer says of the connection that it goes to
 record DataSlot (s : State) (v x : ℕ) : Type 0 where
@@ -287,7 +287,7 @@ record DataSlot (s : State) (v x : ℕ) : Type 0 where
   found : find v (s .entries) ≡ taken holder
   kind : Kind
   isUser : kind ≡ Data
-  told : nameTold v (memberServed kind holder (s .members)) ≡ x
+  told : nameAnswered v (memberServed kind holder (s .members)) ≡ x
   waits : 0 < waiting (holder .queue)
 
 data-slot : {s : State} (t room v x acr n : ℕ) {o : Outcome} → Effect s (slot t room) o → o .answer ≡ Sent v x Data acr n → DataSlot s v x
@@ -297,13 +297,13 @@ data-slot t room v x acr n (idles _ _ g b) e = let z : _≡_ {A = ℕ} 0 1 = cc 
 data-slot {s} t room v x acr n (sends _ _ i u g b) e =
     let q : u ≡ v = cc in
     let k : kindAt t (b .holder) ≡ Data = cc in
-    let h : nameTold u (memberServed (kindAt t (b .holder)) (b .holder) (s .members)) ≡ x = cc in
+    let h : nameAnswered u (memberServed (kindAt t (b .holder)) (b .holder) (s .members)) ≡ x = cc in
     record {
       holder = b .holder;
       found = ap (λ (w : ℕ). find w (s .entries)) (sym q) ∙ b .found;
       kind = kindAt t (b .holder);
       isUser = k;
-      told = ap (λ (w : ℕ). nameTold w (memberServed (kindAt t (b .holder)) (b .holder) (s .members))) (sym q) ∙ h;
+      told = ap (λ (w : ℕ). nameAnswered w (memberServed (kindAt t (b .holder)) (b .holder) (s .members))) (sym q) ∙ h;
       waits = data-waits t (b .holder) i (b .readyAt) (b .due) k;
     }
 
@@ -344,13 +344,13 @@ unfolding owner
 path-owner u x ms i p = sym p ∙ rw i
 
 kind-owner :
-    (k : Kind) (c : Connection) (ms : List Member) (u x : ℕ) → nameTold u (memberServed k c ms) ≡ x → c .name ≡ u → isMember u ms ≡ false → u ≡ owner x ms
-unfolding memberServed nameTold
+    (k : Kind) (c : Connection) (ms : List Member) (u x : ℕ) → nameAnswered u (memberServed k c ms) ≡ x → c .name ≡ u → isMember u ms ≡ false → u ≡ owner x ms
+unfolding memberServed nameAnswered
 kind-owner Forward c ms u x h n i = own-owner u x ms h i
 kind-owner Turned c ms u x h n i = own-owner u x ms h i
 kind-owner Data c ms u x h n i = go (turn (c .name) (c .queue .served) ms) refl h
   where
-    go : (m : Option ℕ) → turn (c .name) (c .queue .served) ms ≡ m → nameTold u m ≡ x → u ≡ owner x ms
+    go : (m : Option ℕ) → turn (c .name) (c .queue .served) ms ≡ m → nameAnswered u m ≡ x → u ≡ owner x ms
     go none e h = own-owner u x ms h i
     go (some y) e h =
         let p = turn-picks (c .name) (c .queue .served) ms y e in
@@ -362,7 +362,7 @@ sent-owner w t room v x acr n k (refuses _ m h) e = let z : _≡_ {A = ℕ} 0 1 
 sent-owner w t room v x acr n k (idles _ _ g b) e = let z : _≡_ {A = ℕ} 0 1 = cc in absurd (omega arith)
 sent-owner {s} w t room v x acr n k (sends _ _ i u g b) e =
     let q : u ≡ v = cc in
-    let h : nameTold u (memberServed (kindAt t (b .holder)) (b .holder) (s .members)) ≡ x = cc in
+    let h : nameAnswered u (memberServed (kindAt t (b .holder)) (b .holder) (s .members)) ≡ x = cc in
     sym q ∙ kind-owner (kindAt t (b .holder)) (b .holder) (s .members) u x h (name-of u s (b .holder) (b .found)) (open-not-member w u (b .holder) (b .found))
 
 goes : (cs : List Call) (t room v x acr n : ℕ) (k : Kind) → step (final empty cs) (slot t room) .answer ≡ Sent v x k acr n → v ≡ owner x (final empty cs .members)

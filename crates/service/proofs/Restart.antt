@@ -2,11 +2,9 @@
 use Prim.Native.Nat.{ℕ, _+_, _-_, _^_, _≤_, _<_, min, max}
 use mathlib.Core.Path.{_≡_, refl, ap, _∙_}
 use mathlib.Core.Bool.{Bool, true, false, cond, _||_, _&&_, not}
-use mathlib.Core.List.{List}
 use native.Mathlib.Nat.{le-refl, div-le-self}
 use native.Mathlib.Omega.{arith}
 use lib.Dec.{leb, ltb, eqb}
-use borrow.Author.Tests.{eq-eqb}
 use Rattle.moves.specs.declared.moves.Rate.{Rate}
 use Rattle.rate.specs.Code.{rateOf}
 use Rattle.params.specs.Params.{peak, least, crm, adtfTime}
@@ -14,29 +12,23 @@ use Rattle.rate.specs.Gap.{gap}
 use Rattle.moves.specs.Moves.{firstCell, idle, unanswered, rateByMarks, feedback}
 use Rattle.moves.proofs.Cuts.{cut-le}
 use Rattle.cell.specs.declared.fields.Fields.{Fields}
-use Rattle.cell.specs.Fields.{cellName}
 use Rattle.connection.specs.declared.parts.Connection.{Connection}
 use Rattle.connection.specs.declared.parts.Pace.{Pace}
 use Rattle.connection.specs.declared.parts.Pace.the-variants.{Unsent, Running}
 use Rattle.connection.specs.declared.ready.Instant.{Instant}
 use Rattle.connection.specs.declared.ready.Instant.the-variants.{Never, At}
-use Rattle.connection.specs.Receiving.{afterBackwardCell, afterResourceCell}
+use Rattle.connection.specs.Receiving.{afterBackwardCell}
 use Rattle.connection.specs.Ready.{anyWaits, lastBefore, readyFrom}
-use Rattle.connection.proofs.Keeps.{work-same}
 use Rattle.connection.proofs.Readiness.{ready-moving}
-use Rattle.model.specs.State.{State, Entry, taken, empty, find}
-use Rattle.model.specs.Invariant.{NamesUnique}
+use Rattle.model.specs.State.{empty}
 use Rattle.model.specs.declared.answer.Answer.{Answer}
-use Rattle.model.specs.Call.{Call, receiving}
-use Rattle.model.specs.Step.{accept, replay, step}
+use Rattle.model.specs.Call.{Call}
 use Rattle.model.specs.Run.{final}
-use Rattle.model.proofs.Frames.{put-read}
 use Rattle.model.proofs.Reached.{reached-well-formed}
 use Rattle.promises.specs.Moves.{Moves, stays, first, later, fed}
-use Rattle.service.specs.Restart.{increase, Raises, hasNext, Ready, Rises, StaysAtZero}
-use Rattle.promises.proofs.Pairs.{work-backward}
+use Rattle.service.specs.Restart.{increase, hasNext, Ready, Rises, StaysAtZero}
 use Rattle.promises.proofs.Moves.{four-moves}
-use Rattle.promises.proofs.Received.{step-works}
+use Rattle.promises.proofs.Received.{step-fed}
 use Rattle.service.proofs.Liveness.{ready-soon}
 
 -- The rate after such a cell.
@@ -86,18 +78,6 @@ fed-pace : (f : Fields) (c : Connection) → afterBackwardCell f c .pace ≡ c .
 unfolding afterBackwardCell
 fed-pace f c = refl
 
-received :
-    (s : State) → NamesUnique (s .entries) → (o : List ℕ) (f : Fields) (c : Connection) → Raises o f → find (cellName f) (s .entries) ≡ taken c
-    → find (cellName f) (step s (receiving o) .state .entries) ≡ taken (afterBackwardCell f c)
-unfolding accept replay
-received s a o f c r q =
-    rw (
-      step-works s o f c (r .read) q,
-      put-read (λ (x : Entry). x) (cellName f) (cellName f) s a c (afterResourceCell (s .level) o f c) q (work-same (s .level) o f c .name),
-      eq-eqb (cellName f) (cellName f) refl,
-      work-backward (s .level) o f c (r .backward),
-    )
-
 pub rises : Rises
 rises cs o f c r q h =
     let d : Connection = afterBackwardCell f c in
@@ -105,7 +85,7 @@ rises cs o f c r q h =
     let m : 0 < d .rate .acr = omega (arith, r .er) in
     record {
       holder = d;
-      found = received (final empty cs) (reached-well-formed cs .unique) o f c r q;
+      found = step-fed (final empty cs) (reached-well-formed cs .unique) o f c (r .read) (r .backward) q;
       raised = l;
       moving = m;
       ready = λ e. moving-ready d m (ap (hasNext d) (fed-pace f c) ∙ fed-next f c (c .pace) ∙ e);

@@ -24,7 +24,7 @@ use Rattle.connection.proofs.Reached.{acr-is-rate}
 use Rattle.model.specs.State.{State, free, taken, position, holds, leafOf, put, withMembers, capacity}
 use Rattle.model.specs.Invariant.{WellFormed}
 use Rattle.model.specs.Call.{Outcome}
-use Rattle.model.specs.Step.{nameTold, sendFrom, sendStep}
+use Rattle.model.specs.Step.{nameAnswered, sendFrom, sendStep}
 use Rattle.model.specs.Tournament.{replayed}
 use Rattle.model.specs.declared.answer.Answer.the-variants.{Sent}
 use Rattle.model.proofs.Members.{path-sum}
@@ -76,7 +76,7 @@ plain s t c k = record {
 }
 
 unserved : (s : State) (t : ℕ) (c : Connection) (k : Kind) → sendFrom s t (c .name) c k none ≡ plain s t c k
-unfolding sendFrom nameTold afterServing withMembers put withServed lastAfter
+unfolding sendFrom nameAnswered afterServing withMembers put withServed lastAfter
 unserved s t c k = refl
 
 plain-send : (s : State) (t : ℕ) (c : Connection) (k : Kind) → memberServed k c (s .members) ≡ none → sendStep s t (c .name) c k ≡ plain s t c k
@@ -154,7 +154,7 @@ module _ (s : State) (w : WellFormed s) (t : ℕ) (last : s .last ≡ t) {l : Li
       → Serves (d .name) (d .queue .served % 65536) l m x → Updates SourceMoved m r i (withServed (some x) n) j
       → (r ≡ words (sendStep s t (c .name) c (kindAt t c) .state)) × (Sent (d .name) x k (n .rate .acr) j ≡ sendStep s t (c .name) c (kindAt t c) .answer)
       × (new ≡ bufferContent (sendStep s t (c .name) c (kindAt t c) .buffer) old)
-  unfolding sendFrom nameTold withMembers put memberServed
+  unfolding sendFrom nameAnswered withMembers put memberServed
   served-out {m} {r} old new g x j o waits sv u = go (turn (c .name) (c .queue .served) (s .members)) refl
     where
       data-kind : kindAt t c ≡ Data

@@ -43,12 +43,12 @@ membersSeen f (c ∷ cs) (o ∷ os) = membersSeen (memberSeen c o f) cs os
 abbrev pub connectionOf : (member : ℕ → Bool) → (name : ℕ) → ℕ
 connectionOf f x = cond (f x) (pathOf x) x
 
-abbrev pub connectionTold : (member : ℕ → Bool) → SlotAnswer → ℕ
-connectionTold f r = connectionOf f (nameOf (r .vpi) (r .vci))
+abbrev pub connectionReturned : (member : ℕ → Bool) → SlotAnswer → ℕ
+connectionReturned f r = connectionOf f (nameOf (r .vpi) (r .vci))
 
 -- none of an idle or refused slot, and of a call that is no slot
 abbrev pub wentTo : (member : ℕ → Bool) → SlotAnswer → Option ℕ
-wentTo f r = cond (eqb (r .kind) 0) none (some (connectionTold f r))
+wentTo f r = cond (eqb (r .kind) 0) none (some (connectionReturned f r))
 
 -- of each call of a list in turn
 abbrev pub placesSeen : (member : ℕ → Bool) → List Call → List Observation → List (Option ℕ)

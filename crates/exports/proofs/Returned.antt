@@ -22,12 +22,12 @@ use Rattle.model.specs.Invariant.{WellFormed}
 use Rattle.model.specs.declared.answer.Answer.{Answer}
 use Rattle.model.specs.declared.answer.Answer.the-variants.{Refused, Accepted, Closed, Idle, Sent}
 use Rattle.model.specs.Call.{Call, opening, closing, receiving, offering, levelling, slot, making, outOfRate, openingPath, adding, offeringMember, removing, Outcome, goesTo}
-use Rattle.model.specs.Step.{refuse, accept, replay, discard, withOffer, withoutOne, nameTold, sendFrom, sendStep, idleStep, sendOutside, step}
+use Rattle.model.specs.Step.{refuse, accept, replay, discard, withOffer, withoutOne, nameAnswered, sendFrom, sendStep, idleStep, sendOutside, step}
 use Rattle.model.specs.Run.{isAccepted}
 use Rattle.model.proofs.Frames.{name-of}
 use Rattle.model.proofs.Effects.{Effect, refuses, begins, ends, offers, marks, works, levels, idles, sends, makes, leaves, beginsPath, adds, offersMember, removes, effect}
 use Rattle.answers.specs.Calls.{slotAnswer}
-use Rattle.exports.specs.Told.{memberAfter, noMember, connectionOf, wentTo}
+use Rattle.exports.specs.Returned.{memberAfter, noMember, connectionOf, wentTo}
 
 -- who is a member after a call
 and-true : (b : Bool) → b ≡ (b && true)
@@ -99,12 +99,12 @@ unfolding empty anyWhere
 none-known x = refl
 
 -- a slot's connection is that of the name that it tells
-abbrev pub Tells : (ℕ → Bool) → Answer → Type 0
-Tells f (Refused n) = Unit
-Tells f (Accepted n) = Unit
-Tells f (Closed n k) = Unit
-Tells f Idle = Unit
-Tells f (Sent v x k a n) = connectionOf f x ≡ v
+abbrev pub NamesConnection : (ℕ → Bool) → Answer → Type 0
+NamesConnection f (Refused n) = Unit
+NamesConnection f (Accepted n) = Unit
+NamesConnection f (Closed n k) = Unit
+NamesConnection f Idle = Unit
+NamesConnection f (Sent v x k a n) = connectionOf f x ≡ v
 
 open-alone : (s : State) → WellFormed s → (v : ℕ) (c : Connection) → find v (s .entries) ≡ taken c → isMember v (s .members) ≡ false
 unfolding isFree
@@ -116,50 +116,50 @@ open-alone s w v c e = go (isMember v (s .members)) refl
 
 served-connection :
     (s : State) → WellFormed s → (f : ℕ → Bool) → Knows f s → (v : ℕ) (c : Connection) → find v (s .entries) ≡ taken c → (k : Kind)
-    → connectionOf f (nameTold v (memberServed k c (s .members))) ≡ v
-unfolding nameTold memberServed
+    → connectionOf f (nameAnswered v (memberServed k c (s .members))) ≡ v
+unfolding nameAnswered memberServed
 served-connection s w f h v c e Forward = rw (h v ∙ open-alone s w v c e)
 served-connection s w f h v c e Turned = rw (h v ∙ open-alone s w v c e)
 served-connection s w f h v c e Data = go (turn (c .name) (c .queue .served) (s .members)) refl
   where
-    go : (o : Option ℕ) → turn (c .name) (c .queue .served) (s .members) ≡ o → connectionOf f (nameTold v o) ≡ v
+    go : (o : Option ℕ) → turn (c .name) (c .queue .served) (s .members) ≡ o → connectionOf f (nameAnswered v o) ≡ v
     go none p = rw (h v ∙ open-alone s w v c e)
     go (some u) p = let z = turn-picks (c .name) (c .queue .served) (s .members) u p in rw (h u ∙ z .member) (z .path ∙ name-of v s c e)
 
-effect-tells : {s : State} → WellFormed s → (f : ℕ → Bool) → Knows f s → {c : Call} {o : Outcome} → Effect s c o → Tells f (o .answer)
+effect-names : {s : State} → WellFormed s → (f : ℕ → Bool) → Knows f s → {c : Call} {o : Outcome} → Effect s c o → NamesConnection f (o .answer)
 unfolding refuse accept replay discard sendStep sendFrom idleStep sendOutside withTime
-effect-tells w f h (refuses c n q) = tt
-effect-tells w f h (begins vpi vci t p g) = tt
-effect-tells w f h (ends vpi vci d e) = tt
-effect-tells w f h (offers vpi vci n d e i q) = tt
-effect-tells w f h (marks o vpi vci e u d r i z q) = tt
-effect-tells w f h (works o q d r e) = tt
-effect-tells w f h (levels l q) = tt
-effect-tells w f h (idles t room g b) = tt
-effect-tells {s} w f h (sends t room i u g b) = served-connection s w f h u (b .holder) (b .found) (kindAt t (b .holder))
-effect-tells w f h (makes vpi vci t d e g b m) = tt
-effect-tells w f h (leaves vpi vci t room d e g b) = tt
-effect-tells w f h (beginsPath vpi t p g) = tt
-effect-tells w f h (adds vpi vci d e j) = tt
-effect-tells w f h (offersMember vpi vci n d e i q) = tt
-effect-tells w f h (removes vpi vci d e i) = tt
+effect-names w f h (refuses c n q) = tt
+effect-names w f h (begins vpi vci t p g) = tt
+effect-names w f h (ends vpi vci d e) = tt
+effect-names w f h (offers vpi vci n d e i q) = tt
+effect-names w f h (marks o vpi vci e u d r i z q) = tt
+effect-names w f h (works o q d r e) = tt
+effect-names w f h (levels l q) = tt
+effect-names w f h (idles t room g b) = tt
+effect-names {s} w f h (sends t room i u g b) = served-connection s w f h u (b .holder) (b .found) (kindAt t (b .holder))
+effect-names w f h (makes vpi vci t d e g b m) = tt
+effect-names w f h (leaves vpi vci t room d e g b) = tt
+effect-names w f h (beginsPath vpi t p g) = tt
+effect-names w f h (adds vpi vci d e j) = tt
+effect-names w f h (offersMember vpi vci n d e i q) = tt
+effect-names w f h (removes vpi vci d e i) = tt
 
-pub tells : {s : State} → WellFormed s → (f : ℕ → Bool) → Knows f s → (c : Call) → Tells f (step s c .answer)
-tells {s} w f h c = effect-tells w f h (effect s (w .unique) c)
+pub names-connection : {s : State} → WellFormed s → (f : ℕ → Bool) → Knows f s → (c : Call) → NamesConnection f (step s c .answer)
+names-connection {s} w f h c = effect-names w f h (effect s (w .unique) c)
 
 -- the pair that a slot returned makes the name again
 pub back : (v : ℕ) → nameOf (vpiIn v) (vciIn v) ≡ v
 back v = omega arith
 
-pub told : (f : ℕ → Bool) (v x : ℕ) → connectionOf f x ≡ v → connectionOf f (nameOf (vpiIn x) (vciIn x)) ≡ v
-told f v x e = ap (connectionOf f) (back x) ∙ e
+pub connection-back : (f : ℕ → Bool) (v x : ℕ) → connectionOf f x ≡ v → connectionOf f (nameOf (vpiIn x) (vciIn x)) ≡ v
+connection-back f v x e = ap (connectionOf f) (back x) ∙ e
 
-pub went-to : (f : ℕ → Bool) (a : Answer) → Tells f a → wentTo f (slotAnswer a) ≡ goesTo a
+pub went-to : (f : ℕ → Bool) (a : Answer) → NamesConnection f a → wentTo f (slotAnswer a) ≡ goesTo a
 unfolding goesTo
 went-to f (Refused n) h = refl
 went-to f (Accepted n) h = refl
 went-to f (Closed n k) h = refl
 went-to f Idle h = refl
-went-to f (Sent v x Forward a n) h = ap some (told f v x h)
-went-to f (Sent v x Turned a n) h = ap some (told f v x h)
-went-to f (Sent v x Data a n) h = ap some (told f v x h)
+went-to f (Sent v x Forward a n) h = ap some (connection-back f v x h)
+went-to f (Sent v x Turned a n) h = ap some (connection-back f v x h)
+went-to f (Sent v x Data a n) h = ap some (connection-back f v x h)

@@ -1,0 +1,8 @@
+-- The loop settles.
+pub mod Settled
+pub mod Share
+pub mod Fed
+pub mod Others
+pub mod Loop
+pub mod Answers
+pub mod Examples

@@ -1,0 +1,29 @@
+-- The bound computed where it is exact, and shares that are no rate of a code.
+use mathlib.Core.Path.{_≡_}
+use Rattle.params.specs.declared.params.Params.{Params}
+use Rattle.params.specs.Params.{houseSet}
+use Rattle.moves.specs.Moves.{opened}
+use Rattle.share.specs.declared.share.FairShare.the-variants.{NoLimit, Limit}
+use Rattle.service.specs.Restart.{increase}
+use Rattle.closed_loop.specs.Settled.{feedbackBound, fedTimes}
+use Rattle.closed_loop.specs.Share.{settled}
+
+-- PCR 513 units, MCR and ICR 0, r = 4
+abbrev pub lowest : Params
+lowest = houseSet 0x4001 0x0000 0x0000
+
+-- PCR 1,000, MCR 1 and ICR 32 cells a second
+abbrev pub usual : Params
+usual = houseSet 0x53E8 0x4000 0x4A00
+
+pub record Examples : Type 0 where
+  pub steps : increase lowest ≡ 32
+  pub bound : feedbackBound lowest ≡ 17
+  -- from 0 to PCR: one feedback fewer leaves the rate a unit short
+  pub short : fedTimes 16 513 (opened lowest) .acr ≡ 512
+  pub there : fedTimes 17 513 (opened lowest) .acr ≡ 513
+  -- a share between two codes, one below MCR, none, and one above PCR
+  pub between : settled usual (Limit 1_025) ≡ 1_024
+  pub belowMcr : settled usual (Limit 100) ≡ 512
+  pub noLimit : settled usual NoLimit ≡ 512_000
+  pub abovePcr : settled usual (Limit 600_000) ≡ 512_000
