@@ -1,11 +1,12 @@
 /*
- * Every call in its costliest known case, accepted: 1,024 connections are open, the one concerned has the last leaf of
- * the tournament and wins at every level, so that all ten matches are replayed (an open replays one), and its name is at
- * an end of the directory of names: VPI 0 and VCI 32, or VPI 255 and VCI 65,535. Where the directory moves, it is the
- * highest name, with all other words behind its own, and its ready instant is the earliest; elsewhere the lowest name,
- * and all ready instants are equal. The others are on all VPIs, four to each. A forward cell makes both of its
- * moves, and a received one replaces another. A path has all 256 members. A port has 1,024 demands. A trace has 1,000 cells of fifteen octets. bench/worst.c
- * counts the instructions of these calls, tests/c/stack.c measures their stack.
+ * Every call in its costliest known case, accepted: a search over random states found none costlier. 1,024 connections are open,
+ * and the one concerned wins all ten matches of its leaf before the call. Where it is ready again after it, all others are ready
+ * at that instant too and it has the lowest name, which decides between equals: VPI 0, and VCI 32 or the path's. Nothing waits
+ * then where that can be, since Trm is looked at only if nothing waits. Where the directory moves, it has the highest name, VPI
+ * 255, and VCI 65,535 or the path's, with all other words behind its own, and the others are never ready. A forward cell makes
+ * both of its moves, and a received one replaces another. A path has all 256 members, or all but one. A port has 1,024 demands.
+ * A trace has 1,000 cells of fifteen octets. bench/worst.c counts the instructions of these calls, bench/cold.c measures their
+ * time without caches, tests/c/stack.c their stack.
  */
 #ifndef CASES_H
 #define CASES_H
@@ -17,15 +18,22 @@
 #define SECOND UINT64_C(1000000000)
 #define OTHERS (ABR_CONNECTIONS_MAX - 1)
 #define MEMBER_VCI 1000u /* of the lowest member; the others follow it */
+#define LAST_MEMBER_VCI (MEMBER_VCI + ABR_MEMBERS_MAX - 1)
+#define RATE_256 0x5000u          /* the code of 256 cells per second */
+#define GAP UINT64_C(3906250)     /* from one cell to the next at that rate */
+#define TRM UINT64_C(100000000)   /* of Trm number 7 */
+#define FORWARD_AT (SECOND - TRM) /* the forward cell of the one concerned */
+#define CALL_AT (SECOND - GAP)    /* the slot that is measured */
 #define TRACE_CELLS 1000u
 #define TRACE_CELL 15u /* octets of one of its cells */
 
 /* What a case needs beside the connections. */
 enum need {
-    NOTHING, NRM_2, TURNED_WAITS, MADE_WAITS, OUTSIDE, FORWARD_CELL, BACKWARD_CELL, DATA_CELL, CLOSED, DEMANDS, TRACE,
-    /* The one concerned is a path, and each of its members has data; or only the one served last has; or one is missing;
-     * or a data cell of a member is needed; or the path is closed. */
-    MEMBERS, LONE_MEMBER, MISSING_MEMBER, MEMBER_CELL, CLOSED_PATH
+    NOTHING, DATA_WAITS, FORWARD_DUE, TURNED_WAITS, TURNED_REPLACED, MADE_WAITS, MADE_REPLACED, OUTSIDE, FORWARD_CELL,
+    BACKWARD_CELL, DATA_CELL, CLOSED, DEMANDS, TRACE,
+    /* The one concerned is a path, whose highest member was served last; one cell waits on the lowest, whose turn is next; or
+     * only on the highest itself; or a member is missing; or a data cell of a member is needed; or the path is closed. */
+    MEMBERS, NEXT_MEMBER, SAME_MEMBER, MISSING_MEMBER, MEMBER_CELL, CLOSED_PATH
 };
 
 /* The connection concerned. */
@@ -46,7 +54,7 @@ typedef struct {
 
 static abr_table table;
 static uint8_t cell[ABR_CELL_OCTETS];
-static abr_rm rm = {0, 0, 0, 0, 1, 0, 0, 0x53E8, 0x5000, 0x4000, 7, 9};
+static abr_rm rm = {0, 0, 0, 0, 0, 0, 0, 0x53E8, 0x5000, 0x4000, 7, 9};
 static abr_params params;
 static address at; /* of the one concerned */
 static uint64_t demands[ABR_DEMANDS_MAX], capacity;
@@ -68,15 +76,14 @@ static abr_share share;
 static abr_verdict verdict;
 static uint64_t next;
 
-static void call_slot(void) { sent = abr_slot(&table, 3 * SECOND, cell, sizeof cell); }
-static void call_idle(void) { sent = abr_slot(&table, SECOND, cell, sizeof cell); }
+static void call_slot(void) { sent = abr_slot(&table, CALL_AT, cell, sizeof cell); }
 static void call_receive(void) { answer = abr_receive(&table, cell, sizeof cell); }
 static void call_open(void) { answer = abr_open(&table, at.vpi, at.vci, 3 * SECOND, params); }
 static void call_close(void) { closed = abr_close(&table, at.vpi, at.vci); }
-static void call_offer(void) { answer = abr_offer(&table, at.vpi, at.vci, 1); }
+static void call_offer(void) { answer = abr_offer(&table, at.vpi, at.vci, 0); }
 static void call_open_path(void) { answer = abr_open_path(&table, at.vpi, 3 * SECOND, params); }
 static void call_add(void) { answer = abr_add(&table, at.vpi, MEMBER_VCI); }
-static void call_offer_member(void) { answer = abr_offer_member(&table, at.vpi, MEMBER_VCI, 1); }
+static void call_offer_member(void) { answer = abr_offer_member(&table, at.vpi, MEMBER_VCI, 0); }
 static void call_remove(void) { closed = abr_remove(&table, at.vpi, MEMBER_VCI); }
 static void call_set_level(void) { refusal = abr_set_level(&table, 2); }
 static void call_make(void) { answer = abr_make(&table, at.vpi, at.vci, 3 * SECOND); }
@@ -99,19 +106,19 @@ static void call_judge(void) { verdict = abr_judge(trace, trace_len); }
 static void call_house(void) { params = abr_house(ABR_CODE_MAX, 0x4000, 0x53E8); }
 
 static const abr_case cases[] = {
-    {"slot, forward cell", NRM_2, LOWEST, call_slot, ABR_SENT_FORWARD},
+    {"slot, forward cell", FORWARD_DUE, LOWEST, call_slot, ABR_SENT_FORWARD},
     {"slot, turned cell", TURNED_WAITS, LOWEST, call_slot, ABR_SENT_TURNED},
     {"slot, made cell", MADE_WAITS, LOWEST, call_slot, ABR_SENT_TURNED},
-    {"slot, data", NOTHING, LOWEST, call_slot, ABR_SENT_DATA},
-    {"slot, idle", NOTHING, LOWEST, call_idle, ABR_SENT_IDLE},
-    {"receive, forward cell", TURNED_WAITS, LOWEST, call_receive, 0},
+    {"slot, data", DATA_WAITS, LOWEST, call_slot, ABR_SENT_DATA},
+    {"slot, idle", NOTHING, LOWEST, call_slot, ABR_SENT_IDLE},
+    {"receive, forward cell", TURNED_REPLACED, LOWEST, call_receive, 0},
     {"receive, backward cell", BACKWARD_CELL, LOWEST, call_receive, 0},
     {"receive, data", DATA_CELL, LOWEST, call_receive, 0},
     {"open", CLOSED, HIGHEST, call_open, 0},
     {"close", NOTHING, HIGHEST, call_close, 0},
     {"offer", NOTHING, LOWEST, call_offer, 0},
-    {"slot, next member's data", MEMBERS, LOWEST, call_slot, ABR_SENT_DATA},
-    {"slot, lone member's data", LONE_MEMBER, LOWEST, call_slot, ABR_SENT_DATA},
+    {"slot, next member's data", NEXT_MEMBER, LOWEST, call_slot, ABR_SENT_DATA},
+    {"slot, same member's data", SAME_MEMBER, LOWEST, call_slot, ABR_SENT_DATA},
     {"receive, member's data", MEMBER_CELL, LOWEST, call_receive, 0},
     {"open path", CLOSED_PATH, HIGHEST, call_open_path, 0},
     {"close path", MEMBERS, HIGHEST, call_close, 0},
@@ -119,7 +126,7 @@ static const abr_case cases[] = {
     {"offer to a member", MEMBERS, LOWEST, call_offer_member, 0},
     {"remove member", MEMBERS, LOWEST, call_remove, 0},
     {"set level", NOTHING, LOWEST, call_set_level, 0},
-    {"make", MADE_WAITS, LOWEST, call_make, 0},
+    {"make", MADE_REPLACED, LOWEST, call_make, 0},
     {"out-of-rate cell", OUTSIDE, LOWEST, call_out_of_rate, 0},
     {"acr", NOTHING, LOWEST, call_acr, 0},
     {"export", NOTHING, LOWEST, call_export, 0},
@@ -139,63 +146,59 @@ static const abr_case cases[] = {
 
 #define CASES (sizeof cases / sizeof cases[0])
 
-/* One unanswered cell and 10 ms are enough for the moves of a forward cell. */
-static void set_params(uint32_t icr, uint32_t n)
+/* A slot that must send a cell of this kind; 0 if it does. */
+static int slot_sends(uint64_t time, uint32_t kind)
 {
-    params = abr_house(ABR_CODE_MAX, 0x4000, icr);
-    params.n = n;
-    params.tbe = params.frtt = params.adtf = 1;
+    sent = abr_slot(&table, time, cell, sizeof cell);
+    return sent.refusal != ABR_OK || sent.kind != kind;
 }
 
-/* Opens a channel with data. */
-static int open_busy(address other, uint32_t icr, uint32_t n)
+/* At one cell per second, on VPIs between the two ends. Beside the lowest name each has sent its first cell at 0 and is ready
+ * at one second. */
+static int open_others(enum name end)
 {
-    set_params(icr, n);
-    return abr_open(&table, other.vpi, other.vci, 0, params).refusal != ABR_OK ||
-           abr_offer(&table, other.vpi, other.vci, 100).refusal != ABR_OK;
+    int wrong = 0, busy = end == LOWEST;
+    params = abr_house(ABR_CODE_MAX, 0, 0x4000);
+    for (uint32_t i = 0; i < OTHERS; i++) {
+        address other = {1 + i / 5, ABR_VCI_MIN + i % 5};
+        wrong |= abr_open(&table, other.vpi, other.vci, 0, params).refusal != ABR_OK;
+        wrong |= abr_offer(&table, other.vpi, other.vci, busy).refusal != ABR_OK;
+    }
+    for (uint32_t i = 0; busy && i < OTHERS; i++) {
+        wrong |= slot_sends(0, ABR_SENT_FORWARD);
+    }
+    return wrong;
 }
 
-/* Opens the path concerned, with its members and their data. */
-static int open_busy_path(const abr_case *which, uint32_t icr)
+/* One is missing where it is to be added, and where a turn goes round: it then looks at a free word, which costs more. */
+static uint32_t lowest_member(const abr_case *which)
+{
+    return MEMBER_VCI + (which->need == MISSING_MEMBER || which->call == call_slot);
+}
+
+/* Its forward cells leave the rate as it is; one unanswered cell and 10 ms are enough for their moves. */
+static int open_concerned(const abr_case *which)
 {
     int wrong;
-    set_params(icr, 5);
+    params = abr_house(ABR_CODE_MAX, RATE_256, RATE_256);
+    params.tbe = params.frtt = params.adtf = 1;
+    params.trm = which->need == FORWARD_DUE ? 5 : 7;
+    if (at.vci != ABR_PATH_VCI) {
+        return abr_open(&table, at.vpi, at.vci, 0, params).refusal != ABR_OK;
+    }
     wrong = abr_open_path(&table, at.vpi, 0, params).refusal != ABR_OK;
-    for (uint32_t i = which->need == MISSING_MEMBER; i < ABR_MEMBERS_MAX; i++) {
-        uint64_t cells = which->need == LONE_MEMBER && i > 0 ? 0 : 100;
-        wrong |= abr_add(&table, at.vpi, MEMBER_VCI + i).refusal != ABR_OK;
-        wrong |= abr_offer_member(&table, at.vpi, MEMBER_VCI + i, cells).refusal != ABR_OK;
+    for (uint32_t vci = lowest_member(which); vci <= LAST_MEMBER_VCI; vci++) {
+        wrong |= abr_add(&table, at.vpi, vci).refusal != ABR_OK;
     }
     return wrong;
 }
 
-/* The lowest or the highest name, or one that is i names away from it, counted over VCIs that stand on every VPI. */
-static address name_from(enum name end, uint32_t i)
+/* Data for the one concerned, of a path for this member. */
+static int offer_to(uint32_t member, uint64_t cells)
 {
-    address low = {i / 4, ABR_VCI_MIN + i % 4}, high = {ABR_VPI_MAX - i / 4, ABR_VCI_MAX - i % 4};
-    return end == LOWEST ? low : high;
-}
-
-/* The others, and last the one concerned; as the highest name with a higher rate, and so due earlier than all others. */
-static int fill(const abr_case *which)
-{
-    uint32_t n = which->need == NRM_2 ? 1 : 5, icr = which->at == HIGHEST ? 0x6000 : 0x5000;
-    int wrong = 0;
-    for (uint32_t i = 1; i <= OTHERS; i++) {
-        wrong |= open_busy(name_from(which->at, i), 0x5000, n);
-    }
-    return wrong | (at.vci == ABR_PATH_VCI ? open_busy_path(which, icr) : open_busy(at, icr, n));
-}
-
-/* Every connection sends one cell at this time. */
-static int round_at(uint64_t time)
-{
-    int wrong = 0;
-    for (unsigned slot = 0; slot < ABR_CONNECTIONS_MAX; slot++) {
-        sent = abr_slot(&table, time, cell, sizeof cell);
-        wrong |= sent.refusal != ABR_OK || sent.kind == ABR_SENT_IDLE;
-    }
-    return wrong;
+    abr_answer offered = at.vci == ABR_PATH_VCI ? abr_offer_member(&table, at.vpi, member, cells)
+                                                : abr_offer(&table, at.vpi, at.vci, cells);
+    return offered.refusal != ABR_OK;
 }
 
 /* A data cell for a VCI on the VPI of the connection concerned, its octet 5 found by trying all. */
@@ -218,6 +221,30 @@ static int make_rm_cell(uint32_t dir)
 {
     rm.dir = dir;
     return abr_write_rm(rm, cell, sizeof cell) != ABR_OK;
+}
+
+static int receive_forward(void)
+{
+    return make_rm_cell(0) || abr_receive(&table, cell, sizeof cell).refusal != ABR_OK;
+}
+
+static int make_backward(uint64_t time)
+{
+    return abr_set_level(&table, 2) != ABR_OK || abr_make(&table, at.vpi, at.vci, time).refusal != ABR_OK;
+}
+
+/* A forward cell, two data cells and a turned one. Nothing waits then, so that Trm makes the ready instant: one second. */
+static int send_four(void)
+{
+    return offer_to(LAST_MEMBER_VCI, 2) || slot_sends(FORWARD_AT, ABR_SENT_FORWARD) ||
+           slot_sends(FORWARD_AT + GAP, ABR_SENT_DATA) || slot_sends(FORWARD_AT + 2 * GAP, ABR_SENT_DATA) ||
+           receive_forward() || slot_sends(FORWARD_AT + 3 * GAP, ABR_SENT_TURNED);
+}
+
+/* One data cell more, a gap before one second: it is ready at one second whatever waits. */
+static int send_fifth(void)
+{
+    return offer_to(LAST_MEMBER_VCI, 1) || slot_sends(CALL_AT, ABR_SENT_DATA);
 }
 
 /*
@@ -269,20 +296,25 @@ static void make_trace(void)
 /* Prepares table and cell for a case; 0 if every call of it was accepted. */
 static int prepare(const abr_case *which)
 {
-    at = name_from(which->at, 0);
-    at.vci = which->need >= MEMBERS ? ABR_PATH_VCI : at.vci;
+    at.vpi = which->at == LOWEST ? 0 : ABR_VPI_MAX;
+    at.vci = which->need >= MEMBERS ? ABR_PATH_VCI : which->at == LOWEST ? ABR_VCI_MIN : ABR_VCI_MAX;
     rm.vpi = at.vpi;
     rm.vci = at.vci;
     memset(&table, 0, sizeof table);
-    if (fill(which) || round_at(0) || round_at(SECOND)) {
+    if (open_others(which->at) || open_concerned(which) || send_four()) {
         return 1;
     }
     switch (which->need) {
-    case TURNED_WAITS: return make_rm_cell(0) || abr_receive(&table, cell, sizeof cell).refusal != ABR_OK;
-    case MADE_WAITS:
-        return abr_set_level(&table, 2) != ABR_OK || abr_make(&table, at.vpi, at.vci, SECOND).refusal != ABR_OK;
+    case DATA_WAITS:
+    case SAME_MEMBER:
+    case FORWARD_DUE: return offer_to(LAST_MEMBER_VCI, 1);
+    case NEXT_MEMBER: return offer_to(lowest_member(which), 1);
+    case TURNED_WAITS: return receive_forward();
+    case TURNED_REPLACED: return send_fifth() || receive_forward();
+    case MADE_WAITS: return make_backward(FORWARD_AT + 3 * GAP);
+    case MADE_REPLACED: return send_fifth() || make_backward(CALL_AT);
     case OUTSIDE: /* the last one before */
-        return abr_out_of_rate(&table, at.vpi, at.vci, SECOND, cell, sizeof cell) != ABR_OK;
+        return abr_out_of_rate(&table, at.vpi, at.vci, CALL_AT, cell, sizeof cell) != ABR_OK;
     case FORWARD_CELL: return make_rm_cell(0);
     case BACKWARD_CELL: return make_rm_cell(1);
     case DATA_CELL: return make_data_cell(at.vci);
@@ -299,8 +331,8 @@ static int prepare(const abr_case *which)
 static int accepted(const abr_case *which)
 {
     if (which->call == call_slot) {
-        uint32_t member = MEMBER_VCI + (which->need == MEMBERS); /* the lowest had the slot before */
-        uint32_t vci = at.vci == ABR_PATH_VCI ? member : at.vci;
+        uint32_t member = which->need == NEXT_MEMBER ? lowest_member(which) : LAST_MEMBER_VCI;
+        uint32_t vci = which->kind == ABR_SENT_IDLE ? 0 : at.vci == ABR_PATH_VCI ? member : at.vci;
         return sent.refusal == ABR_OK && sent.kind == which->kind && sent.vpi == at.vpi && sent.vci == vci;
     }
     if (which->call == call_read) {
@@ -313,7 +345,7 @@ static int accepted(const abr_case *which)
         return refusal == ABR_OK && contract.pcr > 0;
     }
     if (which->call == call_next) {
-        return next > SECOND && next < 3 * SECOND;
+        return next == SECOND;
     }
     return (refusal | answer.refusal | closed.refusal | sent.refusal | allowed.refusal | coded.refusal | rated.refusal |
             imported.refusal | share.refusal | verdict.refusal | verdict.rule) == ABR_OK;

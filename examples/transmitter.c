@@ -119,13 +119,13 @@ static uint8_t header_check(const uint8_t *header)
     return remainder ^ 0x55;
 }
 
-/* The header of a data cell: GFC 0, CLP 0, payload type 0, or 2 with the congestion mark. */
-static void write_header(uint8_t *cell, uint32_t vpi, uint32_t vci, int efci)
+/* The header of a data cell: GFC 0, CLP 0, a payload type from 0 to 3: 2 is the congestion mark. */
+static void write_header(uint8_t *cell, uint32_t vpi, uint32_t vci, uint32_t type)
 {
     cell[0] = (uint8_t)(vpi >> 4);
     cell[1] = (uint8_t)(vpi << 4 | vci >> 12);
     cell[2] = (uint8_t)(vci >> 4);
-    cell[3] = (uint8_t)(vci << 4 | (efci ? 2u : 0u) << 1);
+    cell[3] = (uint8_t)(vci << 4 | type << 1);
     cell[4] = header_check(cell);
 }
 
@@ -190,7 +190,7 @@ static void towards_far(uint64_t now, uint8_t *cell)
     if (read.kind == ABR_CELL_DATA) {
         last_data[at(&ends[NEAR], read.rm.vpi, read.rm.vci) - ends[NEAR].connections] = now;
         if (queue_length(now) > 25) {
-            write_header(cell, read.rm.vpi, read.rm.vci, 1);
+            write_header(cell, read.rm.vpi, read.rm.vci, 2);
             marked++;
         }
     }

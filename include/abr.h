@@ -2,25 +2,18 @@
  * abr.h: the ABR end-system rate engine.
  *
  * A transmitter asks once per cell slot which of up to 1,024 connections of one
- * link sends, what kind of cell, and what rate it is allowed afterwards. The manual,
- * docs/MANUAL.md, says all that a caller needs beside this header. For whoever has
- * the sources: the sections named below are those of document 01, "The ABR end-system rate
- * engine", which says what every call does, with requests L1 (abr_make), L2
- * (marks of a replaced cell), L4 (1,024 connections, comparisons), L5 (no minimum
- * rate, abr_out_of_rate), L6 (full addresses), L7 (the reserved bit of a rate code),
- * L8 (abr_export, abr_import), L9 (what the last feedback did), L10 (abr_port,
- * abr_fair_share, abr_limit), L11 (abr_judge), L12 (the cells of a close), L13
- * (abr_open_path and the members of paths) and L14 (TBE and round trip) of document 02.
- * abr_next tells a caller the ready instant of section "Slots".
+ * link sends, what kind of cell, and what rate it is allowed afterwards. Sections
+ * named below are those of the manual, docs/MANUAL.md, which says what the engine
+ * does; beside it a caller needs nothing but this header.
  *
  * Addresses. A connection is named by its VPI and its VCI together, as VPI * 65,536
- * + VCI (document 02, L6): the same VCI on another VPI is another connection. Every
+ * + VCI (section 2): the same VCI on another VPI is another connection. Every
  * cell written carries both. A VPI over 255 or a VCI over 65,535 is refused with 7
  * where it would be opened or written; in every other call such a pair is that of
  * no connection and is refused with 11. Neither is ever cut to the address of
  * another.
  *
- * Paths. One rate loop may serve many channels (document 02, L13): abr_open_path opens
+ * Paths. One rate loop may serve many channels (section 10): abr_open_path opens
  * a connection for a whole VPI, which is named VPI * 65,536 + 6 and whose RM cells have
  * VCI 6. VCIs on that VPI are made its members by abr_add; each has data of its own,
  * offered by abr_offer_member, and no rate. The other calls for an open connection
@@ -54,7 +47,7 @@
  * refusal must not be ignored; compilers that can warn of it do.
  *
  * Comparisons. The ready instants of the connections play a tournament of ten
- * levels, neighbours paired at each (document 02, L4). An accepted open, close,
+ * rounds, neighbours paired in each (section 13). An accepted open, close,
  * receive, offer or make, and a slot that sends, replays the matches of its own
  * connection upwards, as far as their winners may have changed; a member's offer,
  * removal and received data cell replay those of its path. It answers how
@@ -62,13 +55,12 @@
  * all other calls replay none.
  *
  * Rates are whole numbers of 1/512 cell per second, but for the doubles of abr_export
- * and abr_import, which are in cells per second; times are nanoseconds (section "Units
- * and the 16-bit rate code").
+ * and abr_import, which are in cells per second; times are nanoseconds
+ * (sections 2 and 3).
  *
  * Rate codes. Bit 15 of a code is reserved. A call that reads a code with that bit
- * set is refused with 19: abr_open, abr_receive, abr_read, abr_rate (document 02,
- * L7). No code that abr_code or abr_import gives and no cell that the library writes
- * has it.
+ * set is refused with 19: abr_open, abr_receive, abr_read, abr_rate (section 3).
+ * No code that abr_code or abr_import gives and no cell that the library writes has it.
  */
 #ifndef ABR_H
 #define ABR_H
@@ -159,7 +151,7 @@ extern "C" {
 /* The largest rate code; its rate is ABR_RATE_MAX. */
 #define ABR_CODE_MAX 0x7FFFu
 
-/* ---- Parameters of an open (section "Opening") -------------------------- */
+/* ---- Parameters of an open (section 4) ---------------------------------- */
 
 /* The value of c that means a CDF of zero. */
 #define ABR_CDF_ZERO 7u
@@ -209,7 +201,7 @@ extern "C" {
 /* Because of the input. */
 #define ABR_REFUSED_LENGTH 1u       /* cell or buffer is not 53 octets */
 #define ABR_REFUSED_HEADER_CHECK 2u /* octet 5 is wrong */
-/* 3 was a VPI other than 0. Document 02's L6 withdrew it; its number stays unused. */
+/* 3 was a VPI other than 0, which is no refusal any more; its number stays unused. */
 #define ABR_REFUSED_PAYLOAD_TYPE 4u /* payload type is 4, 5 or 7 */
 #define ABR_REFUSED_CRC 5u          /* CRC-10 is wrong */
 #define ABR_REFUSED_PROTOCOL 6u     /* protocol is not 1 */
@@ -228,7 +220,7 @@ extern "C" {
 #define ABR_REFUSED_TOO_SOON 17u      /* less than 100 ms since the last cell made on this connection */
 #define ABR_REFUSED_TOO_OFTEN 18u     /* less than 100 ms since the last out-of-rate cell on this connection */
 
-/* Because of the input, added by document 02. */
+/* Because of the input, added later. */
 #define ABR_REFUSED_RESERVED_BIT 19u /* reserved bit of a rate code is set */
 #define ABR_REFUSED_DOUBLE 20u       /* not a rate: not a number, infinite, below 0, between 0 and 1, or 2^32 and more */
 #define ABR_REFUSED_DEMANDS 21u      /* over 1,024 demands */
@@ -237,12 +229,12 @@ extern "C" {
 #define ABR_REFUSED_TRACE_END 24u    /* trace is empty or ends inside a record */
 #define ABR_REFUSED_TRACE_RANGE 25u  /* n, Trm number, kind, rate or summed time of a trace is out of range */
 
-/* Because of the state, added by document 02. */
+/* Because of the state, added later. */
 #define ABR_REFUSED_MEMBERS_FULL 26u   /* 256 members are in the engine */
 #define ABR_REFUSED_ALREADY_MEMBER 27u /* pair is already a member of its path */
 #define ABR_REFUSED_NOT_A_MEMBER 28u   /* path is open, but the VCI is no member of it */
 
-/* Because of the input, added by document 02's L14. */
+/* Because of the input, added last. */
 #define ABR_REFUSED_TBE 29u  /* TBE is 0 or over 16,777,215 */
 #define ABR_REFUSED_FRTT 30u /* FRTT is over 16,700,000 */
 
@@ -379,19 +371,19 @@ static inline int abr_matches(void)
 /* ---- Connections -------------------------------------------------------- */
 
 /*
- * Opens a channel at a time (section "Opening"). The initial rate that is used is
- * the given one, lowered to 512,000,000 * TBE / FRTT, rounded down, if that is less, but
- * never under MCR; with FRTT 0 it is the given one (document 02, L14). The first cell of
- * a connection, and a forward cell more than ADTF after the last, bring the allowed
- * rate down to it. The connection starts at that rate with nothing sent and nothing
- * waiting, also if its address was open before, and takes the lowest free place of the tournament. Nothing waits yet, so that the
- * winners stay and 1 comparison is made.
+ * Opens a channel at a time (section 4). The initial rate that is used is the given
+ * one, lowered to 512,000,000 * TBE / FRTT, rounded down, if that is less, but never
+ * under MCR; with FRTT 0 it is the given one. The first cell of a connection, and a
+ * forward cell more than ADTF after the last, bring the allowed rate down to it. The
+ * connection starts at that rate with nothing sent and nothing waiting, also if its
+ * address was open before, and takes the lowest free place of the tournament. Nothing
+ * waits yet, so that the winners stay and 1 comparison is made.
  * Refusals in order:
  *   10  vci under 32, whatever vpi is
  *   19  bit 15 set in pcr, mcr or icr, if that code has no bit above it
  *    7  vpi over 255, vci over 65,535, or a parameter out of its range: a rate code
  *       over 16 bits, MCR <= ICR <= PCR broken, PCR under 512, or any other but tbe and frtt;
- *       MCR may be 0, and with it ICR (document 02, L5); of ICR the given one counts
+ *       MCR may be 0, and with it ICR (section 9); of ICR the given one counts
  *   29  TBE 0 or over 16,777,215
  *   30  FRTT over 16,700,000
  *    8  time over 2^62
@@ -404,8 +396,8 @@ static inline int abr_matches(void)
 ABR_MUST_USE abr_answer abr_open(abr_table *table, uint32_t vpi, uint32_t vci, uint64_t time, abr_params params);
 
 /*
- * Closes a connection and drops all that waits on it (section "Opening"). It answers
- * how many data cells that were (document 02, L12); turned and made cells that waited
+ * Closes a connection and drops all that waits on it. It answers how
+ * many data cells that were (section 11); turned and made cells that waited
  * are not counted. So no data cell is unaccounted: at any time, for each VPI and VCI,
  * the cells of all accepted offers are as many as the slots with ABR_SENT_DATA, the
  * cells that its closes answered and those that wait together, however often it was
@@ -418,7 +410,7 @@ ABR_MUST_USE abr_answer abr_open(abr_table *table, uint32_t vpi, uint32_t vci, u
 ABR_MUST_USE abr_closed abr_close(abr_table *table, uint32_t vpi, uint32_t vci);
 
 /*
- * Adds data cells to those that wait on a channel (section "Opening").
+ * Adds data cells to those that wait on a channel (section 2).
  * The cells themselves stay with the caller. Offering 0 is accepted.
  * Comparisons: 1 to 10.
  * Refusals in order:
@@ -429,8 +421,8 @@ ABR_MUST_USE abr_closed abr_close(abr_table *table, uint32_t vpi, uint32_t vci);
 ABR_MUST_USE abr_answer abr_offer(abr_table *table, uint32_t vpi, uint32_t vci, uint64_t cells);
 
 /*
- * Reads the allowed rate of a connection (section "Slots", last line), and the
- * change that its last accepted backward cell made (document 02, L9): the rate after
+ * Reads the allowed rate of a connection, and the change that its last accepted
+ * backward cell made (section 6): the rate after
  * that cell less the rate before it, from MCR - PCR to PCR - MCR. It is 0 if that cell
  * left the rate as it was, and before the first one since the open. Every backward cell
  * counts, one with BN 1 too. Moves before a forward cell and all other calls leave it, so
@@ -441,15 +433,15 @@ ABR_MUST_USE abr_allowed abr_acr(const abr_table *table, uint32_t vpi, uint32_t 
 
 /*
  * The peak, minimum and initial rate of a connection as doubles in cells per second,
- * for a planning tool (document 02, L8): the rates of the codes that its open gave,
+ * for a planning tool (section 18): the rates of the codes that its open gave,
  * each over 512 and exact; the initial rate too is the given one and not the one used
- * (document 02, L14). The allowed rate does not matter. The refusal is written in
+ * (section 4). The allowed rate does not matter. The refusal is written in
  * every case.
  * Refusal: 11 the connection is not open, vpi over 255 or vci over 65,535.
  */
 ABR_MUST_USE abr_contract abr_export(const abr_table *table, uint32_t vpi, uint32_t vci, uint32_t *refusal);
 
-/* ---- Paths and their members (document 02, L13) ------------------------- */
+/* ---- Paths and their members (section 10) ------------------------------- */
 
 /*
  * Opens a path at a time: a connection for a whole VPI, named VPI * 65,536 +
@@ -505,13 +497,12 @@ ABR_MUST_USE abr_closed abr_remove(abr_table *table, uint32_t vpi, uint32_t vci)
 /* ---- The receive path --------------------------------------------------- */
 
 /*
- * Receives a cell (sections "Four moves of the allowed rate" and "Turning cells
- * round"). A backward RM cell moves the allowed rate of its connection; a
+ * Receives a cell (sections 6 and 7). A backward RM cell moves the allowed rate of its connection; a
  * forward RM cell is turned round and waits to be sent back, in place of any
- * turned one that waited, and has CI 1 also if that one had (document 02, L2);
+ * turned one that waited, and has CI 1 also if that one had;
  * of a data cell the congestion mark is saved and the payload not used. A data cell of
- * a member saves its mark as that of the path, whichever member it is of (document 02,
- * L13).
+ * a member saves its mark as that of the path, whichever member it is of
+ * (section 10).
  * Comparisons: 1 to 10, for a data cell too.
  * Refusals in order:
  *    1  len is not 53
@@ -527,17 +518,17 @@ ABR_MUST_USE abr_answer abr_receive(abr_table *table, const uint8_t *cell, size_
 
 /*
  * Sets the congestion level of the whole engine, which marks the cells that
- * are turned or made from now on (section "Turning cells round"): 0 none, 1 NI,
+ * are turned or made from now on (section 7): 0 none, 1 NI,
  * 2 CI.
  * Refusal: 9 level over 2.
  */
 ABR_MUST_USE uint32_t abr_set_level(abr_table *table, uint32_t level);
 
 /*
- * Makes a backward RM cell on a connection at a time (document 02, L1), for a
+ * Makes a backward RM cell on a connection at a time (section 7), for a
  * receiver that is congested while no forward cell arrives that it could turn
- * round. The cell has BN 1, CI 1 at level 2 or NI 1 at level 1, as ER the code of
- * PCR, and CCR and MCR 0; a later level does not change it. It waits beside the
+ * round. The cell has BN 1 and the mark of the level, NI at 1 and CI at 2, as ER the
+ * code of PCR, and CCR and MCR 0; a later level does not change it. It waits beside the
  * turned cell and is sent after it, replaces an earlier made cell that still
  * waits, and neither takes nor clears a saved congestion mark. A slot sends it by
  * the rules for a turned cell and answers ABR_SENT_TURNED. Its time then counts
@@ -558,19 +549,19 @@ ABR_MUST_USE abr_answer abr_make(abr_table *table, uint32_t vpi, uint32_t vci, u
 
 /*
  * Gives the slot at a time to the connection with the earliest ready instant
- * (section "Slots"), of several with the same one to that with the lowest VPI *
+ * (section 5), of several with the same one to that with the lowest VPI *
  * 65,536 + VCI, and says which it is, what kind of cell it sends and its
  * allowed rate afterwards. The 53 octets of a forward, a turned or a made cell
  * are written to the buffer. For data the buffer is unchanged and the caller sends
  * a data cell of that address. Data of a path is that of one of its members, which the
  * answer names: the first with data above the one served last, in rising VCI and round
- * to the lowest; before any was served the lowest with data (document 02, L13). If no
+ * to the lowest; before any was served the lowest with data (section 10). If no
  * connection is ready, the answer is all 0 and the buffer unchanged; the slot counts
  * as accepted at its time. A connection with an allowed rate of 0 is never ready,
- * whatever waits on it (document 02, L5).
+ * whatever waits on it (section 9).
  * A forward cell carries a minimum of 0 as 0x0000, whatever code the open gave.
- * Comparisons: 10 if a cell is sent, since the connection that sends wins at every
- * level; 0 if the slot is idle.
+ * Comparisons: 10 if a cell is sent, since the connection that sends wins every
+ * round; 0 if the slot is idle.
  * Refusals in order:
  *    1  len is not 53
  *    8  time over 2^62
@@ -580,20 +571,20 @@ ABR_MUST_USE abr_answer abr_make(abr_table *table, uint32_t vpi, uint32_t vci, u
 ABR_MUST_USE abr_sent abr_slot(abr_table *table, uint64_t time, uint8_t *cell, size_t len);
 
 /*
- * The earliest ready instant of all open connections (section "Slots"), in nanoseconds:
+ * The earliest ready instant of all open connections (section 12), in nanoseconds:
  * an accepted slot is idle exactly when its time is before it. So a caller with nothing
  * else to send can sleep until then. It is ABR_NEVER if no connection is ever ready as
  * things stand: none is open, or each one waits for data, a cell or feedback. It may have
  * passed already, if a connection is due and was not served, and it may be after
  * ABR_TIME_MAX, where no slot is accepted.
- * Every accepted call on a connection and every received cell may make it earlier or
- * later: ask again after each. Nothing is refused, the table is only read, and no
- * comparison is made.
+ * An accepted offer, received RM cell, made cell, close or removal of a member, and a
+ * slot that sends may make it earlier or later: ask again after each. No other call does.
+ * Nothing is refused, the table is only read, and no comparison is made.
  */
 uint64_t abr_next(const abr_table *table);
 
 /*
- * Writes an out-of-rate forward RM cell of a connection (document 02, L5; source
+ * Writes an out-of-rate forward RM cell of a connection (section 9; source
  * rule 11) to the buffer, complete, for the caller to send beside the slots: with
  * CLP 1, CCR the code of the allowed rate as it stands, and all else as in a forward
  * cell of a slot. A source whose allowed rate is 0 learns in this way when it may
@@ -614,7 +605,7 @@ ABR_MUST_USE uint32_t abr_out_of_rate(abr_table *table, uint32_t vpi, uint32_t v
 /* ---- Cells and rate codes, without a table ------------------------------ */
 
 /*
- * Writes an RM cell (section "The cell, 53 octets"): GFC and CLP 0, reserved bits
+ * Writes an RM cell (section 8): GFC and CLP 0, reserved bits
  * and octets as the section gives them, both checks made.
  * Refusals in order:
  *    1  len is not 53
@@ -623,26 +614,26 @@ ABR_MUST_USE uint32_t abr_out_of_rate(abr_table *table, uint32_t vpi, uint32_t v
 ABR_MUST_USE uint32_t abr_write_rm(abr_rm rm, uint8_t *cell, size_t len);
 
 /*
- * Reads a cell (section "The cell, 53 octets").
+ * Reads a cell (section 8).
  * Refusals in order: 1, 2, 4, 5, 6, 19, as for abr_receive.
  */
 ABR_MUST_USE abr_cell abr_read(const uint8_t *cell, size_t len);
 
 /*
- * Codes a rate: the code of the greatest code rate not above it (section
- * "Units and the 16-bit rate code").
+ * Codes a rate: the code of the greatest code rate not above it
+ * (section 3).
  * Refusal: 9 rate above the largest.
  */
 ABR_MUST_USE abr_coded abr_code(uint64_t rate);
 
 /*
- * The rate of a code (same section).
+ * The rate of a code (section 3).
  * Refusals: 7 code over 16 bits; 19 code within 16 bits with bit 15 set.
  */
 ABR_MUST_USE abr_rated abr_rate(uint32_t code);
 
 /*
- * The rate code of a double in cells per second (document 02, L8). If the double is
+ * The rate code of a double in cells per second (section 18). If the double is
  * the rate of a code exactly, that code and a remainder of 0.0; else the code below and
  * the remainder: rate of the code over 512 plus remainder is the double, with no
  * rounding. Both zeros have the code 0x0000. Above the largest code rate and below
@@ -653,7 +644,7 @@ ABR_MUST_USE abr_rated abr_rate(uint32_t code);
 ABR_MUST_USE abr_imported abr_import(double cells_per_second);
 
 /*
- * The house set with three rate codes (section "Opening"). Nothing is refused
+ * The house set with three rate codes (section 4). Nothing is refused
  * here: an open checks the result.
  */
 abr_params abr_house(uint32_t pcr, uint32_t mcr, uint32_t icr);
@@ -661,12 +652,13 @@ abr_params abr_house(uint32_t pcr, uint32_t mcr, uint32_t icr);
 /* ---- The port of a switch, without a table ------------------------------ */
 
 /*
- * Shares a capacity among demanded rates (document 02, L10): the share is the greatest
- * whole s for which the sum of min(demand, s) is not above the capacity. If the plain sum
- * of the demands is not above it, and so also without demands, there is no limit. The order
- * of the demands does not matter, and more capacity never means a lower share, no limit
- * counting as the highest. Capacity and demands are rates; the capacity may be any number.
- * The demands are read only.
+ * Shares a capacity among demanded rates (section 18). With a share each demand has what
+ * it asks for, but no more than the share; it is the greatest whole rate with which all of
+ * them together stay within the capacity. If the demands themselves stay within it, as
+ * they do where there are none, there is no limit. The order of the demands does not
+ * matter, and more capacity never means a lower share, no limit counting as the highest.
+ * Capacity and demands are rates; the capacity may be any number. The demands are read
+ * only.
  * Refusals in order:
  *   21  count over 1,024
  *   22  a demand above the largest rate
@@ -674,7 +666,7 @@ abr_params abr_house(uint32_t pcr, uint32_t mcr, uint32_t icr);
 ABR_MUST_USE abr_share abr_fair_share(uint64_t capacity, const uint64_t *demands, size_t count);
 
 /*
- * Limits the explicit rate of a passing cell (document 02, L10). In a backward RM cell ER
+ * Limits the explicit rate of a passing cell (section 18). In a backward RM cell ER
  * becomes the code of the lower of its rate and the given one, whichever it is, and the
  * CRC-10 is made new; a code of rate 0 is written as 0x0000. Every other bit stays, GFC,
  * CLP, octet 5 and the reserved ones too. A forward RM cell and a data cell stay as they
@@ -684,7 +676,7 @@ ABR_MUST_USE abr_share abr_fair_share(uint64_t capacity, const uint64_t *demands
 ABR_MUST_USE uint32_t abr_limit(uint64_t rate, uint8_t *cell, size_t len);
 
 /*
- * A passing cell at the port of a switch (document 02, L10): abr_fair_share and, if there
+ * A passing cell at the port of a switch (section 18): abr_fair_share and, if there
  * is a limit, abr_limit with that share. With no limit every octet stays, but the cell is
  * looked at all the same.
  * Refusals in order: 21, 22, as for abr_fair_share; then 1, 2, 4, 5, 6, 19, as for
@@ -696,7 +688,7 @@ ABR_MUST_USE uint32_t abr_port(uint64_t capacity, const uint64_t *demands, size_
 
 /*
  * Judges the cells that a transmitter sent in its rate on one connection, from the first
- * one on (document 02, L11).
+ * one on (section 18).
  *
  * A trace is a row of numbers. A number is written in groups of seven bits, the low group
  * first, each in an octet whose top bit is 1 when more groups follow. Only the shortest
@@ -711,7 +703,7 @@ ABR_MUST_USE uint32_t abr_port(uint64_t capacity, const uint64_t *demands, size_
  *                most ABR_RATE_MAX; abr_acr reads it before the slot that sends the cell
  * The sum of the times is at most 2^62. Out-of-rate cells are left out.
  *
- * The rules (section "Slots"), with the gap ceil(512,000,000,000 / rate), the last forward
+ * The rules (sections 5 and 18), with the gap ceil(512,000,000,000 / rate), the last forward
  * cell before this one, and k, the cells since that one:
  *   1  the first cell is forward
  *   2  a later cell is the gap of its rate or more after the cell before; a rate of 0 has

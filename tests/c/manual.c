@@ -81,7 +81,7 @@ static void backward_arrives(void) { receive(1, 0, 0, 0, ABR_CODE_MAX); }
 static void data_arrives(int efci)
 {
     uint8_t octets[ABR_CELL_OCTETS] = {0};
-    write_header(octets, PAIR, efci);
+    write_header(octets, PAIR, efci ? 2 : 0);
     CHECK(abr_receive(&table, octets, sizeof octets).refusal == ABR_OK);
 }
 
@@ -227,6 +227,63 @@ static void gaps(void)
     CHECK(gap(CELLS(1)) == 1000 * MS && gap(CELLS(3)) == 333333334);
     CHECK(gap(CELLS(1000)) == MS && gap(CELLS(10000)) == 100000);
     CHECK(gap(ABR_RATE_MAX) == 1);
+}
+
+/* One second of an STM-1 link that is busy with some connections of one rate: how many cells go, if a slot has its own time
+ * or that of slot_time. */
+enum { STM1 = 353207, SLOT = 2831 };
+
+static int cells_on_a_link(uint32_t rate_code, uint32_t connections, int ready_instants)
+{
+    int sent = 0, waiting[2] = {60000, 60000};
+    uint64_t last = 0;
+    memset(&table, 0, sizeof table);
+    for (uint32_t vci = 32; vci < 32 + connections; vci++) {
+        CHECK(abr_open(&table, 0, vci, 0, abr_house(rate_code, rate_code, rate_code)).refusal == ABR_OK);
+        CHECK(abr_offer(&table, 0, vci, 60000).refusal == ABR_OK);
+    }
+    for (uint64_t number = 0; number < STM1; number++) {
+        uint64_t now = number * 1000 * MS / STM1;
+        last = ready_instants ? slot_time(abr_next(&table), now, SLOT, last) : now;
+        abr_sent cell_sent = slot(last);
+        sent += cell_sent.kind != ABR_SENT_IDLE;
+        if (cell_sent.kind == ABR_SENT_DATA && --waiting[cell_sent.vci - 32] < 10000) {
+            CHECK(abr_offer(&table, 0, cell_sent.vci, 50000).refusal == ABR_OK);
+            waiting[cell_sent.vci - 32] += 50000;
+        }
+    }
+    return sent;
+}
+
+static void print_link(const char *what, uint32_t rate_code, uint32_t connections)
+{
+    uint64_t rate = abr_rate(rate_code).rate;
+    printf("%-29s %6.0f cells/s  gap %7" PRIu64 " ns   %6d cells   with slot_time %6d\n", what, (double)rate / ABR_RATE_ONE,
+           (UINT64_C(512000000000) + rate - 1) / rate, cells_on_a_link(rate_code, connections, 0),
+           cells_on_a_link(rate_code, connections, 1));
+}
+
+static void slotted_link(void)
+{
+    print_link("1, the link's rate, code down", code(STM1), 1);
+    print_link("1, the link's rate, code up", code_up(CELLS(STM1)), 1);
+    print_link("1, 299,520", code(299520), 1);
+    print_link("1, 20,000", code(20000), 1);
+    print_link("2, half the link, code down", abr_code(CELLS(STM1) / 2).code, 2);
+    print_link("2, half the link, code up", code_up(CELLS(STM1) / 2), 2);
+    CHECK(1000 * MS / STM1 == SLOT);
+}
+
+/* With slot_time, a made cell has a time too: the slot's own may not be before it. */
+static void last_of_any_call(void)
+{
+    begin(house(20000, 1, 20000));
+    offer(9);
+    CHECK(slot(0).kind == ABR_SENT_FORWARD && abr_next(&table) == 50000);
+    CHECK(abr_set_level(&table, 1) == ABR_OK && abr_make(&table, PAIR, 51000).refusal == ABR_OK);
+    uint64_t early = slot_time(abr_next(&table), 51000, SLOT, 48169);
+    CHECK(early == 50000 && abr_slot(&table, early, cell, sizeof cell).refusal == ABR_REFUSED_TIME_BACKWARD);
+    CHECK(slot(slot_time(abr_next(&table), 51000, SLOT, 51000)).kind == ABR_SENT_TURNED);
 }
 
 /* ---- The four moves ------------------------------------------------------- */
@@ -416,12 +473,12 @@ static void mark_used_up(void)
 
 /* ---- Octets --------------------------------------------------------------- */
 
-static void print_header(const char *what, uint32_t vpi, uint32_t vci, int efci)
+static void print_header(const char *what, uint32_t vpi, uint32_t vci, uint32_t type)
 {
     uint8_t octets[ABR_CELL_OCTETS] = {0};
-    write_header(octets, vpi, vci, efci);
+    write_header(octets, vpi, vci, type);
     abr_cell read = abr_read(octets, sizeof octets);
-    CHECK(read.refusal == ABR_OK && read.kind == ABR_CELL_DATA && read.efci == (uint32_t)efci);
+    CHECK(read.refusal == ABR_OK && read.kind == ABR_CELL_DATA && read.efci == type >> 1);
     CHECK(read.rm.vpi == vpi && read.rm.vci == vci);
     printf("%-22s ", what);
     print_octets(octets, 5);
@@ -430,7 +487,7 @@ static void print_header(const char *what, uint32_t vpi, uint32_t vci, int efci)
 static void headers(void)
 {
     print_header("1/100, data", 1, 100, 0);
-    print_header("1/100, data with EFCI", 1, 100, 1);
+    print_header("1/100, data with EFCI", 1, 100, 2);
     print_header("255/65535, data", 255, 65535, 0);
     print_header("0/0, unassigned", 0, 0, 0);
 }
@@ -439,9 +496,9 @@ static void headers(void)
 static void ignored_bits(void)
 {
     uint8_t octets[ABR_CELL_OCTETS] = {0}, idle_cell[ABR_CELL_OCTETS] = {0, 0, 0, 1, 0x52};
-    write_header(octets, 1, 100, 1);
+    write_header(octets, 1, 100, 3);
     octets[0] |= 0xA0;
-    octets[3] |= 0x03;
+    octets[3] |= 0x01;
     octets[4] = header_check(octets);
     abr_cell read = abr_read(octets, sizeof octets);
     CHECK(read.refusal == ABR_OK && read.efci == 1 && read.rm.vpi == 1 && read.rm.vci == 100);
@@ -454,10 +511,8 @@ static void ignored_bits(void)
         write_header(octets, 1, vci, 0);
         CHECK(abr_receive(&table, octets, sizeof octets).refusal == ABR_REFUSED_NOT_OPEN);
     }
-    for (uint8_t type = 4; type < 8; type++) {
-        write_header(octets, 1, 100, 0);
-        octets[3] = (uint8_t)(octets[3] | type << 1);
-        octets[4] = header_check(octets);
+    for (uint32_t type = 4; type < 8; type++) {
+        write_header(octets, 1, 100, type);
         CHECK(abr_read(octets, sizeof octets).refusal == (type == 6 ? ABR_REFUSED_PROTOCOL : ABR_REFUSED_PAYLOAD_TYPE));
     }
 }
@@ -483,9 +538,13 @@ static void turned_keeps(void)
     abr_rm rm = {PAIR, 0, 1, 0, 0, 1, 0x5000, 0x4C00, 0x4200, 7, 9}, back;
     uint8_t octets[ABR_CELL_OCTETS];
     CHECK(abr_write_rm(rm, octets, sizeof octets) == ABR_OK);
+    octets[0] |= 0xA0; /* GFC */
+    octets[3] |= 0x01; /* CLP */
+    octets[4] = header_check(octets);
     begin(house(1000, 1, 1000));
     CHECK(abr_receive(&table, octets, sizeof octets).refusal == ABR_OK);
     CHECK(slot(0).kind == ABR_SENT_FORWARD && slot(MS).kind == ABR_SENT_TURNED);
+    CHECK(cell[0] == 0 && cell[1] == 0 && cell[2] == 2 && cell[3] == 0x0C && cell[4] == header_check(cell));
     back = abr_read(cell, sizeof cell).rm;
     CHECK(back.dir == 1 && back.bn == 0 && back.ra == 1 && back.ql == 7 && back.sn == 9);
     CHECK(back.er == rm.er && back.ccr == rm.ccr && back.mcr == rm.mcr && !back.ci && !back.ni);
@@ -548,6 +607,7 @@ static void data_before_the_idle_move(void)
 /* A made cell before the first cell makes the connection ready; the first cell is a forward one all the same. */
 static void made_first(void)
 {
+    uint8_t before[ABR_CELL_OCTETS];
     begin(house(1000, 1, 1000));
     CHECK(abr_set_level(&table, 2) == ABR_OK);
     CHECK(abr_make(&table, PAIR, 0).refusal == ABR_OK);
@@ -558,6 +618,10 @@ static void made_first(void)
     CHECK(abr_make(&table, PAIR, 200 * MS).refusal == ABR_OK); /* instead of the one before, with its own mark */
     CHECK(slot(200 * MS).kind == ABR_SENT_TURNED);
     CHECK(abr_read(cell, sizeof cell).rm.ci == 0 && abr_read(cell, sizeof cell).rm.ni == 1);
+    CHECK(abr_read(cell, sizeof cell).rm.er == code(1000)); /* the peak of this end */
+    memcpy(before, cell, sizeof cell);
+    CHECK(abr_write_rm(abr_read(cell, sizeof cell).rm, cell, sizeof cell) == ABR_OK);
+    CHECK(memcmp(before, cell, sizeof cell) == 0); /* so that another ER can be written into it */
 }
 
 /* When the next cell goes, after each sort of call. */
@@ -575,6 +639,101 @@ static void sleeping(void)
     receive(1, 0, 0, 0, code(500));
     CHECK(abr_next(&table) == 7 * MS && slot(8 * MS).kind == ABR_SENT_TURNED);
     CHECK(abr_close(&table, PAIR).refusal == ABR_OK && abr_next(&table) == ABR_NEVER);
+}
+
+/* With Nrm 2 and cells of the far source that always wait, no data goes. */
+static void nrm_of_two(void)
+{
+    abr_params params = house(1000, 1, 1000);
+    params.n = 1;
+    begin(params);
+    offer(9);
+    for (uint64_t time = 0; time < 100 * MS; time += MS) {
+        forward_arrives();
+        CHECK(slot(time).kind == (time / MS % 2 == 0 ? ABR_SENT_FORWARD : ABR_SENT_TURNED));
+    }
+}
+
+/* ADTF 110 ms is longer than Trm, but at 33 cells per second forward cells are 121 ms apart. */
+static void adtf_too_short(void)
+{
+    abr_params params = house(2000, 1, 20);
+    uint64_t last;
+    params.adtf = 11;
+    begin(params);
+    offer(99);
+    CHECK(slot(0).kind == ABR_SENT_FORWARD);
+    receive(1, 0, 0, 0, code(33));
+    CHECK(acr() == CELLS(33));
+    for (last = abr_next(&table); slot(last).kind == ABR_SENT_DATA; last = abr_next(&table)) {
+        CHECK(acr() == CELLS(33));
+    }
+    CHECK(last > 110 * MS && last < 122 * MS && acr() == CELLS(20));
+}
+
+/* An initial rate of 5 and a peak of 10 cells per second, slots of an STM-1 link, every forward cell answered: the rate after
+ * a hundred of them. */
+static uint64_t rate_reached(uint32_t adtf)
+{
+    abr_params params = house(10, 1, 5);
+    int answered = 0;
+    params.adtf = adtf;
+    begin(params);
+    offer(999);
+    while (answered < 100) {
+        if (slot((abr_next(&table) + SLOT - 1) / SLOT * SLOT).kind == ABR_SENT_FORWARD) {
+            backward_arrives();
+            answered++;
+        }
+    }
+    return acr();
+}
+
+/* Three gaps are 300 ms at the peak, 600 ms at the initial rate and 533 ms an increase above it, where an ADTF of less
+ * brings the rate back each time. */
+static void adtf_and_initial_rate(void)
+{
+    CHECK(rate_reached(31) == CELLS(5) + CELLS(10) / 16 && rate_reached(53) == CELLS(5) + CELLS(10) / 16);
+    CHECK(rate_reached(61) == CELLS(10));
+}
+
+/* The longest time between two turned cells at this rate, with data and cells of the far source always waiting. */
+static uint64_t answers_apart(uint64_t cells)
+{
+    uint64_t last = 0, longest = 0;
+    begin(house(cells, 1, cells));
+    offer(999);
+    for (int sent = 0; sent < 500; sent++) {
+        uint64_t time = abr_next(&table);
+        forward_arrives();
+        if (slot(time).kind == ABR_SENT_TURNED) {
+            longest = time - last > longest ? time - last : longest;
+            last = time;
+        }
+    }
+    return longest;
+}
+
+/* Nrm gaps, or Trm and the rest of a gap, or three gaps. */
+static void answers(void)
+{
+    CHECK(answers_apart(1000) == 32 * MS && answers_apart(5) == 600 * MS);
+    CHECK(answers_apart(33) > 120 * MS && answers_apart(33) < 131 * MS);
+}
+
+/* What begins anew with an open: the change, and the 100 ms of made and out-of-rate cells. */
+static void opened_anew(void)
+{
+    begin(house(1000, 1, 500));
+    backward_arrives();
+    CHECK(abr_acr(&table, PAIR).change > 0 && abr_set_level(&table, 1) == ABR_OK);
+    CHECK(abr_make(&table, PAIR, 0).refusal == ABR_OK && abr_make(&table, PAIR, 1).refusal == ABR_REFUSED_TOO_SOON);
+    CHECK(abr_out_of_rate(&table, PAIR, 1, cell, sizeof cell) == ABR_OK);
+    CHECK(abr_out_of_rate(&table, PAIR, 1, cell, sizeof cell) == ABR_REFUSED_TOO_OFTEN);
+    CHECK(abr_close(&table, PAIR).refusal == ABR_OK);
+    CHECK(abr_open(&table, PAIR, 1, house(1000, 1, 500)).refusal == ABR_OK);
+    CHECK(abr_acr(&table, PAIR).change == 0 && abr_make(&table, PAIR, 1).refusal == ABR_OK);
+    CHECK(abr_out_of_rate(&table, PAIR, 1, cell, sizeof cell) == ABR_OK);
 }
 
 /* ---- Paths ---------------------------------------------------------------- */
@@ -598,10 +757,47 @@ static void members(void)
     CHECK(abr_offer(&table, 7, 40, 1).refusal == ABR_REFUSED_NOT_OPEN);
     CHECK(abr_open(&table, 7, 40, 10 * MS, params).refusal == ABR_REFUSED_ALREADY_MEMBER);
     CHECK(abr_open(&table, 7, 41, 10 * MS, params).refusal == ABR_OK);
-    CHECK(abr_remove(&table, 7, 60).cells == 0);
+    CHECK(abr_remove(&table, 7, 60).cells == 0); /* it was served last, and the turn stays behind it */
+    CHECK(abr_offer_member(&table, 7, 40, 1).refusal == ABR_OK && abr_offer_member(&table, 7, 50, 1).refusal == ABR_OK);
+    CHECK(abr_add(&table, 7, 70).refusal == ABR_OK && abr_offer_member(&table, 7, 70, 1).refusal == ABR_OK);
+    CHECK(slot(11 * MS).vci == 70 && slot(12 * MS).vci == 40 && slot(13 * MS).vci == 50);
     CHECK(abr_offer_member(&table, 7, 40, 3).refusal == ABR_OK && abr_offer_member(&table, 7, 50, 4).refusal == ABR_OK);
     CHECK(abr_close(&table, 7, ABR_PATH_VCI).cells == 7);
-    CHECK(abr_open(&table, 7, 40, 10 * MS, params).refusal == ABR_OK);
+    CHECK(abr_open(&table, 7, 40, 13 * MS, params).refusal == ABR_OK);
+}
+
+/* ---- A port --------------------------------------------------------------- */
+
+/* Two sources with minimums: both taken off the capacity and off the demands, and each limited to its own more. */
+static void minimums(void)
+{
+    static const uint64_t minimum[2] = {100, 300}, demand[2] = {800, 900};
+    const uint64_t rest[2] = {demand[0] - minimum[0], demand[1] - minimum[1]};
+    abr_share share = abr_fair_share(1000 - minimum[0] - minimum[1], rest, 2);
+    CHECK(share.refusal == ABR_OK && share.limited == 1 && share.rate == 300);
+    CHECK(minimum[0] + share.rate + minimum[1] + share.rate == 1000);
+    share = abr_fair_share(0, rest, 2); /* minimums of the whole capacity or more */
+    CHECK(share.refusal == ABR_OK && share.limited == 1 && share.rate == 0);
+}
+
+/* ER of a backward cell that has passed a limit. */
+static uint32_t limited_er(uint32_t er, uint64_t rate)
+{
+    abr_rm rm = {PAIR, 1, 0, 0, 0, 0, 0, 0, 0, 0, 0};
+    rm.er = er;
+    CHECK(abr_write_rm(rm, cell, sizeof cell) == ABR_OK && abr_limit(rate, cell, sizeof cell) == ABR_OK);
+    return abr_read(cell, sizeof cell).rm.er;
+}
+
+/* A limit and an import at their edges, and fields that are not written. */
+static void passing_cells(void)
+{
+    abr_rm rm = {PAIR, 1, 0, 0, 0, 0, 0x8000, 0, 0, 0, 0};
+    CHECK(limited_er(0x5000, 511) == 0 && limited_er(0x5000, CELLS(10000)) == 0x5000);
+    CHECK(limited_er(0x3FFF, CELLS(10000)) == 0 && limited_er(0x5000, UINT64_MAX) == 0x5000);
+    CHECK(abr_write_rm(rm, cell, sizeof cell) == ABR_REFUSED_RANGE);
+    CHECK(1.0 / abr_import(-0.0).remainder > 0 && abr_import(-0.0).code == 0);
+    CHECK(abr_open(&table, 9, 32, ABR_TIME_MAX, abr_house(0x5000, 0x3FFF, 0x0123)).refusal == ABR_OK);
 }
 
 /* ---- A rate of 0 ---------------------------------------------------------- */
@@ -629,6 +825,48 @@ static void initial_rate_of_zero(void)
     offer(9);
     backward_arrives();
     CHECK(acr() == CELLS(1000) / 16 && slot(0).kind == ABR_SENT_FORWARD && acr() == 0);
+}
+
+/* Two ends send each other what their slots give, and in idle ones out-of-rate cells at a rate of 0. */
+static void exchange(abr_table *ends, uint64_t from, uint64_t to)
+{
+    for (uint64_t time = from; time < to; time += MS) {
+        for (int end = 0; end < 2; end++) {
+            abr_sent sent = abr_slot(&ends[end], time, cell, sizeof cell);
+            CHECK(sent.refusal == ABR_OK);
+            if (sent.kind == ABR_SENT_DATA) {
+                write_header(cell, PAIR, 0);
+            } else if (sent.kind == ABR_SENT_IDLE && (abr_acr(&ends[end], PAIR).acr > 0 ||
+                       abr_out_of_rate(&ends[end], PAIR, time, cell, sizeof cell) != ABR_OK)) {
+                continue;
+            }
+            CHECK(abr_receive(&ends[1 - end], cell, sizeof cell).refusal == ABR_OK);
+        }
+    }
+}
+
+/* Both ends have received an ER of 0. They stay at 0 unless one has a minimum, or is closed and opened. */
+static void both_ends_at_zero(void)
+{
+    static abr_table ends[2];
+    for (uint64_t minimum = 0; minimum < 2; minimum++) {
+        abr_rm rm = {PAIR, 1, 0, 0, 0, 0, 0, 0, 0, 0, 0};
+        memset(ends, 0, sizeof ends);
+        for (int end = 0; end < 2; end++) {
+            CHECK(abr_open(&ends[end], PAIR, 0, house(1000, end == 0 ? minimum : 0, 500)).refusal == ABR_OK);
+            CHECK(abr_offer(&ends[end], PAIR, 9).refusal == ABR_OK && abr_write_rm(rm, cell, sizeof cell) == ABR_OK);
+            CHECK(abr_receive(&ends[end], cell, sizeof cell).refusal == ABR_OK);
+        }
+        exchange(ends, 0, 9000 * MS);
+        for (int end = 0; end < 2; end++) {
+            uint64_t rate = abr_acr(&ends[end], PAIR).acr;
+            CHECK(minimum == 0 ? rate == 0 : rate > CELLS(1));
+        }
+        CHECK(abr_close(&ends[0], PAIR).refusal == ABR_OK);
+        CHECK(abr_open(&ends[0], PAIR, 9000 * MS, house(1000, 0, 500)).refusal == ABR_OK);
+        exchange(ends, 9000 * MS, 9500 * MS);
+        CHECK(abr_acr(&ends[0], PAIR).acr > 0 && abr_acr(&ends[1], PAIR).acr > 0);
+    }
 }
 
 /* ---- When things go wrong ------------------------------------------------- */
@@ -679,11 +917,30 @@ static void copy_goes_on(void)
     CHECK(abr_close(&table, PAIR).cells == 7 && abr_close(&copy, PAIR).cells == 7);
 }
 
-/* A time that is checked before it is passed never goes back, and at most a second ahead. */
-static void checked_times(void)
+/* The cells of one second at 100 cells per second, a slot every millisecond of a clock that shows this at its beginning. */
+static int a_second_from(steady_clock *clock, uint64_t raw)
 {
-    CHECK(checked(5 * MS, 4 * MS) == 5 * MS && checked(5 * MS, 6 * MS) == 6 * MS);
-    CHECK(checked(0, 1000 * MS) == 1000 * MS && checked(5, ABR_TIME_MAX) == 1000 * MS + 5);
+    int sent = 0;
+    for (int slots = 0; slots < 1000; slots++) {
+        raw += MS;
+        sent += slot(steady(clock, raw)).kind != ABR_SENT_IDLE;
+    }
+    return sent;
+}
+
+/* A clock that jumps back by 5 s and ahead by an hour changes no rate, though that has risen above ICR. */
+static void steady_times(void)
+{
+    steady_clock clock = {10000 * MS, 10000 * MS};
+    begin(house(100, 10, 50));
+    offer(1000);
+    CHECK(slot(steady(&clock, 10000 * MS)).kind == ABR_SENT_FORWARD);
+    for (int cells = 0; cells < 8; cells++) {
+        backward_arrives();
+    }
+    CHECK(acr() == CELLS(100) && a_second_from(&clock, 10000 * MS) == 100);
+    CHECK(a_second_from(&clock, 6000 * MS) == 99); /* the step back counts as nothing, so that 999 ms pass */
+    CHECK(a_second_from(&clock, (7 + 3600) * 1000 * MS) == 100 && acr() == CELLS(100));
 }
 
 /* What slots sent, written down as a trace, passes; a data cell too early is the third cell, and breaks rule 2. */
@@ -710,15 +967,18 @@ int main(void)
         const char *name;
         void (*print)(void);
     } blocks[] = {
-        {"line of slots", line_of_slots}, {"codes", codes},       {"first cell", first_cell},
-        {"idle", idle},                   {"unanswered", unanswered}, {"feedback", feedback},
-        {"setup", setup},                 {"marks", marks},       {"headers", headers},
-        {"RM octets", rm_octets},         {"members", members},
+        {"line of slots", line_of_slots}, {"slotted link", slotted_link}, {"codes", codes},
+        {"first cell", first_cell},       {"idle", idle},                 {"unanswered", unanswered},
+        {"feedback", feedback},           {"setup", setup},               {"marks", marks},
+        {"headers", headers},             {"RM octets", rm_octets},       {"members", members},
     };
     static void (*const checks[])(void) = {
-        gaps,          mark_used_up, ignored_bits,   turned_keeps, gap_after_the_last, nothing_waits,
-        data_before_the_idle_move, made_first, rate_of_zero, time_far_ahead, clock_jumps, copy_goes_on,
-        checked_times, judged, sleeping, initial_rate_of_zero,
+        gaps,          mark_used_up, ignored_bits,    turned_keeps,   gap_after_the_last,
+        nothing_waits, made_first,   rate_of_zero,    time_far_ahead, data_before_the_idle_move,
+        clock_jumps,   copy_goes_on, steady_times,    judged,         initial_rate_of_zero,
+        sleeping,      nrm_of_two,   adtf_too_short,  opened_anew,    minimums,
+        passing_cells, answers,      last_of_any_call, both_ends_at_zero,
+        adtf_and_initial_rate,
     };
     for (size_t each = 0; each < sizeof blocks / sizeof blocks[0]; each++) {
         printf("-- %s\n", blocks[each].name);

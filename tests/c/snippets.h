@@ -6,10 +6,9 @@
 
 extern uint8_t cell[ABR_CELL_OCTETS];
 extern abr_params params;
-extern uint32_t vpi, vci, peak_code, minimum_code, initial_code, refused;
-extern uint64_t cells, capacity, demands[8];
+extern uint32_t vpi, vci, peak_code, minimum_code, initial_code;
+extern uint64_t time;
 extern double planned, left_over;
-extern size_t count;
 
 uint64_t now(void);
 void report(const char *text);
@@ -18,7 +17,6 @@ int cell_has_arrived(uint8_t *to);
 void send_idle_cell(void);
 void send_octets(const uint8_t *octets);
 void send_next_data_cell(uint32_t vpi, uint32_t vci);
-void log_fall(uint32_t vpi, uint32_t vci, uint64_t acr, int64_t by);
 void wait_until_or_event(uint64_t time);
 void take_arrivals_and_offers(void);
 void give_slot(uint64_t time);

@@ -1,4 +1,4 @@
-"""Rates, their 16-bit codes, and rates as doubles in cells per second (document 02, L8)."""
+"""Rates, their 16-bit codes, and rates as doubles in cells per second (the manual, sections 3 and 18)."""
 
 from typing import NamedTuple
 

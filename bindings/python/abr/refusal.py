@@ -1,10 +1,10 @@
-"""Why a call was refused (documents 01 and 02)."""
+"""Why a call was refused (the manual, section 14)."""
 
 import enum
 
 
 class Refusal(enum.IntEnum):
-    """The refusals, each with its number and its text. Document 02's L6 withdrew 3."""
+    """The refusals, each with its number and its text. 3 is no longer given."""
 
     def __new__(cls, number: int, text: str):
         refusal = int.__new__(cls, number)

@@ -1,4 +1,4 @@
-"""The explicit-rate port of a switch (document 02, L10), without a table."""
+"""The explicit-rate port of a switch (the manual, section 18), without a table."""
 
 from __future__ import annotations
 
@@ -10,8 +10,8 @@ from .refusal import accepted
 
 
 def fair_share(capacity: int, demands: Iterable[int]) -> int | None:
-    """The share of a capacity: the greatest whole s for which the sum of min(demand, s) is not above it; None if there is
-    no limit. All are rates in units of 1/512 cell per second."""
+    """The share of a capacity: the greatest whole rate with which all demands, each cut to it, stay within the capacity; None
+    if there is no limit. All are rates in units of 1/512 cell per second."""
     rates = array(demands)
     share = library.abr_fair_share(u64("capacity", capacity), rates, len(rates))
     accepted(share.refusal)

@@ -129,7 +129,8 @@ class Table:
 
     def next(self) -> int | None:
         """The earliest ready instant: an accepted slot before it is idle, and one from then on is not. None if no
-        connection is ever ready as things stand. Every accepted call on a connection may change it."""
+        connection is ever ready as things stand. An accepted offer, received RM cell, made cell, close or removal of a
+        member, and a slot that sends may change it; no other call does."""
         instant = library.abr_next(self._table)
         return None if instant == NEVER else instant
 

@@ -1,4 +1,4 @@
-"""The judge of other transmitters' traces (document 02, L11), without a table."""
+"""The judge of other transmitters' traces (the manual, section 18), without a table."""
 
 from __future__ import annotations
 
@@ -19,7 +19,7 @@ class Rule(enum.IntEnum):
 
 
 class Breach(NamedTuple):
-    """The first cell that breaks a rule, counted from 1, and the lowest rule that it breaks."""
+    """Where a trace breaks a rule first: the cell, 1 for the first one, and the rule, the lowest if it breaks several."""
 
     cell: int
     rule: Rule

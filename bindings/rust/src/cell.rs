@@ -6,7 +6,7 @@ use crate::Refusal;
 /// The octets of a cell.
 pub const CELL_OCTETS: usize = 53;
 
-/// The fields of an RM cell (document 01, "The cell, 53 octets").
+/// The fields of an RM cell (the manual, section 8).
 #[derive(Debug, Clone, Copy, PartialEq, Eq, Hash, Default)]
 pub struct Rm {
     /// The virtual path, at most 8 bits.

@@ -1,4 +1,4 @@
-//! Rates as doubles, in cells per second, for planning tools (document 02, L8).
+//! Rates as doubles, in cells per second, for planning tools (the manual, section 18).
 
 use crate::ffi;
 use crate::Refusal;

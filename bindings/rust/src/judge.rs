@@ -1,4 +1,4 @@
-//! The judge of other transmitters' traces (document 02, L11), without a table.
+//! The judge of other transmitters' traces (the manual, section 18), without a table.
 
 use std::fmt;
 
@@ -18,7 +18,7 @@ pub enum Rule {
 }
 
 impl Rule {
-    /// Its number in document 02.
+    /// Its number, that of the header's constant.
     pub const fn number(self) -> u32 {
         self as u32
     }
@@ -54,10 +54,11 @@ pub enum Verdict {
 }
 
 /// Judges a trace: the cells that a transmitter sent in its rate on one connection, from
-/// the first on. It is numbers in groups of seven bits, low group first, with the top bit
-/// of an octet set when more follow: n, the Trm number, then for each cell the nanoseconds
-/// since the one before, its kind (1 forward, 2 backward, 3 data) and the rate in force
-/// before it. `include/abr.h` has the rules in full.
+/// the first on. It is a row of numbers, each in octets of seven bits, the low ones first,
+/// with the top bit set where another octet follows: n and the Trm number, then three for
+/// each cell, how many nanoseconds it went after its predecessor, its kind (forward 1,
+/// backward 2, data 3) and the rate in force before it. `include/abr.h` has the rules in
+/// full.
 ///
 /// # Errors
 /// What is seen at the earliest octet, the first of these at the same one:

@@ -7,8 +7,8 @@ pub const TBE_MAX: u32 = 16_777_215;
 /// The largest FRTT, in microseconds.
 pub const FRTT_MAX: u32 = 16_700_000;
 
-/// What an open gives beside VPI, VCI and time (document 01, "Opening"; document 02,
-/// L5 and L14), with the layout of the C struct. [`crate::Table::open`] checks the ranges.
+/// What an open gives beside VPI, VCI and time (the manual, section 4), with the
+/// layout of the C struct. [`crate::Table::open`] checks the ranges.
 #[repr(C)]
 #[derive(Debug, Clone, Copy, PartialEq, Eq, Hash, Default)]
 pub struct Params {

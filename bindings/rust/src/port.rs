@@ -1,4 +1,4 @@
-//! The explicit-rate port of a switch (document 02, L10), without a table.
+//! The explicit-rate port of a switch (the manual, section 18), without a table.
 
 use crate::ffi;
 use crate::Refusal;
@@ -16,8 +16,8 @@ pub enum Share {
     NoLimit,
 }
 
-/// Shares a capacity among demanded rates: the greatest rate s for which the sum of
-/// min(demand, s) is not above the capacity.
+/// Shares a capacity among demanded rates: the share is the greatest rate with which all
+/// demands, each cut to it, stay within the capacity.
 ///
 /// # Errors
 /// In this order: [`Refusal::Demands`] over [`DEMANDS_MAX`], [`Refusal::Demand`] if one is

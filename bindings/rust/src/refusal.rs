@@ -6,9 +6,8 @@ use std::fmt;
 /// The refusals with their numbers and texts, of which all else here is made.
 macro_rules! refusals {
     ($($(#[$doc:meta])* $name:ident = $number:literal: $text:literal,)*) => {
-        /// A refused call changes nothing and says why (document 01, "Refused because
-        /// of the input" and "Refused because of the state"; document 02, L1, L5, L7,
-        /// L8, L10, L11, L13 and L14). L6 withdrew refusal 3.
+        /// A refused call changes nothing and says why (the manual, section
+        /// 14). The number 3 is no longer given.
         ///
         /// ```
         /// use abr::Refusal;

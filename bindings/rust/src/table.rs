@@ -384,8 +384,9 @@ impl Table {
 
     /// The earliest ready instant of all open connections; none if no connection is ever
     /// ready as things stand. An accepted slot is idle exactly when its time is before it.
-    /// It may have passed already, and may be after [`TIME_MAX`]. Every accepted call on a
-    /// connection may change it.
+    /// It may have passed already, and may be after [`TIME_MAX`]. An accepted offer, received
+    /// RM cell, made cell, close or removal of a member, and a slot that sends may change it;
+    /// no other call does.
     ///
     /// ```
     /// use abr::{Params, Table, CELL_OCTETS};

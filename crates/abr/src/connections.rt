@@ -19,7 +19,7 @@ use params::params::Params;
 use slots::out_of_rate::out_of_rate;
 use table::layout::WORDS;
 
-// Refusals 10, 19, 7, 8, 12, 27, 13, 14.
+// Refusals 10, 19, 7, 29, 30, 8, 12, 27, 13, 14.
 #[no_mangle]
 pub extern "C" fn abr_open(
     table: &mut [u64; WORDS],

@@ -14,7 +14,7 @@ use paths::offer::offer_member;
 use paths::remove::remove;
 use table::layout::WORDS;
 
-// Refusals 19, 7, 8, 12, 13, 14.
+// Refusals 19, 7, 29, 30, 8, 12, 13, 14.
 #[no_mangle]
 pub extern "C" fn abr_open_path(
     table: &mut [u64; WORDS],

@@ -35,7 +35,7 @@ closedAnswer a = record { refusal = callAnswer a .refusal; comparisons = callAns
 abbrev pub noCell : (refusal comparisons : ℕ) → SlotAnswer
 noCell n k = record { refusal = n; comparisons = k; kind = 0; vpi = 0; vci = 0; acr = 0 }
 
--- the name that the slot tells: of a data cell of a path the member's (document 02, L13); no slot answers Accepted or Closed
+-- the name that the slot answers: of a data cell of a path the member's (document 02, L13); no slot answers Accepted or Closed
 abbrev pub slotAnswer : Answer → SlotAnswer
 slotAnswer (Refused n) = noCell n 0
 slotAnswer (Accepted n) = noCell 0 n

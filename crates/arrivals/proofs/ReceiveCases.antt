@@ -3,7 +3,6 @@ use Prim.Native.Nat.{ℕ, _%_, _<_}
 use mathlib.Core.Path.{_≡_, refl, sym, ap, subst, _∙_}
 use mathlib.Core.Bool.{Bool, true, false}
 use mathlib.Core.List.{List, []}
-use native.Mathlib.Omega.{arith}
 use lib.ListN.{length, getD}
 use borrow.Author.Tests.{eq-eqb, ne-eqb}
 use Rattle.crc.specs.declared.payload.Payload.{Payload}
@@ -33,11 +32,9 @@ use Rattle.tournament.specs.Replaying.{Ordered, Leads}
 use Rattle.model.specs.Tournament.{replayed}
 use Rattle.names.specs.Finding.{Located}
 use Rattle.names.proofs.Found.{found-at}
-use Rattle.model.specs.declared.answer.Answer.{Answer}
 use Rattle.model.specs.declared.answer.Answer.the-variants.{Accepted}
 use Rattle.model.specs.Call.{Outcome}
 use Rattle.model.specs.Step.{refuse, replay, ofOpen, dataCellStep, readStep, receiveStep}
-use Rattle.engine.specs.Contract.{Meets}
 use Rattle.engine.proofs.Outcomes.{replayed-out, put-ordered, level-of, valid-in, loaded-is, updated-is, efci-is}
 
 -- The connection: a backward cell moves the rate, a forward one is turned round from the words of its payload.

@@ -1,6 +1,6 @@
 -- What reading a cell gives. (Document 01, "The cell, 53 octets" and "Refused because of the input"; the orders: "Refused because of the state", without 3, which document 02, L6 withdrew, and with 19 of L7.)
 use Prim.Native.Nat.{ℕ, _/_, _%_}
-use mathlib.Core.Bool.{Bool, true, false, cond}
+use mathlib.Core.Bool.{cond}
 use mathlib.Core.List.{List}
 use lib.Dec.{leb, eqb}
 use lib.ListN.{length}

@@ -7,4 +7,4 @@ use Rattle.closed_loop.specs.Examples.{Examples}
 
 pub examples : Examples
 unfolding rateOf codeBelow codeOf initialUsed rateByMarks feedback
-examples = record { steps = refl; bound = refl; short = refl; there = refl; between = refl; belowMcr = refl; noLimit = refl; abovePcr = refl }
+examples = record { steps = refl; there = refl; short = refl; stopped = refl; between = refl; belowMcr = refl; noLimit = refl; abovePcr = refl }

@@ -4,5 +4,5 @@ pub mod Share
 pub mod Fed
 pub mod Others
 pub mod Loop
-pub mod Answers
+pub mod Turned
 pub mod Examples

@@ -11,10 +11,10 @@ use Rattle.moves.specs.Moves.{rateByMarks, feedback}
 use Rattle.moves.specs.Bounds.{RateInBounds}
 use Rattle.moves.proofs.FourMoves.{feedback-in-bounds}
 use Rattle.service.specs.Restart.{increase}
-use Rattle.closed_loop.specs.Settled.{settledRate, feedbackBound, fedTimes, IncreaseThere, RatesSettle}
+use Rattle.closed_loop.specs.Settled.{settledRate, feedbackBound, fedTimes, IncreaseAtLeastOne, RatesSettle}
 
-pub increase-there : IncreaseThere
-increase-there p k l h = le-div-iff-mul-le (pow-pos (p .r)) .1 (omega (arith, h, pow-mono {i = p .r} {j = k} l))
+pub increase-at-least-one : IncreaseAtLeastOne
+increase-at-least-one p k l h = le-div-iff-mul-le (pow-pos (p .r)) .1 (omega (arith, h, pow-mono {i = p .r} {j = k} l))
 
 -- one of them
 pub fed-once : (er : ℕ) (q : Rate) → RateInBounds q → feedback false false er q .acr ≡ min (settledRate (q .params) er) (q .acr + increase (q .params))
@@ -44,9 +44,9 @@ reached (suc n) er q b h l =
 falls : (n er : ℕ) (q : Rate) → RateInBounds q → settledRate (q .params) er ≤ q .acr → fedTimes (suc n) er q .acr ≡ settledRate (q .params) er
 falls n er q b h = omega (arith, rises n er q b)
 
-never : (n er : ℕ) (q : Rate) → RateInBounds q → increase (q .params) ≡ 0 → fedTimes n er q .acr ≤ q .acr
-never zero er q b z = omega arith
-never (suc n) er q b z =
+never-rises : (n er : ℕ) (q : Rate) → RateInBounds q → increase (q .params) ≡ 0 → fedTimes n er q .acr ≤ q .acr
+never-rises zero er q b z = omega arith
+never-rises (suc n) er q b z =
     let m : suc n * increase (q .params) ≡ 0 = ap (λ (i : ℕ). suc n * i) z ∙ mul-zero (suc n) in
     omega (arith, rises n er q b, m)
 
@@ -55,5 +55,5 @@ rates-settle er q b = record {
   rises = λ n. rises n er q b;
   falls = λ n. falls n er q b;
   reached = λ n. reached n er q b;
-  never = λ n. never n er q b;
+  neverRises = λ n. never-rises n er q b;
 }

@@ -18,7 +18,7 @@ use Rattle.share.proofs.Greatest.{share-greatest}
 use Rattle.port.specs.Limit.{heldEr}
 use Rattle.port.proofs.Cases.{er-le}
 use Rattle.closed_loop.specs.Settled.{settledRate}
-use Rattle.closed_loop.specs.Share.{erBehind, portRate, settled, Shares}
+use Rattle.closed_loop.specs.Share.{erBehind, portRate, settled, SettledRates}
 
 -- the code that a port writes over an ER
 er-greatest : (share er : ℕ) → Greatest (min (rateOf er) share) (heldEr share er)
@@ -71,8 +71,8 @@ sum-above share (p ∷ ps) =
     let one : settled p (Limit share) ≤ min (peak p) share + (least p - portRate p (Limit share)) = omega (arith, low) in
     omega (arith, one, sum-above share ps)
 
-pub shares : Shares
-shares = record {
+pub settled-rates : SettledRates
+settled-rates = record {
   exact = exact;
   rounded = rounded;
   together = λ capacity share ps e. omega (arith, sum-above share ps, share-greatest .limited capacity (map peak ps) share e .1 .fits);

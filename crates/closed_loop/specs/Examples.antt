@@ -1,4 +1,5 @@
 -- The bound computed where it is exact, and shares that are no rate of a code.
+use Prim.Native.Nat.{_-_}
 use mathlib.Core.Path.{_≡_}
 use Rattle.params.specs.declared.params.Params.{Params}
 use Rattle.params.specs.Params.{houseSet}
@@ -18,10 +19,11 @@ usual = houseSet 0x53E8 0x4000 0x4A00
 
 pub record Examples : Type 0 where
   pub steps : increase lowest ≡ 32
-  pub bound : feedbackBound lowest ≡ 17
-  -- from 0 to PCR: one feedback fewer leaves the rate a unit short
-  pub short : fedTimes 16 513 (opened lowest) .acr ≡ 512
-  pub there : fedTimes 17 513 (opened lowest) .acr ≡ 513
+  -- from 0 to PCR, 17 feedbacks: one fewer leaves the rate a unit short
+  pub there : fedTimes (feedbackBound lowest) 513 (opened lowest) .acr ≡ 513
+  pub short : fedTimes (feedbackBound lowest - 1) 513 (opened lowest) .acr ≡ 512
+  -- below one cell a second the code is that of 0: a source without a minimum stops
+  pub stopped : settled lowest (Limit 511) ≡ 0
   -- a share between two codes, one below MCR, none, and one above PCR
   pub between : settled usual (Limit 1_025) ≡ 1_024
   pub belowMcr : settled usual (Limit 100) ≡ 512

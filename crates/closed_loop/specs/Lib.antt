@@ -2,5 +2,5 @@
 pub mod Settled
 pub mod Share
 pub mod Loop
-pub mod Answers
+pub mod Turned
 pub mod Examples

@@ -1,4 +1,5 @@
--- A source and a port that all its backward cells pass, in every list of calls: the allowed rate settles, and follows a change of the share. Channels and paths alike. (Document 01, "Four moves of the allowed rate"; document 02, L10.)
+-- A source and a port that all its backward cells pass, in every list of calls: the allowed rate settles, and follows a change of the share. Channels and paths
+-- alike. (Document 01, "Four moves of the allowed rate"; document 02, L10.)
 use Prim.Native.Nat.{ℕ, suc, _+_, _-_, _*_, _≤_, _<_, min}
 use mathlib.Core.Path.{_≡_}
 use mathlib.Core.Logic.{_≢_}
@@ -63,7 +64,8 @@ pub record NotClosed (v : ℕ) (s : State) (c : Call) : Type 0 where
 pub record RateKept (v : ℕ) (s : State) (c : Call) : Type 0 where
   pub same : allowed v (step s c .state) ≡ allowed v s
 
--- the moves before a forward cell at t leave the rate: it is not the first, no more than ADTF has passed since the last, and fewer than CRM are unanswered, or CDF is zero
+-- enough for the moves before a forward cell at t to leave the rate: it is not the first, no more than ADTF has passed since the last, and fewer than CRM are
+-- unanswered, or CDF is zero
 pub record Unmoved (t : ℕ) (d : Connection) : Type 0 where
   pub sent : ℕ
   pub forward : ℕ
@@ -73,7 +75,8 @@ pub record Unmoved (t : ℕ) (d : Connection) : Type 0 where
   pub recent : t - forward ≤ adtfTime (d .rate .params)
   pub answered : d .rate .params .c ≢ 7 → d .unacked < crm (d .rate .params)
 
--- the call does not close v; and if it is a slot that sends a forward cell of v, the cell's moves leave the rate: a caller knows it from the instants of these cells, and from how many went since the last backward cell with BN 0
+-- the call does not close v; and if it is a slot that sends a forward cell of v, the cell's moves leave the rate: a caller knows it from the instants of these cells,
+-- and from how many went since the last backward cell with BN 0
 pub record NotLowered (v : ℕ) (s : State) (c : Call) : Type 0 where
   pub notClosed : NotClosed v s c
   pub forwardCell :

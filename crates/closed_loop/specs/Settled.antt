@@ -22,18 +22,18 @@ fedTimes zero er q = q
 fedTimes (suc n) er q = fedTimes n er (feedback false false er q)
 
 -- there is an increase if PCR is at least 2^r units: so up to r = 9 for every contract, whose PCR is 512 units or more, and for any r from 64 cells a second on
-abbrev pub IncreaseThere : Type 0
-IncreaseThere = (p : Params) (k : ℕ) → p .r ≤ k → 2 ^ k ≤ peak p → 1 ≤ increase p
+abbrev pub IncreaseAtLeastOne : Type 0
+IncreaseAtLeastOne = (p : Params) (k : ℕ) → p .r ≤ k → 2 ^ k ≤ peak p → 1 ≤ increase p
 
 -- of every rate record between its bounds
 pub record Settles (er : ℕ) (q : Rate) : Type 0 where
   -- n + 1 of them add as many increases, up to that rate; one that lies above it comes down with the first
   pub rises : (n : ℕ) → fedTimes (suc n) er q .acr ≡ min (settledRate (q .params) er) (q .acr + suc n * increase (q .params))
   pub falls : (n : ℕ) → settledRate (q .params) er ≤ q .acr → fedTimes (suc n) er q .acr ≡ settledRate (q .params) er
-  -- so it is reached and kept, if the increase is at least one unit, which the codes of a contract and r tell
+  -- so it is reached and kept, if the increase is at least one unit: the codes of a contract and r say whether it is
   pub reached : (n : ℕ) → 1 ≤ increase (q .params) → feedbackBound (q .params) ≤ n → fedTimes n er q .acr ≡ settledRate (q .params) er
   -- without such an increase no feedback raises the rate
-  pub never : (n : ℕ) → increase (q .params) ≡ 0 → fedTimes n er q .acr ≤ q .acr
+  pub neverRises : (n : ℕ) → increase (q .params) ≡ 0 → fedTimes n er q .acr ≤ q .acr
 
 abbrev pub RatesSettle : Type 0
 RatesSettle = (er : ℕ) (q : Rate) → RateInBounds q → Settles er q

@@ -26,7 +26,7 @@ portRate p share = rateOf (erBehind share (p .pcr))
 abbrev pub settled : Params → FairShare → ℕ
 settled p share = settledRate p (portRate p share)
 
-pub record Shares : Type 0 where
+pub record SettledRates : Type 0 where
   -- max(MCR, min(PCR, share)) of a share that is the rate of a code, and of any other share the same of the rate of its code
   pub exact : (p : Params) (code : ℕ) → settled p (Limit (rateOf code)) ≡ settledRate p (rateOf code)
   pub rounded : (p : Params) (share : ℕ) → share ≤ largestRate → settled p (Limit share) ≡ settledRate p (rateOf (codeOf share))

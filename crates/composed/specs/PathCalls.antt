@@ -1,6 +1,5 @@
 -- The exported calls on a path and a member in a row are a trace, from the words at entry to the words at exit. (Document 02, L13.)
 use Prim.Native.Nat.{ℕ}
-use mathlib.Core.Path.{_≡_}
 use mathlib.Core.List.{List, [], _∷_}
 use Rattle.members.specs.Path.{pathVci}
 use Rattle.model.specs.Call.{Call, closing, openingPath, adding, offeringMember, removing}

@@ -5,7 +5,7 @@ use Prim.Native.Nat.{ℕ, _+_, _≤_, _<_}
 use lib.Dec.{leb, eqb}
 use borrow.Author.Tests.{le-leb, lt-leb, not-true, not-false}
 use Rattle.connection.specs.Parts.{Connection, Pace, Unsent, Running}
-use Rattle.connection.specs.Ready.{waits, lastBefore, backwardWaits}
+use Rattle.connection.specs.Ready.{lastBefore, backwardWaits}
 use Rattle.connection.specs.Kind.{Forward, Turned, Data, isForward, isTurned, kindAt}
 
 module _ (x : ℕ) (c : Connection) {p : Pace} where

@@ -9,7 +9,7 @@ use lib.Pow.{pow-mono, shl-exact}
 use borrow.Author.Tests.{lt-ltb, le-ltb, le-leb, lt-leb, ne-eqb}
 use Rattle.rate.specs.Gap.{gap}
 use Rattle.connection.specs.Parts.{Connection, Pace, Unsent, Running}
-use Rattle.connection.specs.Ready.{Never, At, waits, anyWaits, lastBefore, readyFrom, backwardWaits}
+use Rattle.connection.specs.Ready.{Never, At, anyWaits, lastBefore, readyFrom, backwardWaits}
 
 -- 2^n by a shift
 pub shifted : (n : ℕ) → n < 64 → (1 * 2 ^ n) % 2 ^ 64 ≡ 2 ^ n

@@ -7,7 +7,7 @@ use lib.Dec.{leb, ltb}
 use borrow.Author.Tests.{ltb-true, ltb-false, leb-false, eq-eqb}
 use Rattle.rate.specs.Gap.{gap}
 use Rattle.connection.specs.Parts.{Connection, Pace, Unsent, Running, waiting}
-use Rattle.connection.specs.Ready.{Never, At, waits, anyWaits, lastBefore, readyFrom, readyInstant, backwardWaits}
+use Rattle.connection.specs.Ready.{Never, At, anyWaits, lastBefore, readyFrom, readyInstant, backwardWaits}
 use Rattle.connection.specs.Kind.{Turned, Data, Forward, isForward, isTurned, kindAt}
 use Rattle.connection.proofs.Readiness.{ready-some}
 use Rattle.connection.proofs.Keeps.{not-forward, data≢forward}

@@ -1,5 +1,5 @@
 -- What the last backward cell changed. (Document 02, L9.)
-use Prim.Native.Nat.{ℕ, _%_, _^_}
+use Prim.Native.Nat.{_%_, _^_}
 use lib.IntN.{ℤ, pos, _-ℤ_}
 use Rattle.connection.specs.Parts.{Change, changed}
 

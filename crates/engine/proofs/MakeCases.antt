@@ -1,6 +1,6 @@
 -- One lemma for each way out of making a backward cell.
 use Prim.Native.Nat.{ℕ, _≤_, _<_}
-use mathlib.Core.Path.{_≡_, refl, sym, ap, subst, _∙_}
+use mathlib.Core.Path.{_≡_, refl, ap, subst, _∙_}
 use mathlib.Core.Bool.{true, false}
 use mathlib.Core.List.{List}
 use lib.ListN.{set}
@@ -16,7 +16,6 @@ use Rattle.model.specs.State.{State, free, taken, find, leafOf, put, withTime}
 use Rattle.model.specs.Invariant.{WellFormed}
 use Rattle.model.specs.Call.{making}
 use Rattle.model.specs.Step.{refuse, replay, ofOpen, makeStep, step}
-use Rattle.model.specs.Tournament.{replayed}
 use Rattle.model.specs.declared.answer.Answer.the-variants.{Accepted}
 use Rattle.storing.specs.Updates.{Updates, DestinationMoved}
 use Rattle.tournament.specs.Replaying.{Ordered}

@@ -1,6 +1,6 @@
 -- The members in the words of a state: what a search finds there, and what a change of them leaves. (Document 02, L13.)
 use Prim.Native.Nat.{ℕ, _%_, _<_}
-use mathlib.Core.Path.{_≡_, refl, sym, ap, subst, _∙_}
+use mathlib.Core.Path.{_≡_, sym, subst, _∙_}
 use mathlib.Core.Bool.{true, false}
 use mathlib.Core.List.{List, _++_, append-assoc}
 use native.Mathlib.Omega.{arith}
@@ -11,9 +11,8 @@ use Rattle.laws.proofs.Blocks.{length-flat}
 use Rattle.members.specs.Path.{isPath}
 use Rattle.members.specs.Members.{Member, memberCapacity, isMember}
 use Rattle.members.specs.Invariant.{ValidMembers}
-use Rattle.model.specs.State.{State, Entry, taken, put, withMembers}
+use Rattle.model.specs.State.{State, Entry, withMembers}
 use Rattle.model.specs.Invariant.{WellFormed}
-use Rattle.connection.specs.declared.parts.Connection.{Connection}
 use Rattle.table.specs.Layout.{keyOf, nameOf, liveOf, fixedOf, liveWidth, fixedWidth, memberWords, membersFrom, words}
 use Rattle.table.proofs.Columns.{key-wide, name-wide, live-wide, fixed-wide}
 use Rattle.table.proofs.Splits.{header, length-header, header-split}

@@ -25,5 +25,7 @@ setup-calls = record {
   enough = refl;
   starts = refl;
   sends = refl;
+  first = refl;
+  idles = refl;
   given = refl;
 }

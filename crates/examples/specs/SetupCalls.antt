@@ -5,6 +5,7 @@ use mathlib.Core.List.{[], _∷_}
 use Rattle.params.specs.declared.params.Params.{Params}
 use Rattle.params.specs.Params.{initialUsed, crm, houseSet}
 use Rattle.params.specs.Setup.{withSetup}
+use Rattle.moves.specs.Moves.{moved, opened, firstCell, idle}
 use Rattle.rate.specs.Units.{latestTime}
 use Rattle.connection.specs.declared.kind.Kind.the-variants.{Forward}
 use Rattle.connection.specs.Parts.{changed}
@@ -43,7 +44,10 @@ pub record SetupCalls : Type 0 where
   pub noMinimum : initialUsed (withSetup (houseSet 0x53E8 0 0x4A00) 1 16_700_000) ≡ 30
   pub noTrip : initialUsed (setup 1 0) ≡ 16_384
   pub enough : initialUsed (setup 2 33_000) ≡ 16_384
-  -- the connection starts at the rate used, and its first cell goes at it; a contract tells the ICR as given
+  -- the connection starts at the rate used, and its first cell goes at it; a contract has the ICR as given
   pub starts : acrOf (final empty (opening 0 33 0 (setup 1 33_000) ∷ [])) 33 ≡ Rate 15_515 (changed 15_515 15_515)
   pub sends : next (opening 0 33 0 (setup 1 33_000) ∷ offering 0 33 1 ∷ []) (slot 0 53) ≡ sent 33 Forward 15_515
+  -- a higher rate comes down to it with the first cell, and with a forward cell after more than ADTF
+  pub first : firstCell (moved (opened (setup 1 33_000)) 16_384) ≡ opened (setup 1 33_000)
+  pub idles : idle 500_000_001 (moved (opened (setup 1 33_000)) 16_384) ≡ opened (setup 1 33_000)
   pub given : contractOf (final empty (opening 0 33 0 (setup 1 33_000) ∷ [])) 33 ≡ Codes 0x53E8 0x4000 0x4A00

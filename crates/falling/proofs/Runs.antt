@@ -1,7 +1,7 @@
 -- The words of a column in a table that move down behind a run of words that leaves.
 use Prim.Native.Nat.{ℕ, zero, suc, _+_, _≤_, _<_}
 use mathlib.Core.Path.{_≡_, refl, sym, ap, ap₂, _∙_}
-use mathlib.Core.Bool.{Bool, true, false, cond, _&&_}
+use mathlib.Core.Bool.{Bool, true, false, cond, _&&_, and-false}
 use mathlib.Core.List.{List, [], _∷_, _++_, append-assoc, append-nil}
 use native.Mathlib.Nat.{not-suc-le-zero}
 use native.Mathlib.Omega.{arith}
@@ -16,10 +16,6 @@ use Rattle.falling.proofs.Shifts.{falling-drop}
 use Rattle.falling.proofs.Moves.{read-at, store-at, length-next}
 
 -- ---- whether a word leaves
-
-and-false : (b : Bool) → (b && false) ≡ false
-and-false true = refl
-and-false false = refl
 
 -- it is below the run, in it, or above it
 pub run-below : (x u w : ℕ) → x < w → (leb w x && ltb x u) ≡ false

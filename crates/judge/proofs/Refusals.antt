@@ -1,5 +1,5 @@
 -- The judge refuses with 23, 24 or 25 and with no other number.
-use mathlib.Core.Path.{_≡_, subst}
+use mathlib.Core.Path.{subst}
 use mathlib.Core.Bool.{Bool, true, false, cond}
 use mathlib.Core.List.{List, [], _∷_}
 use Prim.Native.Nat.{ℕ, zero, suc, _+_, _^_}
@@ -9,7 +9,7 @@ use Rattle.params.specs.Params.{trmTime}
 use Rattle.trace.specs.declared.number.Number.{Number}
 use Rattle.trace.specs.declared.number.Number.the-variants.{Value, Refused as unread}
 use Rattle.judge.specs.Rules.{Cell, Sent, Verdict, Refused, Passes, Breaks, nothingSent, withSent, brokenRule, judgedFrom}
-use Rattle.judge.specs.Octets.{Record, Whole, cut, numberWithin, recordAt, mostSince, Parsed, refusing, listed, prepended, recordThen, cellsFrom, verdictOf, trmRead, nRead, judgedOctets}
+use Rattle.judge.specs.Octets.{Record, Whole, cut, numberWithin, recordAt, mostSince, Parsed, refusing, listed, prepended, recordThen, cellsFrom, verdictOf, trmRead, nRead}
 use Rattle.judge.specs.Promises.{Numbered, RefusalNumbers}
 use Rattle.judge.proofs.Progress.{NumberFits, within-fits, RecordFits, record-fits}
 

@@ -17,7 +17,7 @@ use Rattle.params.specs.Forward.{forwardDue}
 use Rattle.params.specs.Setup.{cellsAllowed}
 use Rattle.params.proofs.Setup.{initial-rate}
 use Rattle.judge.specs.Rules.{Cell, Sent, Passes, Breaks, nothingSent, isForward, withSent, tooSoon, brokenRule, judgedFrom}
-use Rattle.judge.specs.RoundTrip.{span, RatesUpTo, RoundTrip}
+use Rattle.judge.specs.RoundTrip.{span, RatesUpTo, TripBounded}
 
 -- One cell that passes.
 record Slow (c : Cell) : Type 0 where
@@ -91,5 +91,5 @@ from-any :
 from-any nr trm h [] c later rest e = few nr trm (withSent h c) later rest (some-sent nr trm h c) (passed nr trm h c (later ++ rest) e .1)
 from-any nr trm h (b ∷ before) c later rest e = from-any nr trm (withSent h b) before c later rest (passed nr trm h b (before ++ (c ∷ (later ++ rest))) e .1)
 
-pub round-trip : RoundTrip
+pub round-trip : TripBounded
 round-trip n trm before c later rest e = from-any _ _ nothingSent before c later rest e

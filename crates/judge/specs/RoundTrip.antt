@@ -19,8 +19,9 @@ abbrev pub RatesUpTo : ℕ → List Cell → Type 0
 RatesUpTo a [] = Unit {0}
 RatesUpTo a (c ∷ cs) = (c .rate ≤ a) × RatesUpTo a cs
 
--- any cells in a row, the last of which comes less than a round trip after the first: FRTT counts microseconds
-abbrev pub RoundTrip : Type 0
-RoundTrip =
+-- any cells in a row, the last of which comes less than a round trip after the first: FRTT counts microseconds; where it is 0, as in the house
+-- set, this says nothing
+abbrev pub TripBounded : Type 0
+TripBounded =
     (n trm : ℕ) (before : List Cell) (c : Cell) (later rest : List Cell) → judgedCells n trm (before ++ (c ∷ (later ++ rest))) ≡ Passes
     → (p : Params) → 1 ≤ p .tbe → RatesUpTo (initialUsed p) later → span later < 1000 * p .frtt → length (c ∷ later) ≤ cellsAllowed p

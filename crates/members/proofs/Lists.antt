@@ -3,7 +3,7 @@
 use Prim.Native.Nat.{ℕ, suc, _+_, _≤_, _<_}
 use mathlib.Core.Path.{_≡_, refl, sym, ap, subst, _∙_}
 use mathlib.Core.Logic.{_≢_}
-use mathlib.Core.Bool.{Bool, true, false, cond, not, _&&_, _||_, true≢false}
+use mathlib.Core.Bool.{Bool, true, false, cond, not, _&&_, _||_, true≢false, and-false}
 use mathlib.Core.List.{List, [], _∷_}
 use native.Mathlib.Nat.{le-refl, le-trans, not-suc-le-zero}
 use native.Mathlib.Omega.{arith}
@@ -167,10 +167,6 @@ unfolding anyWhere without
 without-member y f [] = refl
 without-member y f (m ∷ ms) = go (f (m .name)) refl (eqb (m .name) y) refl (without-member y f ms)
   where
-    and-false : (a : Bool) → (a && false) ≡ false
-    and-false true = refl
-    and-false false = refl
-
     go : (a : Bool) → f (m .name) ≡ a → (b : Bool) → eqb (m .name) y ≡ b → isMember y (without f ms) ≡ (isMember y ms && not (f y))
         → isMember y (cond a (without f ms) (m ∷ without f ms)) ≡ ((b || isMember y ms) && not (f y))
     go true p true q k = k ∙ rw (sym (ap f (eqb-true (m .name) y q)) ∙ p) (and-false (isMember y ms))

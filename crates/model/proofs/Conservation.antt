@@ -26,7 +26,7 @@ use Rattle.connection.specs.Sending.{sentForward, sentTurned, sentData, after, 
 use Rattle.connection.specs.OutOfRate.{afterOutOfRate}
 use Rattle.connection.proofs.Keeps.{work-same, after-same}
 use Rattle.connection.proofs.Waited.{data-waits}
-use Rattle.model.specs.State.{State, Entry, free, taken, capacity, empty, find, put, inserted, withTime, withLevel, withMembers, entryCells}
+use Rattle.model.specs.State.{State, free, taken, capacity, empty, find, put, inserted, withTime, withLevel, withMembers, entryCells}
 use Rattle.model.specs.Invariant.{NamesUnique, WellFormed}
 use Rattle.model.specs.Choice.{Chosen}
 use Rattle.model.specs.Call.{Call, opening, closing, receiving, offering, levelling, slot, making, outOfRate, openingPath, adding, offeringMember, removing, Outcome, closedCells}

@@ -2,7 +2,7 @@
 use Prim.Native.Nat.{ℕ, _+_, _-_, _*_, _<_, _≤_}
 use mathlib.Core.Path.{_≡_, refl, sym, ap, subst, _∙_}
 use mathlib.Core.Logic.{_≢_}
-use mathlib.Core.Bool.{Bool, true, false, cond, _&&_, _||_, not, true≢false}
+use mathlib.Core.Bool.{Bool, true, false, cond, _||_, not, true≢false}
 use mathlib.Core.List.{List, []}
 use mathlib.Core.Option.{Option, none, some}
 use native.Mathlib.Omega.{arith}
@@ -20,7 +20,7 @@ use Rattle.members.proofs.Valid.{none-valid, without-valid, with-member-valid, 
 use Rattle.members.proofs.Turns.{turn-picks, turn-some, turn-none}
 use Rattle.connection.specs.declared.parts.Connection.{Connection}
 use Rattle.connection.specs.Parts.{waiting}
-use Rattle.model.specs.State.{State, Entry, free, taken, capacity, isFree, find, put, inserted, roomLeft, entryCells}
+use Rattle.model.specs.State.{State, free, taken, capacity, isFree, find, put, inserted, roomLeft, entryCells}
 use Rattle.model.specs.Invariant.{NamesUnique, MembersOf}
 use Rattle.model.proofs.Entries.{Case, same, other, case, absent-find, each-free}
 use Rattle.model.proofs.Frames.{put-read, put-kept, inserted-read, freed-read}

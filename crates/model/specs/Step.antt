@@ -1,6 +1,6 @@
 -- What each call does to a table, its refusals in their order. (Document 01, "Refused because of the state"; document 02.)
 use Prim.Native.Nat.{ℕ, _+_}
-use mathlib.Core.Bool.{Bool, true, false, _&&_, not}
+use mathlib.Core.Bool.{Bool, _&&_, not}
 use mathlib.Core.List.{List}
 use mathlib.Core.Option.{Option, none, some}
 use lib.Dec.{leb, ltb, eqb}
@@ -142,7 +142,7 @@ receiveStep s o = readStep s o (reading o)
 unfoldable pub levelStep : State → (level : ℕ) → Outcome
 levelStep s l = require (refuse s 9) (leb l 2) (accept 0 (withLevel l s))
 
--- the name that a slot tells: the member's, if its cell is taken from one (document 02, L13)
+-- the name that a slot answers: the member's, if its cell is taken from one (document 02, L13)
 unfoldable pub nameAnswered : (connection : ℕ) → Option ℕ → ℕ
 nameAnswered v none = v
 nameAnswered v (some x) = x

@@ -2,7 +2,7 @@
 use connection::kind::Kind;
 
 // Of a refusal there is only its number. An accepted call says how many comparisons it made in the tournament; a close, besides, how many data cells waited; a slot that
-// sends, besides, which connection it goes to, the name that it tells, which of a data cell of a path is the member's, the kind of cell, and the allowed rate afterwards.
+// sends, besides, which connection it goes to, the name that it answers, which of a data cell of a path is the member's, the kind of cell, and the allowed rate afterwards.
 pub enum Answer {
     Refused(u32),
     Accepted {

@@ -9,7 +9,7 @@ use Rattle.judge.specs.declared.judge.Verdict.the-variants.{Passes}
 use Rattle.judge.specs.Rules.{judgedCells}
 use Rattle.judge.specs.RoundTrip.{RatesUpTo}
 use Rattle.judge.proofs.RoundTrip.{round-trip}
-use Rattle.own_traces.specs.RoundTrip.{OwnRoundTrip}
+use Rattle.own_traces.specs.RoundTrip.{OwnTripBounded}
 use Rattle.own_traces.proofs.Passing.{opened-at, own-cells-pass}
 use Rattle.own_traces.proofs.Unraised.{own-rates}
 
@@ -18,7 +18,7 @@ rates-within a [] [] rest h = tt
 rates-within a [] (x ∷ later) rest h = (h .0, rates-within a [] later rest (h .1))
 rates-within a (e ∷ earlier) later rest h = rates-within a earlier later rest (h .1)
 
-pub own-round-trip : OwnRoundTrip
+pub own-round-trip : OwnTripBounded
 own-round-trip before c v p after g a n earlier x later rest e =
     let o = opened-at before c v p g a in
     round-trip (p .n) (p .trm) earlier x later rest

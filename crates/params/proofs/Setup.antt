@@ -3,7 +3,7 @@ use mathlib.Core.Path.{_≡_, refl}
 use mathlib.Core.Bool.{true}
 use mathlib.Core.Logic.{by-cases}
 use Prim.Native.Nat.{ℕ, _+_, _-_, _*_, _/_, _≤_, _<_, min, max}
-use native.Mathlib.Nat.{le-trans, lt-of-lt-of-le, mul-le-mul-left, mul-le-mul-right, add-mul, mul-assoc, mul-comm, le-div-iff-mul-le, div-lt-iff-lt-mul, div-mul-le-self, lt-div-mul-add, pow-le-pow-right}
+use native.Mathlib.Nat.{le-refl, le-trans, le-of-mul-le-mul-right, lt-of-lt-of-le, mul-le-mul-left, mul-le-mul-right, add-mul, mul-assoc, mul-comm, le-div-iff-mul-le, div-lt-iff-lt-mul, div-mul-le-self, lt-div-mul-add, pow-le-pow-right}
 use native.Mathlib.Decide.{decLt, decLe}
 use native.Mathlib.Omega.{arith}
 use lib.Pow.{pow-pos}
@@ -108,6 +108,12 @@ fewest p y h =
     let l = div-lt-iff-lt-mul (pow-pos (p .n)) .1 above in
     omega arith
 
+whole : (p : Params) (m frtt : ℕ) → crm (withSetup p (m * nrm p) frtt) ≡ m
+whole p m frtt =
+    let q : Params = withSetup p (m * nrm p) frtt in
+    let most : m ≤ crm q = le-of-mul-le-mul-right (enough q) (pow-pos (p .n)) in
+    omega (arith, most, fewest q m (le-refl _))
+
 range : (p : Params) → 1 ≤ p .n → tbeFits p ≡ true → (1 ≤ crm p) × (crm p ≤ 8_388_608)
 unfolding tbeFits crm
 range p h e =
@@ -126,4 +132,4 @@ pub initial-rate : InitialRate
 initial-rate = record { between = between; noTrip = no-trip; longer = longer; more = more; most = most; greatest = not-lower; minimum = at-minimum; gaps = gaps }
 
 pub crm-is : Crm
-crm-is = record { enough = enough; least = fewest; range = range; house = house }
+crm-is = record { enough = enough; fewest = fewest; whole = whole; range = range; house = house }

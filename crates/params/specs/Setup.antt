@@ -36,7 +36,9 @@ pub record InitialRate : Type 0 where
 pub record Crm : Type 0 where
   -- the least count of forward cells whose Nrm cells each come to TBE
   pub enough : (p : Params) → p .tbe ≤ crm p * nrm p
-  pub least : (p : Params) (y : ℕ) → p .tbe ≤ y * nrm p → crm p ≤ y
+  pub fewest : (p : Params) (y : ℕ) → p .tbe ≤ y * nrm p → crm p ≤ y
+  -- a whole number of Nrm cells is that number
+  pub whole : (p : Params) (m frtt : ℕ) → crm (withSetup p (m * nrm p) frtt) ≡ m
   -- its range for every TBE and n of an open
   pub range : (p : Params) → 1 ≤ p .n → tbeFits p ≡ true → (1 ≤ crm p) × (crm p ≤ 8_388_608)
   -- the house set has the CRM of document 01

@@ -1,7 +1,7 @@
 -- What the calls do on a member's pair and on a path's own name.
 use Prim.Native.Nat.{ℕ, _≤_, _<_}
-use mathlib.Core.Path.{_≡_, refl, sym, ap, _∙_}
-use mathlib.Core.Bool.{Bool, true, false, true≢false}
+use mathlib.Core.Path.{_≡_, ap}
+use mathlib.Core.Bool.{Bool, true}
 use mathlib.Core.List.{List}
 use native.Mathlib.Omega.{arith}
 use borrow.Author.Tests.{le-leb}
@@ -20,13 +20,12 @@ use Rattle.members.specs.Members.{isMember}
 use Rattle.members.specs.Invariant.{ValidMember}
 use Rattle.members.proofs.Lists.{all-map, all-named}
 use Rattle.connection.specs.declared.parts.Connection.{Connection}
-use Rattle.model.specs.State.{State, Entry, free, taken, isFree, empty, find}
+use Rattle.model.specs.State.{State, free, taken, isFree, empty, find}
 use Rattle.model.specs.Invariant.{WellFormed}
-use Rattle.model.specs.Call.{Call, receiving}
+use Rattle.model.specs.Call.{receiving}
 use Rattle.model.specs.Step.{refuse, ofOpen, admit, openStep, offerStep, dataCellStep, readStep, receiveStep, step}
 use Rattle.model.specs.Queries.{entryAcr, acrOf, entryContract, contractOf}
 use Rattle.model.specs.Run.{final}
-use Rattle.model.proofs.Members.{path-sum}
 use Rattle.model.proofs.Effects.{is-free, path-is}
 use Rattle.model.proofs.Reached.{reached-well-formed}
 use Rattle.promises.specs.Paths.{MemberOnly, OwnName, Paths}

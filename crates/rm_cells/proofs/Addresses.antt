@@ -25,7 +25,7 @@ use Rattle.connection.specs.Making.{madeFields}
 use Rattle.connection.specs.OutOfRate.{outOfRateCell}
 use Rattle.connection.specs.Sending.{after, memberServed, forwardFields, backwardCell, bufferAfter, untouched, written}
 use Rattle.connection.proofs.Keeps.{after-same}
-use Rattle.model.specs.State.{State, Entry, free, taken, empty, find, withTime}
+use Rattle.model.specs.State.{State, free, empty, find, withTime}
 use Rattle.model.specs.Invariant.{WellFormed}
 use Rattle.model.specs.declared.answer.Answer.the-variants.{Refused}
 use Rattle.model.specs.Call.{Call, opening, closing, receiving, offering, levelling, slot, making, outOfRate, openingPath, adding, offeringMember, removing, Outcome}
@@ -37,7 +37,7 @@ use Rattle.model.proofs.Preserved.{valid-at}
 use Rattle.model.proofs.Effects.{Effect, refuses, begins, ends, offers, marks, works, levels, idles, sends, makes, leaves, beginsPath, adds, offersMember, removes, effect}
 use Rattle.model.proofs.Reached.{reached-well-formed, reached-unknown, reached-no-path}
 use Rattle.promises.proofs.NotOpen.{close-out, offer-out, make-out, leave-out}
-use Rattle.rm_cells.specs.Addresses.{Unknown, OutOfRangeUnknown, NoPathOver255, PairsApart, Carries, SentCarries, CarriesName, CellsCarryNames}
+use Rattle.rm_cells.specs.Addresses.{OutOfRangeUnknown, NoPathOver255, PairsApart, Carries, SentCarries, CarriesName, CellsCarryNames}
 use Rattle.laws.specs.Require.{require}
 
 -- Out of the ranges.

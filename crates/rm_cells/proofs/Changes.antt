@@ -1,6 +1,6 @@
 -- The change that is read is that of the last backward cell.
 use Prim.Native.Nat.{ℕ}
-use mathlib.Core.Path.{_≡_, refl, sym, ap, subst, _∙_}
+use mathlib.Core.Path.{_≡_, refl, sym, ap, _∙_}
 use mathlib.Core.Bool.{Bool, true, false, cond}
 use mathlib.Core.List.{List}
 use native.Mathlib.Omega.{arith}
@@ -26,9 +26,7 @@ use Rattle.connection.specs.Receiving.{offered, afterDataCell, fedBack, afterBa
 use Rattle.connection.specs.Sending.{after, withServed, sentForward, sentTurned, sentData}
 use Rattle.connection.specs.OutOfRate.{afterOutOfRate}
 use Rattle.connection.proofs.Differences.{change-within}
-use Rattle.model.specs.declared.acr.Acr.{Acr}
 use Rattle.model.specs.declared.acr.Acr.the-variants.{NotOpen, Rate}
-use Rattle.model.specs.declared.answer.Answer.{Answer}
 use Rattle.model.specs.declared.answer.Answer.the-variants.{Accepted}
 use Rattle.model.specs.State.{State, Entry, free, taken, empty, find, put, inserted, withTime, withMembers}
 use Rattle.model.specs.Invariant.{OnEntry, NamesUnique}
@@ -43,7 +41,7 @@ use Rattle.model.proofs.Effects.{Enters, Effect, refuses, begins, ends, beginsP
 use Rattle.model.proofs.Reached.{reached-well-formed}
 use Rattle.promises.proofs.Received.{step-fed}
 use Rattle.rm_cells.specs.Changes.{ChangeBounded, notOpen, between, ChangedFrom, NotFedBack, Changes}
-use Rattle.rm_cells.proofs.Kept.{Has, KeptBy, effect-kept}
+use Rattle.rm_cells.proofs.Kept.{Has, effect-kept}
 
 -- Between the bounds.
 bounded-entry : (last : ℕ) (x : Entry) → OnEntry (ValidAt last) x → ChangeBounded (entryParams x) (entryAcr x)

@@ -10,7 +10,7 @@ use Rattle.params.specs.declared.params.Params.{Params}
 use Rattle.crc.specs.declared.payload.Payload.{Payload}
 use Rattle.crc.specs.Payload.{payloadOf}
 use Rattle.cell.specs.Octets.{AreOctets, payload}
-use Rattle.cell.specs.Name.{vpiIn, vciIn, noName, pairName}
+use Rattle.cell.specs.Name.{vpiIn, vciIn, noName}
 use Rattle.cell.specs.Header.{header}
 use Rattle.cell.specs.Fields.{fieldsOf, cellName}
 use Rattle.cell.specs.Reading.{reading}

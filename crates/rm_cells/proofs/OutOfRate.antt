@@ -9,7 +9,6 @@ use native.Mathlib.Omega.{arith}
 use lib.Dec.{lit≤}
 use lib.ListN.{getD, set}
 use borrow.Author.Tests.{eq-eqb, leb-true}
-use Rattle.moves.specs.declared.moves.Rate.{Rate}
 use Rattle.rate.specs.Units.{largestRate}
 use Rattle.rate.specs.Code.{codeBelow, codeOf}
 use Rattle.rate.proofs.Codes.{rate-le}

@@ -5,14 +5,12 @@ use mathlib.Core.Bool.{Bool, true, false, cond, _&&_, _||_}
 use mathlib.Core.List.{List, [], _∷_}
 use native.Mathlib.Omega.{arith}
 use lib.Dec.{eqb, ltb, lit≤}
-use lib.ListN.{set}
 use borrow.Author.Tests.{ltb-true}
 use Rattle.params.specs.declared.params.Params.{Params}
 use Rattle.rate.specs.Code.{reservedClear, codesClear}
 use Rattle.crc.specs.Payload.{payloadOf}
 use Rattle.cell.specs.Octets.{octet, pair, payload, AreOctets}
 use Rattle.cell.specs.Name.{noName, pairName}
-use Rattle.cell.specs.Header.{header}
 use Rattle.cell.specs.Fields.{fieldsFit, ratesClear, resourceCell, cellName}
 use Rattle.cell.specs.Reading.{reading}
 use Rattle.cell.specs.Turning.{turnedPayload, turnedCell}
@@ -34,17 +32,17 @@ use Rattle.connection.specs.Making.{withMade}
 use Rattle.connection.specs.Receiving.{offered, afterDataCell, markKept, afterBackwardCell, afterForwardCell, afterResourceCell}
 use Rattle.connection.specs.OutOfRate.{afterOutOfRate, outOfRateCell}
 use Rattle.connection.specs.Sending.{after, withServed, sentForward, sentTurned, sentData, bufferAfter, backwardCell, written}
-use Rattle.connection.proofs.Keeps.{after-same, after-valid, valid-later}
+use Rattle.connection.proofs.Keeps.{after-valid, valid-later}
 use Rattle.connection.proofs.Reached.{acr-is-rate}
 use Rattle.connection.proofs.SendCases.{forward-fits, made-fits}
-use Rattle.model.specs.State.{State, Entry, free, taken, empty, capacity, position, holds, isFree, find, put, inserted, withTime, withLevel, withMembers}
+use Rattle.model.specs.State.{State, free, taken, empty, capacity, position, holds, isFree, find, put, inserted, withTime, withLevel, withMembers}
 use Rattle.model.specs.Invariant.{Each, WellFormed}
-use Rattle.model.specs.Call.{Call, opening, closing, receiving, offering, levelling, slot, making, outOfRate, openingPath, adding, offeringMember, removing, Outcome}
+use Rattle.model.specs.Call.{Call, Outcome}
 use Rattle.model.specs.Step.{refuse, accept, replay, discard, withOffer, withoutOne, idleStep, sendFrom, sendStep, sendOutside, step}
 use Rattle.model.specs.Run.{final}
 use Rattle.model.proofs.Entries.{each-set, each-free, each-at}
 use Rattle.model.proofs.Preserved.{valid-at, empty-well-formed}
-use Rattle.model.proofs.Effects.{Timely, Effect, refuses, begins, ends, offers, marks, works, levels, idles, sends, makes, leaves, beginsPath, adds, offersMember, removes, effect}
+use Rattle.model.proofs.Effects.{Effect, refuses, begins, ends, offers, marks, works, levels, idles, sends, makes, leaves, beginsPath, adds, offersMember, removes, effect}
 use Rattle.model.proofs.Reached.{step-well-formed}
 use Rattle.promises.specs.All.{All}
 use Rattle.rm_cells.specs.ReservedBit.{TopBitsClear, WrittenClear, OfOctets, NoReservedBit}

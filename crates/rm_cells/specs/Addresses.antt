@@ -54,13 +54,13 @@ abbrev pub Carries : ℕ → Buffer → Type 0
 Carries v untouched = ⊥
 Carries v (written o) = pairName (vpiOf o) (vciOf o) ≡ v
 
--- by the kind of cell that a slot sends, the connection that it goes to and the name that it tells: for data nothing is written
+-- by the kind of cell that a slot sends, the connection that it goes to and the name that it answers: for data nothing is written
 abbrev pub SentCarries : Kind → (connection name : ℕ) → Buffer → Type 0
 SentCarries Forward v x b = (x ≡ v) × Carries v b
 SentCarries Turned v x b = (x ≡ v) × Carries v b
 SentCarries Data v x b = b ≡ untouched
 
--- by the call and its answer: a slot's answer tells the name, a cell outside the rate is asked for by its pair, and nothing else is written
+-- by the call and its answer: a slot's answer has the name, a cell outside the rate is asked for by its pair, and nothing else is written
 abbrev pub CarriesName : Call → Answer → Buffer → Type 0
 CarriesName (opening vpi vci t p) a b = b ≡ untouched
 CarriesName (closing vpi vci) a b = b ≡ untouched

@@ -7,7 +7,7 @@ use mathlib.Core.List.{List, [], _∷_}
 use mathlib.Core.Option.{Option, none, some}
 use native.Mathlib.Omega.{arith}
 use lib.Dec.{eqb}
-use borrow.Author.Tests.{eqb-true, eqb-false, eq-eqb, ne-eqb}
+use borrow.Author.Tests.{eqb-false, eq-eqb, ne-eqb}
 use Rattle.params.specs.declared.params.Params.{Params}
 use Rattle.cell.specs.Name.{pairName}
 use Rattle.cell.specs.Fields.{cellName}
@@ -28,7 +28,7 @@ use Rattle.connection.specs.Receiving.{offered, afterDataCell, afterResourceCel
 use Rattle.connection.specs.OutOfRate.{afterOutOfRate}
 use Rattle.connection.specs.Kind.{kindAt}
 use Rattle.connection.specs.Sending.{sentForward, sentTurned, sentData, after, memberServed, withServed}
-use Rattle.connection.proofs.Keeps.{work-same, work-queue, after-same}
+use Rattle.connection.proofs.Keeps.{work-same, work-queue}
 use Rattle.connection.proofs.Waited.{data-waits}
 use Rattle.model.specs.State.{State, Entry, free, taken, isFree, empty, find, put, inserted, withTime, withLevel, withMembers}
 use Rattle.model.specs.Invariant.{NamesUnique, WellFormed}

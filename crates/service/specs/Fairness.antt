@@ -20,7 +20,7 @@ use Rattle.model.specs.Step.{step}
 use Rattle.model.specs.Run.{final, isAccepted}
 use Rattle.model.specs.Conservation.{dataCells, sumOver}
 
--- 1 of a slot that sends a data cell and tells the name x
+-- 1 of a slot that sends a data cell and answers the name x
 unfoldable pub dataTold : (x : ℕ) → Answer → ℕ
 dataTold x (Refused n) = 0
 dataTold x (Accepted n) = 0
@@ -53,13 +53,13 @@ Stretch v a b s (c ∷ cs) = BothGoOn v a b s c × Stretch v a b (step s c .stat
 
 -- after any list of calls cs from the empty table
 pub record Fairness : Type 0 where
-  -- a data cell of a path is that of the member whose turn it is, and the slot tells its name; of a channel it tells the channel's own
+  -- a data cell of a path is that of the member whose turn it is, and the slot answers its name; of a channel it answers the channel's own
   pub inTurn :
       (cs : List Call) (t room v x acr n : ℕ) (c : Connection) → let s = final empty cs in
       find v (s .entries) ≡ taken c → step s (slot t room) .answer ≡ Sent v x Data acr n → isPath v ≡ true → turn v (c .queue .served) (s .members) ≡ some x
   pub own :
       (cs : List Call) (t room v x acr n : ℕ) → step (final empty cs) (slot t room) .answer ≡ Sent v x Data acr n → isPath v ≡ false → x ≡ v
-  -- so the name that any slot tells says where it goes: to that connection, or to the path that the name is a member of
+  -- so the name that any slot answers says where it goes: to that connection, or to the path that the name is a member of
   pub goes :
       (cs : List Call) (t room v x acr n : ℕ) (k : Kind) → step (final empty cs) (slot t room) .answer ≡ Sent v x k acr n → v ≡ owner x (final empty cs .members)
   -- in any stretch ds of calls after them, of two members of one path

@@ -6,7 +6,6 @@ use mathlib.Core.List.{List, _++_}
 use mathlib.Core.Option.{Option, none, some}
 use native.Mathlib.Omega.{arith}
 use lib.ListN.{getD}
-use Rattle.cell.specs.Name.{noName}
 use Rattle.members.specs.Path.{isPath}
 use Rattle.members.specs.Members.{Member, pathCells}
 use Rattle.members.specs.Turn.{turn, afterServing, lastAfter}
@@ -36,7 +35,6 @@ use Rattle.member_words.specs.Words.{number, Serves}
 use Rattle.engine.specs.Contract.{bufferContent}
 use Rattle.slots.specs.Slots.{Carried, MovedBy, ofMember}
 use Rattle.storing.specs.Updates.{Updates, SourceMoved}
-use Rattle.tournament.specs.Replaying.{Ordered}
 use Rattle.engine.proofs.Outcomes.{valid-in, loaded-is, updated-is, put-ordered}
 use Rattle.engine.proofs.Members.{front, with-members, members-changed}
 

@@ -92,7 +92,7 @@ fn of_member(kind: Kind, name: u32) -> bool
     }
 }
 
-// A data cell of a path is taken from the member whose turn it is, and the slot tells its name; a channel is not looked for among the members.
+// A data cell of a path is taken from the member whose turn it is, and the slot answers its name; a channel is not looked for among the members.
 pub fn send(t: &mut [u64; WORDS], time: u64, i: usize, cell: &mut [u8]) -> Answer
     requires { ⌜ (i < capacity) × ((time ≤ latestTime) × (length (now cell) ≡ 53)) ⌝ }
     ensures { λ r. ⌜ Sends time i (now (t .entry)) (now (t .exit)) r (now (cell .entry)) (now (cell .exit)) ⌝ }

@@ -1,6 +1,6 @@
 -- The words of a state after an entry was stored and the matches of its leaf replayed: those of the state with that entry changed.
 use Prim.Native.Nat.{ℕ, _+_, _*_, _<_}
-use mathlib.Core.Path.{_≡_, refl, sym, ap, subst, _∙_}
+use mathlib.Core.Path.{_≡_, sym, ap, subst, _∙_}
 use mathlib.Core.Bool.{not}
 use mathlib.Core.List.{List, _∷_, _++_}
 use lib.ListN.{length, getD, set, length-set}
@@ -15,7 +15,7 @@ use Rattle.table.proofs.Used.{length-used, used-same, used-flipped}
 use Rattle.table.proofs.Directory.{length-directory, directory-same}
 use Rattle.table.proofs.Splits.{nodes-split, length-before-directory, length-before-nodes}
 use Rattle.table.proofs.Words.{given-in, source-in, destination-in, update-in}
-use Rattle.falling.specs.Falling.{atLeast, insertedAt, removedAt}
+use Rattle.falling.specs.Falling.{atLeast}
 use Rattle.falling.specs.Column.{InColumn, Inserts, Removes}
 use Rattle.names.proofs.Directories.{falling-directory, directory-inserted, directory-removed}
 use Rattle.tournament.specs.Replaying.{Ordered, Replays}

@@ -1,6 +1,6 @@
 -- Loading gives back the connection that stands in the entry: no number of a connection that calls made lies outside the range it is brought into.
 use Prim.Native.Nat.{ℕ, _+_, _*_, _/_, _%_, _^_, _≤_, _<_, _-_}
-use mathlib.Core.Path.{_≡_, refl, ap, _∙_}
+use mathlib.Core.Path.{_≡_, refl}
 use mathlib.Core.Bool.{Bool, true, false, cond}
 use mathlib.Core.List.{List, _++_}
 use native.Mathlib.Nat.{mod-eq-of-lt, add-assoc, add-zero}

@@ -1,7 +1,7 @@
 -- The words of a state that calls reach: what a read finds in them, and that a store makes the words of the state with that entry changed.
 use Prim.Native.Nat.{ℕ, suc, _+_, _-_, _*_, _≤_, _<_}
 use mathlib.Core.Path.{_≡_, refl, sym, ap, ap₂, _∙_}
-use mathlib.Core.List.{List, [], _∷_, _++_, append-nil}
+use mathlib.Core.List.{List, [], _∷_, _++_}
 use native.Mathlib.Nat.{add-zero}
 use native.Mathlib.Omega.{arith}
 use lib.ListN.{length, getD, set, drop, replicate, length-set, replicate-append-replicate}
@@ -13,7 +13,6 @@ use Rattle.connection.specs.declared.parts.Destination.{Destination}
 use Rattle.connection.specs.declared.parts.Connection.{Connection}
 use Rattle.connection.specs.declared.parts.Made.{Made}
 use Rattle.connection.specs.declared.ready.Instant.{Instant}
-use Rattle.connection.specs.declared.ready.Instant.the-variants.{Never, At}
 use Rattle.connection.specs.declared.parts.Waiting.{Waiting}
 use Rattle.connection.specs.Ready.{readyInstant}
 use Rattle.connection.specs.Invariant.{ValidAt}

@@ -1,6 +1,6 @@
 // The winner at a place of the tournament, with its ready key, and the winner of a match.
 ghost use mathlib.Core.Path.{_≡_};
-ghost use Prim.Native.Nat.{_*_, _≤_, _<_};
+ghost use Prim.Native.Nat.{_*_, _<_};
 ghost use Rattle.tournament.specs.Standing.{wordStanding, leafStanding, wordName, tiedOf, matched};
 ghost use Rattle.model.specs.Tournament.{neighbour};
 ghost use Rattle.model.specs.State.{capacity};

@@ -1,6 +1,6 @@
 -- The cases of reading a group, one for each way that the code goes on or returns.
-use mathlib.Core.Path.{_≡_, refl, ap}
-use mathlib.Core.Bool.{Bool, true, false, cond, _&&_}
+use mathlib.Core.Path.{_≡_, ap}
+use mathlib.Core.Bool.{Bool, false, cond, _&&_, and-false}
 use mathlib.Core.List.{List}
 use Prim.Native.Nat.{ℕ, zero, suc, _+_, _-_, _*_, _≤_, _<_}
 use native.Mathlib.Nat.{lt-irrefl, not-suc-le-zero}
@@ -61,9 +61,5 @@ module _ (n : ℕ) (s : List ℕ) (k v p : ℕ) (none : n ≤ 0) (h : k < length
 pub not-zero : (b p : ℕ) → (b ≡ 0 → ⊥) → (eqb b 0 && ltb 1 p) ≡ false
 not-zero b p h = ap (λ (t : Bool). t && ltb 1 p) (ne-eqb b 0 h)
 
-and-false : (x y : Bool) → y ≡ false → (x && y) ≡ false
-and-false true y h = h
-and-false false y h = refl
-
 pub only-one : (b p : ℕ) → p ≤ 1 → (eqb b 0 && ltb 1 p) ≡ false
-only-one b p h = and-false (eqb b 0) (ltb 1 p) (le-ltb 1 p h)
+only-one b p h = rw (le-ltb 1 p h) (and-false (eqb b 0))

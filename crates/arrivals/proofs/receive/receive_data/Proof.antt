@@ -1,14 +1,12 @@
-use Prim.Native.Nat.{ℕ, _%_, _<_}
+use Prim.Native.Nat.{ℕ, _<_}
 use mathlib.Core.Path.{_≡_, sym, ap, subst, _∙_}
-use mathlib.Core.Bool.{true, false}
+use mathlib.Core.Bool.{false}
 use borrow.Author.Needs.{needs}
 use Rattle.cell.specs.Name.{pairName}
 use Rattle.members.specs.Path.{isPath}
 use Rattle.members.specs.Members.{owner}
-use Rattle.model.specs.State.{State, free, find, capacity}
-use Rattle.model.specs.Invariant.{WellFormed}
-use Rattle.table.specs.Layout.{words}
-use Rattle.names.specs.Finding.{FoundInRange, Names, Located}
+use Rattle.model.specs.State.{capacity}
+use Rattle.names.specs.Finding.{FoundInRange, Names}
 use Rattle.engine.proofs.Outcomes.{refused-out}
 use Rattle.engine.proofs.Members.{is-path, no-path}
 use Rattle.arrivals.specs.Owner.{FindsOwner}

@@ -1,4 +1,3 @@
-use mathlib.Core.Path.{sym}
 use borrow.Author.Needs.{needs}
 use Rattle.engine.proofs.Outcomes.{refused-out, same-meets}
 use Rattle.engine.proofs.OpenCases.{open-low, open-high}

@@ -1,9 +1,9 @@
-use Prim.Native.Nat.{ℕ, _<_}
+use Prim.Native.Nat.{ℕ}
 use mathlib.Core.Path.{_≡_, sym, ap, subst, _∙_}
 use native.Mathlib.Omega.{arith}
 use borrow.Author.Needs.{needs}
 use borrow.Author.Tests.{not-true, not-false, ltb-true}
-use Rattle.cell.specs.Name.{noName, pairName}
+use Rattle.cell.specs.Name.{pairName}
 use Rattle.cell.proofs.Names.{pair-named}
 use Rattle.members.specs.Path.{pathOf}
 use Rattle.model.specs.State.{State}

@@ -3,7 +3,7 @@ use mathlib.Core.Path.{_≡_, sym, ap, _∙_}
 use lib.ListN.{length}
 use borrow.Author.Needs.{needs}
 use Rattle.cell.specs.Reading.{reading}
-use Rattle.cell.specs.declared.read.Reading.the-variants.{User, Resource}
+use Rattle.cell.specs.declared.read.Reading.the-variants.{Resource}
 use Rattle.cell.proofs.Readings.{user-same, rest, HeaderMeets, header-meets, rest-meets}
 use Rattle.reading.proofs.read.read.Statement.{statement}
 use Rattle.reading.proofs.read.read.Tie as tie

@@ -1,5 +1,3 @@
-use mathlib.Core.Path.{_∙_}
-use native.Mathlib.Omega.{arith}
 use Rattle.connection.proofs.SendCases.{made-carried}
 use borrow.Author.Needs.{needs}
 use Rattle.receiving.proofs.make.made_fields.Statement.{statement}

@@ -1,7 +1,6 @@
 use mathlib.Core.Path.{refl}
 use native.Mathlib.Omega.{arith}
 use borrow.Author.Tests.{eq-eqb, ne-eqb}
-use borrow.Author.Needs.{needs}
 use Rattle.receiving.proofs.make.mark.Statement.{statement}
 use Rattle.receiving.proofs.make.mark.Tie as tie
 

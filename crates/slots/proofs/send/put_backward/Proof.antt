@@ -1,5 +1,4 @@
 use mathlib.Core.Path.{sym, ap, _∙_}
-use native.Mathlib.Omega.{arith}
 use borrow.Author.Needs.{needs}
 use Rattle.cell.specs.Fields.{resourceCell}
 use Rattle.connection.specs.declared.parts.Waiting.{Waiting}

@@ -1,15 +1,17 @@
--- Without a round trip the moves use the initial rate as given.
+-- The moves by the initial rate used, and by the one given without a round trip.
 use Prim.Native.Nat.{ℕ}
 use mathlib.Core.Path.{refl, subst}
 use Rattle.params.specs.Params.{initialUsed, crm}
 use Rattle.params.proofs.Setup.{initial-rate}
 use Rattle.moves.specs.Moves.{Rate, firstCell, idle, unanswered}
-use Rattle.moves.specs.NoRoundTrip.{MovesBy, NoRoundTrip}
+use Rattle.moves.specs.SetupMoves.{MovesBy, SetupMoves}
 
--- whatever the round trip, they use the initial rate used
 by-used : (q : Rate) → MovesBy (initialUsed (q .params)) (crm (q .params)) q
 unfolding firstCell idle unanswered
 by-used q = record { opens = refl; first = refl; idles = λ passed. refl; cuts = λ y. refl }
 
-pub no-round-trip : NoRoundTrip
-no-round-trip q e = subst (λ (i : ℕ). MovesBy i (crm (q .params)) q) (initial-rate .noTrip (q .params) e) (by-used q)
+pub setup-moves : SetupMoves
+setup-moves = record {
+  used = by-used;
+  noTrip = λ q e. subst (λ (i : ℕ). MovesBy i (crm (q .params)) q) (initial-rate .noTrip (q .params) e) (by-used q);
+}

@@ -1,9 +1,9 @@
--- Without a round trip the moves are those of document 01, the initial rate being the one given and CRM the number that TBE makes. (Document 02, L14.)
+-- What TBE and FRTT have to do with the moves: they use the initial rate used and CRM. (Document 02, L14.)
 use Prim.Native.Nat.{ℕ, min, max}
 use mathlib.Core.Path.{_≡_}
 use mathlib.Core.Bool.{cond, _&&_, not}
 use lib.Dec.{leb, ltb, eqb}
-use Rattle.params.specs.Params.{least, initial, crm, adtfTime}
+use Rattle.params.specs.Params.{least, initial, initialUsed, crm, adtfTime}
 use Rattle.moves.specs.Moves.{Rate, moved, opened, firstCell, idle, cut, unanswered}
 
 -- the moves that ICR and CRM have a part in, as document 01 has them, for the initial rate i and the CRM m; feedback uses neither
@@ -14,5 +14,7 @@ pub record MovesBy (i m : ℕ) (q : Rate) : Type 0 where
   pub cuts :
       (y : ℕ) → unanswered y q ≡ moved q (cond (leb m y && not (eqb (q .params .c) 7)) (max (least (q .params)) (cut (q .params .c) (q .acr))) (q .acr))
 
-abbrev pub NoRoundTrip : Type 0
-NoRoundTrip = (q : Rate) → q .params .frtt ≡ 0 → MovesBy (initial (q .params)) (crm (q .params)) q
+-- whatever TBE and FRTT are; without a round trip that is the rate given
+pub record SetupMoves : Type 0 where
+  pub used : (q : Rate) → MovesBy (initialUsed (q .params)) (crm (q .params)) q
+  pub noTrip : (q : Rate) → q .params .frtt ≡ 0 → MovesBy (initial (q .params)) (crm (q .params)) q

@@ -1,4 +1,5 @@
--- The cells of such a loop are the engine's own: its forward cell, turned round by a destination of the same name without congestion, and then passed through the port. (Document 01, "Turning cells round"; document 02, L10.)
+-- The cells of such a loop are the engine's own: its forward cell, turned round by a destination of the same name without congestion, and then passed through the
+-- port. (Document 01, "Turning cells round"; document 02, L10.)
 use Prim.Native.Nat.{ℕ, _<_}
 use mathlib.Core.Bool.{false}
 use mathlib.Core.List.{List}
@@ -18,8 +19,8 @@ use Rattle.closed_loop.specs.Loop.{Unmarked}
 abbrev pub forwardCell : (v : ℕ) → Rate → List ℕ
 forwardCell v q = resourceCell 0 (forwardFields v q)
 
-abbrev pub answer : (v : ℕ) → Rate → List ℕ
-answer v q = turnedCell (vpiIn v) (vciIn v) (payloadOf (turnedPayload 0 false (payload (forwardCell v q))))
+abbrev pub turnedBack : (v : ℕ) → Rate → List ℕ
+turnedBack v q = turnedCell (vpiIn v) (vciIn v) (payloadOf (turnedPayload 0 false (payload (forwardCell v q))))
 
-abbrev pub AnswersUnmarked : Type 0
-AnswersUnmarked = (v : ℕ) (share : FairShare) (q : Rate) → v < noName → RateInBounds q → Unmarked v (q .params) share (portBy share (answer v q) .cell)
+abbrev pub TurnedUnmarked : Type 0
+TurnedUnmarked = (v : ℕ) (share : FairShare) (q : Rate) → v < noName → RateInBounds q → Unmarked v (q .params) share (portBy share (turnedBack v q) .cell)

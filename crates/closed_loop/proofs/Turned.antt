@@ -1,4 +1,4 @@
--- The answer to a forward cell of the engine's own has no marks, and PCR as its ER.
+-- A forward cell of the engine's own, turned round, has no marks, and PCR as its ER.
 use Prim.Native.Nat.{ℕ, _<_}
 use mathlib.Core.Path.{_≡_, refl, ap, _∙_}
 use mathlib.Core.Bool.{true, false}
@@ -21,7 +21,7 @@ use Rattle.cell.proofs.Turned.{turned-read, turned-words}
 use Rattle.cell.proofs.Written.{written-octets, read-written}
 use Rattle.connection.specs.Sending.{forwardFields}
 use Rattle.connection.proofs.SendCases.{forward-fits}
-use Rattle.closed_loop.specs.Answers.{forwardCell, answer, AnswersUnmarked}
+use Rattle.closed_loop.specs.Turned.{forwardCell, turnedBack, TurnedUnmarked}
 use Rattle.closed_loop.proofs.Share.{port-low}
 
 module _ (v : ℕ) (q : Rate) (l : v < noName) (b : RateInBounds q) where
@@ -34,19 +34,19 @@ module _ (v : ℕ) (q : Rate) (l : v < noName) (b : RateInBounds q) where
   abbrev fields : Fields
   fields = returned 0 false (vpiIn v) (vciIn v) (forwardFields v q)
 
-  answer-read : reading (answer v q) ≡ Resource fields
-  answer-read =
+  turned-back-read : reading (turnedBack v q) ≡ Resource fields
+  turned-back-read =
       let n = resource-received (forwardCell v q) (forwardFields v q) sent-read .size in
       ap reading (turned-words 0 false (vpiIn v) (vciIn v) (forwardCell v q) n (written-octets 0 (forwardFields v q) (lit≤ tt) fit))
       ∙ turned-read 0 false (vpiIn v) (vciIn v) (forwardCell v q) n (forwardFields v q) sent-read (omega (arith, l)) (omega arith)
 
-pub answers-unmarked : AnswersUnmarked
+pub turned-unmarked : TurnedUnmarked
 unfolding returned forwardFields
-answers-unmarked v share q l b = record {
+turned-unmarked v share q l b = record {
   fromPort = record {
-    before = answer v q;
+    before = turnedBack v q;
     fields = fields v q l b;
-    read = answer-read v q l b;
+    read = turned-back-read v q l b;
     backward = refl;
     name = pair-back v l;
     left = refl;
