@@ -28,12 +28,12 @@ LIB_GOAL := lib
 endif
 export ABR_LIB := $(LIB)
 
-.PHONY: lib demo test tools install dist bench soak clean
+.PHONY: lib demo test tools transmitter install dist bench soak clean
 
 lib:
 	rt staticlib abr
 
-demo: $(LIB_GOAL)
+demo: $(LIB_GOAL) transmitter
 	@mkdir -p $(BUILD)
 	$(CC) -std=c99 $(CFLAGS) -Iinclude examples/two_connections.c $(LIB) -o $(BUILD)/two_connections
 	$(BUILD)/two_connections
@@ -49,8 +49,6 @@ tools: $(LIB_GOAL)
 	cargo build --release --quiet -p tools
 	@echo "target/cargo/release/abr-judge and abr-trace; --help says how they are called"
 
-.PHONY: transmitter
-demo: transmitter
 transmitter: $(LIB_GOAL)
 	@mkdir -p $(BUILD)
 	$(CC) -std=c99 $(CFLAGS) -Iinclude examples/transmitter.c $(LIB) -o $(BUILD)/transmitter

@@ -6,7 +6,7 @@
  * 255, and VCI 65,535 or the path's, with all other words behind its own, and the others are never ready. A forward cell makes
  * both of its moves, and a received one replaces another. A path has all 256 members, or all but one. A port has 1,024 demands.
  * A trace has 1,000 cells of fifteen octets. bench/worst.c counts the instructions of these calls, bench/cold.c measures their
- * time without caches, tests/c/stack.c their stack.
+ * time with table and cell in the caches and with both flushed from them, tests/c/stack.c their stack.
  */
 #ifndef CASES_H
 #define CASES_H

@@ -29,7 +29,7 @@ enum { NEAR, FAR, ENDS };
 enum { STEADY, BURSTS, LATE, CONNECTIONS };
 enum { LITTLE_ROOM, SHORT_MEMORY, NO_RATE, PHASES };
 
-/* Times of trouble. */
+/* Phases in which the network, or the far end, allows less. */
 static const struct {
     uint64_t from, to;
     const char *name;

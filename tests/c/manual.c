@@ -108,7 +108,7 @@ static void print_octets(const uint8_t *octets, size_t count)
 
 /* ---- The line of slots --------------------------------------------------- */
 
-enum { SLOTS = 32, ROWS = 4, WIDTH = 3 };
+enum { SLOTS = 32, WIDTH = 3 };
 
 /* A row of the drawing: a letter for each slot, or a blank; no blanks at its end. */
 static void print_row(const char *name, const char *letters)

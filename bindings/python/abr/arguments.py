@@ -40,7 +40,10 @@ def octets(name: str, value: bytes) -> bytes:
 
 
 def double(name: str, value: float) -> float:
-    """A double. No other sort of number is rounded to one; a whole number below 2^53 is one."""
+    """A double, or a whole number that is one, as all up to 2^53 are. Nothing is rounded."""
     if not isinstance(value, (float, int)):
         raise TypeError(f"{name} is no float but {type(value).__name__}")
-    return float(value)
+    number = float(value)
+    if isinstance(value, int) and number != value:
+        raise OverflowError(f"{name} is {value}, which no double is")
+    return number

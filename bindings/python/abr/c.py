@@ -107,7 +107,8 @@ def path() -> str:
 
 def load(name: str) -> PyDLL:
     """Loads the shared object, which must be of this binding's version: with another one a table may be too short. The
-    interpreter is held while a call runs (PyDLL), so that no two threads are in one table."""
+    interpreter's lock is held while a call runs (PyDLL), so that no two threads are in one table; where Python runs without
+    that lock, the caller must see to it."""
     library = PyDLL(name)
     found = tuple(function(library, name) for name in ("abr_version", "abr_table_words"))
     if tuple(call() for call in found) != (VERSION, TABLE_WORDS):

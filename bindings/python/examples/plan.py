@@ -1,4 +1,3 @@
-#!/usr/bin/env python3
 """A plan for one link: three contracts in cells per second are brought into rate codes, opened, shared out at a port, and
 run for a second against the explicit rates that the port gives back. Read it from top to bottom; plan.out is what it
 prints."""
@@ -55,7 +54,8 @@ demands = {vpi: abr.rate(codes[vpi][0]) for vpi in PLAN}
 share = abr.fair_share(CAPACITY, demands.values())
 print("3. The port")
 print(f"   600 cells per second among {len(demands)}: at most {share / abr.RATE_ONE:.3f} each")
-print(f"   900 among them: {abr.fair_share(900 * abr.RATE_ONE, demands.values()) or 'no limit'}")
+wide = abr.fair_share(900 * abr.RATE_ONE, demands.values())
+print(f"   900 among them: {'no limit' if wide is None else wide / abr.RATE_ONE}")
 
 # ---- 4. A second of the link. The caller sleeps until table.next() and sends; a forward cell comes back after the round
 # ---- trip with the explicit rate of the port.

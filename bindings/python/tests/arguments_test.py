@@ -108,7 +108,10 @@ class Doubles(unittest.TestCase):
         for wrong in (Decimal("1000.1"), "1000", None, 1j):
             with self.subTest(wrong=wrong):
                 self.assertRaises(TypeError, abr.import_rate, wrong)
-        self.assertRaises(OverflowError, abr.import_rate, 10**400)
+        for wrong in (2**53 + 1, -(2**53) - 1, 10**400):
+            with self.subTest(wrong=wrong):
+                self.assertRaises(OverflowError, abr.import_rate, wrong)
+        self.assertRaises(abr.Refused, abr.import_rate, 2**53 + 2)  # a double, and above 2^32
 
 
 class Octets(unittest.TestCase):

@@ -3,6 +3,7 @@
 from dataclasses import replace
 import math
 import pickle
+import re
 import subprocess
 import sys
 from pathlib import Path
@@ -195,7 +196,16 @@ class WithoutATable(unittest.TestCase):
         self.assertEqual(pickle.loads(pickle.dumps(refused)).refusal, Refusal.NOT_OPEN)
 
 
-class Example(unittest.TestCase):
+class Examples(unittest.TestCase):
+    def test_the_example_of_the_readme_gives_what_stands_beside_it(self):
+        readme = Path(__file__).resolve().parents[1] / "README.md"
+        example = readme.read_text().split("```python\n")[1].split("```")[0]
+        names = {}
+        exec(example, names)
+        beside = [eval(f"abr.{each}") for each in re.findall(r"# (\w+\(.*\))", example)]
+        self.assertEqual(beside, [names["peak"], names["table"].export(1, 32)])
+        self.assertEqual((names["sent"].kind, len(names["sent"].cell)), (Kind.FORWARD, abr.CELL_OCTETS))
+
     def test_the_plan_prints_what_it_should(self):
         plan = Path(__file__).resolve().parents[1] / "examples/plan.py"
         run = subprocess.run([sys.executable, plan], capture_output=True, text=True, check=True)

@@ -1,13 +1,17 @@
-//! The program as it is called, and the pictures of the documents.
+//! The programs as they are called, and the pictures of the documents.
 
+use std::ffi::OsStr;
 use std::fs::File;
 use std::io::pipe;
+use std::os::unix::ffi::OsStrExt;
 use std::path::PathBuf;
 use std::process::{Command, Output, Stdio};
 
-/// Runs the program with this standard output: its exit status and what it printed.
-fn picture(words: &[&str], to: Stdio) -> (i32, String, String) {
-    let mut command = Command::new(env!("CARGO_BIN_EXE_picture"));
+const DRAW_TRANSMITTER: &str = env!("CARGO_BIN_EXE_draw_transmitter");
+
+/// Runs a program with this standard output: its exit status and what it printed.
+fn run(program: &str, words: &[impl AsRef<OsStr>], to: Stdio) -> (i32, String, String) {
+    let mut command = Command::new(program);
     command.args(words).stdout(to).stderr(Stdio::piped());
     let Output {
         status,
@@ -23,6 +27,34 @@ fn picture(words: &[&str], to: Stdio) -> (i32, String, String) {
         text(stdout),
         text(stderr),
     )
+}
+
+/// Runs `picture`.
+fn picture(words: &[&str], to: Stdio) -> (i32, String, String) {
+    run(env!("CARGO_BIN_EXE_picture"), words, to)
+}
+
+/// A file of numbers with these lines, by its path. Other packages have their files in the same folder.
+fn written(name: &str, lines: &str) -> PathBuf {
+    let name = format!("transmitter-{name}.numbers");
+    let file = PathBuf::from(env!("CARGO_TARGET_TMPDIR")).join(name);
+    std::fs::write(&file, lines).expect("a file");
+    file
+}
+
+/// A run on an output that nobody reads ends in silence; on one that is full it says so.
+fn cannot_print(program: &str, word: impl AsRef<OsStr>) {
+    let (reader, writer) = pipe().expect("a pipe");
+    drop(reader);
+    let closed = run(program, &[&word], writer.into());
+    assert_eq!(closed, (2, String::new(), String::new()), "{program}");
+    let full = File::create("/dev/full").expect("a device");
+    let (status, _, err) = run(program, &[&word], full.into());
+    assert_eq!(
+        (status, err.contains(": standard output: ")),
+        (2, true),
+        "{err}"
+    );
 }
 
 /// A picture of the documents.
@@ -71,18 +103,10 @@ fn with_a_file_the_feedbacks_are_printed() {
 #[test]
 fn standard_output_cannot_be_written_to() {
     for scene in ["rates", "closed-loop", "--help"] {
-        let (reader, writer) = pipe().expect("a pipe");
-        drop(reader);
-        let closed = picture(&[scene], writer.into());
-        assert_eq!(closed, (2, String::new(), String::new()), "{scene}");
-        let full = File::create("/dev/full").expect("a device");
-        let (status, _, err) = picture(&[scene], full.into());
-        assert_eq!(
-            (status, err.contains(": standard output: ")),
-            (2, true),
-            "{err}"
-        );
+        cannot_print(env!("CARGO_BIN_EXE_picture"), scene);
     }
+    cannot_print(DRAW_TRANSMITTER, "--help");
+    cannot_print(DRAW_TRANSMITTER, written("full", "0 512 512 512 0\n"));
 }
 
 #[test]
@@ -96,5 +120,30 @@ fn wrong_arguments() {
         let (status, out, err) = picture(words, Stdio::piped());
         assert_eq!((status, out.as_str()), (2, ""), "{words:?}");
         assert!(err.starts_with("picture: "), "{err}");
+    }
+}
+
+#[test]
+fn the_numbers_of_a_transmitter() {
+    let file = written(
+        "right",
+        "phase 0 1000000 a < b\n0 512 0 512 7\n2000000 0 0 0 0\n",
+    );
+    let (status, svg, err) = run(DRAW_TRANSMITTER, &[&file], Stdio::piped());
+    assert_eq!((status, err.as_str()), (0, ""));
+    assert!(svg.contains(">a &lt; b</text>") && svg.ends_with("</svg>\n"));
+    let wrong = ["phase 0 1", "0 1 2 3", "0 1 2 3 4 5", "0 1 2 x 4"];
+    for (place, line) in wrong.into_iter().enumerate() {
+        let file = written(&format!("wrong{place}"), line);
+        let (status, out, err) = run(DRAW_TRANSMITTER, &[&file], Stdio::piped());
+        assert_eq!((status, out.as_str()), (2, ""), "{line}");
+        assert!(err.ends_with(&format!(": {line}\n")), "{err}");
+    }
+    let wrong: [&[&[u8]]; 3] = [&[], &[b"a", b"b"], &[b"/none/\xFF"]];
+    for words in wrong {
+        let words: Vec<&OsStr> = words.iter().map(|word| OsStr::from_bytes(word)).collect();
+        let (status, out, err) = run(DRAW_TRANSMITTER, &words, Stdio::piped());
+        assert_eq!((status, out.as_str()), (2, ""), "{words:?}");
+        assert!(err.starts_with("draw_transmitter: "), "{err}");
     }
 }

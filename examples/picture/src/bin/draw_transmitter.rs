@@ -2,11 +2,27 @@
 //! example wrote; the SVG goes to standard output. A line of the file is a phase (`phase FROM TO WORDS`), or an
 //! instant with the allowed rates of three connections and the length of the network's queue.
 
+use std::ffi::OsString;
 use std::process::ExitCode;
 
+use picture::console::Console;
 use picture::plot::{Plot, MS};
-use picture::svg::{self, put, text};
+use picture::svg::{self, text};
 use picture::track::Track;
+
+const CONSOLE: Console = Console {
+    program: "draw_transmitter",
+};
+
+const HELP: &str = "\
+usage: draw_transmitter NUMBERS
+
+Draws what examples/transmitter.c did, as an SVG on standard output. NUMBERS is the file that the
+example wrote.
+
+Exit status: 0 if the picture is made, 2 if not: the arguments are wrong, the file can't be read or
+has a line that is not the example's, or the picture can't be written.
+";
 
 /// The connections of the example, and their colours.
 const CONNECTIONS: [(&str, &str); 3] = [
@@ -20,7 +36,7 @@ const SIDES: (f64, f64) = (84.0, 880.0);
 const RATES: (f64, f64) = (84.0, 380.0);
 const LENGTHS: (f64, f64) = (420.0, 500.0);
 
-/// A time of trouble.
+/// A phase in which the network, or the far end, allows less.
 struct Phase {
     from: u64,
     to: u64,
@@ -37,20 +53,16 @@ struct Numbers {
 }
 
 fn main() -> ExitCode {
-    let Some(path) = std::env::args().nth(1) else {
-        eprintln!("usage: draw_transmitter NUMBERS");
-        return ExitCode::from(2);
+    let arguments: Vec<OsString> = std::env::args_os().skip(1).collect();
+    let file = match &arguments[..] {
+        [help] if help == "--help" => return CONSOLE.help(HELP),
+        [file] => file,
+        _ => return CONSOLE.wrong_arguments("one file of numbers"),
     };
-    let numbers = std::fs::read_to_string(&path).map_err(|error| error.to_string());
+    let numbers = std::fs::read_to_string(file).map_err(|error| error.to_string());
     match numbers.and_then(|lines| read(&lines)) {
-        Ok(numbers) => {
-            print!("{}", picture(&numbers));
-            ExitCode::SUCCESS
-        }
-        Err(why) => {
-            eprintln!("{path}: {why}");
-            ExitCode::from(2)
-        }
+        Ok(numbers) => CONSOLE.write(None, picture(&numbers).as_bytes()),
+        Err(why) => CONSOLE.complain(format_args!("{}: {why}", file.display())),
     }
 }
 
@@ -128,10 +140,7 @@ fn picture(numbers: &Numbers) -> String {
 fn band(out: &mut String, plot: &Plot, phase: &Phase, place: usize) {
     let (from, to) = (plot.x(phase.from), plot.x(phase.to));
     let (top, width, height) = (RATES.0, to - from, LENGTHS.1 - RATES.0);
-    put(
-        out,
-        format_args!("<rect x=\"{from:.1}\" y=\"{top}\" width=\"{width:.1}\" height=\"{height}\" fill=\"#eee3d0\"/>\n"),
-    );
+    svg::rect(out, (from, top), (width, height), "#eee3d0");
     let at = ((from + to) / 2.0, top - 8.0 - 18.0 * (place % 2) as f64);
     text(out, at, "middle", &phase.words);
 }

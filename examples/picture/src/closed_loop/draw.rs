@@ -45,12 +45,12 @@ pub fn svg(histories: &[History], shares: &Shares) -> String {
     legend(&mut out);
     instants(&mut out);
     for (place, (source, history)) in SOURCES.iter().zip(histories).enumerate() {
-        lane(&mut out, place, source, history, shares);
+        source_plot(&mut out, place, source, history, shares);
     }
     let middle = FIRST + 4.5 * APART + HIGH / 2.0;
     let words = "cells per second, for each source";
     svg::upright(&mut out, (22.0, middle), words);
-    sum(&mut out, histories);
+    draw_total(&mut out, histories);
     out.push_str("</svg>\n");
     out
 }
@@ -91,7 +91,13 @@ fn instants(out: &mut String) {
 }
 
 /// The plot of one source.
-fn lane(out: &mut String, place: usize, source: &Source, history: &History, shares: &Shares) {
+fn source_plot(
+    out: &mut String,
+    place: usize,
+    source: &Source,
+    history: &History,
+    shares: &Shares,
+) {
     let top = FIRST + APART * place as f64;
     let plot = Plot {
         sides: (LEFT, RIGHT),
@@ -161,7 +167,7 @@ fn total_plot() -> Plot {
 }
 
 /// What all sources together may send, beside the capacity.
-fn sum(out: &mut String, histories: &[History]) {
+fn draw_total(out: &mut String, histories: &[History]) {
     let plot = total_plot();
     text(out, (LEFT, TOTAL.0 - 14.0), SMALL, TOGETHER);
     plot.rates(out, 5_000);
