@@ -118,6 +118,6 @@ class Loading(unittest.TestCase):
         with unittest.mock.patch.dict("os.environ", {"ABR_SHARED": "x/y.so"}):
             self.assertEqual(c.path(), "x/y.so")
         with unittest.mock.patch.dict("os.environ"):
-            del c.os.environ["ABR_SHARED"]
+            c.os.environ.pop("ABR_SHARED", None)
             version = re.search(r"^/\* (\d+\.\d+)\.\d+: major", HEADER, re.M)[1]
             self.assertEqual(c.path(), f"libabr.so.{version}")
