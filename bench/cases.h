@@ -74,7 +74,7 @@ static abr_contract contract;
 static abr_imported imported;
 static abr_share share;
 static abr_verdict verdict;
-static uint64_t next;
+static uint64_t next, passed;
 
 static void call_slot(void) { sent = abr_slot(&table, CALL_AT, cell, sizeof cell); }
 static void call_receive(void) { answer = abr_receive(&table, cell, sizeof cell); }
@@ -93,6 +93,7 @@ static void call_out_of_rate(void)
 }
 static void call_acr(void) { allowed = abr_acr(&table, at.vpi, at.vci); }
 static void call_next(void) { next = abr_next(&table); }
+static void call_slot_time(void) { passed = abr_slot_time(&table, 2 * SECOND, 2 * SECOND); }
 static void call_export(void) { contract = abr_export(&table, at.vpi, at.vci, &refusal); }
 static void call_write_rm(void) { refusal = abr_write_rm(rm, cell, sizeof cell); }
 static void call_read(void) { content = abr_read(cell, sizeof cell); }
@@ -131,6 +132,7 @@ static const abr_case cases[] = {
     {"acr", NOTHING, LOWEST, call_acr, 0},
     {"export", NOTHING, LOWEST, call_export, 0},
     {"next", NOTHING, LOWEST, call_next, 0},
+    {"slot time", NOTHING, LOWEST, call_slot_time, 0},
     {"write", NOTHING, LOWEST, call_write_rm, 0},
     {"read, RM cell", FORWARD_CELL, LOWEST, call_read, ABR_CELL_RM},
     {"read, data", DATA_CELL, LOWEST, call_read, ABR_CELL_DATA},
@@ -346,6 +348,9 @@ static int accepted(const abr_case *which)
     }
     if (which->call == call_next) {
         return next == SECOND;
+    }
+    if (which->call == call_slot_time) {
+        return passed == SECOND;
     }
     return (refusal | answer.refusal | closed.refusal | sent.refusal | allowed.refusal | coded.refusal | rated.refusal |
             imported.refusal | share.refusal | verdict.refusal | verdict.rule) == ABR_OK;

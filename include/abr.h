@@ -10,7 +10,8 @@
  * + VCI (section 2): the same VCI on another VPI is another connection. Every
  * cell written carries both. A VPI over 255 or a VCI over 65,535 is refused with 7
  * where it would be opened or written; in every other call such a pair is that of
- * no connection and is refused with 11. Neither is ever cut to the address of
+ * no connection and is refused with 11, but a member's offer and removal on an open
+ * path, which a VCI over 65,535 meets with 28. Neither is ever cut to the address of
  * another.
  *
  * Paths. One rate loop may serve many channels (section 10): abr_open_path opens
@@ -56,11 +57,14 @@
  *
  * Rates are whole numbers of 1/512 cell per second, but for the doubles of abr_export
  * and abr_import, which are in cells per second; times are nanoseconds
- * (sections 2 and 3).
+ * (sections 2 and 3). Where floating point may not be used, as in a kernel, define
+ * ABR_NO_DOUBLES before this header: these two calls are then left out. The archives for
+ * kernels do not have them.
  *
  * Rate codes. Bit 15 of a code is reserved. A call that reads a code with that bit
- * set is refused with 19: abr_open, abr_receive, abr_read, abr_rate (section 3).
- * No code that abr_code or abr_import gives and no cell that the library writes has it.
+ * set is refused with 19: abr_open, abr_open_path, abr_receive, abr_read, abr_rate,
+ * abr_limit, abr_port (section 3). No code that abr_code or abr_import gives and no
+ * cell that the library writes has it.
  */
 #ifndef ABR_H
 #define ABR_H
@@ -91,8 +95,8 @@ extern "C" {
 
 /* ---- Version ------------------------------------------------------------ */
 
-/* 0.16.0: major, minor and patch number, eight bits each. */
-#define ABR_VERSION 0x001000u
+/* 0.17.0: major, minor and patch number, eight bits each. */
+#define ABR_VERSION 0x001100u
 
 /* The words of a table, which has 288,920 octets. */
 #define ABR_TABLE_WORDS 36115u
@@ -327,6 +331,7 @@ typedef struct {
     uint64_t rate;
 } abr_rated;
 
+#ifndef ABR_NO_DOUBLES
 /* The answer of abr_export: rates in cells per second. Three zeros if it is refused. */
 typedef struct {
     double pcr; /* peak rate */
@@ -340,6 +345,7 @@ typedef struct {
     uint32_t code;    /* of the greatest code rate not above the double */
     double remainder; /* what the double has more than that rate, in cells per second; 0.0 if nothing */
 } abr_imported;
+#endif
 
 /* The answer of abr_fair_share. */
 typedef struct {
@@ -431,6 +437,7 @@ ABR_MUST_USE abr_answer abr_offer(abr_table *table, uint32_t vpi, uint32_t vci, 
  */
 ABR_MUST_USE abr_allowed abr_acr(const abr_table *table, uint32_t vpi, uint32_t vci);
 
+#ifndef ABR_NO_DOUBLES
 /*
  * The peak, minimum and initial rate of a connection as doubles in cells per second,
  * for a planning tool (section 18): the rates of the codes that its open gave,
@@ -440,6 +447,7 @@ ABR_MUST_USE abr_allowed abr_acr(const abr_table *table, uint32_t vpi, uint32_t 
  * Refusal: 11 the connection is not open, vpi over 255 or vci over 65,535.
  */
 ABR_MUST_USE abr_contract abr_export(const abr_table *table, uint32_t vpi, uint32_t vci, uint32_t *refusal);
+#endif
 
 /* ---- Paths and their members (section 10) ------------------------------- */
 
@@ -477,8 +485,8 @@ ABR_MUST_USE abr_answer abr_add(abr_table *table, uint32_t vpi, uint32_t vci);
  * channel. The limit of 65,535 cells is each member's own.
  * Comparisons: 1 to 10.
  * Refusals in order:
- *   11  the path is not open, vpi over 255 or vci over 65,535
- *   28  the VCI is no member of the path
+ *   11  the path is not open, or vpi over 255
+ *   28  the VCI is no member of the path, as none over 65,535 is
  *   15  more than 65,535 cells would wait on the member
  */
 ABR_MUST_USE abr_answer abr_offer_member(abr_table *table, uint32_t vpi, uint32_t vci, uint64_t cells);
@@ -489,8 +497,8 @@ ABR_MUST_USE abr_answer abr_offer_member(abr_table *table, uint32_t vpi, uint32_
  * path as a close does (see abr_close).
  * Comparisons: 1 to 10.
  * Refusals in order:
- *   11  the path is not open, vpi over 255 or vci over 65,535
- *   28  the VCI is no member of the path
+ *   11  the path is not open, or vpi over 255
+ *   28  the VCI is no member of the path, as none over 65,535 is
  */
 ABR_MUST_USE abr_closed abr_remove(abr_table *table, uint32_t vpi, uint32_t vci);
 
@@ -584,6 +592,26 @@ ABR_MUST_USE abr_sent abr_slot(abr_table *table, uint64_t time, uint8_t *cell, s
 uint64_t abr_next(const abr_table *table);
 
 /*
+ * The time to pass to abr_slot in a slot whose own time is now (section 20):
+ *
+ *     min(now, max(abr_next(table), last, now - lag))
+ *
+ * with last the time of the last accepted open, slot, made or out-of-rate cell, and 0 for
+ * now - lag if lag is greater. A connection is due a gap after the time that was passed
+ * with its last cell, so that a caller who passes now loses each time what the slot came
+ * late; with this time the next gap counts from the instant at which the cell was ready.
+ * lag is how far behind now it may be: the tolerance that the policer on the line grants
+ * (CDVT). With lag 0 it is now.
+ * Where now is not before last, the time is from now - lag to now and not before last, so
+ * that a slot accepts it if it accepts now; and a slot at it is idle exactly if one at now
+ * is. Where now is before last, it is now, and the slot refuses it with 14. Pass to
+ * abr_open, abr_make and abr_out_of_rate the time that the last slot was passed: with a
+ * later one last would move on, and what lags would lose its lag.
+ * Nothing is refused, the table is only read, and no comparison is made.
+ */
+uint64_t abr_slot_time(const abr_table *table, uint64_t now, uint64_t lag);
+
+/*
  * Writes an out-of-rate forward RM cell of a connection (section 9; source
  * rule 11) to the buffer, complete, for the caller to send beside the slots: with
  * CLP 1, CCR the code of the allowed rate as it stands, and all else as in a forward
@@ -632,6 +660,7 @@ ABR_MUST_USE abr_coded abr_code(uint64_t rate);
  */
 ABR_MUST_USE abr_rated abr_rate(uint32_t code);
 
+#ifndef ABR_NO_DOUBLES
 /*
  * The rate code of a double in cells per second (section 18). If the double is
  * the rate of a code exactly, that code and a remainder of 0.0; else the code below and
@@ -642,6 +671,7 @@ ABR_MUST_USE abr_rated abr_rate(uint32_t code);
  * Refusal: 20 not a number, infinite, below 0, between 0 and 1, or 2^32 and more.
  */
 ABR_MUST_USE abr_imported abr_import(double cells_per_second);
+#endif
 
 /*
  * The house set with three rate codes (section 4). Nothing is refused
@@ -807,11 +837,13 @@ ABR_LAYOUT(coded_size, sizeof(abr_coded) == 8);
 ABR_LAYOUT(coded_code, offsetof(abr_coded, code) == 4);
 ABR_LAYOUT(rated_size, sizeof(abr_rated) == 16);
 ABR_LAYOUT(rated_rate, offsetof(abr_rated, rate) == 8);
+#ifndef ABR_NO_DOUBLES
 ABR_LAYOUT(contract_size, sizeof(abr_contract) == 24);
 ABR_LAYOUT(contract_icr, offsetof(abr_contract, icr) == 16);
 ABR_LAYOUT(imported_size, sizeof(abr_imported) == 16);
 ABR_LAYOUT(imported_code, offsetof(abr_imported, code) == 4);
 ABR_LAYOUT(imported_remainder, offsetof(abr_imported, remainder) == 8);
+#endif
 ABR_LAYOUT(share_size, sizeof(abr_share) == 16);
 ABR_LAYOUT(share_limited, offsetof(abr_share, limited) == 4);
 ABR_LAYOUT(share_rate, offsetof(abr_share, rate) == 8);

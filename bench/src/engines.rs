@@ -36,6 +36,7 @@ pub trait Engine {
     fn acr(&self, at: Address);
     fn export(&self, at: Address);
     fn next(&self);
+    fn slot_time(&self, now: u64, lag: u64);
 
     fn write_rm(rm: &Self::Rm, buffer: &mut Octets);
     fn read(cell: &Octets);
@@ -138,6 +139,10 @@ impl Engine for Library {
 
     fn next(&self) {
         black_box(unsafe { ffi::abr_next(&*self.table) });
+    }
+
+    fn slot_time(&self, now: u64, lag: u64) {
+        black_box(unsafe { ffi::abr_slot_time(&*self.table, now, lag) });
     }
 
     fn write_rm(rm: &ffi::abr_rm, buffer: &mut Octets) {
@@ -279,6 +284,11 @@ impl Engine for Reference {
     #[inline(never)]
     fn next(&self) {
         black_box(&self.engine.next());
+    }
+
+    #[inline(never)]
+    fn slot_time(&self, now: u64, lag: u64) {
+        black_box(self.engine.slot_time(now, lag));
     }
 
     #[inline(never)]

@@ -24,6 +24,8 @@ const LIMIT: u64 = 512_000;
 
 /// Longer than the gap at any rate at which data is sent.
 const ROUND: u64 = 1_000_000;
+/// How far behind its own time a slot may be passed, longer than a gap.
+const LAG: u64 = 1_000_000;
 
 /// A workload prepared on one side.
 pub struct Fixture<E: Engine> {
@@ -79,7 +81,7 @@ impl<E: Engine> Fixture<E> {
         }
         match workload {
             Workload::Make => fixture.engine.set_level(2),
-            Workload::Next => fixture.offer_all(1),
+            Workload::Next | Workload::SlotTime => fixture.offer_all(1),
             _ => {}
         }
         fixture
@@ -176,6 +178,10 @@ impl<E: Engine> Fixture<E> {
             Workload::Acr => repeat(times, |_| self.engine.acr(black_box(self.last))),
             Workload::Export => repeat(times, |_| self.engine.export(black_box(self.last))),
             Workload::Next => repeat(times, |_| self.engine.next()),
+            Workload::SlotTime => repeat(times, |_| {
+                self.time += self.step;
+                self.engine.slot_time(self.time, black_box(LAG));
+            }),
             Workload::Level => repeat(times, |_| self.engine.set_level(black_box(1))),
             other => self.run_without_table(other, times, &mut buffer),
         }

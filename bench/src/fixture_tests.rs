@@ -188,6 +188,20 @@ fn a_next_ready_instant_is_found() {
     }
 }
 
+/// The time to pass to a slot is asked for where it is not the slot's own, and it is that of both sides.
+#[test]
+fn a_slot_time_is_behind() {
+    for connections in [1, 1_024] {
+        let library = Fixture::<Library>::new(connections, Workload::SlotTime);
+        let reference = Fixture::<Reference>::new(connections, Workload::SlotTime);
+        let now = library.time + library.step;
+        // SAFETY: the pointer is live.
+        let ours = unsafe { ffi::abr_slot_time(&*library.engine.table, now, LAG) };
+        assert!(ours < now);
+        assert_eq!(reference.engine.engine.slot_time(now, LAG), ours);
+    }
+}
+
 /// The measured exports are accepted, and the two imports are one with and one without a
 /// remainder.
 #[test]

@@ -60,6 +60,8 @@ pub enum Workload {
     Export,
     /// The next ready instant; data waits on every connection.
     Next,
+    /// The time to pass to a slot, as there.
+    SlotTime,
     /// The congestion level set.
     Level,
     /// The code of a rate.
@@ -215,6 +217,8 @@ rows! {
     "export-1024": "export a contract as doubles, last of 1,024", 1_024, Export;
     "next-1": "ask for the next ready instant, 1 open", 1, Next;
     "next-1024": "ask for the next ready instant, 1,024 open", 1_024, Next;
+    "slot-time-1": "ask for the time to pass to a slot, 1 open", 1, SlotTime;
+    "slot-time-1024": "ask for the time to pass to a slot, 1,024 open", 1_024, SlotTime;
     "level": "set the congestion level", 64, Level;
     "code": "code of a rate", 0, Code;
     "rate": "rate of a code", 0, Rate;

@@ -23,6 +23,9 @@ pub const CONNECTIONS_MAX: usize = LEAVES;
 /// The latest time.
 pub const TIME_MAX: u64 = 1 << 62;
 
+/// Stands for never among ready instants: later than any.
+const NEVER: u64 = u64::MAX;
+
 /// The highest congestion level.
 pub const LEVEL_MAX: u32 = 2;
 
@@ -157,10 +160,12 @@ impl Engine {
     }
 
     /// Adds a member to its path. The path's ready instant stays, so that no match is
-    /// replayed. Refusals: 10, 11, 12, 27, 26.
+    /// replayed. Refusals: 10, 11 also for a pair out of range, 12, 27, 26.
     pub fn add(&mut self, at: Address) -> Result<(), Refusal> {
         check_vci(at)?;
-        self.members(at)?;
+        if self.path_of(at).is_none() {
+            return Err(refusal::NOT_OPEN);
+        }
         if self.table.contains_key(&at) {
             return Err(refusal::ALREADY_OPEN);
         }
@@ -170,21 +175,21 @@ impl Engine {
         if self.member_count() >= MEMBERS_MAX {
             return Err(refusal::MEMBERS_FULL);
         }
-        self.members(at)?.add(at.vci);
+        self.members(at.vpi)?.add(at.vci);
         Ok(())
     }
 
     /// Adds data to what waits on a member and answers the comparisons of its path.
-    /// Refusals: 11, 28, 15.
+    /// Refusals: 11, 28 whatever VCI is no member's, 15.
     pub fn offer_member(&mut self, at: Address, cells: u64) -> Result<u32, Refusal> {
-        self.members(at)?.offer(at.vci, cells)?;
+        self.members(at.vpi)?.offer(at.vci, cells)?;
         self.replay(Address::of_path(at.vpi))
     }
 
     /// Removes a member, drops the data that waits on it and answers how many cells that
-    /// were, and the comparisons of its path. Refusals: 11, 28.
+    /// were, and the comparisons of its path. Refusals: 11, 28 whatever VCI is no member's.
     pub fn remove(&mut self, at: Address) -> Result<Closed, Refusal> {
-        let cells = self.members(at)?.remove(at.vci)?;
+        let cells = self.members(at.vpi)?.remove(at.vci)?;
         let comparisons = self.replay(Address::of_path(at.vpi))?;
         Ok(Closed { cells, comparisons })
     }
@@ -259,6 +264,15 @@ impl Engine {
         connections.filter_map(Connection::ready).min()
     }
 
+    /// The time to pass to a slot whose own is `now`, if the line grants a tolerance of `lag`:
+    /// the ready instant of the cell that goes, but not before the last accepted time, nor
+    /// more than `lag` before `now`, nor after it. Due then counts from that instant (document
+    /// 01, "Slots"), so that a slot that comes late costs the connection nothing.
+    pub fn slot_time(&self, now: u64, lag: u64) -> u64 {
+        let ready = self.next().unwrap_or(NEVER);
+        now.min(ready.max(self.last).max(now.saturating_sub(lag)))
+    }
+
     /// The allowed rate of a connection, and what its last backward cell made of it.
     /// Refusal: 11.
     pub fn allowed(&self, at: Address) -> Result<Allowed, Refusal> {
@@ -311,12 +325,9 @@ impl Engine {
         entry.connection.members().filter(|_| at.fits())
     }
 
-    /// The same to be changed. Refusal: 11.
-    fn members(&mut self, at: Address) -> Result<&mut Members, Refusal> {
-        if !at.fits() {
-            return Err(refusal::NOT_OPEN);
-        }
-        let path = self.connection(Address::of_path(at.vpi))?;
+    /// The members of the path with this VPI, to be changed. Refusal: 11.
+    fn members(&mut self, vpi: u32) -> Result<&mut Members, Refusal> {
+        let path = self.connection(Address::of_path(vpi))?;
         path.members_mut().ok_or(refusal::NOT_OPEN)
     }
 

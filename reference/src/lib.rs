@@ -64,6 +64,8 @@ mod path_tests;
 mod reserved_bit_tests;
 #[cfg(test)]
 mod setup_tests;
+#[cfg(test)]
+mod slot_time_tests;
 
 pub use address::Address;
 pub use cell::{read, write_rm, Cell, Rm};

@@ -166,17 +166,11 @@ fn a_pair_is_a_channel_or_a_member() {
 fn the_refusals_of_a_members_offer_and_removal() {
     let mut engine = path_with(&[(40, 65_530)]);
     engine.open(of(50), 0, &params()).unwrap();
-    for vci in [6, 41, 50] {
+    for vci in [0, 6, 41, 50] {
         refused(&engine, 28, |engine| engine.offer_member(of(vci), u64::MAX));
         refused(&engine, 28, |engine| engine.remove(of(vci)));
     }
-    let unknown = [
-        at(40),
-        Address::new(VPI + 256, 40),
-        of(65_536 + 40),
-        of(u32::MAX),
-    ];
-    for pair in unknown {
+    for pair in [at(40), Address::new(VPI + 256, 40)] {
         refused(&engine, 11, |engine| engine.offer_member(pair, u64::MAX));
         refused(&engine, 11, |engine| engine.remove(pair));
     }
@@ -184,6 +178,34 @@ fn the_refusals_of_a_members_offer_and_removal() {
     engine.offer_member(of(40), 5).unwrap();
     refused(&engine, 15, |engine| engine.offer_member(of(40), 1));
     assert_eq!(engine.offer_member(of(40), 0), Ok(10));
+}
+
+/// A VCI over 65,535 is no member's: 28 where the path is open, whatever it would be if it
+/// were cut or added to the VPI, and 11 where it is not. It is never added.
+#[test]
+fn a_vci_out_of_range_is_no_member_of_an_open_path() {
+    let mut engine = path_with(&[(40, 9)]);
+    engine.open_path(VPI - 1, 0, &params()).unwrap();
+    engine.open(of(50), 0, &params()).unwrap();
+    for vci in [65_536, 65_542, 65_576, 65_586, 70_000, u32::MAX] {
+        for path in [VPI - 1, VPI] {
+            let pair = Address::new(path, vci);
+            refused(&engine, 28, |engine| engine.offer_member(pair, 0));
+            refused(&engine, 28, |engine| engine.offer_member(pair, u64::MAX));
+            refused(&engine, 28, |engine| engine.remove(pair));
+            refused(&engine, 11, |engine| engine.add(pair));
+            refused(&engine, 11, |engine| engine.offer(pair, 0));
+        }
+        for path in [0, 256, VPI + 256, u32::MAX] {
+            let pair = Address::new(path, vci);
+            refused(&engine, 11, |engine| engine.offer_member(pair, u64::MAX));
+            refused(&engine, 11, |engine| engine.remove(pair));
+            refused(&engine, 11, |engine| engine.add(pair));
+        }
+    }
+    engine.close(PATH).unwrap();
+    refused(&engine, 11, |engine| engine.offer_member(of(70_000), 0));
+    refused(&engine, 11, |engine| engine.remove(of(70_000)));
 }
 
 /// Each member has a limit of its own, and the path none.

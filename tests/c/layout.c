@@ -203,6 +203,7 @@ static void the_whole_table(void)
     CHECK(abr_next(&lent.table) == 100000000); /* Trm after the forward cells */
     CHECK(abr_offer(&lent.table, vpi_at(0), vci_at(0), 1).refusal == ABR_OK); /* the one that was opened last */
     CHECK(abr_next(&lent.table) == 3000000);
+    CHECK(abr_slot_time(&lent.table, 4000000, 2000000) == 3000000 && abr_slot_time(&lent.table, 4000000, 9) == 3999991);
     for (int i = 0; i < 8; i++) {
         CHECK(lent.after[i] == 0);
     }
@@ -227,9 +228,9 @@ static void any_alignment(void)
         cell = abr_read(octets, ABR_CELL_OCTETS);
         CHECK(cell.refusal == ABR_OK && cell.rm.er == 0x4000);
         CHECK(abr_receive(&table, octets, ABR_CELL_OCTETS).refusal == ABR_OK);
-        CHECK(abr_out_of_rate(&table, 1, 32, shift << 40, octets, ABR_CELL_OCTETS) == ABR_OK);
+        CHECK(abr_out_of_rate(&table, 1, 32, (uint64_t)shift << 40, octets, ABR_CELL_OCTETS) == ABR_OK);
         CHECK(abr_read(octets, ABR_CELL_OCTETS).refusal == ABR_OK);
-        sent = abr_slot(&table, shift << 40, octets, ABR_CELL_OCTETS);
+        sent = abr_slot(&table, (uint64_t)shift << 40, octets, ABR_CELL_OCTETS);
         CHECK(sent.refusal == ABR_OK && sent.vpi == 1 && sent.vci == 32);
     }
 }
@@ -262,6 +263,7 @@ static void a_copy_answers_the_same(void)
         CHECK(memcmp(octets, others, sizeof octets) == 0);
         CHECK(memcmp(&first, second, sizeof first) == 0);
         CHECK(abr_next(&first) == abr_next(second));
+        CHECK(abr_slot_time(&first, (slot + 9) * 125000, 1000000) == abr_slot_time(second, (slot + 9) * 125000, 1000000));
     }
 }
 

@@ -16,7 +16,7 @@ enum { TABLE, CELL, REFUSAL, DEMANDS, TRACE, OBJECTS };
 enum { TRACE_OCTETS = 48 };
 enum {
     OPEN, CLOSE, RECEIVE, OFFER, SET_LEVEL, MAKE, SLOT, OUT_OF_RATE, OPEN_PATH, ADD, OFFER_MEMBER, REMOVE, ACR, EXPORT,
-    NEXT, WRITE_RM, READ, CODE, RATE, IMPORT, FAIR_SHARE, LIMIT, PORT, JUDGE, HOUSE, CALLS
+    NEXT, SLOT_TIME, WRITE_RM, READ, CODE, RATE, IMPORT, FAIR_SHARE, LIMIT, PORT, JUDGE, HOUSE, CALLS
 };
 
 typedef struct {
@@ -207,6 +207,13 @@ static uint32_t zeros_beside(abr_closed closed)
 
 static volatile uint64_t next_instant; /* of a table that no call made it may be any */
 
+/* The time to pass to a slot, never after the slot's own; ~0 if it is. */
+static uint32_t slot_time_call(void)
+{
+    uint64_t now = edge_word();
+    return abr_slot_time(at(TABLE), now, edge_word()) > now ? ~0u : ABR_OK;
+}
+
 /* Makes one call; its refusal. The comparisons of a table that no call made may be any. */
 static uint32_t one_call(int call)
 {
@@ -227,6 +234,7 @@ static uint32_t one_call(int call)
     case ACR: return abr_acr(at(TABLE), to.vpi, to.vci).refusal;
     case EXPORT: return export_call(to);
     case NEXT: next_instant = abr_next(at(TABLE)); return ABR_OK;
+    case SLOT_TIME: return slot_time_call();
     default: return without_table(call);
     }
 }
@@ -239,7 +247,7 @@ static uint32_t one_call(int call)
 static int may_write(int which, int call, uint32_t refusal)
 {
     if (which == TABLE) {
-        return call != ACR && call != EXPORT && call != NEXT;
+        return call != ACR && call != EXPORT && call != NEXT && call != SLOT_TIME;
     }
     if (which == REFUSAL) {
         return call == EXPORT;

@@ -35,6 +35,12 @@ static int next_is(uint64_t time)
     return abr_next(&table) == time;
 }
 
+/* The time to pass to a slot whose own time is now. */
+static int passed_is(uint64_t now, uint64_t lag, uint64_t time)
+{
+    return abr_slot_time(&table, now, lag) == time;
+}
+
 /* The slot at a time goes to a connection with this kind and rate; it is idle exactly before the earliest ready instant. */
 static int slot_is(uint64_t time, uint32_t vpi, uint32_t vci, uint32_t kind, uint64_t acr)
 {
@@ -85,7 +91,7 @@ static void opens(void)
     CHECK(is(abr_open(&table, SECOND, 0, params), ABR_OK, 1));
     CHECK(is(abr_open(&table, FIRST, 0, params), ABR_OK, 1));
     CHECK(is(abr_open(&table, FIRST, 0, params), ABR_REFUSED_ALREADY_OPEN, 0));
-    CHECK(next_is(ABR_NEVER)); /* nothing waits */
+    CHECK(next_is(ABR_NEVER) && passed_is(7, 3, 7)); /* nothing waits */
     CHECK(is(abr_offer(&table, FIRST, 100), ABR_OK, 10));
     CHECK(is(abr_offer(&table, SECOND, 100), ABR_OK, 1));
     CHECK(next_is(0));
@@ -130,6 +136,11 @@ static void both_send(void)
     CHECK(rm.er == thousand && rm.ccr == thousand && rm.mcr == slowest);
     CHECK(next_is(0) && slot_is(1, SECOND, ABR_SENT_FORWARD, 512000) && next_is(1 * MS));
     CHECK(slot_is(2, NOBODY, ABR_SENT_IDLE, 0));
+    CHECK(passed_is(1, 9, 1) && passed_is(2, 9, 2)); /* before the last time, and at it */
+    CHECK(passed_is(1 * MS - 1, ABR_NEVER, 1 * MS - 1)); /* nothing is ready */
+    CHECK(passed_is(1 * MS + 5, 10, 1 * MS) && passed_is(1 * MS + 5, 5, 1 * MS) && passed_is(1 * MS + 5, 2, 1 * MS + 3));
+    CHECK(passed_is(1 * MS + 5, 0, 1 * MS + 5) && passed_is(1 * MS + 5, ABR_NEVER, 1 * MS));
+    CHECK(passed_is(ABR_NEVER, ABR_NEVER, 1 * MS) && passed_is(ABR_NEVER, 1, ABR_NEVER - 1));
     CHECK(slot_is(1 * MS, FIRST, ABR_SENT_DATA, 512000));
     CHECK(next_is(1 * MS + 1) && slot_is(1 * MS + 1, SECOND, ABR_SENT_DATA, 512000) && next_is(2 * MS));
 }
@@ -383,6 +394,8 @@ static void without_a_minimum(void)
     CHECK(slot_is(300 * MS, NOBODY, ABR_SENT_IDLE, 0));
     CHECK(is(feedback(THIRD, 0, ABR_CODE_MAX), ABR_OK, 10));
     CHECK(acr_is(THIRD, 32000, 32000) && next_is(121 * MS)); /* its opening */
+    CHECK(passed_is(310 * MS, 190 * MS, 300 * MS) && passed_is(310 * MS, 9 * MS, 301 * MS)); /* since the last slot */
+    CHECK(passed_is(300 * MS - 1, 190 * MS, 300 * MS - 1));
     CHECK(slot_is(300 * MS, THIRD, ABR_SENT_FORWARD, 32000) && next_is(316 * MS));
     rm = rm_in_cell();
     CHECK(rm.er == thousand && rm.ccr == 0x4BE8 && rm.mcr == 0 && cell[3] == 0x2C);
@@ -406,9 +419,15 @@ static void members_refused(abr_params params)
     CHECK(is(abr_offer(&table, PATH, 1), ABR_REFUSED_NOT_A_MEMBER, 0));
     CHECK(is(abr_offer_member(&table, LOWER, 1), ABR_REFUSED_NOT_A_MEMBER, 0));
     CHECK(is(abr_offer_member(&table, 8, 50, 1), ABR_REFUSED_NOT_OPEN, 0));
+    CHECK(is(abr_offer_member(&table, 7 + 256, 50, 1), ABR_REFUSED_NOT_OPEN, 0));
+    CHECK(is(abr_offer_member(&table, 7, 65536 + 50, 1), ABR_REFUSED_NOT_A_MEMBER, 0)); /* and the path is open */
+    CHECK(is(abr_offer_member(&table, 6, 65536 + 50, 1), ABR_REFUSED_NOT_OPEN, 0)); /* which VPI 6 has not */
     CHECK(is(abr_offer_member(&table, UPPER, ABR_WAITING_MAX + 1), ABR_REFUSED_TOO_MUCH_DATA, 0));
     CHECK(closed_is(abr_remove(&table, LOWER), ABR_REFUSED_NOT_A_MEMBER, 0, 0));
     CHECK(closed_is(abr_remove(&table, 8, 50), ABR_REFUSED_NOT_OPEN, 0, 0));
+    CHECK(closed_is(abr_remove(&table, 7 + 256, 50), ABR_REFUSED_NOT_OPEN, 0, 0));
+    CHECK(closed_is(abr_remove(&table, 7, 65536 + 50), ABR_REFUSED_NOT_A_MEMBER, 0, 0));
+    CHECK(closed_is(abr_remove(&table, 6, 65536 + 50), ABR_REFUSED_NOT_OPEN, 0, 0));
     CHECK(closed_is(abr_close(&table, UPPER), ABR_REFUSED_NOT_OPEN, 0, 0));
     CHECK(is(feedback(UPPER, 1, 0), ABR_REFUSED_NOT_OPEN, 0));
 }
@@ -477,6 +496,7 @@ static void at_the_latest_time(void)
     CHECK(is(abr_offer(&table, FIRST, 2), ABR_OK, 10) && next_is(ABR_TIME_MAX));
     CHECK(slot_is(ABR_TIME_MAX, FIRST, ABR_SENT_FORWARD, 512000) && next_is(ABR_TIME_MAX + 1 * MS));
     CHECK(slot_is(ABR_TIME_MAX, NOBODY, ABR_SENT_IDLE, 0));
+    CHECK(passed_is(ABR_TIME_MAX, 5, ABR_TIME_MAX) && passed_is(ABR_TIME_MAX + 2 * MS, 3 * MS, ABR_TIME_MAX + 1 * MS));
     CHECK(closed_is(abr_close(&table, FIRST), ABR_OK, 10, 2));
 }
 

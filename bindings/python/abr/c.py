@@ -83,6 +83,7 @@ FUNCTIONS = {
     "abr_make": (abr_answer, [TABLE, c_uint32, c_uint32, c_uint64]),
     "abr_slot": (abr_sent, [TABLE, c_uint64, WRITTEN, c_size_t]),
     "abr_next": (c_uint64, [TABLE]),
+    "abr_slot_time": (c_uint64, [TABLE, c_uint64, c_uint64]),
     "abr_out_of_rate": (c_uint32, [TABLE, c_uint32, c_uint32, c_uint64, WRITTEN, c_size_t]),
     "abr_write_rm": (c_uint32, [abr_rm, WRITTEN, c_size_t]),
     "abr_read": (abr_cell, [READ, c_size_t]),

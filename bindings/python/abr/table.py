@@ -134,6 +134,12 @@ class Table:
         instant = library.abr_next(self._table)
         return None if instant == NEVER else instant
 
+    def slot_time(self, now: int, lag: int) -> int:
+        """The time to pass to a slot whose own time is now: the next ready instant if that has come, but not before the
+        last accepted time, and at most lag behind now, so that the next gap counts from the instant at which the cell was
+        ready. A now before the last accepted time comes back as it is, and a slot refuses it."""
+        return library.abr_slot_time(self._table, u64("now", now), u64("lag", lag))
+
     def out_of_rate(self, vpi: int, vci: int, time: int) -> bytes:
         """An out-of-rate forward RM cell of a connection, to be sent beside the slots."""
         cell = Buffer()

@@ -21,7 +21,8 @@ def opened():
 
 
 # The bits of the numbers that calls take, by their names, and arguments of every name with which a call may be made.
-BITS = dict(vpi=32, vci=32, time=64, cells=64, level=32, rate=64, code=32, capacity=64, pcr=32, mcr=32, icr=32)
+BITS = dict(vpi=32, vci=32, time=64, now=64, lag=64, cells=64, level=32, rate=64, code=32, capacity=64)
+BITS |= dict(pcr=32, mcr=32, icr=32)
 GOOD = {name: 32 for name in BITS}
 GOOD |= dict(params=HOUSE, rm=abr.Rm(1, 32), cell=CELL, trace=b"\x05\x07", demands=[1], cells_per_second=1.0)
 

@@ -71,6 +71,18 @@ class Connections(Calls):
         self.assertEqual(self.table.slot(5 + MS), abr.Sent(Kind.DATA, 1, 32, RATE, None, 10))
         self.refused(Refusal.TIME_BACKWARD, self.table.slot, 4 + MS)
 
+    def test_the_time_to_pass_to_a_slot(self):
+        self.opened(2)
+        self.table.slot(5)  # ready again at 5 ns + 1 ms
+        self.assertEqual(self.table.slot_time(MS, MS), MS)
+        self.assertEqual(self.table.slot_time(2 * MS, MS), 5 + MS)
+        self.assertEqual(self.table.slot_time(2 * MS, 7), 2 * MS - 7)
+        self.assertEqual(self.table.slot_time(2 * MS, 0), 2 * MS)
+        self.assertEqual(self.table.slot_time(2 * MS, 2**64 - 1), 5 + MS)
+        self.assertIs(self.table.slot(self.table.slot_time(2 * MS, MS)).kind, Kind.DATA)
+        self.assertEqual(self.table.slot_time(4 + MS, MS), 4 + MS)  # before the last time
+        self.refused(Refusal.TIME_BACKWARD, self.table.slot, 4 + MS)
+
     def test_feedback_moves_the_rate(self):
         self.opened()
         self.assertEqual(self.table.acr(1, 32), abr.Allowed(acr=RATE, change=0))
@@ -110,6 +122,8 @@ class Connections(Calls):
         self.refused(Refusal.ALREADY_MEMBER, self.table.add, 7, 40)
         self.refused(Refusal.NOT_A_MEMBER, self.table.offer, 7, abr.PATH_VCI, 1)
         self.refused(Refusal.NOT_A_MEMBER, self.table.remove, 7, 41)
+        self.refused(Refusal.NOT_A_MEMBER, self.table.remove, 7, 65_576)  # not 40
+        self.refused(Refusal.NOT_A_MEMBER, self.table.offer_member, 7, 65_576, 1)
         sent = [self.table.slot(time * MS)[:3] for time in range(3)]
         self.assertEqual(sent, [(Kind.FORWARD, 7, 6), (Kind.DATA, 7, 40), (Kind.DATA, 7, 50)])
         self.assertEqual(self.table.remove(7, 40), abr.Closed(cells=1, comparisons=10))

@@ -53,7 +53,7 @@ def defined(prefix=""):
 class Header(unittest.TestCase):
     def test_every_function_is_declared_with_its_types_and_no_other(self):
         self.assertEqual(prototypes(), c.FUNCTIONS)
-        self.assertEqual(len(c.FUNCTIONS), 27)
+        self.assertEqual(len(c.FUNCTIONS), 28)
 
     def test_every_function_is_called_by_the_binding(self):
         called = set()

@@ -4,7 +4,7 @@
 #![allow(non_camel_case_types, missing_docs)]
 
 /// The version of the header: major, minor and patch number, eight bits each.
-pub const ABR_VERSION: u32 = 0x00_10_00;
+pub const ABR_VERSION: u32 = 0x00_11_00;
 
 /// The words of a table.
 pub const ABR_TABLE_WORDS: usize = 36_115;
@@ -160,6 +160,7 @@ extern "C" {
     pub fn abr_make(table: *mut abr_table, vpi: u32, vci: u32, time: u64) -> abr_answer;
     pub fn abr_slot(table: *mut abr_table, time: u64, cell: *mut u8, len: usize) -> abr_sent;
     pub fn abr_next(table: *const abr_table) -> u64;
+    pub fn abr_slot_time(table: *const abr_table, now: u64, lag: u64) -> u64;
     pub fn abr_out_of_rate(
         table: *mut abr_table,
         vpi: u32,

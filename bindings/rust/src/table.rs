@@ -225,6 +225,7 @@ impl Table {
     /// assert_eq!(table.offer_member(3, 40, WAITING_MAX), Ok(COMPARISONS_MAX));
     /// assert_eq!(table.offer_member(3, 40, 1), Err(Refusal::TooMuchData));
     /// assert_eq!(table.offer_member(3, 41, 1), Err(Refusal::NotAMember));
+    /// assert_eq!(table.offer_member(3, 65_576, 1), Err(Refusal::NotAMember)); // not 40
     /// assert_eq!(table.offer(3, PATH_VCI, 1), Err(Refusal::NotAMember));
     /// assert_eq!(table.offer(3, 40, 1), Err(Refusal::NotOpen)); // no channel
     /// # Ok::<(), Refusal>(())
@@ -250,6 +251,7 @@ impl Table {
     /// }
     /// assert_eq!(table.remove(3, 40)?.cells, 7);
     /// assert_eq!(table.remove(3, 40), Err(Refusal::NotAMember));
+    /// assert_eq!(table.remove(3, 70_000), Err(Refusal::NotAMember));
     /// assert_eq!(table.close(3, PATH_VCI)?.cells, 7); // with the other member
     /// assert_eq!(table.remove(3, 50), Err(Refusal::NotOpen));
     /// # Ok::<(), Refusal>(())
@@ -406,6 +408,35 @@ impl Table {
         // SAFETY: the pointer is live for the call.
         let next = unsafe { ffi::abr_next(self.words.as_ptr().cast()) };
         (next != ffi::ABR_NEVER).then_some(next)
+    }
+
+    /// The time to pass to [`Table::slot`] in a slot whose own time is `now`: the next ready
+    /// instant if that has come, but not before the last accepted time, and at most `lag` behind
+    /// `now`. So the next gap counts from the instant at which the cell was ready, and what the
+    /// slot came late is not lost. `lag` is the tolerance that the policer on the line grants
+    /// (CDVT); with 0 it is `now`. A slot at this time is idle exactly if one at `now` is. A `now`
+    /// before the last accepted time comes back as it is, and a slot refuses it.
+    ///
+    /// ```
+    /// use abr::{Params, Refusal, Table, CELL_OCTETS};
+    /// let mut table = Table::new();
+    /// table.open(1, 32, 0, &Params::house(0x53E8, 0x4000, 0x53E8))?; // a gap of 1 ms
+    /// table.offer(1, 32, 2)?;
+    /// let mut cell = [0; CELL_OCTETS];
+    /// assert!(table.slot(0, &mut cell)?.is_some());
+    /// assert_eq!(table.slot_time(700_000, 700_000), 700_000); // nothing is ready
+    /// assert_eq!(table.slot_time(1_400_000, 700_000), 1_000_000);
+    /// assert_eq!(table.slot_time(1_400_000, 300_000), 1_100_000); // at most 0.3 ms behind
+    /// assert_eq!(table.slot_time(1_400_000, 0), 1_400_000);
+    /// assert!(table.slot(table.slot_time(1_400_000, 700_000), &mut cell)?.is_some());
+    /// assert_eq!(table.next(), Some(2_000_000)); // and not 2,400,000
+    /// assert_eq!(table.slot_time(999_999, 700_000), 999_999);
+    /// assert_eq!(table.slot(999_999, &mut cell), Err(Refusal::TimeBackward));
+    /// # Ok::<(), abr::Refusal>(())
+    /// ```
+    pub fn slot_time(&self, now: u64, lag: u64) -> u64 {
+        // SAFETY: the pointer is live for the call.
+        unsafe { ffi::abr_slot_time(self.words.as_ptr().cast(), now, lag) }
     }
 
     /// Writes an out-of-rate forward RM cell of a connection to the buffer, with

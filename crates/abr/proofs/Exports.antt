@@ -137,7 +137,7 @@ pub performs-matches : {s : State} → WellFormed s → {c : Call} {l : List ℕ
 unfolding step
 performs-matches {s} w (opens {vpi} {vci} {t} {p} {l} {m} {r} h) e = plain-matches w (opening vpi vci t p) tt tt tt m r (h .meets s w e)
 performs-matches {s} w (closes {vpi} {vci} {l} {m} {r} h) e = discards-matches w (closing vpi vci) tt tt m r (h .meets s w e)
-performs-matches {s} w (receives {o} {l} {m} {r} h) e = plain-matches w (receiving o) tt tt tt m r (h .meets s w e)
+performs-matches {s} w (receives {o} {l} {m} {r} q h) e = plain-matches w (receiving o) tt tt tt m r (h .meets s w e)
 performs-matches {s} w (offers {vpi} {vci} {n} {l} {m} {r} h) e = plain-matches w (offering vpi vci n) tt tt tt m r (h .meets s w e)
 performs-matches {s} w (levels {k} {l} {m} {r} h) e = plain-matches w (levelling k) tt tt tt m (refusalAlone r) (h .meets s w e)
 performs-matches {s} w (makes {vpi} {vci} {t} {l} {m} {r} h) e = plain-matches w (making vpi vci t) tt tt tt m r (h .meets s w e)
@@ -173,4 +173,5 @@ exports-are-run = record {
   acr = λ cs os t v r h. h .meets (final empty cs) (reached-well-formed cs) (last cs os t);
   contract = λ cs os t v n r h. h .meets (final empty cs) (reached-well-formed cs) (last cs os t);
   next = λ cs os t r h. h .is (final empty cs) (reached-well-formed cs) (last cs os t);
+  slotTimed = λ cs os t now lag r h. h .is (final empty cs) (reached-well-formed cs) (last cs os t);
 }

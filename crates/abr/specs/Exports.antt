@@ -5,15 +5,16 @@ use mathlib.Core.Path.{_≡_}
 use mathlib.Core.List.{List, [], _∷_}
 use lib.ListN.{length, replicate}
 use Rattle.params.specs.declared.params.Params.{Params}
+use Rattle.cell.specs.Octets.{AreOctets}
 use Rattle.cell.specs.Name.{pairName}
 use Rattle.model.specs.State.{State, empty}
 use Rattle.model.specs.Invariant.{WellFormed}
 use Rattle.model.specs.Call.{Call, opening, closing, receiving, offering, levelling, slot, making, outOfRate, openingPath, adding, offeringMember, removing, Outcome, closedCells}
 use Rattle.model.specs.Step.{openStep, closeStep, receiveStep, offerStep, levelStep, slotStep, makeStep, outOfRateStep, openPathStep, addStep, offerMemberStep, removeStep}
-use Rattle.model.specs.Queries.{acrOf, contractOf, nextReady}
+use Rattle.model.specs.Queries.{acrOf, contractOf, nextReady, slotTime}
 use Rattle.model.specs.Run.{run, final}
 use Rattle.table.specs.Layout.{words, size}
-use Rattle.tournament.specs.Next.{GivesNext}
+use Rattle.tournament.specs.Next.{GivesNext, GivesSlotTime}
 use Rattle.engine.specs.Contract.{bufferContent}
 use Rattle.answers.specs.declared.calls.SlotAnswer.{SlotAnswer}
 use Rattle.answers.specs.declared.calls.AcrAnswer.{AcrAnswer}
@@ -44,7 +45,8 @@ afterClose l r = record { table = l; returned = noCell (r .refusal) (r .comparis
 pub data Performs : Call → (before : List ℕ) → Observation → Type 0 where
   opens : {vpi vci t : ℕ} {p : Params} {l m : List ℕ} {r : CallAnswer} → Answers (λ s. openStep s vpi vci t p) l m r → Performs (opening vpi vci t p) l (noSlot m r)
   closes : {vpi vci : ℕ} {l m : List ℕ} {r : ClosedAnswer} → AnswersClosed (λ s. closeStep s (pairName vpi vci)) l m r → Performs (closing vpi vci) l (afterClose m r)
-  receives : {o : List ℕ} {l m : List ℕ} {r : CallAnswer} → Answers (λ s. receiveStep s o) l m r → Performs (receiving o) l (noSlot m r)
+  -- the octets of a received cell are below 256, by C's type
+  receives : {o : List ℕ} {l m : List ℕ} {r : CallAnswer} → AreOctets o → Answers (λ s. receiveStep s o) l m r → Performs (receiving o) l (noSlot m r)
   offers : {vpi vci n : ℕ} {l m : List ℕ} {r : CallAnswer} → Answers (λ s. offerStep s (pairName vpi vci) n) l m r → Performs (offering vpi vci n) l (noSlot m r)
   levels : {k : ℕ} {l m : List ℕ} {r : ℕ} → Numbered (λ s. levelStep s k) l m r → Performs (levelling k) l (noSlot m (refusalAlone r))
   makes : {vpi vci t : ℕ} {l m : List ℕ} {r : CallAnswer} → Answers (λ s. makeStep s (pairName vpi vci) t) l m r → Performs (making vpi vci t) l (noSlot m r)
@@ -57,8 +59,8 @@ pub data Performs : Call → (before : List ℕ) → Observation → Type 0 wher
   opensPath : {vpi t : ℕ} {p : Params} {l m : List ℕ} {r : CallAnswer} → Answers (λ s. openPathStep s vpi t p) l m r → Performs (openingPath vpi t p) l (noSlot m r)
   adds : {vpi vci : ℕ} {l m : List ℕ} {r : CallAnswer} → Answers (λ s. addStep s vpi vci) l m r → Performs (adding vpi vci) l (noSlot m r)
   offersMember :
-      {vpi vci n : ℕ} {l m : List ℕ} {r : CallAnswer} → Answers (λ s. offerMemberStep s (pairName vpi vci) n) l m r → Performs (offeringMember vpi vci n) l (noSlot m r)
-  removes : {vpi vci : ℕ} {l m : List ℕ} {r : ClosedAnswer} → AnswersClosed (λ s. removeStep s (pairName vpi vci)) l m r → Performs (removing vpi vci) l (afterClose m r)
+      {vpi vci n : ℕ} {l m : List ℕ} {r : CallAnswer} → Answers (λ s. offerMemberStep s vpi vci n) l m r → Performs (offeringMember vpi vci n) l (noSlot m r)
+  removes : {vpi vci : ℕ} {l m : List ℕ} {r : ClosedAnswer} → AnswersClosed (λ s. removeStep s vpi vci) l m r → Performs (removing vpi vci) l (afterClose m r)
 
 -- calls in a row, each on the words that the call before it left
 pub data Trace : List Call → (first : List ℕ) → List Observation → Type 0 where
@@ -105,3 +107,7 @@ pub record ExportsAreRun : Type 0 where
       → ExportedAs (contractOf (final empty cs) v) n r
   -- or asking for the next ready instant, which is the ensures of abr_next
   pub next : (cs : List Call) (os : List Observation) → Trace cs zeros os → (r : ℕ) → GivesNext (finalWords zeros os) r → r ≡ nextReady (final empty cs)
+  -- or for the time to pass to a slot, which is the ensures of abr_slot_time
+  pub slotTimed :
+      (cs : List Call) (os : List Observation) → Trace cs zeros os → (now lag r : ℕ) → GivesSlotTime (finalWords zeros os) now lag r
+      → r ≡ slotTime (final empty cs) now lag

@@ -1,8 +1,8 @@
-// The calls on the link as a whole: received cells, the congestion level, slots, and when the next slot can send (document 01, "Turning cells round" and "Slots";
+// The calls on the link as a whole: received cells, the congestion level, slots, when the next slot can send and which time to pass to it (document 01, "Turning cells round" and "Slots";
 // document 02, L6).
 ghost use lib.ListN.{length};
 ghost use Rattle.model.specs.Step.{receiveStep, levelStep, slotStep};
-ghost use Rattle.tournament.specs.Next.{GivesNext};
+ghost use Rattle.tournament.specs.Next.{GivesNext, GivesSlotTime};
 ghost use Rattle.abr.specs.Contract.{Answers, Numbered, AnswersSlot};
 use answers::calls::CallAnswer;
 use answers::calls::SlotAnswer;
@@ -13,6 +13,7 @@ use engine::level::set_level;
 use slots::slot::slot;
 use table::layout::WORDS;
 use tournament::next::next_ready;
+use tournament::slot_time::slot_time;
 
 // Refusals 1, 2, 4, then 5, 6 and 19 for RM cells, 11.
 #[no_mangle]
@@ -45,4 +46,12 @@ pub extern "C" fn abr_next(table: &[u64; WORDS]) -> u64
     ensures { λ r. ⌜ GivesNext (now (table .entry)) r ⌝ }
 {
     next_ready(table)
+}
+
+// No refusal: at most the slot's own time, which a time before the last accepted one gives as it is.
+#[no_mangle]
+pub extern "C" fn abr_slot_time(table: &[u64; WORDS], time: u64, lag: u64) -> u64
+    ensures { λ r. ⌜ GivesSlotTime (now (table .entry)) time lag r ⌝ }
+{
+    slot_time(table, time, lag)
 }

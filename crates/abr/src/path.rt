@@ -1,12 +1,10 @@
 // The calls on paths and their members (document 02, L13).
-ghost use Rattle.cell.specs.Name.{pairName};
 ghost use Rattle.model.specs.Step.{openPathStep, addStep, offerMemberStep, removeStep};
 ghost use Rattle.abr.specs.Contract.{Answers, AnswersClosed};
 use answers::calls::CallAnswer;
 use answers::calls::ClosedAnswer;
 use answers::calls::call_answer;
 use answers::calls::closed_answer;
-use cell::name::pair_name;
 use engine::open::open_path;
 use params::params::Params;
 use paths::add::add;
@@ -35,7 +33,7 @@ pub extern "C" fn abr_add(table: &mut [u64; WORDS], vpi: u32, vci: u32) -> CallA
     call_answer(add(table, vpi, vci))
 }
 
-// Refusals 11, 28, 15.
+// Refusals 11, 28, which a VCI over 65,535 meets too, 15.
 #[no_mangle]
 pub extern "C" fn abr_offer_member(
     table: &mut [u64; WORDS],
@@ -43,17 +41,15 @@ pub extern "C" fn abr_offer_member(
     vci: u32,
     cells: u64,
 ) -> CallAnswer
-    ensures { λ r. ⌜ Answers (λ s. offerMemberStep s (pairName vpi vci) cells) (now (table .entry)) (now (table .exit)) r ⌝ }
+    ensures { λ r. ⌜ Answers (λ s. offerMemberStep s vpi vci cells) (now (table .entry)) (now (table .exit)) r ⌝ }
 {
-    let name = pair_name(vpi, vci);
-    call_answer(offer_member(table, name, cells))
+    call_answer(offer_member(table, vpi, vci, cells))
 }
 
-// Refusals 11, 28.
+// Refusals 11, 28, which a VCI over 65,535 meets too.
 #[no_mangle]
 pub extern "C" fn abr_remove(table: &mut [u64; WORDS], vpi: u32, vci: u32) -> ClosedAnswer
-    ensures { λ r. ⌜ AnswersClosed (λ s. removeStep s (pairName vpi vci)) (now (table .entry)) (now (table .exit)) r ⌝ }
+    ensures { λ r. ⌜ AnswersClosed (λ s. removeStep s vpi vci) (now (table .entry)) (now (table .exit)) r ⌝ }
 {
-    let name = pair_name(vpi, vci);
-    closed_answer(remove(table, name))
+    closed_answer(remove(table, vpi, vci))
 }

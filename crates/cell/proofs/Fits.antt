@@ -1,8 +1,8 @@
--- The ranges of fields that fit, as bounds.
+-- The ranges of the fields that a cell can carry, as bounds: a call that writes others meets 7. (Document 01, "The cell, 53 octets"; document 02, L6 and L7.)
 use mathlib.Core.Path.{_≡_}
 use mathlib.Core.Bool.{true, _&&_, and-assoc}
 use Prim.Native.Nat.{_≤_}
-use borrow.Author.Tests.{leb-true}
+use borrow.Author.Tests.{leb-true, le-leb}
 use lib.Dec.{leb}
 use Rattle.laws.proofs.Tests.{both}
 use Rattle.cell.specs.Fields.{Fields, fieldsFit}
@@ -49,6 +49,24 @@ fit f e0 =
       ql = leb-true _ _ (e11 .0);
       sn = leb-true _ _ (e11 .1);
     }
+
+-- and the other way: fields in these ranges are written, and no others
+pub in-fields : (f : Fields) → Fit f → fieldsFit f ≡ true
+unfolding fieldsFit
+in-fields f b = simp (
+  le-leb _ _ (b .vpi),
+  le-leb _ _ (b .vci),
+  le-leb _ _ (b .dir),
+  le-leb _ _ (b .bn),
+  le-leb _ _ (b .ci),
+  le-leb _ _ (b .ni),
+  le-leb _ _ (b .ra),
+  le-leb _ _ (b .er),
+  le-leb _ _ (b .ccr),
+  le-leb _ _ (b .mcr),
+  le-leb _ _ (b .ql),
+  le-leb _ _ (b .sn),
+)
 
 -- the tests in a row
 pub fits-are : (f : Fields) → (leb (f .vpi) 255 && leb (f .vci) 65535 && leb (f .dir) 1 && leb (f .bn) 1 && leb (f .ci) 1 && leb (f .ni) 1 && leb (f .ra) 1

@@ -5,6 +5,7 @@ pub mod WithCrc
 pub mod Fits
 pub mod Names
 pub mod Written
+pub mod Form
 pub mod Turned
 pub mod Stores
 pub mod PayloadWords

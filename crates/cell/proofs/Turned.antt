@@ -15,8 +15,10 @@ use Rattle.cell.specs.Fields.{Fields, fieldsOf, ratesClear, withCrc}
 use Rattle.cell.specs.Reading.{reading, Resource}
 use Rattle.cell.specs.Turning.{turnedMarks, turnedPayload, turnedCell}
 use Rattle.cell.specs.Returned.{returned, Kept}
+use Rattle.cell.specs.Form.{Framed}
 use Rattle.cell.proofs.OctetLists.{octets-cons, octets-drop}
 use Rattle.cell.proofs.Admits.{resource-received}
+use Rattle.cell.proofs.Form.{carried-framed}
 use Rattle.cell.proofs.WithCrc.{withCrc-size, withCrc-octets, withCrc-at, withCrc-six, carried-size, carried-octets, carried-vpi, carried-vci, carried-read}
 
 -- a bit set by a test, or as it was
@@ -36,6 +38,10 @@ module _ (level : ℕ) (mark : Bool) (x : ℕ) where
   marks-bn : turnedMarks level mark x / 64 % 2 ≡ 0
   unfolding turnedMarks
   marks-bn = omega (arith, mark-le (mark || eqb level 2) (x / 32), mark-le (eqb level 1) (x / 16))
+
+  marks-top : turnedMarks level mark x / 64 ≡ 2
+  unfolding turnedMarks
+  marks-top = omega (arith, mark-le (mark || eqb level 2) (x / 32), mark-le (eqb level 1) (x / 16))
 
   marks-ci : turnedMarks level mark x / 32 % 2 ≡ cond (mark || eqb level 2) 1 (x / 32 % 2)
   unfolding turnedMarks
@@ -158,6 +164,14 @@ module _ (level : ℕ) (mark : Bool) (vpi vci : ℕ) (o : List ℕ) (n : length 
   turned-read f e g l =
       carried-read marked marked-size 0 vpi vci (lit≤ tt) (getD-drop 5 o 0 0 ∙ resource-received o f e .protocol) (turned-clear ∙ resource-received o f e .clear)
       ∙ ap Resource (turned-fields g l ∙ ap (returned level mark vpi vci) (sym (resource-received o f e .fields)))
+
+  -- its form is that of every RM cell, and DIR and BN tell it from the others
+  pub turned-framed : octet 6 o ≡ 1 → Framed 0 turned
+  unfolding turnedPayload
+  turned-framed e = carried-framed marked marked-size 0 vpi vci (lit≤ tt) (getD-drop 5 o 0 0 ∙ e)
+
+  pub turned-top : octet 7 turned / 64 ≡ 2
+  turned-top = rw marks-at (marks-top level mark (octet 7 o))
 
   -- the same cell, from the words of its payload
   pub turned-words : AreOctets o → turnedCell vpi vci (payloadOf (turnedPayload level mark (payload o))) ≡ turned

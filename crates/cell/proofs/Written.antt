@@ -16,7 +16,7 @@ use Rattle.cell.proofs.WithCrc.{carried-size, carried-octets, carried-v
 use Rattle.cell.proofs.Fits.{Fit, fit}
 
 -- the payload before its CRC-10 is written
-abbrev unchecked : Fields → List ℕ
+abbrev pub unchecked : Fields → List ℕ
 unchecked f = body f ++ (0 ∷ 0 ∷ [])
 
 pub without-crc-octets : (f : Fields) → Fit f → AreOctets (unchecked f)

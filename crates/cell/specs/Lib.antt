@@ -11,3 +11,4 @@ pub mod Refusals
 -- What is claimed of them: which cells are taken in, and what a turned cell is read as.
 pub mod Admitted
 pub mod Returned
+pub mod Form

@@ -55,7 +55,7 @@ pub same-rate : (q r : Rate) → q .acr ≡ r .acr → q .params ≡ r .params �
 same-rate q r e f = λ i. record { acr = e i; params = f i }
 
 -- a backward cell from the port
-behind-read :
+pub behind-read :
     (share : FairShare) (o : List ℕ) (f : Fields) → reading o ≡ Resource f → f .dir ≡ 1
     → reading (portBy share o .cell) ≡ Resource (fieldsWithEr (erBehind share (f .er)) f)
 unfolding portBy

@@ -27,14 +27,14 @@ use Rattle.closed_loop.proofs.Fed.{Stands, in-bounds, allowed-is, asFed
 use Rattle.closed_loop.proofs.Others.{other-step, not-closed, kept-step}
 
 -- after n backward cells from the port and other calls: the rate is at most m, if it was before or if n is not 0
-record Ran (v : ℕ) (p : Params) (m : ℕ) (q : Rate) (n : ℕ) (s : State) : Type 0 where
-  after : Rate
-  stands : Stands v after s
-  params : after .params ≡ p
-  lower : q .acr ≤ m → after .acr ≤ m
-  fed : 0 < n → after .acr ≤ m
+pub record Ran (v : ℕ) (p : Params) (m : ℕ) (q : Rate) (n : ℕ) (s : State) : Type 0 where
+  pub after : Rate
+  pub stands : Stands v after s
+  pub params : after .params ≡ p
+  pub lower : q .acr ≤ m → after .acr ≤ m
+  pub fed : 0 < n → after .acr ≤ m
 
-run-from-port :
+pub run-from-port :
     {v : ℕ} {share : FairShare} {p : Params} {q : Rate} {s : State} {n : ℕ} {ds : List Call} → WellFormed s → Stands v q s → q .params ≡ p → Feedbacks v (FromPort v share) (NotClosed v) s n ds
     → Ran v p (settled p share) q n (final s ds)
 unfolding feedback

@@ -48,7 +48,7 @@ moves-down {d = d} (later {t} {forward = forward} e) n b =
     unanswered-down (d .unacked) (d .rate .acr) (idle (t - forward) (d .rate)) (b .above) (idle-down (t - forward) (d .rate))
 moves-down (fed f r k i) n b = absurd (n f r i k)
 
-moves-params : {v : ℕ} {d : Connection} {c : Call} {a : Answer} {q : Rate} → Moves v d c a q → q .params ≡ d .rate .params
+pub moves-params : {v : ℕ} {d : Connection} {c : Call} {a : Answer} {q : Rate} → Moves v d c a q → q .params ≡ d .rate .params
 unfolding firstCell idle unanswered feedback
 moves-params stays = refl
 moves-params (first e) = refl

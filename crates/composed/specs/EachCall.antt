@@ -5,19 +5,19 @@ use mathlib.Core.List.{List, [], _∷_}
 use lib.ListN.{length}
 use Rattle.cell.specs.Name.{pairName}
 use Rattle.model.specs.Call.{Call, opening, closing, receiving, offering, levelling, slot, making, outOfRate}
-use Rattle.tournament.specs.Next.{GivesNext}
+use Rattle.tournament.specs.Next.{GivesNext, GivesSlotTime}
 use Rattle.answers.specs.declared.calls.AcrAnswer.{AcrAnswer}
 use Rattle.abr.specs.Contract.{AnswersAcr}
 use Rattle.abr.specs.Exports.{Observation, Trace}
 use Rattle.composed.specs.declared.Arguments.{Arguments}
 
--- the slot finds the lent buffer as it is at entry, the cell outside the rate as the slot leaves it
-abbrev pub calls : Arguments → (received old between : List ℕ) → List Call
-calls a received old between =
-    opening (a .vpi) (a .vci) (a .time) (a .params) ∷ offering (a .vpi) (a .vci) (a .cells) ∷ levelling (a .level) ∷ receiving received ∷ slot (a .time) (length old)
+-- the slot is passed the time that was asked for; it finds the lent buffer as it is at entry, the cell outside the rate as the slot leaves it
+abbrev pub calls : Arguments → (passed : ℕ) (received old between : List ℕ) → List Call
+calls a passed received old between =
+    opening (a .vpi) (a .vci) (a .time) (a .params) ∷ offering (a .vpi) (a .vci) (a .cells) ∷ levelling (a .level) ∷ receiving received ∷ slot passed (length old)
     ∷ outOfRate (a .vpi) (a .vci) (a .time) (length between) ∷ making (a .vpi) (a .vci) (a .time) ∷ closing (a .vpi) (a .vci) ∷ []
 
--- what was observed of each call on the way; the next ready instant is asked for before the slot, the ACR is read before the close
+-- what was observed of each call on the way; the next ready instant and the slot's time are asked for before the slot, the ACR is read before the close
 pub record EachCall (a : Arguments) (received before after : List ℕ) (r : AcrAnswer) (old new : List ℕ) : Type 0 where
   pub opened : Observation
   pub offered : Observation
@@ -29,7 +29,9 @@ pub record EachCall (a : Arguments) (received before after : List ℕ) (r : AcrA
   pub closed : Observation
   pub next : ℕ
   pub asked : GivesNext (taken .table) next
+  pub passed : ℕ
+  pub timed : GivesSlotTime (taken .table) (a .time) (a .lag) passed
   pub rate : AnswersAcr (pairName (a .vpi) (a .vci)) (made .table) r
   pub table : closed .table ≡ after
   pub buffer : left .new ≡ new
-  pub trace : Trace (calls a received old (sent .new)) before (opened ∷ offered ∷ levelled ∷ taken ∷ sent ∷ left ∷ made ∷ closed ∷ [])
+  pub trace : Trace (calls a passed received old (sent .new)) before (opened ∷ offered ∷ levelled ∷ taken ∷ sent ∷ left ∷ made ∷ closed ∷ [])

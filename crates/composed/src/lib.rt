@@ -11,6 +11,7 @@ use abr::link::abr_next;
 use abr::link::abr_receive;
 use abr::link::abr_set_level;
 use abr::link::abr_slot;
+use abr::link::abr_slot_time;
 use answers::calls::AcrAnswer;
 use params::params::Params;
 use table::layout::WORDS;
@@ -23,6 +24,7 @@ pub struct Arguments {
     pub vci: u32,
     pub time: u64,
     pub params: Params,
+    pub lag: u64,
     pub cells: u64,
     pub level: u32,
 }
@@ -37,7 +39,8 @@ pub fn each_call(t: &mut [u64; WORDS], a: Arguments, received: &[u8], cell: &mut
     let levelled = abr_set_level(t, a.level);
     let taken = abr_receive(t, received);
     let next = abr_next(t);
-    let sent = abr_slot(t, a.time, cell);
+    let time = abr_slot_time(t, a.time, a.lag);
+    let sent = abr_slot(t, time, cell);
     let left = abr_out_of_rate(t, a.vpi, a.vci, a.time, cell);
     let made = abr_make(t, a.vpi, a.vci, a.time);
     let rate = abr_acr(t, a.vpi, a.vci);

@@ -5,12 +5,12 @@ use Rattle.model.specs.Tournament.{instantLead, leafLead, first, winnerAt, lead
 use Rattle.model.specs.Call.{comparisons}
 use Rattle.members.specs.Members.{cellsWhere, without, withMember, withCells, owner}
 use Rattle.connection.specs.Receiving.{afterDataCell}
-use Rattle.model.specs.Step.{refuse, discard, openPathStep, closeStep, withOffer, withoutOne, addStep, offerMemberStep, removeStep, dataCellStep, levelStep, idleStep}
+use Rattle.model.specs.Step.{refuse, discard, openPathStep, closeStep, withOffer, withoutOne, addStep, ofMember, offerMemberStep, removeStep, dataCellStep, levelStep, idleStep}
 use Rattle.counts.specs.Counts.{Counts}
 use Rattle.examples.proofs.Witness.{computing}
 
 pub counts : Counts
-unfolding computing cellsWhere withMember withCells owner afterDataCell openPathStep withOffer withoutOne addStep offerMemberStep removeStep dataCellStep withLevel instantLead leafLead first winnerAt leadWord ends replayedFrom replayed comparisons refuse discard without closeStep levelStep idleStep
+unfolding computing cellsWhere withMember withCells owner afterDataCell openPathStep withOffer withoutOne addStep ofMember offerMemberStep removeStep dataCellStep withLevel instantLead leafLead first winnerAt leadWord ends replayedFrom replayed comparisons refuse discard without closeStep levelStep idleStep
 counts = record {
   opened = refl;
   openedBeside = refl;

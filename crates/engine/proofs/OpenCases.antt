@@ -34,7 +34,7 @@ use Rattle.model.specs.declared.answer.Answer.the-variants.{Accepted}
 use Rattle.storing.specs.Updates.{withEntry, Takes}
 use Rattle.tournament.specs.Replaying.{Ordered}
 use Rattle.tournament.proofs.Orders.{ordered}
-use Rattle.engine.proofs.Outcomes.{replayed-out, time-word, last-word}
+use Rattle.engine.proofs.Outcomes.{replayed-out, time-word}
 use Rattle.laws.specs.Require.{require}
 
 module _ (s : State) (a b t : ℕ) (p : Params) where
@@ -117,10 +117,6 @@ module _ {l : List ℕ} {r : Found} (h : FindsFree l r) where
 
     pub no-room : r ≡ Nothing → roomLeft s ≡ false
     no-room q = subst (Vacant s) q (h .is s w e)
-
--- the word of the last accepted time
-pub last-at : (s : State) {l : List ℕ} → l ≡ words s → getD l lastAt 0 ≡ s .last
-last-at s e = ap (λ (x : List ℕ). getD x lastAt 0) e ∙ last-word s
 
 inserted-at : (s : State) (c : Connection) {i : ℕ} → position isFree (s .entries) ≡ i → inserted c s ≡ withEntry s i (taken c)
 unfolding inserted

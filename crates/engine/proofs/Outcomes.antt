@@ -88,10 +88,6 @@ pub later-put : (s : State) (v t : ℕ) (d : Connection) → withTime t (put v (
 unfolding withTime put
 later-put s v t d = refl
 
-pub last-word : (s : State) → getD (words s) lastAt 0 ≡ s .last
-unfolding words
-last-word s = refl
-
 pub level-at : (s : State) → getD (words s) levelAt 0 ≡ s .level
 unfolding words
 level-at s = refl

@@ -27,4 +27,5 @@ makings = record {
   firstCell = refl;
   turnedFirst = (refl, refl);
   madeNext = (refl, refl);
+  madeAtLevel2 = refl;
 }

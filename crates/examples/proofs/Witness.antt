@@ -1,5 +1,9 @@
 -- The two lists of the witness, computed.
-use mathlib.Core.Path.{refl}
+use Prim.Native.Nat.{ℕ}
+use mathlib.Core.Path.{_≡_, refl, sym, _∙_}
+use mathlib.Core.List.{List}
+use mathlib.Core.Option.{Option, none, some}
+use lib.ListN.{take}
 use lib.Dec.{lit≤}
 use Rattle.rate.specs.Code.{reservedClear, codesClear, rateOf, codeBelow, codeOf}
 use Rattle.params.specs.Params.{within, ratesFit, codesFit, numbersFit, paramsFit, tbeFits, frttFits, initialUsed, crm, trmTimes, trmTime}
@@ -21,13 +25,19 @@ use Rattle.connection.specs.Kind.{isForward, isTurned, kindAt}
 use Rattle.connection.specs.Sending.{movedBy, paced, sentForward, sentData, after, memberServed, withServed}
 use Rattle.model.specs.State.{empty, position, isFree, holds, find, put, inserted, roomLeft, withTime, withMembers}
 use Rattle.model.specs.Choice.{candidateFrom, candidate, better, winner}
-use Rattle.model.specs.Call.{goesTo}
+use Rattle.model.specs.Call.{receiving, slot, goesTo}
 use Rattle.model.specs.Step.{accept, replay, ofOpen, admit, openStep, offerStep, readStep, receiveStep, nameAnswered, sendFrom, sendStep, serveEntry, serve, slotStep, step}
-use Rattle.model.specs.Run.{entryRate}
+use Rattle.model.specs.Run.{run, final, allowed, entryRate}
 use Rattle.promises.specs.Congestion.{Backward, AtLeastAsCongested}
-use Rattle.promises.specs.Demand3.{equal, congested}
-use Rattle.examples.specs.Witness.{unmarked, congestedCell, Witness}
+use Rattle.promises.specs.Demand3.{InPlace, SamePlace, equal, congested}
+use Rattle.examples.specs.Witness.{unmarked, congestedCell, pathUnmarked, pathStopped, pathStart, pathCalls, lastSlot, Witness}
 use Rattle.laws.specs.Require.{require}
+use Rattle.members.specs.Members.{cellsWhere, withMember, withCells}
+use Rattle.connection.specs.Interval.{rested}
+use Rattle.connection.specs.Making.{withMade}
+use Rattle.connection.specs.Sending.{madeLeft, sentTurned}
+use Rattle.model.specs.State.{withLevel}
+use Rattle.model.specs.Step.{openPathStep, withOffer, addStep, ofMember, offerMemberStep, levelStep, makeStep}
 
 -- its unfolding line opens all that these calls compute with, wherever it is itself unfolded
 unfoldable pub computing : Unit {0}
@@ -37,6 +47,10 @@ computing = tt
 backward : Backward congestedCell
 unfolding computing
 backward = record { isResource = refl; isBackward = refl }
+
+backwardStopped : Backward pathStopped
+unfolding computing
+backwardStopped = record { isResource = refl; isBackward = refl }
 
 moreCongested : AtLeastAsCongested congestedCell unmarked
 unfolding computing
@@ -50,6 +64,54 @@ moreCongested = record {
   level = lit≤ tt;
 }
 
+stopped : AtLeastAsCongested pathStopped pathUnmarked
+unfolding computing
+stopped = record {
+  rightFirst = record { size = refl; header = refl; crc = refl };
+  rightSecond = record { size = refl; header = refl; crc = refl };
+  clearFirst = refl;
+  clearSecond = refl;
+  rest = record { start = refl; dirBn = refl; raReserved = refl; middle = refl; reserved = refl };
+  rate = lit≤ tt;
+  level = lit≤ tt;
+}
+
+-- with the path
+served : lastSlot pathUnmarked ≡ some 33
+unfolding computing cellsWhere withMember withCells rested withMade madeLeft sentTurned openPathStep withOffer addStep ofMember offerMemberStep levelStep makeStep withLevel
+served = refl
+
+servedStopped : lastSlot pathStopped ≡ some 33
+unfolding computing cellsWhere withMember withCells rested withMade madeLeft sentTurned openPathStep withOffer addStep ofMember offerMemberStep levelStep makeStep withLevel
+servedStopped = refl
+
+pathAbove : allowed 65_542 (final empty (pathCalls pathUnmarked)) ≡ some 48384
+unfolding computing cellsWhere withMember withCells rested withMade madeLeft sentTurned openPathStep withOffer addStep ofMember offerMemberStep levelStep makeStep withLevel
+pathAbove = refl
+
+pathAtZero : allowed 65_542 (final empty (pathCalls pathStopped)) ≡ some 0
+unfolding computing cellsWhere withMember withCells rested withMade madeLeft sentTurned openPathStep withOffer addStep ofMember offerMemberStep levelStep makeStep withLevel
+pathAtZero = refl
+
+madeSent : goesTo (step (final empty (take 6 pathStart)) (slot 34_000_000 53) .answer) ≡ some 65_542
+unfolding computing cellsWhere withMember withCells rested withMade madeLeft sentTurned openPathStep withOffer addStep ofMember offerMemberStep levelStep makeStep withLevel
+madeSent = refl
+
+received : (o : List ℕ) → Option ℕ
+received o = goesTo (step (final empty pathStart) (receiving o) .answer)
+
+notServed : received pathUnmarked ≡ none
+unfolding computing received cellsWhere withMember withCells rested withMade madeLeft sentTurned openPathStep withOffer addStep ofMember offerMemberStep levelStep makeStep withLevel
+notServed = refl
+
+notServedStopped : received pathStopped ≡ none
+unfolding computing received cellsWhere withMember withCells rested withMade madeLeft sentTurned openPathStep withOffer addStep ofMember offerMemberStep levelStep makeStep withLevel
+notServedStopped = refl
+
+pathSamePlace : InPlace SamePlace (run empty (pathCalls pathUnmarked)) (run empty (pathCalls pathStopped))
+unfolding received
+pathSamePlace = (refl, (refl, (refl, (refl, (refl, (refl, (refl, (refl, (refl, (notServed ∙ sym notServedStopped, (served ∙ sym servedStopped, tt)))))))))))
+
 pub witness : Witness
 unfolding computing
 witness = record {
@@ -57,4 +119,10 @@ witness = record {
   samePlace = (refl, (refl, (refl, (refl, (refl, tt)))));
   above = refl;
   under = refl;
+  pathComparable = (equal, (equal, (equal, (equal, (equal, (equal, (equal, (equal, (equal, (congested backwardStopped stopped, (equal, tt)))))))))));
+  pathSamePlace = pathSamePlace;
+  pathAbove = pathAbove;
+  pathAtZero = pathAtZero;
+  madeSent = madeSent;
+  channelServed = servedStopped;
 }

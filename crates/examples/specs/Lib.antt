@@ -8,3 +8,5 @@ pub mod ReservedCalls
 pub mod OwnTrace
 pub mod ConservedCalls
 pub mod SetupCalls
+pub mod Limits
+pub mod Readings

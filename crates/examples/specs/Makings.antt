@@ -34,6 +34,10 @@ bothWait = opening 0 33 0 house ∷ levelling 1 ∷ making 0 33 5 ∷ levelling 
 abbrev pub turnedSent : List Call
 turnedSent = opening 0 33 0 house ∷ levelling 1 ∷ making 0 33 5 ∷ levelling 0 ∷ receiving (rm 0 0 0 0x4A00) ∷ slot 5 53 ∷ slot 1_000_005 53 ∷ []
 
+-- a cell made at level 2, behind the first cell
+abbrev pub madeMarked : List Call
+madeMarked = opening 0 33 0 house ∷ levelling 2 ∷ making 0 33 5 ∷ slot 5 53 ∷ []
+
 -- what the next slot writes
 abbrev pub wrote : List Call → ℕ → Buffer
 wrote cs t = step (final empty cs) (slot t 53) .buffer
@@ -57,3 +61,5 @@ pub record Makings : Type 0 where
   -- the turned cell goes first, then the made one, with the mark of its making
   pub turnedFirst : (next bothWait (slot 1_000_005 53) ≡ sent 33 Turned 512_000) × (wrote bothWait 1_000_005 ≡ written (rm 1 0 0 0x4A00))
   pub madeNext : (next turnedSent (slot 2_000_005 53) ≡ sent 33 Turned 512_000) × (wrote turnedSent 2_000_005 ≡ written (rm 1 1 1 0x53E8))
+  -- a made cell has CI at level 2, as NI at level 1
+  pub madeAtLevel2 : wrote madeMarked 1_000_005 ≡ written (resourceCell 0 (record { vpi = 0; vci = 33; dir = 1; bn = 1; ci = 1; ni = 0; ra = 0; er = 0x53E8; ccr = 0; mcr = 0; ql = 0; sn = 0 }))

@@ -1,12 +1,13 @@
 -- Names of paths, and whether two numbers are one.
 use Prim.Native.Nat.{ℕ}
-use mathlib.Core.Path.{_≡_, refl}
+use mathlib.Core.Path.{_≡_, refl, ap, _∙_}
 use mathlib.Core.Bool.{Bool, true, false}
 use native.Mathlib.Omega.{arith}
 use lib.Dec.{eqb}
 use borrow.Author.Tests.{eqb-true, eqb-false, eq-eqb}
-use Rattle.cell.specs.Name.{nameOf, vpiIn, vciIn}
-use Rattle.members.specs.Path.{isPath, pathOf}
+use Rattle.cell.specs.Name.{nameOf, vpiIn, vciIn, pairFits, pairName}
+use Rattle.cell.proofs.Names.{Named, name-in, pair-named, pair-lt}
+use Rattle.members.specs.Path.{isPath, pathVci, pathName, pathOf}
 
 pub data Same (x y : ℕ) : Type 0 where
   same : x ≡ y → Same x y
@@ -26,3 +27,9 @@ path-is-path x = eq-eqb (vciIn (pathOf x)) 6 (omega arith)
 -- a member's name from its path and its VCI
 pub named-again : (v x : ℕ) → pathOf x ≡ v → nameOf (vpiIn v) (vciIn x) ≡ x
 named-again v x e = omega arith
+
+-- the path of a pair within the ranges is that of its VPI
+pub path-of-pair : (a b : ℕ) → pairFits a b ≡ true → pathOf (pairName a b) ≡ pairName a pathVci
+path-of-pair a b e =
+    let n : Named a b (pairName a b) = pair-named a b (pair-lt a b e) in
+    ap pathName (n .vpiBack) ∙ name-in a pathVci (n .vpiFits) (omega arith)

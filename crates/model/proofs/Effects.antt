@@ -1,6 +1,6 @@
 -- What a call can do to a table, with what is then known: one walk through the refusals of each call, for every theorem about one table.
 use Prim.Native.Nat.{ℕ, _<_, _+_, _≤_}
-use mathlib.Core.Path.{_≡_, refl, sym, _∙_}
+use mathlib.Core.Path.{_≡_, refl, sym, ap, _∙_}
 use mathlib.Core.Bool.{Bool, true, false, _&&_, true≢false}
 use mathlib.Core.List.{List}
 use native.Mathlib.Omega.{arith}
@@ -20,6 +20,7 @@ use Rattle.cell.proofs.Names.{name-lt, Named, pair-named}
 use Rattle.cell.proofs.Readings.{refusal-number}
 use Rattle.members.specs.Path.{isPath, pathVci, firstVci, pathOf}
 use Rattle.members.specs.Members.{memberCapacity, isMember, cellsOf, withMember, withoutPath, owner}
+use Rattle.members.proofs.Names.{path-of-pair}
 use Rattle.connection.specs.declared.parts.Connection.{Connection}
 use Rattle.connection.specs.Parts.{fresh, waiting}
 use Rattle.connection.specs.Interval.{rested}
@@ -31,7 +32,7 @@ use Rattle.model.specs.Invariant.{NamesUnique}
 use Rattle.model.specs.Choice.{Winner, noneReady, wins, winner, Chosen, Best}
 use Rattle.model.proofs.Winners.{winner-best}
 use Rattle.model.specs.Call.{Call, opening, closing, receiving, offering, levelling, slot, making, outOfRate, openingPath, adding, offeringMember, removing, Outcome}
-use Rattle.model.specs.Step.{refuse, accept, replay, discard, ofOpen, admit, openStep, openPathStep, closeStep, offerStep, withOffer, withoutOne, addStep, offerMemberStep, removeStep, dataCellStep, readStep, receiveStep, levelStep, sendStep, idleStep, serveEntry, serve, slotStep, makeStep, sendOutside, outOfRateStep, step}
+use Rattle.model.specs.Step.{refuse, accept, replay, discard, ofOpen, admit, openStep, openPathStep, closeStep, offerStep, withOffer, withoutOne, addStep, ofMember, offerMemberStep, removeStep, dataCellStep, readStep, receiveStep, levelStep, sendStep, idleStep, serveEntry, serve, slotStep, makeStep, sendOutside, outOfRateStep, step}
 use Rattle.laws.specs.Require.{require}
 use Rattle.laws.proofs.Tests.{both}
 
@@ -198,20 +199,28 @@ add-effect s a b =
     adds a b d e
     (record { high = leb-true _ _ low; noChannel = is-free (find (pairName a b) (s .entries)) new; noMember = not-true _ noMember; room = ltb-true _ _ room })
 
-offer-member-effect : (s : State) (a b n : ℕ) → Effect s (offeringMember a b n) (offerMemberStep s (pairName a b) n)
+-- the pair's path is found under the VPI's own name
+ofMember-effect :
+    {s : State} (c : Call) (a b : ℕ) (f : Connection → Outcome)
+    → ((d : Connection) → find (pathOf (pairName a b)) (s .entries) ≡ taken d → isMember (pairName a b) (s .members) ≡ true → Effect s c (f d))
+    → Effect s c (ofMember s a b f)
+unfolding ofMember
+ofMember-effect {s} c a b f h =
+    ofOpen-effect c (find (pairName a pathVci) (s .entries)) _ λ d e.
+    require-effect c 28 tt _ _ λ member.
+    let z = both (pairFits a b) (isMember (pairName a b) (s .members)) member in
+    h d (ap (λ (v : ℕ). find v (s .entries)) (path-of-pair a b (z .0)) ∙ e) (z .1)
+
+offer-member-effect : (s : State) (a b n : ℕ) → Effect s (offeringMember a b n) (offerMemberStep s a b n)
 unfolding offerMemberStep
 offer-member-effect s a b n =
-    ofOpen-effect (offeringMember a b n) (find (pathOf (pairName a b)) (s .entries)) _ λ d e.
-    require-effect (offeringMember a b n) 28 tt _ _ λ member.
+    ofMember-effect (offeringMember a b n) a b _ λ d e member.
     require-effect (offeringMember a b n) 15 tt _ _ λ fit.
     offersMember a b n d e member (leb-true _ _ fit)
 
-remove-effect : (s : State) (a b : ℕ) → Effect s (removing a b) (removeStep s (pairName a b))
+remove-effect : (s : State) (a b : ℕ) → Effect s (removing a b) (removeStep s a b)
 unfolding removeStep
-remove-effect s a b =
-    ofOpen-effect (removing a b) (find (pathOf (pairName a b)) (s .entries)) _ λ d e.
-    require-effect (removing a b) 28 tt _ _ λ member.
-    removes a b d e member
+remove-effect s a b = ofMember-effect (removing a b) a b _ λ d e member. removes a b d e member
 
 read-effect : (s : State) (o : List ℕ) (r : Reading) → reading o ≡ r → Effect s (receiving o) (readStep s o r)
 unfolding readStep dataCellStep

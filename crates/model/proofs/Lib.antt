@@ -5,6 +5,7 @@ pub mod Winners
 pub mod Places
 pub mod Scanned
 pub mod NextReady
+pub mod SlotTime
 pub mod Replays
 pub mod Members
 pub mod Preserved
@@ -12,4 +13,6 @@ pub mod Counts
 pub mod Effects
 pub mod Reached
 pub mod Given
+pub mod Orders
+pub mod Times
 pub mod Conservation

@@ -8,8 +8,13 @@ pub mod Tournament
 pub mod Call
 pub mod Step
 pub mod Queries
+pub mod SlotTime
 pub mod Run
 -- What holds of every table that calls made:
 pub mod Invariant
+-- The refusals of each call in order, with their conditions:
+pub mod Orders
+-- Whose time counts, and what rate a slot answers:
+pub mod Times
 -- Every data cell is accounted for, call by call:
 pub mod Conservation

@@ -87,7 +87,7 @@ offerStep s v n =
     (require (refuse s 15) (leb (waiting (c .queue) + n) 65535)
     (replay (leafOf v s) s (put v (taken (offered n c)) s)))
 
--- The calls on the members of paths. (Document 02, L13.) A pair outside the ranges has no open path.
+-- The calls on the members of paths. (Document 02, L13.)
 -- n more cells wait on the member x, and so on its path; and the member x goes with its cells
 unfoldable pub withOffer : (x n : ℕ) → Connection → State → State
 withOffer x n c s = withMembers (withCells x (cellsOf x (s .members) + n) (s .members)) (put (pathOf x) (taken (offered n c)) s)
@@ -106,20 +106,24 @@ addStep s vpi vci =
     (require (refuse s 26) (ltb (length (s .members)) memberCapacity)
     (accept 0 (withMembers (withMember (pairName vpi vci) (s .members)) s)))))
 
+-- the rest on a member's path: 11 if the VPI has no open path, 28 if the pair is no member, and with a VCI over 65,535 it is none
+unfoldable pub ofMember : State → (vpi vci : ℕ) → (Connection → Outcome) → Outcome
+ofMember s vpi vci f =
+    ofOpen s (find (pairName vpi pathVci) (s .entries)) λ c. require (refuse s 28) (pairFits vpi vci && isMember (pairName vpi vci) (s .members)) (f c)
+
 -- A member's offer: 11, 28, 15, which looks at that member alone.
-unfoldable pub offerMemberStep : State → (x cells : ℕ) → Outcome
-offerMemberStep s x n =
-    ofOpen s (find (pathOf x) (s .entries)) λ c.
-    require (refuse s 28) (isMember x (s .members))
-    (require (refuse s 15) (leb (cellsOf x (s .members) + n) 65535)
-    (replay (leafOf (pathOf x) s) s (withOffer x n c s)))
+unfoldable pub offerMemberStep : State → (vpi vci cells : ℕ) → Outcome
+offerMemberStep s vpi vci n =
+    let x = pairName vpi vci in
+    ofMember s vpi vci λ c.
+    require (refuse s 15) (leb (cellsOf x (s .members) + n) 65535)
+    (replay (leafOf (pathOf x) s) s (withOffer x n c s))
 
 -- Removing: 11, 28. It answers like a close.
-unfoldable pub removeStep : State → (x : ℕ) → Outcome
-removeStep s x =
-    ofOpen s (find (pathOf x) (s .entries)) λ c.
-    require (refuse s 28) (isMember x (s .members))
-    (discard (cellsOf x (s .members)) (leafOf (pathOf x) s) s (withoutOne x c s))
+unfoldable pub removeStep : State → (vpi vci : ℕ) → Outcome
+removeStep s vpi vci =
+    let x = pairName vpi vci in
+    ofMember s vpi vci λ c. discard (cellsOf x (s .members)) (leafOf (pathOf x) s) s (withoutOne x c s)
 
 -- a data cell: its EFCI is its channel's, or that of the path that it is a member of; 11 on a path's own name (document 02, L13)
 unfoldable pub dataCellStep : State → (name : ℕ) → (efci : Bool) → Outcome
@@ -203,7 +207,7 @@ outOfRateStep s v t room =
     (require (refuse s 18) (rested t (c .outside))
     (sendOutside (withTime t s) t v c))))
 
--- a pair outside the ranges makes no connection's name, so that it meets 11 (document 02, L6)
+-- a pair outside the ranges makes no connection's name, so that it meets 11 (document 02, L6); a member's offer and removal look for the path by its VPI
 unfoldable pub step : State → Call → Outcome
 step s (opening vpi vci t p) = openStep s vpi vci t p
 step s (closing vpi vci) = closeStep s (pairName vpi vci)
@@ -215,5 +219,5 @@ step s (making vpi vci t) = makeStep s (pairName vpi vci) t
 step s (outOfRate vpi vci t room) = outOfRateStep s (pairName vpi vci) t room
 step s (openingPath vpi t p) = openPathStep s vpi t p
 step s (adding vpi vci) = addStep s vpi vci
-step s (offeringMember vpi vci n) = offerMemberStep s (pairName vpi vci) n
-step s (removing vpi vci) = removeStep s (pairName vpi vci)
+step s (offeringMember vpi vci n) = offerMemberStep s vpi vci n
+step s (removing vpi vci) = removeStep s vpi vci

@@ -4,6 +4,7 @@ pub mod Walk
 pub mod OneCell
 pub mod Passing
 pub mod Reread
+pub mod Shortest
 pub mod Fits
 pub mod Unraised
 pub mod RoundTrip

@@ -3,12 +3,13 @@ use mathlib.Core.Path.{_≡_, refl, sym}
 use mathlib.Core.Bool.{Bool, true, _&&_}
 use mathlib.Core.List.{List, [], _∷_}
 use Prim.Native.Nat.{ℕ, zero, suc, _≤_, _<_, zero-le}
+use native.Mathlib.Omega.{arith}
 use lib.Dec.{leb}
 use lib.ListN.{getD, List·getD-eq-default}
-use borrow.Author.Tests.{leb-true}
+use borrow.Author.Tests.{leb-true, le-leb}
 use Rattle.laws.proofs.Tests.{both}
 use Rattle.params.specs.Params.{Params, peak, least, initial, within, codesFit, ratesFit, numbersFit, paramsFit, tbeFits, frttFits, trmTimes, trmTime}
-use Rattle.params.specs.Ranges.{Fits, SetupFits}
+use Rattle.params.specs.Ranges.{Fits, SetupFits, RangesExact}
 
 pub in-range : (low high x : ℕ) → within low high x ≡ true → (low ≤ x) × (x ≤ high)
 unfolding within
@@ -29,6 +30,7 @@ fits p e =
     let cdf = leb (p .c) 7 && adtf in
     let rdf = leb (p .d) 15 && cdf in
     let n = both (within 1 8 (p .n)) (leb (p .r) 15 && rdf) (g .1) in
+    let steps = in-range 1 8 (p .n) (n .0) in
     let r = both (leb (p .r) 15) rdf (n .1) in
     let d = both (leb (p .d) 15) cdf (r .1) in
     let c = both (leb (p .c) 7) adtf (d .1) in
@@ -40,8 +42,8 @@ fits p e =
       peakLeast = leb-true _ _ (rate .0);
       low = leb-true _ _ (rate₂ .0);
       high = leb-true _ _ (rate₂ .1);
-      nLeast = in-range 1 8 (p .n) (n .0) .0;
-      nMost = in-range 1 8 (p .n) (n .0) .1;
+      nLeast = omega (arith, steps .0);
+      nMost = omega (arith, steps .1);
       rMost = leb-true _ _ (r .0);
       dMost = leb-true _ _ (d .0);
       cMost = leb-true _ _ (c .0);
@@ -50,10 +52,39 @@ fits p e =
       trmMost = leb-true _ _ (a .1);
     }
 
+-- and the other way
+admits : (p : Params) → Fits p → paramsFit p ≡ true
+unfolding paramsFit codesFit ratesFit numbersFit within
+admits p f = simp (
+  le-leb _ _ (f .pcrCode),
+  le-leb _ _ (f .mcrCode),
+  le-leb _ _ (f .icrCode),
+  le-leb _ _ (f .peakLeast),
+  le-leb _ _ (f .low),
+  le-leb _ _ (f .high),
+  le-leb _ _ (f .nLeast),
+  le-leb _ _ (f .nMost),
+  le-leb _ _ (f .rMost),
+  le-leb _ _ (f .dMost),
+  le-leb _ _ (f .cMost),
+  le-leb _ _ (f .adtfLeast),
+  le-leb _ _ (f .adtfMost),
+  le-leb _ _ (f .trmMost),
+)
+
+pub ranges-exact : RangesExact
+unfolding tbeFits frttFits within
+ranges-exact = record {
+  fit = fits;
+  admitted = admits;
+  tbe = λ p e. in-range 1 16_777_215 (p .tbe) e;
+  tbeAdmitted = λ p a b. simp (le-leb _ _ a, le-leb _ _ b);
+  frtt = λ p e. leb-true _ _ e;
+  frttAdmitted = λ p a. le-leb _ _ a;
+}
+
 pub setup-fits : (p : Params) → tbeFits p ≡ true → frttFits p ≡ true → SetupFits p
-unfolding tbeFits frttFits
-setup-fits p e f =
-    let h = in-range 1 16_777_215 (p .tbe) e in record { tbeLeast = h .0; tbeMost = h .1; frttMost = leb-true _ _ f }
+setup-fits p e f = let h = ranges-exact .tbe p e in record { tbeLeast = h .0; tbeMost = h .1; frttMost = ranges-exact .frtt p f }
 
 -- a Trm number over 7 has no time
 pub trm-none : (n : ℕ) → 7 < n → 0 ≡ trmTime n

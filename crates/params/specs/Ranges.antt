@@ -1,6 +1,8 @@
 -- Parameters within their ranges. (Document 01, "Opening"; document 02, L14.)
 use Prim.Native.Nat.{_≤_}
-use Rattle.params.specs.Params.{Params, peak, least, initial}
+use mathlib.Core.Path.{_≡_}
+use mathlib.Core.Bool.{true}
+use Rattle.params.specs.Params.{Params, peak, least, initial, paramsFit, tbeFits, frttFits}
 
 -- what `paramsFit` tests, each range by itself
 pub record Fits (p : Params) : Type 0 where
@@ -24,3 +26,12 @@ pub record SetupFits (p : Params) : Type 0 where
   pub tbeLeast : 1 ≤ p .tbe
   pub tbeMost : p .tbe ≤ 16_777_215
   pub frttMost : p .frtt ≤ 16_700_000
+
+-- The tests and the ranges are one: an open meets 7, 29 or 30 exactly if its own is left.
+pub record RangesExact : Type 0 where
+  pub fit : (p : Params) → paramsFit p ≡ true → Fits p
+  pub admitted : (p : Params) → Fits p → paramsFit p ≡ true
+  pub tbe : (p : Params) → tbeFits p ≡ true → (1 ≤ p .tbe) × (p .tbe ≤ 16_777_215)
+  pub tbeAdmitted : (p : Params) → 1 ≤ p .tbe → p .tbe ≤ 16_777_215 → tbeFits p ≡ true
+  pub frtt : (p : Params) → frttFits p ≡ true → p .frtt ≤ 16_700_000
+  pub frttAdmitted : (p : Params) → p .frtt ≤ 16_700_000 → frttFits p ≡ true

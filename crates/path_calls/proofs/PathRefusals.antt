@@ -7,13 +7,13 @@ use Rattle.connection.specs.Making.{withMade}
 use Rattle.connection.specs.OutOfRate.{afterOutOfRate}
 use Rattle.connection.specs.Receiving.{afterDataCell, waitingCi, markKept, afterForwardCell}
 use Rattle.model.specs.State.{withLevel}
-use Rattle.model.specs.Step.{refuse, discard, openPathStep, closeStep, withOffer, withoutOne, addStep, offerMemberStep, removeStep, dataCellStep, levelStep, makeStep, sendOutside, outOfRateStep}
+use Rattle.model.specs.Step.{refuse, discard, openPathStep, closeStep, withOffer, withoutOne, addStep, ofMember, offerMemberStep, removeStep, dataCellStep, levelStep, makeStep, sendOutside, outOfRateStep}
 use Rattle.model.specs.Queries.{entryAcr, acrOf}
 use Rattle.path_calls.specs.PathRefusals.{PathRefusals}
 use Rattle.examples.proofs.Witness.{computing}
 
 pub path-refusals : PathRefusals
-unfolding computing cellsWhere without withMember withCells owner turnedMarks turnedPayload turnedCell rested withMade afterOutOfRate afterDataCell waitingCi markKept afterForwardCell withLevel refuse discard openPathStep closeStep withOffer withoutOne addStep offerMemberStep removeStep dataCellStep levelStep makeStep sendOutside outOfRateStep entryAcr acrOf
+unfolding computing cellsWhere without withMember withCells owner turnedMarks turnedPayload turnedCell rested withMade afterOutOfRate afterDataCell waitingCi markKept afterForwardCell withLevel refuse discard openPathStep closeStep withOffer withoutOne addStep ofMember offerMemberStep removeStep dataCellStep levelStep makeStep sendOutside outOfRateStep entryAcr acrOf
 path-refusals = record {
   opens = refl;
   reservedBit = refl;
@@ -34,12 +34,17 @@ path-refusals = record {
   twice = refl;
   added = refl;
   offerNoPath = refl;
+  offerVpiOver = refl;
+  offerVciOverNoPath = refl;
   offerVciOver = refl;
   offerNoMember = refl;
   offerOnSix = refl;
   overfull = refl;
   beside = refl;
   removeNoPath = refl;
+  removeVpiOver = refl;
+  removeVciOverNoPath = refl;
+  removeVciOver = refl;
   removeNoMember = refl;
   removed = refl;
   plainOffer = refl;

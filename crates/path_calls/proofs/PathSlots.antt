@@ -6,14 +6,14 @@ use Rattle.connection.specs.Receiving.{afterDataCell, waitingCi, markKept, afte
 use Rattle.connection.specs.Sending.{madeLeft, sentTurned, backwardCell, bufferAfter}
 use Rattle.model.specs.State.{entryCells}
 use Rattle.model.specs.Call.{closedCells}
-use Rattle.model.specs.Step.{refuse, discard, openPathStep, closeStep, withOffer, withoutOne, addStep, offerMemberStep, removeStep, dataCellStep}
+use Rattle.model.specs.Step.{refuse, discard, openPathStep, closeStep, withOffer, withoutOne, addStep, ofMember, offerMemberStep, removeStep, dataCellStep}
 use Rattle.model.specs.Run.{isAccepted}
 use Rattle.model.specs.Conservation.{offeredTo, closedOn, dataCells, dataSlotOf}
 use Rattle.path_calls.specs.PathSlots.{PathSlots}
 use Rattle.examples.proofs.Witness.{computing}
 
 pub path-slots : PathSlots
-unfolding computing cellsWhere without withMember withCells owner turnedMarks turnedPayload turnedCell afterDataCell waitingCi markKept afterForwardCell madeLeft sentTurned backwardCell bufferAfter entryCells closedCells refuse discard openPathStep closeStep withOffer withoutOne addStep offerMemberStep removeStep dataCellStep isAccepted offeredTo closedOn dataCells dataSlotOf
+unfolding computing cellsWhere without withMember withCells owner turnedMarks turnedPayload turnedCell afterDataCell waitingCi markKept afterForwardCell madeLeft sentTurned backwardCell bufferAfter entryCells closedCells refuse discard openPathStep closeStep withOffer withoutOne addStep ofMember offerMemberStep removeStep dataCellStep isAccepted offeredTo closedOn dataCells dataSlotOf
 path-slots = record {
   forward = refl;
   lowest = refl;

@@ -55,15 +55,20 @@ pub record PathRefusals : Type 0 where
   pub channel : next full (adding 1 33) ≡ refused 12
   pub twice : next full (adding 1 40) ≡ refused 27
   pub added : next full (adding 1 65_535) ≡ accepted
-  -- a member's offer: 11, 28, and 15, which looks at that member alone
+  -- a member's offer: 11, 28, and 15, which looks at that member alone; a VCI out of its range is no member
   pub offerNoPath : next full (offeringMember 2 40 1) ≡ refused 11
-  pub offerVciOver : next full (offeringMember 1 65_576 1) ≡ refused 11
+  pub offerVpiOver : next full (offeringMember 257 40 1) ≡ refused 11
+  pub offerVciOverNoPath : next full (offeringMember 2 65_576 1) ≡ refused 11
+  pub offerVciOver : next full (offeringMember 1 65_576 1) ≡ refused 28
   pub offerNoMember : next full (offeringMember 1 41 65_536) ≡ refused 28
   pub offerOnSix : next full (offeringMember 1 6 1) ≡ refused 28
   pub overfull : next full (offeringMember 1 40 1) ≡ refused 15
   pub beside : next full (offeringMember 1 50 65_535) ≡ accepted
   -- removing: 11, 28
   pub removeNoPath : next full (removing 2 40) ≡ refused 11
+  pub removeVpiOver : next full (removing 257 40) ≡ refused 11
+  pub removeVciOverNoPath : next full (removing 2 65_576) ≡ refused 11
+  pub removeVciOver : next full (removing 1 65_576) ≡ refused 28
   pub removeNoMember : next full (removing 1 33) ≡ refused 28
   pub removed : next full (removing 1 40) ≡ closedWith 65_535
   -- the plain calls meet 11 on a member's pair

@@ -1,6 +1,6 @@
 -- One lemma for each way out of a call on a member. (Document 02, L13.)
 use Prim.Native.Nat.{ℕ, _+_, _≤_, _<_}
-use mathlib.Core.Path.{_≡_, refl, ap, subst, _∙_}
+use mathlib.Core.Path.{_≡_, refl, sym, subst, _∙_}
 use mathlib.Core.Bool.{Bool, true, false}
 use mathlib.Core.List.{List}
 use native.Mathlib.Omega.{arith}
@@ -8,10 +8,11 @@ use lib.Dec.{ltb}
 use lib.ListN.{length}
 use borrow.Author.Tests.{le-leb, lt-leb}
 use Rattle.laws.specs.Require.{require}
-use Rattle.cell.specs.Name.{vpiIn, vciIn, noName, pairName}
-use Rattle.cell.proofs.Names.{pair-back}
-use Rattle.members.specs.Path.{firstVci, pathOf}
+use Rattle.cell.specs.Name.{vciIn, noName, pairFits, pairName}
+use Rattle.cell.proofs.Names.{pair-out, pair-lt}
+use Rattle.members.specs.Path.{pathVci, firstVci, pathOf}
 use Rattle.members.specs.Members.{Member, memberCapacity, isMember, cellsOf, withMember, withoutMember, withCells}
+use Rattle.members.proofs.Names.{path-of-pair}
 use Rattle.connection.specs.declared.parts.Connection.{Connection}
 use Rattle.connection.specs.Parts.{withQueue, dequeued}
 use Rattle.connection.specs.Range.{InRange}
@@ -20,7 +21,7 @@ use Rattle.connection.proofs.Keeps.{Same}
 use Rattle.model.specs.State.{State, free, taken, isFree, find, leafOf, put, withMembers, capacity}
 use Rattle.model.specs.Invariant.{WellFormed}
 use Rattle.model.specs.Call.{Call, offeringMember, removing, Outcome}
-use Rattle.model.specs.Step.{refuse, accept, replay, discard, ofOpen, withOffer, withoutOne, addStep, offerMemberStep, removeStep, step}
+use Rattle.model.specs.Step.{refuse, accept, replay, discard, ofOpen, withOffer, withoutOne, addStep, ofMember, offerMemberStep, removeStep, step}
 use Rattle.model.specs.declared.answer.Answer.the-variants.{Accepted, Closed}
 use Rattle.model.proofs.Reached.{step-well-formed}
 use Rattle.table.specs.Layout.{words}
@@ -87,40 +88,56 @@ add-out s w e {x} high new room h q =
     accepted-out 0 (withMembers (withMember x (s .members)) s)
     (members-changed s (withMember x (s .members)) (h .is (front s) (s .members) (with-members s (w .size) (w .members .valid) e) high new room)) q
 
--- A member's offer.
-module _ (s : State) (x n : ℕ) where
-  pub offer-closed : find (pathOf x) (s .entries) ≡ free → offerMemberStep s x n ≡ refuse s 11
-  unfolding offerMemberStep ofOpen
-  offer-closed e = rw e
+-- A call on a member, up to where the member is found.
+module _ (s : State) (a b : ℕ) (f : Connection → Outcome) where
+  pub path-closed : find (pairName a pathVci) (s .entries) ≡ free → ofMember s a b f ≡ refuse s 11
+  unfolding ofMember ofOpen
+  path-closed e = rw e
 
-  module _ (c : Connection) (e : find (pathOf x) (s .entries) ≡ taken c) where
-    pub offer-no-member : isMember x (s .members) ≡ false → offerMemberStep s x n ≡ refuse s 28
-    unfolding offerMemberStep ofOpen require
-    offer-no-member m = rw (e, m)
+  module _ (c : Connection) (e : find (pairName a pathVci) (s .entries) ≡ taken c) where
+    pub out-of-range : pairFits a b ≡ false → ofMember s a b f ≡ refuse s 28
+    unfolding ofMember ofOpen require
+    out-of-range k = rw (e, k)
 
-    module _ (m : isMember x (s .members) ≡ true) where
-      pub offer-over : 65535 < cellsOf x (s .members) + n → offerMemberStep s x n ≡ refuse s 15
-      unfolding offerMemberStep ofOpen require
-      offer-over h = rw (e, m, lt-leb (cellsOf x (s .members) + n) 65535 h)
+    module _ (k : pairFits a b ≡ true) where
+      pub not-added : isMember (pairName a b) (s .members) ≡ false → ofMember s a b f ≡ refuse s 28
+      unfolding ofMember ofOpen require
+      not-added m = rw (e, k, m)
 
-      pub offer-done : cellsOf x (s .members) + n ≤ 65535 → offerMemberStep s x n ≡ replay (leafOf (pathOf x) s) s (withOffer x n c s)
-      unfolding offerMemberStep ofOpen require
-      offer-done h = rw (e, m, le-leb (cellsOf x (s .members) + n) 65535 h)
+      on-member : isMember (pairName a b) (s .members) ≡ true → ofMember s a b f ≡ f c
+      unfolding ofMember ofOpen require
+      on-member m = rw (e, k, m)
 
--- Removing.
-module _ (s : State) (x : ℕ) where
-  pub remove-closed : find (pathOf x) (s .entries) ≡ free → removeStep s x ≡ refuse s 11
-  unfolding removeStep ofOpen
-  remove-closed e = rw e
+-- whether a pair is within the ranges, from its name
+module _ (a b : ℕ) {x : ℕ} (q : x ≡ pairName a b) where
+  pub fits-of : x < noName → pairFits a b ≡ true
+  fits-of h = go (pairFits a b) refl
+    where
+      go : (k : Bool) → pairFits a b ≡ k → pairFits a b ≡ true
+      go true e = e
+      go false e = absurd (omega (arith, h, q, pair-out a b e))
 
-  module _ (c : Connection) (e : find (pathOf x) (s .entries) ≡ taken c) where
-    pub remove-no-member : isMember x (s .members) ≡ false → removeStep s x ≡ refuse s 28
-    unfolding removeStep ofOpen require
-    remove-no-member m = rw (e, m)
+  pub unfit-of : noName ≤ x → pairFits a b ≡ false
+  unfit-of h = go (pairFits a b) refl
+    where
+      go : (k : Bool) → pairFits a b ≡ k → pairFits a b ≡ false
+      go true e = absurd (omega (arith, h, q, pair-lt a b e))
+      go false e = e
 
-    pub remove-done : isMember x (s .members) ≡ true → removeStep s x ≡ discard (cellsOf x (s .members)) (leafOf (pathOf x) s) s (withoutOne x c s)
-    unfolding removeStep ofOpen require
-    remove-done m = rw (e, m)
+module _ (s : State) (a b : ℕ) (c : Connection) (e : find (pairName a pathVci) (s .entries) ≡ taken c) (k : pairFits a b ≡ true) (m : isMember (pairName a b) (s .members) ≡ true) where
+  pub offer-over : (n : ℕ) → 65535 < cellsOf (pairName a b) (s .members) + n → offerMemberStep s a b n ≡ refuse s 15
+  unfolding offerMemberStep require
+  offer-over n h = on-member s a b _ c e k m ∙ rw (lt-leb (cellsOf (pairName a b) (s .members) + n) 65535 h)
+
+  offer-done :
+      (n : ℕ) → cellsOf (pairName a b) (s .members) + n ≤ 65535
+      → offerMemberStep s a b n ≡ replay (leafOf (pathOf (pairName a b)) s) s (withOffer (pairName a b) n c s)
+  unfolding offerMemberStep require
+  offer-done n h = on-member s a b _ c e k m ∙ rw (le-leb (cellsOf (pairName a b) (s .members) + n) 65535 h)
+
+  remove-done : removeStep s a b ≡ discard (cellsOf (pairName a b) (s .members)) (leafOf (pathOf (pairName a b)) s) s (withoutOne (pairName a b) c s)
+  unfolding removeStep
+  remove-done = on-member s a b _ c e k m
 
 discard-well-formed : {s : State} → WellFormed s → (c : Call) (k x : ℕ) (r : State) → step s c ≡ discard k x s r → WellFormed r
 unfolding discard
@@ -132,33 +149,40 @@ removed-same n c = record { name = refl; opened = refl; trm = refl; params = ref
 pub removed-ranged : (n : ℕ) (c : Connection) → InRange c → InRange (withQueue c (dequeued n (c .queue)))
 removed-ranged n c h = record { opened = h .opened; trm = h .trm; pace = h .pace; made = h .made; outside = h .outside }
 
+on-path : (s : State) (a b : ℕ) → pairFits a b ≡ true → {i : ℕ} → Located (s .entries) (pairName a pathVci) i → Located (s .entries) (pathOf (pairName a b)) i
+on-path s a b fits {i} p = subst (λ (v : ℕ). Located (s .entries) v i) (sym (path-of-pair a b fits)) p
+
 -- the member's word is changed, then the path's entry
-module _ (s : State) (w : WellFormed s) {l k m : List ℕ} (e : l ≡ words s) (x : ℕ) (h : x < noName) {i : ℕ} (p : Located (s .entries) (pathOf x) i) (b : i < capacity) {d : Connection} (q : d ≡ connectionAt l i) where
+module _ (s : State) (w : WellFormed s) {l k m : List ℕ} (e : l ≡ words s) (a b : ℕ) (fits : pairFits a b ≡ true) {i : ℕ} (p : Located (s .entries) (pairName a pathVci) i) (below : i < capacity) {d : Connection} (q : d ≡ connectionAt l i) where
   pub offer-out :
-      (n : ℕ) {c j : ℕ} → isMember x (s .members) ≡ true → cellsOf x (s .members) + n ≤ 65535 → MemberAt (s .members) x j → SetsCells j (cellsOf x (s .members) + n) l k
-      → Updates SourceMoved k m i (offered n d) c → (m ≡ words (offerMemberStep s x n .state)) × (Accepted c ≡ offerMemberStep s x n .answer)
-  unfolding step withOffer withMembers put
+      (n : ℕ) {c j : ℕ} → isMember (pairName a b) (s .members) ≡ true → cellsOf (pairName a b) (s .members) + n ≤ 65535 → MemberAt (s .members) (pairName a b) j
+      → SetsCells j (cellsOf (pairName a b) (s .members) + n) l k → Updates SourceMoved k m i (offered n d) c
+      → (m ≡ words (offerMemberStep s a b n .state)) × (Accepted c ≡ offerMemberStep s a b n .answer)
+  unfolding step withOffer withMembers put on-path
   offer-out n {c} {j} member fit at set u =
+      let x : ℕ = pairName a b in
       let ms : List Member = withCells x (cellsOf x (s .members) + n) (s .members) in
       let r : State = withMembers ms s in
       let now : Connection = offered n (p .holder) in
-      let done = offer-done s x n (p .holder) (found-at p) member fit in
-      let z = ordered (replay-well-formed w (offeringMember (vpiIn x) (vciIn x) n) (leafOf (pathOf x) s) (withOffer x n (p .holder) s) (ap (λ (u : ℕ). offerMemberStep s u n) (pair-back x h) ∙ done)) in
+      let done = offer-done s a b (p .holder) (found-at p) fits member n fit in
+      let z = ordered (replay-well-formed w (offeringMember a b n) (leafOf (pathOf x) s) (withOffer x n (p .holder) s) done) in
       let g : k ≡ words r = members-changed s ms (set .is (front s) (s .members) x (with-members s (w .size) (w .members .valid) e) at) in
       replayed-out (leafOf (pathOf x) s) s (withOffer x n (p .holder) s)
-      (updated-is r (w .size) g p now (offered-same n (p .holder)) (subst (λ (y : Connection). Updates SourceMoved k m i (offered n y) c) (loaded-is s w p e b q) u) (offered-moved n (p .holder)) z) done
+      (updated-is r (w .size) g (on-path s a b fits p) now (offered-same n (p .holder)) (subst (λ (y : Connection). Updates SourceMoved k m i (offered n y) c) (loaded-is s w p e below q) u) (offered-moved n (p .holder)) z) done
 
   pub remove-out :
-      {c : ℕ} → isMember x (s .members) ≡ true → Removes x l k → Updates SourceMoved k m i (withQueue d (dequeued (cellsOf x (s .members)) (d .queue))) c
-      → (m ≡ words (removeStep s x .state)) × (Closed c (cellsOf x (s .members)) ≡ removeStep s x .answer)
-  unfolding step withoutOne withMembers put
+      {c : ℕ} → isMember (pairName a b) (s .members) ≡ true → Removes (pairName a b) l k
+      → Updates SourceMoved k m i (withQueue d (dequeued (cellsOf (pairName a b) (s .members)) (d .queue))) c
+      → (m ≡ words (removeStep s a b .state)) × (Closed c (cellsOf (pairName a b) (s .members)) ≡ removeStep s a b .answer)
+  unfolding step withoutOne withMembers put on-path
   remove-out {c} member gone u =
+      let x : ℕ = pairName a b in
       let n : ℕ = cellsOf x (s .members) in
       let ms : List Member = withoutMember x (s .members) in
       let r : State = withMembers ms s in
       let now : Connection = withQueue (p .holder) (dequeued n (p .holder .queue)) in
-      let done = remove-done s x (p .holder) (found-at p) member in
-      let z = ordered (discard-well-formed w (removing (vpiIn x) (vciIn x)) n (leafOf (pathOf x) s) (withoutOne x (p .holder) s) (ap (λ (u : ℕ). removeStep s u) (pair-back x h) ∙ done)) in
+      let done = remove-done s a b (p .holder) (found-at p) fits member in
+      let z = ordered (discard-well-formed w (removing a b) n (leafOf (pathOf x) s) (withoutOne x (p .holder) s) done) in
       let g : k ≡ words r = members-changed s ms (gone .is (front s) (s .members) (with-members s (w .size) (w .members .valid) e) member) in
       discarded-out n (leafOf (pathOf x) s) s (withoutOne x (p .holder) s)
-      (updated-is r (w .size) g p now (removed-same n (p .holder)) (subst (λ (y : Connection). Updates SourceMoved k m i (withQueue y (dequeued n (y .queue))) c) (loaded-is s w p e b q) u) (refl, refl) z) done
+      (updated-is r (w .size) g (on-path s a b fits p) now (removed-same n (p .holder)) (subst (λ (y : Connection). Updates SourceMoved k m i (withQueue y (dequeued n (y .queue))) c) (loaded-is s w p e below q) u) (refl, refl) z) done

@@ -5,6 +5,7 @@ use mathlib.Core.Bool.{Bool, true, false, cond}
 use mathlib.Core.List.{List}
 use lib.Dec.{eqb}
 use borrow.Author.Tests.{eqb-true, eq-eqb, ne-eqb}
+use Rattle.params.specs.Params.{initialUsed}
 use Rattle.cell.specs.declared.fields.Fields.{Fields}
 use Rattle.cell.specs.declared.read.Reading.the-variants.{Resource}
 use Rattle.cell.specs.Name.{pairName}
@@ -17,7 +18,7 @@ use Rattle.connection.specs.declared.parts.Pace.{Pace}
 use Rattle.connection.specs.declared.parts.Pace.the-variants.{Unsent, Running}
 use Rattle.connection.specs.declared.kind.Kind.{Kind}
 use Rattle.connection.specs.declared.kind.Kind.the-variants.{Forward, Turned, Data}
-use Rattle.connection.specs.Parts.{fresh}
+use Rattle.connection.specs.Parts.{changed, fresh}
 use Rattle.connection.specs.Making.{withMade}
 use Rattle.connection.specs.Receiving.{offered, afterDataCell, afterBackwardCell, afterForwardCell, afterResourceCell}
 use Rattle.connection.specs.OutOfRate.{afterOutOfRate}
@@ -44,9 +45,15 @@ pub record Closes (v : ℕ) (c : Call) : Type 0 where
   pub is : c ≡ closing vpi vci
   pub name : pairName vpi vci ≡ v
 
+-- a connection that was not open before starts at the initial rate used, without a change by a backward cell
+pub record Begun (e : Connection) : Type 0 where
+  pub rate : e .rate .acr ≡ initialUsed (e .rate .params)
+  pub change : e .change ≡ changed (e .rate .acr) (e .rate .acr)
+
 -- from the entry of v before the call to the entry after it
 abbrev MovesTo : ℕ → Call → Answer → Entry → Entry → Type 0
-MovesTo v c a free y = Unit
+MovesTo v c a free free = Unit
+MovesTo v c a free (taken e) = Begun e
 MovesTo v c a (taken d) free = Closes v c
 MovesTo v c a (taken d) (taken e) = Moves v d c a (e .rate)
 
@@ -104,7 +111,7 @@ unfolding self refuse accept replay discard sendFrom sendStep idleStep sendOutsi
 effect-moves v {s} a (refuses c n h) = rests v c (Refused n) (find v (s .entries))
 effect-moves v {s} a (begins vpi vci t p g) =
     rw (inserted-read self v s (fresh (pairName vpi vci) t p) (g .new) (g .room))
-    (read-moves v (pairName vpi vci) s (opening vpi vci t p) _ (taken (fresh (pairName vpi vci) t p)) (λ h. rw (ap (λ w. find w (s .entries)) (sym h) ∙ g .new) tt))
+    (read-moves v (pairName vpi vci) s (opening vpi vci t p) _ (taken (fresh (pairName vpi vci) t p)) (λ h. rw (ap (λ w. find w (s .entries)) (sym h) ∙ g .new) (record { rate = refl; change = refl })))
 effect-moves v {s} a (ends vpi vci d f) = rw (freed-read self v (pairName vpi vci) s a) (read-moves v (pairName vpi vci) s (closing vpi vci) _ free (closed v vpi vci _ (find v (s .entries))))
 effect-moves v {s} a (offers vpi vci n d f i b) = changes v (pairName vpi vci) s a d (offered n d) f refl (offering vpi vci n) _ (λ _. stays)
 effect-moves v {s} a (marks o vpi vci e u d r i z f) = changes v u s a d (afterDataCell e d) f refl (receiving o) _ (λ _. stays)
@@ -120,7 +127,7 @@ effect-moves v {s} a (makes vpi vci t d f g b m) = changes v (pairName vpi vci) 
 effect-moves v {s} a (leaves vpi vci t room d f g b) = changes v (pairName vpi vci) (withTime t s) a d (afterOutOfRate t d) f refl (outOfRate vpi vci t room) _ (λ _. stays)
 effect-moves v {s} a (beginsPath vpi t p g) =
     rw (inserted-read self v s (fresh (pairName vpi pathVci) t p) (g .new) (g .room))
-    (read-moves v (pairName vpi pathVci) s (openingPath vpi t p) _ (taken (fresh (pairName vpi pathVci) t p)) (λ h. rw (ap (λ w. find w (s .entries)) (sym h) ∙ g .new) tt))
+    (read-moves v (pairName vpi pathVci) s (openingPath vpi t p) _ (taken (fresh (pairName vpi pathVci) t p)) (λ h. rw (ap (λ w. find w (s .entries)) (sym h) ∙ g .new) (record { rate = refl; change = refl })))
 effect-moves v {s} a (adds vpi vci d f j) = rests v (adding vpi vci) (Accepted 0) (find v (s .entries))
 effect-moves v {s} a (offersMember vpi vci n d f i h) = changes v (pathOf (pairName vpi vci)) s a d (offered n d) f refl (offeringMember vpi vci n) _ (λ _. stays)
 effect-moves v {s} a (removes vpi vci d f i) = changes v (pathOf (pairName vpi vci)) s a d _ f refl (removing vpi vci) _ (λ _. stays)
@@ -145,6 +152,10 @@ pub moves-at :
     (s : State) → NamesUnique (s .entries) → (c : Call) (v : ℕ) (d e : Connection) → find v (s .entries) ≡ taken d → find v (step s c .state .entries) ≡ taken e
     → Moves v d c (step s c .answer) (e .rate)
 moves-at s a c v d e f h = let m = effect-moves v a (effect s a c) in rw (f, h) at m
+
+pub begun-at :
+    (s : State) → NamesUnique (s .entries) → (c : Call) (v : ℕ) (e : Connection) → find v (s .entries) ≡ free → find v (step s c .state .entries) ≡ taken e → Begun e
+begun-at s a c v e f h = let m = effect-moves v a (effect s a c) in rw (f, h) at m
 
 pub four-moves : FourMoves
 four-moves cs c v d e f h = moves-at (final empty cs) (reached-well-formed cs .unique) c v d e f h

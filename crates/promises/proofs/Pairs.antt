@@ -1,7 +1,7 @@
 -- Each call keeps the relation of two tables, and its answers agree.
 use Prim.Native.Nat.{ℕ, suc, _+_, _≤_}
 use mathlib.Core.Path.{_≡_, refl, sym, ap, subst}
-use mathlib.Core.Bool.{Bool, true, false, cond, not}
+use mathlib.Core.Bool.{Bool, true, false, cond, not, _&&_}
 use mathlib.Core.List.{List}
 use mathlib.Core.Option.{Option, none, some}
 use native.Mathlib.Nat.{le-refl}
@@ -16,7 +16,7 @@ use Rattle.moves.proofs.FourMoves.{feedback-mono}
 use Rattle.cell.specs.declared.fields.Fields.{Fields}
 use Rattle.cell.specs.declared.read.Reading.{Reading}
 use Rattle.cell.specs.declared.read.Reading.the-variants.{Refused as Unread, User, Resource}
-use Rattle.cell.specs.Name.{pairName}
+use Rattle.cell.specs.Name.{pairFits, pairName}
 use Rattle.cell.specs.Fields.{cellName}
 use Rattle.cell.specs.Reading.{reading}
 use Rattle.members.specs.Path.{pathVci, pathOf}
@@ -43,7 +43,7 @@ use Rattle.model.proofs.Preserved.{valid-at}
 use Rattle.model.specs.declared.answer.Answer.{Answer}
 use Rattle.model.specs.declared.answer.Answer.the-variants.{Refused, Accepted, Closed, Idle, Sent}
 use Rattle.model.specs.Call.{Call, opening, closing, receiving, offering, levelling, slot, making, outOfRate, openingPath, adding, offeringMember, removing, Outcome, goesTo}
-use Rattle.model.specs.Step.{refuse, accept, replay, discard, ofOpen, admit, openStep, openPathStep, closeStep, offerStep, withOffer, withoutOne, addStep, offerMemberStep, removeStep, dataCellStep, readStep, receiveStep, levelStep, nameAnswered, sendFrom, sendStep, idleStep, serveEntry, serve, slotStep, makeStep, sendOutside, outOfRateStep, step}
+use Rattle.model.specs.Step.{refuse, accept, replay, discard, ofOpen, admit, openStep, openPathStep, closeStep, offerStep, withOffer, withoutOne, addStep, ofMember, offerMemberStep, removeStep, dataCellStep, readStep, receiveStep, levelStep, nameAnswered, sendFrom, sendStep, idleStep, serveEntry, serve, slotStep, makeStep, sendOutside, outOfRateStep, step}
 use Rattle.promises.specs.Demand3.{Comparable, equal, congested, SamePlace}
 use Rattle.promises.proofs.Relation.{lowered, Lower, vacant, lower, Tables, tables, isFree-same, find-lower, put-tables, inserted-tables, roomLeft-same, last-same, withTime-tables, withLevel-tables, withMembers-tables, members-same}
 use Rattle.promises.proofs.Readings.{MoreCongested, NotLessCongested, alike, moreCongested, reading-congested}
@@ -145,21 +145,29 @@ add-meets (tables l t ms hs) vpi vci =
     (require-meets r 26 _ _ refl λ _.
     accept-both _ _ (withMembers-tables (withMember (pairName vpi vci) ms) r))))
 
-offer-member-meets : {s₁ s₂ : State} → Tables s₁ s₂ → (x n : ℕ) → Meets (offerMemberStep s₁ x n) (offerMemberStep s₂ x n)
-unfolding offerMemberStep withOffer replay offered
-offer-member-meets (tables l t ms hs) x n =
-    let r = tables l t ms hs in
-    ofOpen-meets r (find-lower (pathOf x) r) _ _ λ c a z e h.
-    require-meets r 28 _ _ refl
-    (require-meets r 15 _ _ refl λ _.
-    accept-both _ _ (withMembers-tables (withCells x (cellsOf x ms + n) ms) (put-tables (pathOf x) (lower (offered n c) a z h) r)))
+ofMember-meets :
+    {s₁ s₂ : State} → Tables s₁ s₂ → (vpi vci : ℕ) (f g : Connection → Outcome)
+    → ((c : Connection) (a : ℕ) (z : Change) → a ≤ c .rate .acr → Meets (f c) (g (lowered c a z))) → Meets (ofMember s₁ vpi vci f) (ofMember s₂ vpi vci g)
+unfolding ofMember
+ofMember-meets r vpi vci f g h =
+    ofOpen-meets r (find-lower (pairName vpi pathVci) r) _ _ λ c a z e l.
+    require-meets r 28 _ _ (ap (λ ms. pairFits vpi vci && isMember (pairName vpi vci) ms) (members-same r)) (h c a z l)
 
-remove-meets : {s₁ s₂ : State} → Tables s₁ s₂ → (x : ℕ) → Meets (removeStep s₁ x) (removeStep s₂ x)
-unfolding removeStep withoutOne
-remove-meets (tables l t ms hs) x =
+offer-member-meets : {s₁ s₂ : State} → Tables s₁ s₂ → (vpi vci n : ℕ) → Meets (offerMemberStep s₁ vpi vci n) (offerMemberStep s₂ vpi vci n)
+unfolding offerMemberStep withOffer replay offered
+offer-member-meets (tables l t ms hs) vpi vci n =
     let r = tables l t ms hs in
-    ofOpen-meets r (find-lower (pathOf x) r) _ _ λ c a z e h.
-    require-meets r 28 _ _ refl λ _.
+    let x = pairName vpi vci in
+    ofMember-meets r vpi vci _ _ λ c a z h.
+    require-meets r 15 _ _ refl λ _.
+    accept-both _ _ (withMembers-tables (withCells x (cellsOf x ms + n) ms) (put-tables (pathOf x) (lower (offered n c) a z h) r))
+
+remove-meets : {s₁ s₂ : State} → Tables s₁ s₂ → (vpi vci : ℕ) → Meets (removeStep s₁ vpi vci) (removeStep s₂ vpi vci)
+unfolding removeStep withoutOne
+remove-meets (tables l t ms hs) vpi vci =
+    let r = tables l t ms hs in
+    let x = pairName vpi vci in
+    ofMember-meets r vpi vci _ _ λ c a z h _.
     discard-both (cellsOf x ms) _ _ _ _
     (withMembers-tables (withoutMember x ms) (put-tables (pathOf x) (lower (withQueue c (dequeued (cellsOf x ms) (c .queue))) a z h) r))
 
@@ -358,8 +366,8 @@ same-meets w r (making vpi vci t) = make-meets r (pairName vpi vci) t
 same-meets w r (outOfRate vpi vci t room) = out-of-rate-meets r (pairName vpi vci) t room
 same-meets w r (openingPath vpi t p) = open-path-meets r vpi t p
 same-meets w r (adding vpi vci) = add-meets r vpi vci
-same-meets w r (offeringMember vpi vci n) = offer-member-meets r (pairName vpi vci) n
-same-meets w r (removing vpi vci) = remove-meets r (pairName vpi vci)
+same-meets w r (offeringMember vpi vci n) = offer-member-meets r vpi vci n
+same-meets w r (removing vpi vci) = remove-meets r vpi vci
 
 pub step-meets : {s₁ s₂ : State} → WellFormed s₁ → Tables s₁ s₂ → {c d : Call} → Comparable c d → Meets (step s₁ c) (step s₂ d)
 unfolding step receiveStep

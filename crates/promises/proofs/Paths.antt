@@ -37,7 +37,7 @@ member-named : {s : State} → WellFormed s → (vpi vci : ℕ) → isMember (pa
 member-named {s} w vpi vci e =
     pair-named vpi vci (all-named (λ x. x < noName) (pairName vpi vci) (s .members) (all-map ValidMember (λ m. m .name < noName) (λ m h. h .coded) (s .members) (w .members .valid .each)) e)
 
-member-high : {s : State} → WellFormed s → (x : ℕ) → isMember x (s .members) ≡ true → firstVci ≤ vciIn x
+pub member-high : {s : State} → WellFormed s → (x : ℕ) → isMember x (s .members) ≡ true → firstVci ≤ vciIn x
 member-high {s} w x e =
     all-named (λ y. firstVci ≤ vciIn y) x (s .members) (all-map ValidMember (λ m. firstVci ≤ vciIn (m .name)) (λ m h. h .high) (s .members) (w .members .valid .each)) e
 

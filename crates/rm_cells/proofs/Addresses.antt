@@ -1,7 +1,7 @@
 -- Pairs out of their ranges are unknown, and every cell that is written carries its connection's VPI and VCI.
 use Prim.Native.Nat.{ℕ, _≤_, _<_}
 use mathlib.Core.Path.{_≡_, refl, ap, subst}
-use mathlib.Core.Bool.{true, false}
+use mathlib.Core.Bool.{true, false, cond, _&&_}
 use mathlib.Core.List.{List, _++_}
 use native.Mathlib.Omega.{arith}
 use lib.Dec.{lit≤}
@@ -13,8 +13,8 @@ use Rattle.cell.specs.Header.{vpiOf, vciOf, header}
 use Rattle.cell.specs.Fields.{resourceCell}
 use Rattle.cell.specs.Turning.{turnedCell}
 use Rattle.cell.proofs.Names.{pair-lt, names-apart, pair-back}
-use Rattle.members.specs.Path.{pathOf}
-use Rattle.members.specs.Members.{Member}
+use Rattle.members.specs.Path.{pathVci, pathOf}
+use Rattle.members.specs.Members.{Member, isMember}
 use Rattle.connection.specs.declared.parts.Connection.{Connection}
 use Rattle.connection.specs.declared.parts.Waiting.{Waiting}
 use Rattle.connection.specs.declared.parts.Waiting.the-variants.{Nothing, Cell}
@@ -25,11 +25,11 @@ use Rattle.connection.specs.Making.{madeFields}
 use Rattle.connection.specs.OutOfRate.{outOfRateCell}
 use Rattle.connection.specs.Sending.{after, memberServed, forwardFields, backwardCell, bufferAfter, untouched, written}
 use Rattle.connection.proofs.Keeps.{after-same}
-use Rattle.model.specs.State.{State, free, empty, find, withTime}
+use Rattle.model.specs.State.{State, Entry, free, taken, empty, isFree, find, withTime}
 use Rattle.model.specs.Invariant.{WellFormed}
 use Rattle.model.specs.declared.answer.Answer.the-variants.{Refused}
 use Rattle.model.specs.Call.{Call, opening, closing, receiving, offering, levelling, slot, making, outOfRate, openingPath, adding, offeringMember, removing, Outcome}
-use Rattle.model.specs.Step.{refuse, accept, replay, discard, ofOpen, admit, openStep, openPathStep, addStep, offerMemberStep, removeStep, nameAnswered, sendFrom, sendStep, idleStep, sendOutside, step}
+use Rattle.model.specs.Step.{refuse, accept, replay, discard, ofOpen, admit, openStep, openPathStep, addStep, ofMember, offerMemberStep, removeStep, nameAnswered, sendFrom, sendStep, idleStep, sendOutside, step}
 use Rattle.model.specs.Queries.{entryAcr, acrOf, entryContract, contractOf}
 use Rattle.model.specs.Run.{final}
 use Rattle.model.proofs.Frames.{name-of}
@@ -37,7 +37,7 @@ use Rattle.model.proofs.Preserved.{valid-at}
 use Rattle.model.proofs.Effects.{Effect, refuses, begins, ends, offers, marks, works, levels, idles, sends, makes, leaves, beginsPath, adds, offersMember, removes, effect}
 use Rattle.model.proofs.Reached.{reached-well-formed, reached-unknown, reached-no-path}
 use Rattle.promises.proofs.NotOpen.{close-out, offer-out, make-out, leave-out}
-use Rattle.rm_cells.specs.Addresses.{OutOfRangeUnknown, NoPathOver255, PairsApart, Carries, SentCarries, CarriesName, CellsCarryNames}
+use Rattle.rm_cells.specs.Addresses.{noMember, OutOfRangeUnknown, NoPathOver255, PairsApart, Carries, SentCarries, CarriesName, CellsCarryNames}
 use Rattle.laws.specs.Require.{require}
 
 -- Out of the ranges.
@@ -47,21 +47,31 @@ module _ (s : State) (vpi vci : ℕ) where
   open-out t p e l k = rw (le-leb 32 vci l, k, e)
 
   -- the calls on members
-  module _ (f : find (pathOf (pairName vpi vci)) (s .entries) ≡ free) where
-    add-out : 32 ≤ vci → addStep s vpi vci ≡ refuse s 11
-    unfolding addStep require ofOpen
-    add-out l = rw (le-leb 32 vci l, f)
+  add-out : find (pathOf (pairName vpi vci)) (s .entries) ≡ free → 32 ≤ vci → addStep s vpi vci ≡ refuse s 11
+  unfolding addStep require ofOpen
+  add-out f l = rw (le-leb 32 vci l, f)
 
-    offer-member-out : (n : ℕ) → offerMemberStep s (pairName vpi vci) n ≡ refuse s 11
-    unfolding offerMemberStep ofOpen
-    offer-member-out n = rw f
+  -- on a path that is open or not
+  module _ (e : pairFits vpi vci ≡ false) where
+    no-member : (x : Entry) (f : Connection → Outcome)
+        → ofOpen s x (λ c. require (refuse s 28) (pairFits vpi vci && isMember (pairName vpi vci) (s .members)) (f c)) ≡ refuse s (cond (isFree x) 11 28)
+    unfolding ofOpen require isFree
+    no-member free f = refl
+    no-member (taken c) f = rw e
 
-    remove-out : removeStep s (pairName vpi vci) ≡ refuse s 11
-    unfolding removeStep ofOpen
-    remove-out = rw f
+    offer-member-out : (n : ℕ) → offerMemberStep s vpi vci n ≡ refuse s (noMember s vpi)
+    unfolding offerMemberStep ofMember
+    offer-member-out n = no-member (find (pairName vpi pathVci) (s .entries)) _
+
+    remove-out : removeStep s vpi vci ≡ refuse s (noMember s vpi)
+    unfolding removeStep ofMember
+    remove-out = no-member (find (pairName vpi pathVci) (s .entries)) _
+
+vpi-over : (vpi : ℕ) → 255 < vpi → pairFits vpi pathVci ≡ false
+vpi-over vpi h = rw (lt-leb vpi 255 h)
 
 pub out-of-range-unknown : OutOfRangeUnknown
-unfolding step acrOf entryAcr contractOf entryContract
+unfolding step acrOf entryAcr contractOf entryContract isFree
 out-of-range-unknown cs vpi vci e =
     let s : State = final empty cs in
     let f : find (pairName vpi vci) (s .entries) ≡ free = reached-unknown cs vpi vci e in
@@ -73,8 +83,9 @@ out-of-range-unknown cs vpi vci e =
       makes = make-out s vpi vci f;
       leaves = leave-out s vpi vci f;
       adds = add-out s vpi vci g;
-      offersMember = offer-member-out s vpi vci g;
-      removes = remove-out s vpi vci g;
+      offersMember = offer-member-out s vpi vci e;
+      removes = remove-out s vpi vci e;
+      noPath = λ h. ap (λ (x : Entry). cond (isFree x) 11 28) (reached-unknown cs vpi pathVci (vpi-over vpi h));
       reads = ap entryAcr f;
       exports = ap entryContract f;
     }

@@ -47,7 +47,7 @@ KeptBy P v s (offering vpi vci n) a = (d : Connection) → P d → P (offered n 
 KeptBy P v s (levelling l) a = Unit
 KeptBy P v s (slot t room) a =
     (d : Connection) (x : ℕ) (m : Option ℕ) (acr n : ℕ) → a ≡ Sent v x (kindAt t d) acr n → P d → P (withServed m (after (kindAt t d) t d))
-KeptBy P v s (making vpi vci t) a = (d : Connection) → P d → P (withMade t (s .level) d)
+KeptBy P v s (making vpi vci t) a = (d : Connection) → s .last ≤ t → find v (s .entries) ≡ taken d → P d → P (withMade t (s .level) d)
 KeptBy P v s (outOfRate vpi vci t room) a = (d : Connection) → s .last ≤ t → find v (s .entries) ≡ taken d → P d → P (afterOutOfRate t d)
 KeptBy P v s (openingPath vpi t p) a = Unit
 KeptBy P v s (adding vpi vci) a = Unit
@@ -93,7 +93,7 @@ module _ (P : Connection → Type 0) (v : ℕ) where
       let k = kindAt t (b .holder) in
       changed-kept u (withTime t s) a (b .holder) (withServed _ (after k t (b .holder))) (b .found) (after-same k t (b .holder) .name)
       (λ z _. q (b .holder) _ _ _ _ (sent-same z refl refl)) m
-  effect-kept {s} a (makes vpi vci t d f g b z) q m = changed-kept (pairName vpi vci) (withTime t s) a d (withMade t (s .level) d) f refl (λ _ _. q d) m
+  effect-kept {s} a (makes vpi vci t d f g b z) q m = changed-kept (pairName vpi vci) (withTime t s) a d (withMade t (s .level) d) f refl (λ _ h. q d (g .since) h) m
   effect-kept {s} a (leaves vpi vci t room d f g b) q m = changed-kept (pairName vpi vci) (withTime t s) a d (afterOutOfRate t d) f refl (λ _ h. q d (g .since) h) m
   effect-kept {s} a (beginsPath vpi t p g) q m = begun-kept s (pairName vpi pathVci) t p g m
   effect-kept a (adds vpi vci d f j) q m = m

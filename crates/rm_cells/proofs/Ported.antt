@@ -89,7 +89,7 @@ module _ (rate : ℕ) (o : List ℕ) (f : Fields) (e : reading o ≡ Resource f)
 unmoved : {o : List ℕ} {n : ℕ} {p : Passed} → record { refusal = n; cell = o } ≡ p → Comparable (receiving o) (receiving (p .cell))
 unmoved {o} e = subst (λ (q : Passed). Comparable (receiving o) (receiving (q .cell))) e equal
 
-comparable : {c d : Call} → Ported c d → Comparable c d
+pub comparable : {c d : Call} → Ported c d → Comparable c d
 comparable same = equal
 comparable (held rate o) = go (reading o) refl
   where

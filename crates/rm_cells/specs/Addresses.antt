@@ -1,17 +1,18 @@
--- A pair of numbers out of their ranges is unknown, and never another pair; every cell that a call writes carries its connection's VPI and VCI, of a path VCI 6. (Document 02, L6 and L13.)
+-- A pair of numbers out of their ranges is unknown, or no member of an open path, and never another pair; every cell that a call writes carries its connection's VPI and VCI, of a path VCI 6. (Document 02, L6 and L13.)
 use Prim.Native.Nat.{ℕ, _≤_, _<_}
 use mathlib.Core.Path.{_≡_}
-use mathlib.Core.Bool.{true, false}
+use mathlib.Core.Bool.{true, false, cond}
 use mathlib.Core.List.{List}
 use Rattle.params.specs.declared.params.Params.{Params}
 use Rattle.rate.specs.Units.{latestTime}
 use Rattle.rate.specs.Code.{codesClear}
 use Rattle.cell.specs.Name.{pairFits, pairName}
 use Rattle.cell.specs.Header.{vpiOf, vciOf}
+use Rattle.members.specs.Path.{pathVci}
 use Rattle.connection.specs.declared.kind.Kind.{Kind}
 use Rattle.connection.specs.declared.kind.Kind.the-variants.{Forward, Turned, Data}
 use Rattle.connection.specs.Sending.{Buffer, untouched, written}
-use Rattle.model.specs.State.{State, empty}
+use Rattle.model.specs.State.{State, empty, isFree, find}
 use Rattle.model.specs.declared.acr.Acr.the-variants.{NotOpen}
 use Rattle.model.specs.declared.contract.Contract.the-variants.{NotOpen as NoContract}
 use Rattle.model.specs.declared.answer.Answer.{Answer}
@@ -21,6 +22,10 @@ use Rattle.model.specs.Step.{refuse, step}
 use Rattle.model.specs.Queries.{acrOf, contractOf}
 use Rattle.model.specs.Run.{final}
 
+-- what a call on a member gives where the pair is none: 28 if the VPI has an open path
+abbrev pub noMember : State → (vpi : ℕ) → ℕ
+noMember s vpi = cond (isFree (find (pairName vpi pathVci) (s .entries))) 11 28
+
 -- what the calls on a pair do, where no refusal with an earlier place in their order comes first: 10 and 19 in an open, 8 in a making, 1 and 8 in a cell outside the rate
 pub record Unknown (s : State) (vpi vci : ℕ) : Type 0 where
   pub opens : (t : ℕ) (p : Params) → 32 ≤ vci → codesClear (p .pcr) (p .mcr) (p .icr) ≡ true → step s (opening vpi vci t p) ≡ refuse s 7
@@ -28,10 +33,12 @@ pub record Unknown (s : State) (vpi vci : ℕ) : Type 0 where
   pub offers : (n : ℕ) → step s (offering vpi vci n) ≡ refuse s 11
   pub makes : (t : ℕ) → t ≤ latestTime → step s (making vpi vci t) ≡ refuse s 11
   pub leaves : (t : ℕ) → t ≤ latestTime → step s (outOfRate vpi vci t 53) ≡ refuse s 11
-  -- no path is open for the calls on members: 10 comes first in adding
+  -- 10 comes first in adding
   pub adds : 32 ≤ vci → step s (adding vpi vci) ≡ refuse s 11
-  pub offersMember : (n : ℕ) → step s (offeringMember vpi vci n) ≡ refuse s 11
-  pub removes : step s (removing vpi vci) ≡ refuse s 11
+  -- a member's offer and removal find the path by its VPI: one over 255 has none
+  pub offersMember : (n : ℕ) → step s (offeringMember vpi vci n) ≡ refuse s (noMember s vpi)
+  pub removes : step s (removing vpi vci) ≡ refuse s (noMember s vpi)
+  pub noPath : 255 < vpi → noMember s vpi ≡ 11
   pub reads : acrOf s (pairName vpi vci) ≡ NotOpen
   pub exports : contractOf s (pairName vpi vci) ≡ NoContract
 

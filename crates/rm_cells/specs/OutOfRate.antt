@@ -18,10 +18,10 @@ use Rattle.connection.specs.Ready.{readyInstant}
 use Rattle.connection.specs.Sending.{Buffer, written, forwardFields}
 use Rattle.model.specs.State.{State, Entry, free, taken, empty, find}
 use Rattle.model.specs.Choice.{winner}
-use Rattle.model.specs.Call.{Call, closing, outOfRate, Outcome}
+use Rattle.model.specs.Call.{Call, outOfRate, Outcome}
 use Rattle.model.specs.Step.{step}
 use Rattle.model.specs.Run.{final, isAccepted, allowed}
-use Rattle.promises.specs.All.{All}
+use Rattle.rm_cells.specs.Spaced.{Apart}
 
 -- the ready instant of the connection in an entry
 abbrev pub entryReady : Entry → Instant
@@ -46,6 +46,7 @@ pub record OutsideAlone (s : State) (v t : ℕ) (o : Outcome) : Type 0 where
   pub own : find v (o .state .entries) ≡ taken (withOutside holder (At t))
   pub others : (u : ℕ) → u ≢ v → find u (o .state .entries) ≡ find u (s .entries)
   pub level : o .state .level ≡ s .level
+  pub members : o .state .members ≡ s .members
   pub time : o .state .last ≡ t
   -- so that every rate and every ready instant stands, and slots go where they would have gone
   pub rates : (u : ℕ) → allowed u (o .state) ≡ allowed u s
@@ -58,9 +59,7 @@ OutOfRateAlone =
     (cs : List Call) (vpi vci t room : ℕ) → isAccepted (step (final empty cs) (outOfRate vpi vci t room) .answer) ≡ true
     → OutsideAlone (final empty cs) (pairName vpi vci) t (step (final empty cs) (outOfRate vpi vci t room))
 
--- At most ten a second on a connection: two accepted calls for it, with any calls ds between them that do not close it, lie 100 ms or more apart.
+-- At most ten a second on a connection.
 abbrev pub OutOfRateSpaced : Type 0
 OutOfRateSpaced =
-    (cs ds : List Call) (vpi vci t room later laterRoom : ℕ) → All (λ c. c ≢ closing vpi vci) ds
-    → let o = step (final empty cs) (outOfRate vpi vci t room) in
-    isAccepted (o .answer) ≡ true → isAccepted (step (final (o .state) ds) (outOfRate vpi vci later laterRoom) .answer) ≡ true → t + 100_000_000 ≤ later
+    (cs ds : List Call) (vpi vci t room later laterRoom : ℕ) → Apart cs ds vpi vci (outOfRate vpi vci t room) (outOfRate vpi vci later laterRoom) t later

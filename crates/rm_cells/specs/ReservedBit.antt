@@ -17,9 +17,13 @@ use Rattle.promises.specs.All.{All}
 abbrev pub TopBitsClear : List ℕ → Type 0
 TopBitsClear o = (octet 8 o < 128) × (octet 10 o < 128) × (octet 12 o < 128)
 
+-- what holds of the cell that a call wrote, if it wrote one
+abbrev pub WrittenAs : (List ℕ → Type 0) → Buffer → Type 0
+WrittenAs P untouched = Unit
+WrittenAs P (written o) = P o
+
 abbrev pub WrittenClear : Buffer → Type 0
-WrittenClear untouched = Unit
-WrittenClear (written o) = TopBitsClear o
+WrittenClear b = WrittenAs TopBitsClear b
 
 -- a received cell consists of octets, which C's type ensures
 abbrev pub OfOctets : Call → Type 0

@@ -55,10 +55,10 @@ ready-soon a c h l e = record {
 }
 
 -- A slot from the ready instant on: to one that does not come after instant i of v
-data Goes (s : State) (t i v : ℕ) : Outcome → Type 0 where
+pub data Goes (s : State) (t i v : ℕ) : Outcome → Type 0 where
   goes : (j u : ℕ) (b : Chosen t j u (s .entries)) → Ahead j u i v → Goes s t i v (sendStep (withTime t s) t u (b .holder) (kindAt t (b .holder)))
 
-slot-goes :
+pub slot-goes :
     {s : State} (v : ℕ) (c : Connection) (i t room : ℕ) → find v (s .entries) ≡ taken c → readyInstant c ≡ At i → i ≤ t → {o : Outcome}
     → Effect s (slot t room) o → IsAccepted o → Goes s t i v o
 unfolding refuse isAccepted
@@ -102,7 +102,7 @@ none-free : (i : ℕ) → entryBy i free ≡ false
 unfolding entryBy
 none-free i = refl
 
-ahead-by : {j u i v : ℕ} → Ahead j u i v → j ≤ i
+pub ahead-by : {j u i v : ℕ} → Ahead j u i v → j ≤ i
 ahead-by (sooner h) = omega arith
 ahead-by (tied e h) = omega arith
 

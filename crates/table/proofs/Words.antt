@@ -19,7 +19,7 @@ use Rattle.connection.specs.Invariant.{ValidAt}
 use Rattle.members.specs.Members.{memberCapacity}
 use Rattle.model.specs.State.{State, Entry, free, taken, empty, capacity}
 use Rattle.model.specs.Tournament.{instantLead, leafLead}
-use Rattle.table.specs.Layout.{nameOf, keyOf, liveOf, fixedOf, destinationTag, waitingPayload, payloadWords, madeWords, outsideWords, instantWord, key, sourceWords, destinationWords, sideWords, liveWords, fixedWords, columns, isTaken, used, directory, nodes, tableWords, packed, memberWords, words, groups, namesFrom, keysFrom, liveFrom, liveWidth, fixedFrom, fixedWidth, size}
+use Rattle.table.specs.Layout.{nameOf, keyOf, liveOf, fixedOf, destinationTag, waitingPayload, payloadWords, madeWords, outsideWords, instantWord, key, sourceWords, destinationWords, sideWords, liveWords, fixedWords, columns, isTaken, used, directory, nodes, tableWords, packed, memberWords, words, lastAt, groups, namesFrom, keysFrom, liveFrom, liveWidth, fixedFrom, fixedWidth, size}
 use Rattle.table.specs.Loading.{connectionFrom, connectionAt}
 use Rattle.table.specs.Storing.{sourceUpdated, destinationUpdated, efciUpdated, outsideUpdated, updated, given}
 use Rattle.table.proofs.Loaded.{words-back, from-drop}
@@ -28,6 +28,11 @@ use Rattle.table.proofs.Used.{used-free, used-same}
 use Rattle.table.proofs.Directory.{directory-free, directory-same}
 use Rattle.table.proofs.Nodes.{nodes-free, nodes-same}
 use Rattle.table.proofs.Splits.{header, length-header, header-split, columns-split}
+
+-- the word of the last accepted time
+pub last-at : (s : State) {l : List ℕ} → l ≡ words s → getD l lastAt 0 ≡ s .last
+unfolding words
+last-at s e = ap (λ (x : List ℕ). getD x lastAt 0) e
 
 -- an entry's lead follows from its name and its ready instant
 pub lead-same : (i : ℕ) (c d : Connection) → d .name ≡ c .name → readyInstant d ≡ readyInstant c → leafLead i (taken d) ≡ leafLead i (taken c)

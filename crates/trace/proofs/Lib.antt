@@ -1,3 +1,4 @@
 pub mod Groups
 pub mod Weights
 pub mod Written
+pub mod Shortest

@@ -1,11 +1,12 @@
 -- A number that is written in its shortest form is read back.
-use mathlib.Core.Path.{_≡_, sym, ap, subst, _∙_}
+use mathlib.Core.Path.{_≡_, refl, sym, ap, subst, _∙_}
 use mathlib.Core.Bool.{Bool, true, false, not, _&&_, cond}
 use mathlib.Core.List.{List, [], _∷_}
 use Prim.Native.Nat.{ℕ, zero, suc, _+_, _-_, _*_, _/_, _%_, _^_, _≤_, _<_}
 use native.Mathlib.Nat.{mul-assoc, mul-one, mul-comm, add-mul, div-add-mod', div-lt-iff-lt-mul, le-refl, lt-irrefl, lt-of-not-le, one-mul, zero-add}
 use native.Mathlib.Omega.{arith}
 use lib.ListN.{length, getD}
+use borrow.Author.Tests.{ltb-true, ltb-false}
 use lib.Dec.{T, ltb, eqb, lit<, ltb→lt, nltb→le}
 use lib.Pow.{pow-add}
 use Rattle.trace.specs.Numbers.{Value, readOn, written, Stands, ReadBack}
@@ -13,14 +14,14 @@ use Rattle.trace.proofs.Groups.{last-group, more-groups, tenth-one, not
 
 -- a last group of 0 is the only one
 short : (x p : ℕ) → (1 < p → 0 < x) → (eqb x 0 && ltb 1 p) ≡ false
-short x p h = go (ltb 1 p) (ltb→lt 1 p) (nltb→le 1 p)
+short x p h = go (ltb 1 p) refl
   where
     some : 0 < x → x ≡ 0 → ⊥
     some q z = omega arith
 
-    go : (b : Bool) → (T b → 1 < p) → (T (not b) → p ≤ 1) → (eqb x 0 && ltb 1 p) ≡ false
-    go true t f = not-zero x p (some (h (t tt)))
-    go false t f = only-one x p (f tt)
+    go : (b : Bool) → ltb 1 p ≡ b → (eqb x 0 && ltb 1 p) ≡ false
+    go true e = not-zero x p (some (h (ltb-true 1 p e)))
+    go false e = only-one x p (ltb-false 1 p e)
 
 -- the low group and the rest
 value-is : (v x p : ℕ) → v + (128 + x % 128 - 128) * p + x / 128 * (p * 128) ≡ v + x * p
@@ -34,13 +35,15 @@ value-is v x p =
     less : (r : ℕ) → 128 + r - 128 ≡ r
     less r = omega arith
 
-smaller : (n x : ℕ) → x < 2 * 2 ^ (7 * suc n) → x / 128 < 2 * 2 ^ (7 * n)
-smaller n x h =
-    div-lt-iff-lt-mul (lit< tt) .1
-    (subst (λ (z : ℕ). x < z) (ap (λ (z : ℕ). 2 * z) (ap (λ (z : ℕ). 2 ^ z) (seven n) ∙ pow-add 2 (7 * n) 7) ∙ sym (mul-assoc 2 (2 ^ (7 * n)) 128)) h)
+-- a group more
+pub more-room : (n : ℕ) → 2 * 2 ^ (7 * suc n) ≡ 2 * 2 ^ (7 * n) * 128
+more-room n = ap (λ (z : ℕ). 2 * z) (ap (λ (z : ℕ). 2 ^ z) (seven n) ∙ pow-add 2 (7 * n) 7) ∙ sym (mul-assoc 2 (2 ^ (7 * n)) 128)
   where
     seven : (n : ℕ) → 7 * suc n ≡ 7 * n + 7
     seven n = omega arith
+
+smaller : (n x : ℕ) → x < 2 * 2 ^ (7 * suc n) → x / 128 < 2 * 2 ^ (7 * n)
+smaller n x h = div-lt-iff-lt-mul (lit< tt) .1 (subst (λ (z : ℕ). x < z) (more-room n) h)
 
 -- x is what is left of the number, p the weight of its lowest group
 reads :

@@ -11,12 +11,14 @@ returns c =
     let m = a .before .before in
     let u = m .before .before .before .before in
     let s = u .before .before .before .before .before in
-    let n = s .before .before .before in
+    let p = s .before .before .before in
+    let n = p .before .before in
     let r = n .before .before in
     let l = r .before .before in
     let f = l .before .before in
     let o = f .before .before in
-    let start = o .before .before .before .before .before in
+    let known = o .before .before .before .before in
+    let start = known .before in
     record {
       opened = noSlot (o .abr-open .last .0) (o .abr-open .result);
       offered = noSlot (f .abr-offer .last .0) (f .abr-offer .result);
@@ -34,6 +36,8 @@ returns c =
       closed = afterClose (c .abr-close .last .0) (c .abr-close .result);
       next = n .abr-next .result;
       asked = n .abr-next .ensures;
+      passed = p .abr-slot-time .result;
+      timed = p .abr-slot-time .ensures;
       rate = a .abr-acr .ensures;
       table = refl;
       buffer = refl;
@@ -41,7 +45,7 @@ returns c =
           then (opens (o .abr-open .ensures))
           (then (offers (f .abr-offer .ensures))
           (then (levels (l .abr-set-level .ensures))
-          (then (receives (r .abr-receive .ensures))
+          (then (receives (record { each = λ i. known .shared-slice-known .given i .fits }) (r .abr-receive .ensures))
           (then (slots (s .abr-slot .ensures))
           (then (leaves (u .abr-out-of-rate .ensures))
           (then (makes (m .abr-make .ensures))
@@ -51,4 +55,4 @@ returns c =
 pub each-call-spec : {M : Type 1} → statement M
 each-call-spec =
     tie.close
-    (tie.spec (λ c κs. search needs) (λ c κs. search needs) (λ c κs. search needs) (λ c κs. search needs) (λ c κs. search needs) (λ c κs. search needs) (λ c κs. search needs) (λ c κs. search needs) (λ c κs. search needs) (λ c κs. search needs) (λ c. search needs) returns)
+    (tie.spec (λ c κs. search needs) (λ c κs. search needs) (λ c κs. search needs) (λ c κs. search needs) (λ c κs. search needs) (λ c κs. search needs) (λ c κs. search needs) (λ c κs. search needs) (λ c κs. search needs) (λ c κs. search needs) (λ c κs. search needs) (λ c. search needs) returns)

@@ -15,7 +15,7 @@ use Rattle.storing.specs.Updates.{Updates, DestinationMoved}
 use Rattle.names.specs.Finding.{Located}
 use Rattle.names.proofs.Found.{found-at}
 use Rattle.engine.proofs.Outcomes.{refused-out, level-of, below, missing, standing, ranged, loaded-is}
-use Rattle.engine.proofs.OpenCases.{last-at}
+use Rattle.table.proofs.Words.{last-at}
 use Rattle.engine.proofs.MakeCases.{make-late, make-missing, make-early, make-uncongested, make-soon, make-done, make-out}
 use Rattle.engine.proofs.make.make.Statement.{statement}
 use Rattle.engine.proofs.make.make.Tie as tie

@@ -19,7 +19,8 @@ use Rattle.names.proofs.Found.{found-at, room-at}
 use Rattle.member_words.specs.Words.{Finds as FindsMember}
 use Rattle.engine.proofs.Outcomes.{refused-out, missing, standing}
 use Rattle.engine.proofs.Members.{no-member, member-at}
-use Rattle.engine.proofs.OpenCases.{open-reserved, open-unfit, open-tbe, open-frtt, open-late, Passed, open-taken, open-member, open-full, open-early, open-done, lowest, entry-below, no-room, last-at, open-out}
+use Rattle.table.proofs.Words.{last-at}
+use Rattle.engine.proofs.OpenCases.{open-reserved, open-unfit, open-tbe, open-frtt, open-late, Passed, open-taken, open-member, open-full, open-early, open-done, lowest, entry-below, no-room, open-out}
 use Rattle.engine.proofs.open.admit.Statement.{statement}
 use Rattle.engine.proofs.open.admit.Tie as tie
 

@@ -19,7 +19,7 @@ use Rattle.names.specs.Finding.{Located}
 use Rattle.names.proofs.Found.{found-at}
 use Rattle.slots.specs.Slots.{ForwardIn}
 use Rattle.engine.proofs.Outcomes.{below, missing, standing, ranged, loaded-is}
-use Rattle.engine.proofs.OpenCases.{last-at}
+use Rattle.table.proofs.Words.{last-at}
 use Rattle.slots.proofs.SlotCases.{refused-leaves}
 use Rattle.slots.proofs.OutOfRateCases.{outside-short, outside-late, outside-missing, outside-early, outside-soon, outside-done, outside-out}
 use Rattle.slots.proofs.out_of_rate.out_of_rate.Statement.{statement}

@@ -3,7 +3,7 @@ use mathlib.Core.Path.{_≡_, subst}
 use native.Mathlib.Omega.{arith}
 use borrow.Author.Needs.{needs}
 use lib.ListN.{length}
-use Rattle.engine.proofs.OpenCases.{last-at}
+use Rattle.table.proofs.Words.{last-at}
 use Rattle.slots.proofs.SlotCases.{refused-leaves, slot-short, slot-late, slot-early, idle-leaves, send-leaves, entry-below}
 use Rattle.slots.proofs.slot.slot.Statement.{statement}
 use Rattle.slots.proofs.slot.slot.Tie as tie
