@@ -130,7 +130,7 @@ unfolding entryAcr entryRate
 entry-rate free = refl
 entry-rate (taken c) = refl
 
-acr-rate : (s : State) (v : ℕ) → rateReturned (acrAnswer (acrOf s v)) ≡ allowed v s
+pub acr-rate : (s : State) (v : ℕ) → rateReturned (acrAnswer (acrOf s v)) ≡ allowed v s
 unfolding acrOf
 acr-rate s v = entry-rate (find v (s .entries))
 

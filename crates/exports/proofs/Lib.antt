@@ -7,3 +7,7 @@ pub mod Changes
 pub mod Planning
 pub mod Recorded
 pub mod Conservation
+pub mod Transport
+pub mod Known
+pub mod LastTime
+pub mod Orders

@@ -79,7 +79,7 @@ sent-seen v s w f k c o m a e =
     ∙ cell-returned v f t (a .acr) (step s c .answer) (names-connection w f k c)
     ∙ ap (λ (x : ℕ). cellIn v t x (step s c .answer)) (ap (λ (x : AcrAnswer). x .acr) e ∙ rate-returned (acrOf s v))
 
-recorded-sent :
+pub recorded-sent :
     (v : ℕ) (cs : List Call) (s : State) → WellFormed s → (f : ℕ → Bool) → Knows f s → (l : List ℕ) → l ≡ words s → (os : List Observation) (rs : List AcrAnswer) → AllMatch (run s cs) os
     → RatesRead v l os rs → recorded v f cs os rs ≡ sentFrom v s cs
 unfolding sentFrom
@@ -91,7 +91,7 @@ recorded-sent v (c ∷ cs) s w f k l e (o ∷ os) (a ∷ rs) (both m ms) (readTh
     (recorded-sent v cs (step s c .state) (step-well-formed w c) (memberSeen c o f) (knows-after w c f k _ (accepted-seen w c m)) (o .table) (m .table) os rs ms r)
 
 -- what a caller knows of members after calls
-knows-run : {s : State} → WellFormed s → (f : ℕ → Bool) → Knows f s → (cs : List Call) (os : List Observation) → AllMatch (run s cs) os → Knows (membersSeen f cs os) (final s cs)
+pub knows-run : {s : State} → WellFormed s → (f : ℕ → Bool) → Knows f s → (cs : List Call) (os : List Observation) → AllMatch (run s cs) os → Knows (membersSeen f cs os) (final s cs)
 knows-run w f h [] [] neither = h
 knows-run w f h (c ∷ cs) (o ∷ os) (both m ms) = knows-run (step-well-formed w c) (memberSeen c o f) (knows-after w c f h _ (accepted-seen w c m)) cs os ms
 

@@ -106,7 +106,7 @@ NamesConnection f (Closed n k) = Unit
 NamesConnection f Idle = Unit
 NamesConnection f (Sent v x k a n) = connectionOf f x ≡ v
 
-open-alone : (s : State) → WellFormed s → (v : ℕ) (c : Connection) → find v (s .entries) ≡ taken c → isMember v (s .members) ≡ false
+pub open-alone : (s : State) → WellFormed s → (v : ℕ) (c : Connection) → find v (s .entries) ≡ taken c → isMember v (s .members) ≡ false
 unfolding isFree
 open-alone s w v c e = go (isMember v (s .members)) refl
   where

@@ -1,0 +1,15 @@
+-- They hold.
+pub mod Taken
+pub mod WrittenCells
+pub mod Written
+pub mod Carried
+pub mod Sent
+pub mod Heard
+pub mod Turned
+pub mod Marks
+pub mod Invented
+pub mod Spaced
+pub mod Alike
+pub mod OutsideAlone
+pub mod Pairs
+pub mod Forward

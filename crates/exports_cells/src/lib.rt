@@ -1,0 +1,1 @@
+// What exported calls take in and write, of whole lists of them: definitions in specs/, theorems in proofs/, no code.

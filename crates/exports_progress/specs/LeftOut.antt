@@ -1,0 +1,81 @@
+-- Idle slots can be left out, of exported calls: what is called behind one, with no time before its own, returns and writes the same without it, and abr_acr and abr_next do. An idle slot
+-- leaves its time as the last accepted one, so abr_slot_time, which passes no time before that, returns the same for times that are not before the slot's. (Beyond the documents' demands;
+-- document 01, "Slots" and refusal 14.)
+use Prim.Native.Nat.{ℕ, _+_, _≤_}
+use mathlib.Core.Path.{_≡_}
+use mathlib.Core.Bool.{Bool, cond, _&&_}
+use mathlib.Core.List.{List, [], _∷_}
+use lib.Dec.{eqb}
+use Rattle.model.specs.Call.{Call, opening, closing, receiving, offering, levelling, slot, making, outOfRate, openingPath, adding, offeringMember, removing}
+use Rattle.tournament.specs.Next.{GivesNext, GivesSlotTime}
+use Rattle.answers.specs.declared.calls.SlotAnswer.{SlotAnswer}
+use Rattle.answers.specs.declared.calls.AcrAnswer.{AcrAnswer}
+use Rattle.abr.specs.Contract.{AnswersAcr}
+use Rattle.abr.specs.Exports.{Observation, Performs, Trace, finalWords, zeros}
+use Rattle.promises.specs.All.{All}
+use Rattle.promises.specs.Demand3.{InPlace}
+use Rattle.service.specs.PassedOver.{slotTaken}
+use Rattle.service.specs.LeftOut.{NotBefore}
+
+-- a caller sees no difference where slots up to t were left out: in what was returned, in the octets of a buffer that was the same before, or in what abr_acr and abr_next return afterwards;
+-- in what abr_slot_time returns none, where it looks back no further than t
+pub record SameWithoutSlots (t : ℕ) (o q : Observation) : Type 0 where
+  pub returned : o .returned ≡ q .returned
+  pub cells : o .cells ≡ q .cells
+  pub octets : o .old ≡ q .old → o .new ≡ q .new
+  pub rates : (v : ℕ) (a b : AcrAnswer) → AnswersAcr v (o .table) a → AnswersAcr v (q .table) b → a ≡ b
+  pub next : (a b : ℕ) → GivesNext (o .table) a → GivesNext (q .table) b → a ≡ b
+  pub times : (now lag a b : ℕ) → t + lag ≤ now → GivesSlotTime (o .table) now lag a → GivesSlotTime (q .table) now lag b → a ≡ b
+
+-- a slot that returned 0 and no cell
+abbrev pub idleSeen : Call → SlotAnswer → Bool
+idleSeen c r = eqb (slotTaken c (eqb (r .refusal) 0)) 1 && eqb (r .kind) 0
+
+-- a list of calls without these, and what was observed of the others
+abbrev pub awakeSeen : List Call → List Observation → List Call
+awakeSeen [] os = []
+awakeSeen (c ∷ cs) [] = []
+awakeSeen (c ∷ cs) (o ∷ os) = cond (idleSeen c (o .returned)) (awakeSeen cs os) (c ∷ awakeSeen cs os)
+
+abbrev pub notIdleSeen : List Call → List Observation → List Observation
+notIdleSeen [] os = []
+notIdleSeen (c ∷ cs) [] = []
+notIdleSeen (c ∷ cs) (o ∷ os) = cond (idleSeen c (o .returned)) (notIdleSeen cs os) (o ∷ notIdleSeen cs os)
+
+unfoldable pub timeOfSlot : Call → ℕ
+timeOfSlot (opening vpi vci t p) = 0
+timeOfSlot (closing vpi vci) = 0
+timeOfSlot (receiving o) = 0
+timeOfSlot (offering vpi vci n) = 0
+timeOfSlot (levelling l) = 0
+timeOfSlot (slot t room) = t
+timeOfSlot (making vpi vci t) = 0
+timeOfSlot (outOfRate vpi vci t room) = 0
+timeOfSlot (openingPath vpi t p) = 0
+timeOfSlot (adding vpi vci) = 0
+timeOfSlot (offeringMember vpi vci n) = 0
+timeOfSlot (removing vpi vci) = 0
+
+-- no time is before that of an idle slot in front of it: t is the latest of those so far
+abbrev pub InOrderSeen : (t : ℕ) → List Call → List Observation → Type 0
+InOrderSeen t [] os = Unit
+InOrderSeen t (c ∷ cs) [] = Unit
+InOrderSeen t (c ∷ cs) (o ∷ os) = NotBefore t c × InOrderSeen (cond (idleSeen c (o .returned)) (timeOfSlot c) t) cs os
+
+-- the time of the last idle slot, t if there is none
+abbrev pub idleUntil : (t : ℕ) → List Call → List Observation → ℕ
+idleUntil t [] os = t
+idleUntil t (c ∷ cs) [] = t
+idleUntil t (c ∷ cs) (o ∷ os) = idleUntil (cond (idleSeen c (o .returned)) (timeOfSlot c) t) cs os
+
+-- After any exported calls from the zero table, and any calls ds behind them, once with and once without
+pub record ExportsLeftOut : Type 0 where
+  -- a slot in front of ds that returned 0 and no cell
+  pub one :
+      (cs : List Call) (os : List Observation) → Trace cs zeros os → (t room : ℕ) (o : Observation) → Performs (slot t room) (finalWords zeros os) o
+      → o .returned .refusal ≡ 0 → o .returned .kind ≡ 0 → (ds : List Call) → All (NotBefore t) ds
+      → (ps qs : List Observation) → Trace ds (o .table) ps → Trace ds (finalWords zeros os) qs → InPlace (SameWithoutSlots t) ps qs
+  -- all such slots of ds
+  pub all :
+      (cs : List Call) (os : List Observation) → Trace cs zeros os → (ds : List Call) (ps : List Observation) → Trace ds (finalWords zeros os) ps → InOrderSeen 0 ds ps
+      → (qs : List Observation) → Trace (awakeSeen ds ps) (finalWords zeros os) qs → InPlace (SameWithoutSlots (idleUntil 0 ds ps)) (notIdleSeen ds ps) qs

@@ -1,0 +1,81 @@
+-- A connection that is ready is not passed over for long, whatever else is called: said of what a caller knows from the calls and what they returned. (Beyond document 01's demands; "Slots" says who is ready when.)
+use Prim.Native.Nat.{ℕ, _+_, _-_, _≤_, _<_}
+use mathlib.Core.Path.{_≡_}
+use mathlib.Core.Logic.{_≢_}
+use mathlib.Core.Bool.{true, cond}
+use mathlib.Core.List.{List, [], _∷_}
+use mathlib.Core.Option.{none, some}
+use lib.Dec.{eqb}
+use Rattle.params.specs.declared.params.Params.{Params}
+use Rattle.params.specs.Params.{least}
+use Rattle.model.specs.Call.{Call, opening, closing, receiving, offering, levelling, slot, making, outOfRate, openingPath, adding, offeringMember, removing}
+use Rattle.answers.specs.declared.calls.AcrAnswer.{AcrAnswer}
+use Rattle.abr.specs.Contract.{AnswersAcr}
+use Rattle.abr.specs.Exports.{Observation, Trace, finalWords, zeros}
+use Rattle.promises.specs.All.{All}
+use Rattle.service.specs.Liveness.{Somewhere}
+use Rattle.service.specs.PassedOver.{opensBy, slotTaken, SlotFrom, Leaves}
+use Rattle.exports.specs.Exports.{paramsObserved}
+use Rattle.exports.specs.Returned.{noMember, membersSeen, wentTo, placesSeen}
+use Rattle.exports.specs.Conservation.{sumObserved}
+use Rattle.exports.specs.Along.{kept}
+use Rattle.exports_rates.specs.Seen.{Watched, watch, watched, seenOf}
+use Rattle.exports_service.specs.Ready.{waitsSeen}
+use Rattle.exports_service.specs.Served.{latestSeen}
+
+-- how many connections are open: one more after an open that returned 0, one less after such a close
+abbrev pub openAfter : Call → ℕ → ℕ
+openAfter (opening vpi vci t p) k = k + 1
+openAfter (closing vpi vci) k = k - 1
+openAfter (receiving o) k = k
+openAfter (offering vpi vci n) k = k
+openAfter (levelling l) k = k
+openAfter (slot t room) k = k
+openAfter (making vpi vci t) k = k
+openAfter (outOfRate vpi vci t room) k = k
+openAfter (openingPath vpi t p) k = k + 1
+openAfter (adding vpi vci) k = k
+openAfter (offeringMember vpi vci n) k = k
+openAfter (removing vpi vci) k = k
+
+abbrev pub countsOpen : Call → Observation → ℕ → ℕ
+countsOpen c o k = cond (eqb (o .returned .refusal) 0) (openAfter c k) k
+
+-- the opens at m or before, and the slots, that returned 0
+abbrev pub opensReturned : (m : ℕ) → List Call → List Observation → ℕ
+opensReturned m = sumObserved (λ c o. opensBy m c (eqb (o .returned .refusal) 0))
+
+abbrev pub slotsReturned : List Call → List Observation → ℕ
+slotsReturned = sumObserved (λ c o. slotTaken c (eqb (o .returned .refusal) 0))
+
+-- v is ready at m or before, by what is kept and by the rate that abr_acr returns of these words
+pub record ReadySeen (m v : ℕ) (k : Watched) (l : List ℕ) : Type 0 where
+  pub waits : waitsSeen (k .connection) ≡ true
+  pub rate : AcrAnswer
+  pub read : AnswersAcr v l rate
+  pub moving : 0 < rate .acr
+  pub by : latestSeen (rate .acr) (k .connection) ≤ m
+
+-- each slot that returned 0 came at m or later, when v was ready by m, until one returned a cell of it
+abbrev pub FoundReadySeen : (m v : ℕ) → Watched → (before : List ℕ) → List Call → List Observation → Type 0
+FoundReadySeen m v k l [] os = Unit
+FoundReadySeen m v k l (c ∷ cs) [] = Unit
+FoundReadySeen m v k l (c ∷ cs) (o ∷ os) =
+    (slotTaken c (eqb (o .returned .refusal) 0) ≡ 1 → SlotFrom m c × ReadySeen m v k l)
+    × (wentTo (k .member) (o .returned) ≢ some v → FoundReadySeen m v (watch v c o k) (o .table) cs os)
+
+-- After any exported calls from the zero table, and in any further ones: of as many slots that returned 0 as connections are open, and as are opened among them by m, one is v's own
+pub record ExportsNotPassedOver : Type 0 where
+  pub served :
+      (cs : List Call) (os : List Observation) → Trace cs zeros os → (v m : ℕ)
+      → (ds : List Call) (ps : List Observation) → Trace ds (finalWords zeros os) ps → FoundReadySeen m v (watched v cs os) (finalWords zeros os) ds ps
+      → 0 < slotsReturned ds ps → kept countsOpen 0 cs os + opensReturned m ds ps ≤ slotsReturned ds ps
+      → Somewhere (λ x. x ≡ some v) (placesSeen (membersSeen noMember cs os) ds ps)
+  -- so if v is open with a minimum above 0, something waits on it, none of the further calls closes it or removes one of its members, and all slots come at m or later, which is a gap at
+  -- the minimum or more after its last cell
+  pub guaranteed :
+      (cs : List Call) (os : List Observation) → Trace cs zeros os → (v : ℕ) (p : Params) → paramsObserved v none cs os ≡ some p → 0 < least p
+      → waitsSeen (seenOf v cs os) ≡ true → (m : ℕ) → latestSeen (least p) (seenOf v cs os) ≤ m
+      → (ds : List Call) (ps : List Observation) → Trace ds (finalWords zeros os) ps → All (Leaves v) ds → All (SlotFrom m) ds
+      → kept countsOpen 0 cs os + opensReturned m ds ps ≤ slotsReturned ds ps
+      → Somewhere (λ x. x ≡ some v) (placesSeen (membersSeen noMember cs os) ds ps)

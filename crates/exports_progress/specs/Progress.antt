@@ -1,0 +1,109 @@
+-- Data and answers both get on, of exported calls: what kinds of cell follow each other on one connection, by what a caller knows to wait on it. (Document 01, "Slots"; source rule 3;
+-- document 02, L1.)
+use Prim.Native.Nat.{ℕ, _+_, _-_, _≤_, _<_}
+use mathlib.Core.Path.{_≡_}
+use mathlib.Core.Logic.{_≢_}
+use mathlib.Core.Bool.{Bool, true, false, cond, _&&_, _||_, not}
+use mathlib.Core.List.{List, [], _∷_, _++_}
+use mathlib.Core.Option.{none, some}
+use lib.Dec.{eqb}
+use lib.ListN.{length}
+use Rattle.params.specs.declared.params.Params.{Params}
+use Rattle.params.specs.Params.{nrm}
+use Rattle.cell.specs.declared.read.Reading.{Reading}
+use Rattle.cell.specs.declared.read.Reading.the-variants.{Refused, User, Resource}
+use Rattle.cell.specs.Name.{pairName}
+use Rattle.cell.specs.Fields.{cellName}
+use Rattle.cell.specs.Reading.{reading}
+use Rattle.members.specs.Path.{pathVci}
+use Rattle.model.specs.Call.{Call, opening, closing, receiving, offering, levelling, slot, making, outOfRate, openingPath, adding, offeringMember, removing}
+use Rattle.model.specs.Conservation.{offeredTo, closedOn}
+use Rattle.answers.specs.declared.calls.SlotAnswer.{SlotAnswer}
+use Rattle.abr.specs.Exports.{Observation, Trace, finalWords, zeros}
+use Rattle.promises.specs.All.{All}
+use Rattle.service.specs.Liveness.{Somewhere}
+use Rattle.service.specs.Progress.{NoClose}
+use Rattle.exports.specs.Exports.{paramsObserved}
+use Rattle.exports.specs.Returned.{noMember, memberSeen, connectionReturned}
+use Rattle.exports.specs.Conservation.{dataReturned}
+use Rattle.exports.specs.Along.{kept}
+
+-- whether a turned cell waits, and whether a made one does
+pub record Answers : Type 0 where
+  pub turned : Bool
+  pub made : Bool
+
+abbrev pub noAnswers : Answers
+noAnswers = record { turned = false; made = false }
+
+-- a forward RM cell of v becomes its turned cell
+abbrev pub turnedRead : (v : ℕ) → Reading → Answers → Answers
+turnedRead v (Refused n) k = k
+turnedRead v (User vpi vci e) k = k
+turnedRead v (Resource g) k = cond (eqb (cellName g) v) (cond (eqb (g .dir) 1) k (record { turned = true; made = k .made })) k
+
+-- after a call that returned 0: kind 2 is a turned cell or, if none waited, a made one
+abbrev pub answersAfter : (v : ℕ) → (member : ℕ → Bool) → Call → SlotAnswer → Answers → Answers
+answersAfter v f (opening vpi vci t p) r k = cond (eqb (pairName vpi vci) v) noAnswers k
+answersAfter v f (closing vpi vci) r k = cond (eqb (pairName vpi vci) v) noAnswers k
+answersAfter v f (receiving o) r k = turnedRead v (reading o) k
+answersAfter v f (offering vpi vci n) r k = k
+answersAfter v f (levelling l) r k = k
+answersAfter v f (slot t room) r k = cond (eqb (r .kind) 2 && eqb (connectionReturned f r) v) (record { turned = false; made = k .turned && k .made }) k
+answersAfter v f (making vpi vci t) r k = cond (eqb (pairName vpi vci) v) (record { turned = k .turned; made = true }) k
+answersAfter v f (outOfRate vpi vci t room) r k = k
+answersAfter v f (openingPath vpi t p) r k = cond (eqb (pairName vpi pathVci) v) noAnswers k
+answersAfter v f (adding vpi vci) r k = k
+answersAfter v f (offeringMember vpi vci n) r k = k
+answersAfter v f (removing vpi vci) r k = k
+
+-- what a caller keeps of v: the members, the data cells that wait, those offered less those that slots returned and closes gave back, and its answers
+pub record Waiting : Type 0 where
+  pub member : ℕ → Bool
+  pub cells : ℕ
+  pub answers : Answers
+
+abbrev pub nothingWaits : Waiting
+nothingWaits = record { member = noMember; cells = 0; answers = noAnswers }
+
+abbrev pub waits : (v : ℕ) → Call → Observation → Waiting → Waiting
+waits v c o k = record {
+  member = memberSeen c o (k .member);
+  cells = (k .cells + offeredTo v c (eqb (o .returned .refusal) 0)) - (dataReturned v (k .member) (o .returned) + closedOn v c (o .cells));
+  answers = cond (eqb (o .returned .refusal) 0) (answersAfter v (k .member) c (o .returned) (k .answers)) (k .answers);
+}
+
+-- a cell that a slot returned, by the number of its kind, with what waited before it
+pub record SeenCell : Type 0 where
+  pub kind : ℕ
+  pub cells : ℕ
+  pub answers : Bool
+
+abbrev pub seenCell : (v : ℕ) → Waiting → SlotAnswer → List SeenCell
+seenCell v k r =
+    cond (not (eqb (r .kind) 0) && eqb (connectionReturned (k .member) r) v)
+    (record { kind = r .kind; cells = k .cells; answers = k .answers .turned || k .answers .made } ∷ []) []
+
+-- the cells of v that slots returned, one after the other
+abbrev pub seenCells : (v : ℕ) → Waiting → List Call → List Observation → List SeenCell
+seenCells v k [] os = []
+seenCells v k (c ∷ cs) [] = []
+seenCells v k (c ∷ cs) (o ∷ os) = seenCell v k (o .returned) ++ seenCells v (waits v c o k) cs os
+
+unfoldable pub turnedSeen : List SeenCell → ℕ
+turnedSeen [] = 0
+turnedSeen (x ∷ xs) = cond (eqb (x .kind) 2) 1 0 + turnedSeen xs
+
+-- of the cells of one connection in a row: kinds 1 forward, 2 turned or made, 3 data
+pub record ProgressSeen (p : Params) (xs : List SeenCell) : Type 0 where
+  pub oneTurned : All (λ x. 0 < x .cells) xs → All (λ x. x .kind ≢ 1) xs → turnedSeen xs ≤ 1
+  pub dataSent : 2 ≤ p .n → All (λ x. 0 < x .cells) xs → 4 ≤ length xs → Somewhere (λ x. x .kind ≡ 3) xs
+  pub dataAlone : All (λ x. x .answers ≡ false) xs → 2 ≤ length xs → Somewhere (λ x. x .kind ≡ 3) xs
+  pub answerSent : All (λ x. x .answers ≡ true) xs → nrm p ≤ length xs → Somewhere (λ x. x .kind ≡ 2) xs
+
+-- after any exported calls from the zero table, of a name that is open, in any further ones without its close
+abbrev pub ExportsProgress : Type 0
+ExportsProgress =
+    (cs : List Call) (os : List Observation) → Trace cs zeros os → (v : ℕ) (p : Params) → paramsObserved v none cs os ≡ some p
+    → (ds : List Call) (ps : List Observation) → Trace ds (finalWords zeros os) ps → All (NoClose v) ds
+    → ProgressSeen p (seenCells v (kept (waits v) nothingWaits cs os) ds ps)

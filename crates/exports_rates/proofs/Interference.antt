@@ -1,0 +1,141 @@
+-- No call touches what a caller can learn of a connection, or of a member, that it is not about.
+use Prim.Native.Nat.{ℕ}
+use mathlib.Core.Path.{_≡_, refl, sym, ap, _∙_}
+use mathlib.Core.Bool.{Bool, cond, _&&_, not}
+use mathlib.Core.List.{List}
+use mathlib.Core.Option.{some}
+use lib.Dec.{eqb}
+use Rattle.cell.specs.declared.read.Reading.{Reading}
+use Rattle.cell.specs.declared.read.Reading.the-variants.{Refused as Unread, User, Resource}
+use Rattle.cell.specs.Name.{nameOf, pairName}
+use Rattle.cell.specs.Reading.{reading}
+use Rattle.members.specs.Path.{pathOf}
+use Rattle.members.specs.Members.{owner}
+use Rattle.connection.specs.declared.parts.Connection.{Connection}
+use Rattle.connection.specs.declared.kind.Kind.the-variants.{Forward, Turned, Data}
+use Rattle.connection.specs.Parts.{waiting}
+use Rattle.model.specs.State.{State, Entry, free, taken, isFree, empty, find, entryCells}
+use Rattle.model.specs.declared.answer.Answer.{Answer}
+use Rattle.model.specs.declared.answer.Answer.the-variants.{Refused, Accepted, Closed, Idle, Sent}
+use Rattle.model.specs.Call.{Call, opening, closing, receiving, offering, levelling, slot, making, outOfRate, openingPath, adding, offeringMember, removing, closedCells}
+use Rattle.model.specs.Step.{refuse, discard, ofOpen, closeStep, step}
+use Rattle.model.specs.Queries.{entryAcr, acrOf}
+use Rattle.model.specs.Run.{final}
+use Rattle.answers.specs.declared.calls.SlotAnswer.{SlotAnswer}
+use Rattle.answers.specs.Calls.{slotAnswer, acrAnswer}
+use Rattle.abr.specs.Exports.{Observation, Performs, Trace, finalWords, zeros}
+use Rattle.promises.specs.Interference.{readName, names, answersName, touches}
+use Rattle.promises.proofs.Interference.{no-interference}
+use Rattle.exports.specs.Returned.{noMember, membersSeen}
+use Rattle.exports.proofs.Returned.{Knows, NamesConnection, names-connection, went-to, back}
+use Rattle.exports.proofs.Transport.{Sees, sees, stands, acr-seen}
+use Rattle.exports.proofs.Known.{members-known}
+use Rattle.exports_rates.proofs.Removal.{removal}
+use Rattle.exports_rates.specs.Interference.{readNameSeen, namesSeen, touchesSeen, ExportsNoInterference}
+
+-- whose call it is
+read-name : (f : ℕ → Bool) (s : State) → Knows f s → (r : Reading) → readNameSeen f r ≡ readName (s .members) r
+unfolding readName owner
+read-name f s k (Unread n) = refl
+read-name f s k (User vpi vci e) = ap (λ (b : Bool). some (cond b (pathOf (pairName vpi vci)) (pairName vpi vci))) (k (pairName vpi vci))
+read-name f s k (Resource g) = refl
+
+names-seen : (f : ℕ → Bool) (s : State) → Knows f s → (c : Call) (a : Answer) → NamesConnection f a → namesSeen f c (slotAnswer a) ≡ names (s .members) c a
+unfolding names
+names-seen f s k (opening vpi vci t p) a h = refl
+names-seen f s k (closing vpi vci) a h = refl
+names-seen f s k (receiving o) a h = read-name f s k (reading o)
+names-seen f s k (offering vpi vci n) a h = refl
+names-seen f s k (levelling l) a h = refl
+names-seen f s k (slot t room) a h = went-to f a h
+names-seen f s k (making vpi vci t) a h = refl
+names-seen f s k (outOfRate vpi vci t room) a h = refl
+names-seen f s k (openingPath vpi t p) a h = refl
+names-seen f s k (adding vpi vci) a h = refl
+names-seen f s k (offeringMember vpi vci n) a h = refl
+names-seen f s k (removing vpi vci) a h = refl
+
+name-told : (x : ℕ) (a : Answer) → (not (eqb (slotAnswer a .kind) 0) && eqb (nameOf (slotAnswer a .vpi) (slotAnswer a .vci)) x) ≡ answersName x a
+unfolding answersName
+name-told x (Refused n) = refl
+name-told x (Accepted n) = refl
+name-told x (Closed n k) = refl
+name-told x Idle = refl
+name-told x (Sent v y Forward a n) = ap (λ (z : ℕ). eqb z x) (back y)
+name-told x (Sent v y Turned a n) = ap (λ (z : ℕ). eqb z x) (back y)
+name-told x (Sent v y Data a n) = ap (λ (z : ℕ). eqb z x) (back y)
+
+touches-seen : (x : ℕ) (c : Call) (a : Answer) → touchesSeen x c (slotAnswer a) ≡ touches x c a
+unfolding touches
+touches-seen x (opening vpi vci t p) a = refl
+touches-seen x (closing vpi vci) a = refl
+touches-seen x (receiving o) a = refl
+touches-seen x (offering vpi vci n) a = refl
+touches-seen x (levelling l) a = refl
+touches-seen x (slot t room) a = name-told x a
+touches-seen x (making vpi vci t) a = refl
+touches-seen x (outOfRate vpi vci t room) a = refl
+touches-seen x (openingPath vpi t p) a = refl
+touches-seen x (adding vpi vci) a = refl
+touches-seen x (offeringMember vpi vci n) a = refl
+touches-seen x (removing vpi vci) a = refl
+
+-- what a close returns is read off its entry
+abbrev closeNumber : Entry → ℕ
+closeNumber x = cond (isFree x) 11 0
+
+close-number : (s : State) (n : Connection → ℕ) (leaf : ℕ) (r : State) (x : Entry) → slotAnswer (ofOpen s x (λ c. discard (n c) leaf s r) .answer) .refusal ≡ closeNumber x
+unfolding ofOpen refuse discard isFree
+close-number s n leaf r free = refl
+close-number s n leaf r (taken c) = refl
+
+close-cells : (s : State) (leaf : ℕ) (r : State) (x : Entry) → closedCells (ofOpen s x (λ c. discard (waiting (c .queue)) leaf s r) .answer) ≡ entryCells x
+unfolding ofOpen refuse discard closedCells entryCells
+close-cells s leaf r free = refl
+close-cells s leaf r (taken c) = refl
+
+closes-as : {s : State} {vpi vci : ℕ} {o : Observation} → Sees s (closing vpi vci) o → (o .returned .refusal ≡ closeNumber (find (pairName vpi vci) (s .entries))) × (o .cells ≡ entryCells (find (pairName vpi vci) (s .entries)))
+unfolding step closeStep
+closes-as {s} {vpi} {vci} z = (
+  ap (λ (r : SlotAnswer). r .refusal) (z .matches .returned) ∙ close-number s _ _ _ (find (pairName vpi vci) (s .entries)),
+  z .matches .cells ∙ close-cells s _ _ (find (pairName vpi vci) (s .entries)),
+)
+
+-- the entry of another name stays
+same-entry :
+    (cs : List Call) (os : List Observation) (t : Trace cs zeros os) (c : Call) (o : Observation) → Performs c (finalWords zeros os) o → (u : ℕ)
+    → (namesSeen (membersSeen noMember cs os) c (o .returned) ≡ some u → ⊥) → find u (step (final empty cs) c .state .entries) ≡ find u (final empty cs .entries)
+same-entry cs os t c o q u n =
+    let y = sees (stands cs os t) q in
+    let s = final empty cs in
+    let f = membersSeen noMember cs os in
+    let m = members-known cs os t in
+    let i = names-seen f s m c (step s c .answer) (names-connection (y .wellFormed) f m c) in
+    no-interference .connections cs c u (λ x. n (ap (namesSeen f c) (y .matches .returned) ∙ i ∙ x))
+
+pub exports-no-interference : ExportsNoInterference
+unfolding acrOf
+exports-no-interference = record {
+  rates = λ cs os t c o q u n a b h k.
+      let st = stands cs os t in
+      acr-seen (sees st q .next) u b k ∙ ap (λ (x : Entry). acrAnswer (entryAcr x)) (same-entry cs os t c o q u n) ∙ sym (acr-seen st u a h);
+  closes = λ cs os t c o q vpi vci n a b h k.
+      let st = stands cs os t in
+      let before = closes-as (sees st h) in
+      let after = closes-as (sees (sees st q .next) k) in
+      let e = same-entry cs os t c o q (pairName vpi vci) n in
+      record { refusals = after .0 ∙ ap closeNumber e ∙ sym (before .0); cells = after .1 ∙ ap entryCells e ∙ sym (before .1) };
+  removes = λ cs os t c o q vpi vci n a b h k.
+      let st = stands cs os t in
+      let y = sees st q in
+      let e = no-interference .members cs c (pairName vpi vci)
+      (sym (touches-seen (pairName vpi vci) c (step (final empty cs) c .answer)) ∙ ap (touchesSeen (pairName vpi vci) c) (sym (y .matches .returned)) ∙ n) in
+      let before = sees st h in
+      let after = sees (y .next) k in
+      let old = removal (before .wellFormed) vpi vci in
+      let new = removal (after .wellFormed) vpi vci in
+      record {
+        accepted = after .accepted ∙ new .accepted ∙ e .member ∙ sym (before .accepted ∙ old .accepted);
+        cells = after .matches .cells ∙ new .cells ∙ e .cells ∙ sym (before .matches .cells ∙ old .cells);
+      };
+}

@@ -1,0 +1,11 @@
+-- They hold.
+pub mod Seen
+pub mod Held
+pub mod Moved
+pub mod Removal
+pub mod Interference
+pub mod BeforeFeedback
+pub mod Changed
+pub mod RoundTrip
+pub mod Ported
+pub mod Loop

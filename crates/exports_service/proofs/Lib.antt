@@ -1,0 +1,9 @@
+-- They hold.
+pub mod Ready
+pub mod Slots
+pub mod Next
+pub mod Served
+pub mod Restart
+pub mod MemberCells
+pub mod Turn
+pub mod Fairness

@@ -1,0 +1,23 @@
+-- What abr_next returns is the earliest of the ready instants that a caller computes: none is before it, and where it says never none is ever ready. That a slot sends from it on is ExportsNextReady.
+-- (Document 01, "Slots", says who is ready when.)
+use Prim.Native.Nat.{ℕ, _≤_}
+use mathlib.Core.Path.{_≡_}
+use mathlib.Core.List.{List}
+use Rattle.connection.specs.declared.ready.Instant.{Instant}
+use Rattle.connection.specs.declared.ready.Instant.the-variants.{Never, At}
+use Rattle.model.specs.Call.{Call}
+use Rattle.model.specs.Queries.{neverWord}
+use Rattle.tournament.specs.Next.{GivesNext}
+use Rattle.answers.specs.declared.calls.AcrAnswer.{AcrAnswer}
+use Rattle.abr.specs.Exports.{Observation, Trace, finalWords, zeros}
+use Rattle.exports_service.specs.Slots.{RatesOf, readyOf}
+
+pub record NextOf (ready : ℕ → Instant) (next : ℕ) : Type 0 where
+  pub earliest : (u i : ℕ) → ready u ≡ At i → next ≤ i
+  pub never : next ≡ neverWord → (u : ℕ) → ready u ≡ Never
+
+-- after any exported calls from the zero table
+abbrev pub ExportsNext : Type 0
+ExportsNext =
+    (cs : List Call) (os : List Observation) → Trace cs zeros os → (a : ℕ → AcrAnswer) → RatesOf (finalWords zeros os) a → (next : ℕ) → GivesNext (finalWords zeros os) next
+    → NextOf (readyOf cs os a) next
