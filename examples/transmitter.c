@@ -1,13 +1,18 @@
 /*
  * A whole transmitter, twice: both ends of a link of 10,000 cells per second each way, with a network between them.
- * Three connections are open at both ends. The near end sends most of the data, one connection steadily, one in bursts,
- * one without a minimum rate; the far end sends a little, and turns the near end's RM cells round. The network delays
- * cells by 5 ms each way. Towards the far end it has room for 6,000 cells per second, for a while for 1,500 only: it
- * marks data cells (EFCI) while cells queue, and writes explicit rates into the backward cells on their way to the near
- * end. For a while the far end's memory is short, and for a while the network gives the third connection a rate of 0.
+ * Four connections are open at both ends. The near end sends most of the data: a leased circuit, whose minimum is its peak
+ * and on which data always waits, and beside it one connection steadily, one in bursts, one without a minimum rate; the
+ * far end sends a little, and turns the near end's RM cells round. The network delays cells by 5 ms each way. Towards the
+ * far end it has room for 6,000 cells per second, for a while for 3,500 only: it marks data cells (EFCI) while cells
+ * queue, and writes explicit rates into the backward cells on their way to the near end. For a while the far end's memory is
+ * short, and for a while the network gives the fourth connection a rate of 0.
  *
- *   transmitter          prints what happened, a line every 20 ms
- *   transmitter FILE     and writes the numbers of a picture to a file
+ * Each slot is passed the time of abr_slot_time, so that what it comes late is not lost: the leased circuit has every
+ * cell that its contract promises. With a lag of 0 it is passed its own time, and a sixth of these cells is missing.
+ *
+ *   transmitter              prints what happened, a line every 20 ms
+ *   transmitter FILE         and writes the numbers of a picture to a file
+ *   transmitter FILE SLOTS   and passes times at most so many slots before a slot's own, in place of one for each open
  *
  * Every answer is checked. A refusal that should not be ends the program.
  */
@@ -24,9 +29,12 @@
 #define DELAY (5 * MS)
 #define END (600 * MS)
 #define LINE 4096u /* cells that a line holds */
+#define LEASED_RATE UINT64_C(2400) /* cells per second: minimum and peak of the leased circuit */
+#define LEASED_GAP UINT64_C(416667) /* nanoseconds from one of its cells to the next */
+#define PEAK UINT64_C(2500) /* of each other connection */
 
 enum { NEAR, FAR, ENDS };
-enum { STEADY, BURSTS, LATE, CONNECTIONS };
+enum { LEASED, STEADY, BURSTS, LATE, CONNECTIONS };
 enum { LITTLE_ROOM, SHORT_MEMORY, NO_RATE, PHASES };
 
 /* Phases in which the network, or the far end, allows less. */
@@ -34,7 +42,7 @@ static const struct {
     uint64_t from, to;
     const char *name;
 } phases[PHASES] = {
-    {200 * MS, 300 * MS, "room for 1,500"},
+    {200 * MS, 300 * MS, "room for 3,500"},
     {340 * MS, 380 * MS, "far memory short"},
     {410 * MS, 460 * MS, "rate 0 for 1/100"},
 };
@@ -60,11 +68,17 @@ typedef struct {
     abr_table table;
     connection connections[CONNECTIONS];
     line in;
+    uint64_t passed;  /* the time of the last slot, as it was passed */
     uint64_t unknown; /* received cells of connections that are not open */
     uint64_t idle;    /* slots */
 } station;
 
 static station ends[ENDS] = {{.name = "near"}, {.name = "far"}};
+
+/* How long before its own time a slot may be passed: a slot for each connection that is opened. The peaks of all together
+ * fit the link, so it never has to be longer. Opens, made and out-of-rate cells take the time that the last slot was
+ * passed: a later one would take from the connections what they lag. */
+static uint64_t lag = CONNECTIONS * SLOT;
 
 /* The network: when its queue will be empty, who sent data when, and the cells that it marked. */
 static uint64_t queue_end, last_data[CONNECTIONS], marked;
@@ -168,7 +182,7 @@ static int during(int phase, uint64_t now)
 /* What the network has room for towards the far end, in cells per second. */
 static uint64_t room(uint64_t now)
 {
-    return during(LITTLE_ROOM, now) ? 1500 : 6000;
+    return during(LITTLE_ROOM, now) ? 3500 : 6000;
 }
 
 /* The cells that have not left the queue. */
@@ -189,7 +203,7 @@ static void towards_far(uint64_t now, uint8_t *cell)
     accepted("read", read.refusal);
     if (read.kind == ABR_CELL_DATA) {
         last_data[at(&ends[NEAR], read.rm.vpi, read.rm.vci) - ends[NEAR].connections] = now;
-        if (queue_length(now) > 25) {
+        if (queue_length(now) > 12) {
             write_header(cell, read.rm.vpi, read.rm.vci, 2);
             marked++;
         }
@@ -198,17 +212,18 @@ static void towards_far(uint64_t now, uint8_t *cell)
     put(&ends[FAR].in, queue_end + DELAY, cell);
 }
 
-/* The explicit rate for those that sent data in the last 20 ms: a fair share of 15/16 of the room. */
+/* The explicit rate for those that sent data in the last 20 ms: a fair share of what the leased circuit leaves of 15/16 of
+ * the room. */
 static abr_share share(uint64_t now)
 {
     uint64_t demands[CONNECTIONS];
     size_t count = 0;
-    for (int which = 0; which < CONNECTIONS; which++) {
+    for (int which = STEADY; which < CONNECTIONS; which++) {
         if (last_data[which] != 0 && now - last_data[which] < 20 * MS) {
-            demands[count++] = 5000 * ABR_RATE_ONE;
+            demands[count++] = PEAK * ABR_RATE_ONE;
         }
     }
-    abr_share found = abr_fair_share(room(now) * ABR_RATE_ONE * 15 / 16, demands, count);
+    abr_share found = abr_fair_share((room(now) * 15 / 16 - LEASED_RATE) * ABR_RATE_ONE, demands, count);
     accepted("share", found.refusal);
     return found;
 }
@@ -250,7 +265,7 @@ static void ask_for_a_rate(station *end, uint64_t now)
         abr_allowed allowed = abr_acr(&end->table, it->vpi, it->vci);
         accepted("acr", allowed.refusal);
         if (allowed.acr == 0) {
-            uint32_t refusal = abr_out_of_rate(&end->table, it->vpi, it->vci, now, cell, sizeof cell);
+            uint32_t refusal = abr_out_of_rate(&end->table, it->vpi, it->vci, end->passed, cell, sizeof cell);
             if (refusal == ABR_OK) {
                 it->outside++;
                 send(end, now, cell);
@@ -261,18 +276,18 @@ static void ask_for_a_rate(station *end, uint64_t now)
     }
 }
 
-/* One slot of the link. Before the earliest ready instant it is idle, and the engine need not be asked. */
+/* One slot of the link. */
 static void transmit(station *end, uint64_t now)
 {
     uint8_t cell[ABR_CELL_OCTETS];
-    if (now < abr_next(&end->table)) {
+    end->passed = abr_slot_time(&end->table, now, lag);
+    abr_sent sent = abr_slot(&end->table, end->passed, cell, sizeof cell);
+    accepted("slot", sent.refusal);
+    if (sent.kind == ABR_SENT_IDLE) {
         end->idle++;
         ask_for_a_rate(end, now);
         return;
     }
-    abr_sent sent = abr_slot(&end->table, now, cell, sizeof cell);
-    accepted("slot", sent.refusal);
-    must(sent.kind != ABR_SENT_IDLE, "who is ready sends");
     connection *it = at(end, sent.vpi, sent.vci);
     it->sent[sent.kind]++;
     if (sent.kind == ABR_SENT_DATA) {
@@ -332,7 +347,7 @@ static void open_both(uint64_t now, int which, uint32_t vpi, uint32_t vci, abr_p
         it->vpi = vpi;
         it->vci = vci;
         it->open = 1;
-        accepted("open", abr_open(&ends[end].table, vpi, vci, now, params).refusal);
+        accepted("open", abr_open(&ends[end].table, vpi, vci, ends[end].passed, params).refusal);
     }
     printf("%5.1f ms  %u/%u is opened\n", (double)now / 1e6, (unsigned)vpi, (unsigned)vci);
 }
@@ -371,17 +386,19 @@ static void set_level(uint64_t now, uint32_t level)
     printf("%5.1f ms  the far end's memory: level %u\n", (double)now / 1e6, (unsigned)level);
     for (int which = 0; level == 2 && which < CONNECTIONS; which++) {
         connection *it = &far->connections[which];
-        accepted("make", abr_make(&far->table, it->vpi, it->vci, now).refusal);
+        accepted("make", abr_make(&far->table, it->vpi, it->vci, far->passed).refusal);
     }
 }
 
 static void connections_at(uint64_t now)
 {
     if (now == 0) {
-        open_both(now, STEADY, 0, 100, contract(5000, 100, 1000));
-        open_both(now, BURSTS, 0, 101, contract(5000, 100, 1000));
+        open_both(now, LEASED, 0, 99, contract(LEASED_RATE, LEASED_RATE, LEASED_RATE));
+        open_both(now, STEADY, 0, 100, contract(PEAK, 100, 1000));
+        open_both(now, BURSTS, 0, 101, contract(PEAK, 100, 1000));
+        offer(NEAR, LEASED, 2000);
     } else if (now == 100 * MS) {
-        open_both(now, LATE, 1, 100, contract(5000, 0, 1000));
+        open_both(now, LATE, 1, 100, contract(PEAK, 0, 1000));
         burst(now, NEAR, LATE, 1500);
     } else if (now == 570 * MS) {
         close_one(now, NEAR, LATE);
@@ -431,13 +448,22 @@ static uint64_t allowed(int which)
     return found.acr;
 }
 
+/* The cells that the leased circuit has sent, and those that its contract has promised by now. */
+static uint64_t delivered(void)
+{
+    const uint64_t *sent = ends[NEAR].connections[LEASED].sent;
+    return sent[ABR_SENT_FORWARD] + sent[ABR_SENT_TURNED] + sent[ABR_SENT_DATA];
+}
+static uint64_t promised(uint64_t now) { return now / LEASED_GAP + 1; }
+
 static void show(uint64_t now)
 {
     printf("%5.1f ms  allowed", (double)now / 1e6);
     for (int which = 0; which < CONNECTIONS; which++) {
-        printf(" %7.1f", (double)allowed(which) / ABR_RATE_ONE);
+        printf(" %6.1f", (double)allowed(which) / ABR_RATE_ONE);
     }
-    printf("   queue %3" PRIu64 "   marked %4" PRIu64 "\n", queue_length(now), marked);
+    printf("   leased %4" PRIu64 " of %4" PRIu64 "   queue %3" PRIu64 "   marked %3" PRIu64 "\n", delivered(), promised(now),
+           queue_length(now), marked);
 }
 
 /* For the picture: the phases, and at each millisecond the allowed rates and the queue. */
@@ -447,8 +473,8 @@ static void write_numbers(FILE *numbers, uint64_t now)
         fprintf(numbers, "phase %" PRIu64 " %" PRIu64 " %s\n", phases[phase].from, phases[phase].to, phases[phase].name);
     }
     if (now % MS == 0) {
-        fprintf(numbers, "%" PRIu64 " %" PRIu64 " %" PRIu64 " %" PRIu64 " %" PRIu64 "\n", now, allowed(STEADY),
-                allowed(BURSTS), allowed(LATE), queue_length(now));
+        fprintf(numbers, "%" PRIu64 " %" PRIu64 " %" PRIu64 " %" PRIu64 " %" PRIu64 " %" PRIu64 " %" PRIu64 "\n", now,
+                allowed(STEADY), allowed(BURSTS), allowed(LATE), queue_length(now), delivered(), promised(now));
     }
 }
 
@@ -475,6 +501,7 @@ int main(int argc, char **argv)
 {
     FILE *numbers = argc > 1 ? fopen(argv[1], "w") : NULL;
     must(argc < 2 || numbers != NULL, "the file for the picture");
+    lag = argc > 2 ? strtoul(argv[2], NULL, 10) * SLOT : lag;
     must(abr_matches(), "header and archive belong together");
     for (uint64_t now = 0; now < END; now += SLOT) {
         events_at(now);
@@ -482,6 +509,7 @@ int main(int argc, char **argv)
             receive(&ends[end], now);
             transmit(&ends[end], now);
         }
+        must(lag == 0 || now <= (delivered() + 1) * LEASED_GAP + lag, "the leased circuit has its minimum");
         if (now % (20 * MS) == 0) {
             show(now);
         }
@@ -490,6 +518,7 @@ int main(int argc, char **argv)
         }
     }
     for (int end = NEAR; end <= FAR; end++) {
+        close_one(END, end, LEASED);
         close_one(END, end, STEADY);
         close_one(END, end, BURSTS);
     }

@@ -55,15 +55,16 @@ int main(void)
         accepted(abr_offer(&table, vpi, VCI, 1000).refusal); /* data cells that wait */
     }
     printf("  time    VPI/VCI  kind     allowed\n");
-    for (uint64_t time = 0; time <= 14 * MS; time += MS / 4) {
-        if (time == 3 * MS) {
+    for (uint64_t now = 0; now <= 14 * MS; now += MS / 4) { /* a slot every 0.25 ms */
+        if (now == 3 * MS) {
             feedback(0, 500);
-        } else if (time >= 8 * MS && time % (2 * MS) == 0) {
+        } else if (now >= 8 * MS && now % (2 * MS) == 0) {
             feedback(0, 2000);
         }
+        uint64_t time = abr_slot_time(&table, now, 2 * MS / 4); /* at most two slots before now */
         abr_sent sent = abr_slot(&table, time, cell, sizeof cell);
         accepted(sent.refusal);
-        printf("%5.2f ms  %3u/%-5u%-7s  %7u\n", (double)time / 1e6, (unsigned)sent.vpi,
+        printf("%5.2f ms  %3u/%-5u%-7s  %7u\n", (double)now / 1e6, (unsigned)sent.vpi,
                (unsigned)sent.vci, kinds[sent.kind], (unsigned)(sent.acr / ABR_RATE_ONE));
     }
     return 0;

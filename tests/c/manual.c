@@ -209,10 +209,16 @@ static void codes(void)
     CHECK(abr_rate(0x3FFF).refusal == ABR_OK && abr_rate(0x3FFF).rate == 0);
 }
 
+/* The gap by its formula, which leaves the table. */
+static uint64_t gap_of(uint64_t rate)
+{
+    return (UINT64_C(512000000000) + rate - 1) / rate;
+}
+
 /* How long after a cell at this rate the next may go, tried nanosecond by nanosecond around the formula. */
 static uint64_t gap(uint64_t rate)
 {
-    uint64_t nanoseconds = (UINT64_C(512000000000) + rate - 1) / rate;
+    uint64_t nanoseconds = gap_of(rate);
     abr_params params = abr_house(ABR_CODE_MAX, 0, abr_code(rate).code);
     begin(params);
     offer(9);
@@ -229,27 +235,42 @@ static void gaps(void)
     CHECK(gap(ABR_RATE_MAX) == 1);
 }
 
-/* One second of an STM-1 link that is busy with some connections of one rate: how many cells go, if a slot has its own time
- * or that of slot_time. */
+/* One second of an STM-1 link that is busy with some connections of one rate: how many cells go, if a slot is passed its own
+ * time or that of abr_slot_time, at most a slot for each connection before it. */
 enum { STM1 = 353207, SLOT = 2831 };
 
-static int cells_on_a_link(uint32_t rate_code, uint32_t connections, int ready_instants)
+/* Keeps data waiting on what a slot sent. */
+static void keep_waiting(abr_sent sent, int *waiting)
 {
-    int sent = 0, waiting[2] = {60000, 60000};
-    uint64_t last = 0;
-    memset(&table, 0, sizeof table);
-    for (uint32_t vci = 32; vci < 32 + connections; vci++) {
-        CHECK(abr_open(&table, 0, vci, 0, abr_house(rate_code, rate_code, rate_code)).refusal == ABR_OK);
-        CHECK(abr_offer(&table, 0, vci, 60000).refusal == ABR_OK);
+    if (sent.kind == ABR_SENT_DATA && --*waiting < 10000) {
+        CHECK(abr_offer(&table, 0, sent.vci, 50000).refusal == ABR_OK);
+        *waiting += 50000;
     }
+}
+
+/* An empty table with busy connections 0/32, 0/33, .. of these rates. */
+static void busy(const uint32_t *codes, uint32_t connections, int *waiting)
+{
+    memset(&table, 0, sizeof table);
+    for (uint32_t which = 0; which < connections; which++) {
+        abr_params params = abr_house(codes[which], codes[which], codes[which]);
+        CHECK(abr_open(&table, 0, 32 + which, 0, params).refusal == ABR_OK);
+        CHECK(abr_offer(&table, 0, 32 + which, 60000).refusal == ABR_OK);
+        waiting[which] = 60000;
+    }
+}
+
+static int cells_on_a_link(uint32_t rate_code, uint32_t connections, uint64_t lag)
+{
+    int sent = 0, waiting[2];
+    uint32_t codes[2] = {rate_code, rate_code};
+    busy(codes, connections, waiting);
     for (uint64_t number = 0; number < STM1; number++) {
         uint64_t now = number * 1000 * MS / STM1;
-        last = ready_instants ? slot_time(abr_next(&table), now, SLOT, last) : now;
-        abr_sent cell_sent = slot(last);
+        abr_sent cell_sent = slot(abr_slot_time(&table, now, lag));
         sent += cell_sent.kind != ABR_SENT_IDLE;
-        if (cell_sent.kind == ABR_SENT_DATA && --waiting[cell_sent.vci - 32] < 10000) {
-            CHECK(abr_offer(&table, 0, cell_sent.vci, 50000).refusal == ABR_OK);
-            waiting[cell_sent.vci - 32] += 50000;
+        if (cell_sent.kind != ABR_SENT_IDLE) {
+            keep_waiting(cell_sent, &waiting[cell_sent.vci - 32]);
         }
     }
     return sent;
@@ -258,9 +279,9 @@ static int cells_on_a_link(uint32_t rate_code, uint32_t connections, int ready_i
 static void print_link(const char *what, uint32_t rate_code, uint32_t connections)
 {
     uint64_t rate = abr_rate(rate_code).rate;
-    printf("%-29s %6.0f cells/s  gap %7" PRIu64 " ns   %6d cells   with slot_time %6d\n", what, (double)rate / ABR_RATE_ONE,
-           (UINT64_C(512000000000) + rate - 1) / rate, cells_on_a_link(rate_code, connections, 0),
-           cells_on_a_link(rate_code, connections, 1));
+    printf("%-29s %6.0f cells/s  gap %7" PRIu64 " ns   %6d cells   with a lag %6d\n", what, (double)rate / ABR_RATE_ONE,
+           gap_of(rate), cells_on_a_link(rate_code, connections, 0),
+           cells_on_a_link(rate_code, connections, connections * (SLOT + 1)));
 }
 
 static void slotted_link(void)
@@ -274,16 +295,173 @@ static void slotted_link(void)
     CHECK(1000 * MS / STM1 == SLOT);
 }
 
-/* With slot_time, a made cell has a time too: the slot's own may not be before it. */
+/* ---- What a line delivers -------------------------------------------------- */
+
+enum { MANY = 16, MANY_SLOTS = 100000 };
+
+/* What busy connections with these gaps, in slots, are delivered of their rates in percent, if times are passed up to so
+ * many slots before a slot's own: the least and the greatest share. With a lag for all of them the bounds must hold. */
+static void shares(const double *gaps, uint32_t connections, uint32_t lag_slots, int *least, int *most)
+{
+    int waiting[MANY], cells[MANY] = {0};
+    uint32_t codes[MANY];
+    uint64_t lag = (uint64_t)lag_slots * SLOT, last[MANY];
+    for (uint32_t which = 0; which < connections; which++) {
+        codes[which] = abr_code((uint64_t)(1e9 / (gaps[which] * SLOT) * ABR_RATE_ONE)).code;
+    }
+    busy(codes, connections, waiting);
+    for (uint64_t number = 0; number < MANY_SLOTS; number++) {
+        uint64_t now = number * SLOT, time = abr_slot_time(&table, now, lag);
+        abr_sent sent = slot(time);
+        uint32_t which = sent.vci - 32;
+        CHECK(now - time <= lag);
+        if (sent.kind == ABR_SENT_IDLE) {
+            CHECK(time == now);
+            continue;
+        }
+        if (lag_slots == connections && cells[which] > 0) {
+            CHECK(time == last[which] + gap_of(abr_rate(codes[which]).rate));
+        }
+        last[which] = time;
+        cells[which]++;
+        keep_waiting(sent, &waiting[which]);
+    }
+    *least = 1000, *most = 0;
+    for (uint32_t which = 0; which < connections; which++) {
+        double whole = (double)MANY_SLOTS * SLOT / (double)gap_of(abr_rate(codes[which]).rate);
+        int share = (int)(100.0 * cells[which] / whole + 0.5);
+        *least = share < *least ? share : *least;
+        *most = share > *most ? share : *most;
+    }
+}
+
+static void print_shares(const char *what, const double *gaps, uint32_t connections)
+{
+    uint32_t lags[3] = {0, 1, connections};
+    double load = 0;
+    for (uint32_t which = 0; which < connections; which++) {
+        load += 1 / gaps[which];
+    }
+    printf("%-30s load %.2f  ", what, load);
+    for (int way = 0; way < 3; way++) {
+        int least, most;
+        shares(gaps, connections, lags[way], &least, &most);
+        printf("   lag %2u: %3d to %3d %%", (unsigned)lags[way], least, most);
+    }
+    printf("\n");
+}
+
+static void delivered_shares(void)
+{
+    static const double two[] = {2, 3}, four[] = {4, 4, 4, 7}, odd[] = {2.5, 3.3, 7.1, 9};
+    double sixteen[MANY];
+    for (int which = 0; which < MANY; which++) {
+        sixteen[which] = 16.5 + 5.5 * which / 15;
+    }
+    print_shares("2 and 3 slots", two, 2);
+    print_shares("4, 4, 4 and 7 slots", four, 4);
+    print_shares("2.5, 3.3, 7.1 and 9 slots", odd, 4);
+    print_shares("sixteen from 16.5 to 22 slots", sixteen, MANY);
+}
+
+/* A leased circuit beside three others whose peak is the line's rate: what it has in a second, if the line is its own port or
+ * not. Every forward cell is answered after 200 slots, without a mark and with the highest explicit rate. */
+enum { PARTIES = 4, LEASED_CELLS = 100000, ROUND_TRIP = 200, RING = 256 };
+
+typedef struct {
+    uint64_t due[RING];
+    uint32_t which[RING];
+    unsigned first, count;
+} answers_due;
+
+static uint64_t acr_of(uint32_t which) { return abr_acr(&table, 0, 32 + which).acr; }
+
+static void answer_one(uint32_t which, int port, own_line *line)
+{
+    uint64_t demands[PARTIES], minimums = 0;
+    for (int each = 0; each < PARTIES; each++) {
+        demands[each] = line->peak[each];
+        minimums += line->least[each];
+    }
+    abr_rm fields = {0, 32 + which, 1, 0, 0, 0, 0, ABR_CODE_MAX, 0, 0, 0, 0};
+    CHECK(abr_write_rm(fields, cell, sizeof cell) == ABR_OK);
+    if (port) {
+        uint64_t share = line->least[which] + abr_fair_share(line->capacity - minimums, demands, PARTIES).rate;
+        CHECK(line_receive(line, &table, which, share, cell) == ABR_OK);
+        CHECK(line->total <= line->capacity && line->level <= line->depth && acr_of(which) <= line->cap[which]);
+    } else {
+        CHECK(abr_receive(&table, cell, sizeof cell).refusal == ABR_OK);
+    }
+}
+
+/* A line of 99 in 100 parts of an STM-1 link with a bucket of four slots, the first connection leased. */
+static uint64_t open_parties(own_line *line, int *waiting)
+{
+    uint64_t minimums[PARTIES] = {CELLS(LEASED_CELLS), CELLS(100), CELLS(100), CELLS(100)};
+    memset(&table, 0, sizeof table);
+    memset(line, 0, sizeof *line);
+    line->s = SLOT + 1, line->g = (SLOT + 1) * 100 / 99;
+    line->capacity = UINT64_C(512000000000) / line->g;
+    line->depth = PARTIES * line->g;
+    for (uint32_t which = 0; which < PARTIES; which++) {
+        uint32_t minimum = code_up(minimums[which]);
+        line->least[which] = abr_rate(minimum).rate, line->peak[which] = abr_rate(code(STM1)).rate;
+        CHECK(line_open(line, which, line->least[which]));
+        CHECK(abr_open(&table, 0, 32 + which, 0, abr_house(code(STM1), minimum, minimum)).refusal == ABR_OK);
+        CHECK(abr_offer(&table, 0, 32 + which, 60000).refusal == ABR_OK);
+        waiting[which] = 60000;
+    }
+    return PARTIES * line->g + line->depth;
+}
+
+static int leased_cells(int port)
+{
+    int waiting[PARTIES], leased = 0;
+    static answers_due ring;
+    own_line line;
+    uint64_t lag = open_parties(&line, waiting), each_gap = gap_of(line.least[0]);
+    memset(&ring, 0, sizeof ring);
+    for (uint64_t number = 0; number < STM1; number++) {
+        uint64_t now = number * 1000 * MS / STM1;
+        while (ring.count > 0 && ring.due[ring.first] <= number) {
+            answer_one(ring.which[ring.first], port, &line);
+            ring.first = (ring.first + 1) % RING;
+            ring.count--;
+        }
+        line_slot(&line);
+        abr_sent sent = slot(abr_slot_time(&table, now, lag));
+        if (sent.kind != ABR_SENT_IDLE) {
+            leased += sent.vci == 32;
+            keep_waiting(sent, &waiting[sent.vci - 32]);
+        }
+        if (sent.kind == ABR_SENT_FORWARD) {
+            unsigned place = (ring.first + ring.count++) % RING;
+            CHECK(ring.count <= RING);
+            ring.due[place] = number + ROUND_TRIP;
+            ring.which[place] = sent.vci - 32;
+        }
+        CHECK(!port || now <= (uint64_t)(leased + 1) * each_gap + lag);
+    }
+    return leased;
+}
+
+static void leased_beside_greedy(void)
+{
+    printf("in one second, of a minimum of 100,000:   cells as they come %6d   by line_receive %6d\n", leased_cells(0),
+           leased_cells(1));
+}
+
+/* A made cell takes the time that the last slot was passed; with a later one a connection loses what it lagged. */
 static void last_of_any_call(void)
 {
     begin(house(20000, 1, 20000));
     offer(9);
     CHECK(slot(0).kind == ABR_SENT_FORWARD && abr_next(&table) == 50000);
+    CHECK(abr_slot_time(&table, 51000, SLOT) == 50000 && abr_slot_time(&table, 51000, 0) == 51000);
     CHECK(abr_set_level(&table, 1) == ABR_OK && abr_make(&table, PAIR, 51000).refusal == ABR_OK);
-    uint64_t early = slot_time(abr_next(&table), 51000, SLOT, 48169);
-    CHECK(early == 50000 && abr_slot(&table, early, cell, sizeof cell).refusal == ABR_REFUSED_TIME_BACKWARD);
-    CHECK(slot(slot_time(abr_next(&table), 51000, SLOT, 51000)).kind == ABR_SENT_TURNED);
+    CHECK(abr_slot(&table, 50000, cell, sizeof cell).refusal == ABR_REFUSED_TIME_BACKWARD);
+    CHECK(abr_slot_time(&table, 51000, SLOT) == 51000 && abr_slot_time(&table, 50999, SLOT) == 50999);
+    CHECK(slot(abr_slot_time(&table, 51000, SLOT)).kind == ABR_SENT_TURNED);
 }
 
 /* ---- The four moves ------------------------------------------------------- */
@@ -397,6 +575,20 @@ static void setup(void)
     print_setup(64, 128000);
     print_setup(64, 1280000);
     print_setup(65, 128000);
+}
+
+/* An initial rate that is no code's: 30 units, and 17 seconds to the second cell. */
+static void slow_start(void)
+{
+    abr_params params = house(2000, 0, 1000);
+    params.tbe = 1;
+    params.frtt = ABR_FRTT_MAX;
+    begin(params);
+    offer(1);
+    CHECK(acr() == 30 && acr() < ABR_RATE_ONE / 10);
+    CHECK(slot(0).kind == ABR_SENT_FORWARD && abr_read(cell, sizeof cell).rm.ccr == 0x0000);
+    CHECK(abr_next(&table) == UINT64_C(17066666667));
+    CHECK(abr_code(ABR_RATE_ONE - 1).code == 0x0000);
 }
 
 /* ---- Marks ---------------------------------------------------------------- */
@@ -971,6 +1163,7 @@ int main(void)
         {"first cell", first_cell},       {"idle", idle},                 {"unanswered", unanswered},
         {"feedback", feedback},           {"setup", setup},               {"marks", marks},
         {"headers", headers},             {"RM octets", rm_octets},       {"members", members},
+        {"delivered", delivered_shares},  {"own line", leased_beside_greedy},
     };
     static void (*const checks[])(void) = {
         gaps,          mark_used_up, ignored_bits,    turned_keeps,   gap_after_the_last,
@@ -978,7 +1171,7 @@ int main(void)
         clock_jumps,   copy_goes_on, steady_times,    judged,         initial_rate_of_zero,
         sleeping,      nrm_of_two,   adtf_too_short,  opened_anew,    minimums,
         passing_cells, answers,      last_of_any_call, both_ends_at_zero,
-        adtf_and_initial_rate,
+        adtf_and_initial_rate, slow_start,
     };
     for (size_t each = 0; each < sizeof blocks / sizeof blocks[0]; each++) {
         printf("-- %s\n", blocks[each].name);

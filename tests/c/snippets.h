@@ -7,7 +7,7 @@
 extern uint8_t cell[ABR_CELL_OCTETS];
 extern abr_params params;
 extern uint32_t vpi, vci, peak_code, minimum_code, initial_code;
-extern uint64_t time;
+extern uint64_t time, lag;
 extern double planned, left_over;
 
 uint64_t now(void);

@@ -43,13 +43,13 @@ fn written(name: &str, lines: &str) -> PathBuf {
 }
 
 /// A run on an output that nobody reads ends in silence; on one that is full it says so.
-fn cannot_print(program: &str, word: impl AsRef<OsStr>) {
+fn cannot_print(program: &str, words: &[impl AsRef<OsStr>]) {
     let (reader, writer) = pipe().expect("a pipe");
     drop(reader);
-    let closed = run(program, &[&word], writer.into());
+    let closed = run(program, words, writer.into());
     assert_eq!(closed, (2, String::new(), String::new()), "{program}");
     let full = File::create("/dev/full").expect("a device");
-    let (status, _, err) = run(program, &[&word], full.into());
+    let (status, _, err) = run(program, words, full.into());
     assert_eq!(
         (status, err.contains(": standard output: ")),
         (2, true),
@@ -103,10 +103,11 @@ fn with_a_file_the_feedbacks_are_printed() {
 #[test]
 fn standard_output_cannot_be_written_to() {
     for scene in ["rates", "closed-loop", "--help"] {
-        cannot_print(env!("CARGO_BIN_EXE_picture"), scene);
+        cannot_print(env!("CARGO_BIN_EXE_picture"), &[scene]);
     }
-    cannot_print(DRAW_TRANSMITTER, "--help");
-    cannot_print(DRAW_TRANSMITTER, written("full", "0 512 512 512 0\n"));
+    cannot_print(DRAW_TRANSMITTER, &["--help"]);
+    let numbers = written("full", "0 512 512 512 0 1 1\n");
+    cannot_print(DRAW_TRANSMITTER, &[&numbers, &numbers]);
 }
 
 #[test]
@@ -125,21 +126,23 @@ fn wrong_arguments() {
 
 #[test]
 fn the_numbers_of_a_transmitter() {
-    let file = written(
+    let right = written(
         "right",
-        "phase 0 1000000 a < b\n0 512 0 512 7\n2000000 0 0 0 0\n",
+        "phase 0 1000000 a < b\n0 512 0 512 7 1 1\n2000000 0 0 0 0 2 3\n",
     );
-    let (status, svg, err) = run(DRAW_TRANSMITTER, &[&file], Stdio::piped());
+    let (status, svg, err) = run(DRAW_TRANSMITTER, &[&right, &right], Stdio::piped());
     assert_eq!((status, err.as_str()), (0, ""));
     assert!(svg.contains(">a &lt; b</text>") && svg.ends_with("</svg>\n"));
-    let wrong = ["phase 0 1", "0 1 2 3", "0 1 2 3 4 5", "0 1 2 x 4"];
+    let wrong = ["phase 0 1", "0 1 2 3 4", "0 1 2 3 4 5 6 7", "0 1 2 x 4 5 6"];
     for (place, line) in wrong.into_iter().enumerate() {
         let file = written(&format!("wrong{place}"), line);
-        let (status, out, err) = run(DRAW_TRANSMITTER, &[&file], Stdio::piped());
-        assert_eq!((status, out.as_str()), (2, ""), "{line}");
-        assert!(err.ends_with(&format!(": {line}\n")), "{err}");
+        for files in [[&file, &right], [&right, &file]] {
+            let (status, out, err) = run(DRAW_TRANSMITTER, &files, Stdio::piped());
+            assert_eq!((status, out.as_str()), (2, ""), "{line}");
+            assert!(err.ends_with(&format!(": {line}\n")), "{err}");
+        }
     }
-    let wrong: [&[&[u8]]; 3] = [&[], &[b"a", b"b"], &[b"/none/\xFF"]];
+    let wrong: [&[&[u8]]; 3] = [&[], &[b"a"], &[b"/none/\xFF", b"/none/b"]];
     for words in wrong {
         let words: Vec<&OsStr> = words.iter().map(|word| OsStr::from_bytes(word)).collect();
         let (status, out, err) = run(DRAW_TRANSMITTER, &words, Stdio::piped());

@@ -1,6 +1,7 @@
 //! One call made on both sides; answer, octets, allowed rate with its last change, next
-//! ready instant, waiting data and table compared.
+//! ready instant, a slot's time to be passed, waiting data and table compared.
 
+use abr::TIME_MAX;
 use reference::{Address, Allowed, Engine};
 
 use crate::accounts::Accounts;
@@ -8,6 +9,8 @@ use crate::call::{Answer, Call, Outcome};
 use crate::expected;
 use crate::library::{Difference, Library};
 use crate::octets::Buffer;
+use crate::rng::Rng;
+use crate::slot_times::{Question, CASES};
 
 /// Of the calls that must leave the table as it is, one in so many is compared in
 /// every word. All of them would take longer than the calls: a table is long.
@@ -17,8 +20,13 @@ const LEAVES_TABLE: u64 = 16;
 /// close of a copy, which is long.
 const READS_WAITING: u64 = 64;
 
-/// With so many connections open the next ready instants are compared after one call in
-/// so many: the reference looks at every connection, which takes longer than the call.
+/// After one call in so many two slots are tried on copies of the library's table: at some
+/// clock, and at the time that is to be passed for it.
+const TRIES_SLOTS: u64 = 256;
+
+/// With so many connections open the next ready instants, and the times to be passed to a slot,
+/// are compared after one call in so many: the reference looks at every connection, which
+/// takes longer than the call.
 const MANY: usize = 100;
 const COMPARES_NEXT: u64 = 8;
 
@@ -38,6 +46,14 @@ pub struct Both {
     /// The library's next ready instant after the last call; none if no connection is ever
     /// ready.
     pub next: Option<u64>,
+    /// The last accepted time.
+    last: u64,
+    /// Draws the clocks and lags.
+    pub rng: Rng,
+    /// The times to be passed to a slot that were compared, by what decides them.
+    pub slot_times: [u64; CASES.len()],
+    /// Those that were tried on copies of the table.
+    pub tried: u64,
     /// The allowed rates compared.
     pub rates: u64,
     /// How often the waiting cells were compared.
@@ -66,9 +82,12 @@ impl Both {
             ));
         }
         self.same_next(call, &outcome)?;
+        self.last = call.time().filter(|_| outcome.is_ok()).unwrap_or(self.last);
+        let (question, passed) = self.same_slot_time()?;
         if compared && self.library != self.before {
             return Err(format!("{outcome:x?}, but the table changed"));
         }
+        self.same_idle(&question, passed)?;
         if let Some(at) = call.address() {
             self.same_acr(at)?;
             self.same_path(at)?;
@@ -110,6 +129,45 @@ impl Both {
             }
             _ => Ok(()),
         }
+    }
+
+    /// Compares the time to be passed to a slot for some clock and lag, and checks what must
+    /// be so of it.
+    fn same_slot_time(&mut self) -> Result<(Question, u64), Difference> {
+        let question = Question::draw(&mut self.rng, self.last, self.next);
+        let passed = self.library.slot_time(question.now, question.lag);
+        question.check(passed)?;
+        self.slot_times[question.case()] += 1;
+        if self.engine.connections() < MANY || self.calls % COMPARES_NEXT == 0 {
+            let expected = self.engine.slot_time(question.now, question.lag);
+            if passed != expected {
+                return Err(format!("{question:?}: library {passed}, not {expected}"));
+            }
+        }
+        Ok((question, passed))
+    }
+
+    /// A slot at the time passed is accepted, and idle exactly if one at the clock is: tried
+    /// sometimes, on copies of the library's table.
+    fn same_idle(&mut self, question: &Question, passed: u64) -> Result<(), Difference> {
+        let accepted = self.last <= question.now && question.now <= TIME_MAX;
+        if !accepted || self.calls % TRIES_SLOTS != 0 {
+            return Ok(());
+        }
+        let [at_clock, at_passed] = [question.now, passed].map(|time| {
+            self.before.copy(&self.library);
+            self.before.is_idle(time)
+        });
+        if at_passed? != at_clock? {
+            return Err(format!("{question:?}: {passed} and the clock differ"));
+        }
+        self.tried += 1;
+        Ok(())
+    }
+
+    /// The time to be passed to a slot at `now` with this tolerance, as the library has it.
+    pub fn slot_time(&self, now: u64, lag: u64) -> u64 {
+        self.library.slot_time(now, lag)
     }
 
     /// Compares the allowed rate and its last change of one address, open or not.

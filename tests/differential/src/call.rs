@@ -173,6 +173,18 @@ impl Call {
         self.sort() < 12
     }
 
+    /// The time that it is given, if it is given one.
+    pub fn time(&self) -> Option<u64> {
+        match *self {
+            Call::Open { time, .. }
+            | Call::OpenPath { time, .. }
+            | Call::Slot { time, .. }
+            | Call::Make { time, .. }
+            | Call::OutOfRate { time, .. } => Some(time),
+            _ => None,
+        }
+    }
+
     /// The connection or the member that it names, if it names one.
     pub fn address(&self) -> Option<Address> {
         match *self {

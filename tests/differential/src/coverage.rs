@@ -3,6 +3,7 @@
 use abr::{COMPARISONS_MAX, TIME_MAX};
 
 use crate::call::{Call, Outcome, SORTS};
+use crate::slot_times::CASES;
 
 macro_rules! events {
     ($($(#[$doc:meta])* $name:ident,)*) => {
@@ -543,6 +544,10 @@ pub struct Coverage {
     /// By sort of call, of those refused for a pair out of range that would be an open
     /// one if its numbers were cut, and if they were added.
     pub out_of_range: [[u64; 2]; SORTS.len()],
+    /// By sort of call, of those on a member refused for a VCI over 65,535 with the number
+    /// that is due: on an open path, on a VPI without one, and on a VPI over 255 that would
+    /// be an open path's if it were cut.
+    pub past_vci: [[u64; 3]; SORTS.len()],
     /// By sort of call and place of the code, of those refused for the reserved bit that
     /// one of three rate codes alone has.
     pub reserved: [[u64; 3]; SORTS.len()],
@@ -555,6 +560,10 @@ pub struct Coverage {
     /// After each call, by the next ready instant: never, before the last accepted time, at
     /// it, after it, or even after 2^62.
     pub nexts: [u64; 5],
+    /// Times to be passed to a slot, by what decides them (`slot_times::CASES`), and how many
+    /// of them were tried by slots.
+    pub slot_times: [u64; CASES.len()],
+    pub tried: u64,
     events: [u64; EVENTS.len()],
 }
 
@@ -568,11 +577,14 @@ impl Default for Coverage {
             kinds: [0; 4],
             comparisons: [[0; COMPARISONS_MAX as usize + 1]; SORTS.len()],
             out_of_range: [[0; 2]; SORTS.len()],
+            past_vci: [[0; 3]; SORTS.len()],
             reserved: [[0; 3]; SORTS.len()],
             on_path: [0; SORTS.len()],
             on_member: [0; SORTS.len()],
             damaged: [0; 53],
             nexts: [0; 5],
+            slot_times: [0; CASES.len()],
+            tried: 0,
             events: [0; EVENTS.len()],
         }
     }
@@ -610,6 +622,10 @@ const REFUSALS: [&[usize]; SORTS.len()] = [
 /// one, by their places in [`SORTS`].
 const NAMING: [usize; 11] = [0, 1, 3, 6, 7, 8, 9, 10, 11, 12, 13];
 
+/// Those on a member, with the refusal of a VCI over 65,535 on an open path: adding, offer and
+/// removal.
+const ON_MEMBERS: [(usize, u32); 3] = [(9, 11), (10, 28), (11, 28)];
+
 /// Those that read three rate codes: open, receive, open of a path, read, limit and port.
 const READING: [usize; 6] = [0, 2, 8, 15, 20, 21];
 
@@ -637,6 +653,19 @@ impl Coverage {
         let counts = &mut self.out_of_range[call.sort()];
         for (count, like) in counts.iter_mut().zip(like_open) {
             *count += u64::from(like);
+        }
+    }
+
+    /// Counts a call that was refused for a VCI over 65,535, if it is one on a member, by
+    /// whether its path is open, is not, and would be if its VPI were cut.
+    pub fn count_past_vci(&mut self, call: &Call, number: u32, path: [bool; 3]) {
+        let mut sorts = ON_MEMBERS.into_iter();
+        let Some((sort, on_open)) = sorts.find(|(sort, _)| *sort == call.sort()) else {
+            return;
+        };
+        let counts = self.past_vci[sort].iter_mut();
+        for ((count, is), due) in counts.zip(path).zip([on_open, 11, 11]) {
+            *count += u64::from(is && number == due);
         }
     }
 
@@ -674,6 +703,14 @@ impl Coverage {
         self.nexts[place] += 1;
     }
 
+    /// Adds the counts of times to be passed to a slot.
+    pub fn add_slot_times(&mut self, decided: &[u64; CASES.len()], tried: u64) {
+        for (to, from) in self.slot_times.iter_mut().zip(decided) {
+            *to += from;
+        }
+        self.tried += tried;
+    }
+
     /// Counts an event if it happened.
     pub fn reach(&mut self, event: Event, happened: bool) {
         self.events[event as usize] += u64::from(happened);
@@ -701,6 +738,9 @@ impl Coverage {
         for (to, from) in self.out_of_range.iter_mut().zip(&other.out_of_range) {
             add(to, from);
         }
+        for (to, from) in self.past_vci.iter_mut().zip(&other.past_vci) {
+            add(to, from);
+        }
         for (to, from) in self.reserved.iter_mut().zip(&other.reserved) {
             add(to, from);
         }
@@ -709,6 +749,7 @@ impl Coverage {
         add(&mut self.on_member, &other.on_member);
         add(&mut self.damaged, &other.damaged);
         add(&mut self.nexts, &other.nexts);
+        self.add_slot_times(&other.slot_times, other.tried);
         add(&mut self.events, &other.events);
     }
 
@@ -745,6 +786,12 @@ impl Coverage {
             add(cut, sort, "of a pair that is one if cut");
             add(added, sort, "of a pair that is one if added");
         }
+        for (sort, _) in ON_MEMBERS {
+            let [open, closed, past] = self.past_vci[sort];
+            add(open, sort, "of a VCI over 65,535 on an open path");
+            add(closed, sort, "of a VCI over 65,535 on no path");
+            add(past, sort, "of a VCI over 65,535 on a VPI over 255");
+        }
         for sort in READING {
             for (place, count) in self.reserved[sort].iter().enumerate() {
                 add(*count, sort, &format!("with the bit in code {place} alone"));
@@ -777,7 +824,7 @@ impl Coverage {
             .map(|event| format!("{event:?} {}", self.reached(*event)))
             .collect();
         format!(
-            "{} calls, {} rates compared, {} cells recorded; slots idle {}, forward {}, turned {}, data {}; next {:?}; {}",
+            "{} calls, {} rates compared, {} cells recorded; slots idle {}, forward {}, turned {}, data {}; next {:?}; slot times {:?}, {} tried; {}",
             self.calls,
             self.rates,
             self.recorded,
@@ -786,6 +833,8 @@ impl Coverage {
             self.kinds[2],
             self.kinds[3],
             self.nexts,
+            self.slot_times,
+            self.tried,
             events.join(", ")
         )
     }

@@ -8,12 +8,14 @@
 //! * [`trace`], [`drawn`]: the numbers and octets of a trace, and traces drawn with the
 //!   verdict that they must get;
 //! * [`edges`]: the edges of the rules that the cells of a trace are on;
+//! * [`slot_times`]: what is asked of the time to be passed to a slot;
 //! * [`both`]: one call made on both sides and everything compared;
 //! * [`accounts`]: the data cells of each name, counted from calls and answers;
 //! * [`observation`]: what is known of a list's connections from its calls;
 //! * [`profile`], [`generate`]: lists of calls at the edges;
 //! * [`recorder`]: the traces of a list's connections;
 //! * [`coverage`]: what the lists reached;
+//! * [`policer`]: a network's policer, GCRA and DGCRA;
 //! * [`parallel`]: jobs on all processors;
 //! * [`lists`]: whole lists, each repeatable by its number;
 //! * [`pairs`]: two lists, the second at least as congested.
@@ -33,7 +35,9 @@ pub mod observation;
 pub mod octets;
 pub mod pairs;
 pub mod parallel;
+pub mod policer;
 pub mod profile;
 pub mod recorder;
 pub mod rng;
+pub mod slot_times;
 pub mod trace;

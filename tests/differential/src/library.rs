@@ -105,6 +105,21 @@ impl Library {
         (next != ffi::ABR_NEVER).then_some(next)
     }
 
+    /// The time to be passed to a slot at `now` with this tolerance.
+    pub fn slot_time(&self, now: u64, lag: u64) -> u64 {
+        // SAFETY: the pointer is live.
+        unsafe { ffi::abr_slot_time(&*self.table, now, lag) }
+    }
+
+    /// Whether a slot at this time would be accepted, and be idle. It changes the table.
+    pub fn is_idle(&mut self, time: u64) -> Result<bool, Difference> {
+        let len = abr::CELL_OCTETS;
+        match self.call(&Call::Slot { time, len }, &mut Buffer::new(0))? {
+            Ok(Answer::Sent(sent)) => Ok(sent.kind == 0),
+            other => Err(format!("a slot at {time}: {other:?}")),
+        }
+    }
+
     /// Closes an address or removes it as a member, whichever it is, if it is either, and
     /// gives the data cells that waited.
     pub fn drain(&mut self, at: Address) -> Result<u64, Difference> {

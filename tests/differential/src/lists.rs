@@ -12,6 +12,7 @@ use crate::library::{self, Difference};
 use crate::observation::Observation;
 use crate::profile::{Profile, PROFILES};
 use crate::recorder::Recorder;
+use crate::rng::Rng;
 use crate::trace::Trace;
 
 /// The calls of one list, beside the opens that fill its table.
@@ -21,6 +22,9 @@ const LIST: u64 = 2_000;
 pub fn length(profile: Profile) -> u64 {
     profile.first() + LIST
 }
+
+/// A slot of a line at 353,208 cells per second, in nanoseconds.
+const SLOT: u64 = 2_831;
 
 /// After so many calls every connection is compared.
 const EVERYWHERE: u64 = 16;
@@ -83,6 +87,20 @@ impl List {
         })
     }
 
+    /// A call as it is made in a list whose slots are passed what the library gives: the drawn
+    /// time is the clock, some slots later, and the lag none, a few slots or without end.
+    fn paced(&mut self, call: Call) -> Call {
+        let Call::Slot { time, len } = call else {
+            return call;
+        };
+        let rng = &mut self.both.rng;
+        let (late, slots) = (rng.below(6 * SLOT), SLOT * rng.below(8));
+        let now = time.saturating_add(rng.pick(&[0, 0, late]));
+        let lag = rng.pick(&[0, slots, slots, u64::MAX]);
+        let time = self.both.slot_time(now, lag);
+        Call::Slot { time, len }
+    }
+
     /// Closes what is still open: then no cell waits, and every account comes out even.
     pub fn finish(&mut self) -> Result<(), Difference> {
         for at in self.seen.connections.keys() {
@@ -118,9 +136,14 @@ pub fn traces(
 ) -> Result<Vec<(Address, Trace)>, Difference> {
     let mut generator = Generator::new(seed, profile);
     let mut list = List::default();
+    list.both.rng = Rng::new(!seed);
     let calls = length(profile);
     for index in 0..calls {
-        let call = generator.next(&list.seen);
+        let drawn = generator.next(&list.seen);
+        let call = match profile.paced {
+            true => list.paced(drawn),
+            false => drawn,
+        };
         let report = |difference: Difference| {
             let name = profile.name;
             format!("list {seed} ({name}), call {index}, {call:x?}: {difference}")
@@ -134,6 +157,7 @@ pub fn traces(
         }
     }
     coverage.rates += list.both.rates;
+    coverage.add_slot_times(&list.both.slot_times, list.both.tried);
     let report = |difference| format!("list {seed}, its end: {difference}");
     list.finish().map_err(report)?;
     Ok(list.recorder.traces())

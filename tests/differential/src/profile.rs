@@ -24,6 +24,8 @@ pub struct Profile {
     pub fault: u64,
     /// Slots are so far apart that every connection is due again.
     pub spaced: bool,
+    /// Slots are passed the time that the library gives for the drawn one.
+    pub paced: bool,
     /// How often each sort of call is made, in the order of the sorts.
     pub weights: [u64; 24],
 }
@@ -55,7 +57,7 @@ const USUAL: [u64; 24] = weights(
 );
 
 /// The profiles of the differential lists.
-pub const PROFILES: [Profile; 9] = [
+pub const PROFILES: [Profile; 10] = [
     Profile::usual("one", 1, 8),
     Profile::usual("few", 3, 12),
     Profile {
@@ -98,6 +100,13 @@ pub const PROFILES: [Profile; 9] = [
         joined: 252,
         fault: 16,
         ..Profile::usual("members", 3, 18)
+    },
+    Profile {
+        weights: weights([3, 1, 20, 10, 2, 56, 2, 2], [1, 3, 6, 1], [1; 12]),
+        paths: 1,
+        members: 3,
+        paced: true,
+        ..Profile::usual("paced", 5, 16)
     },
 ];
 
@@ -154,6 +163,7 @@ impl Profile {
             before_end: None,
             fault: 40,
             spaced: false,
+            paced: false,
             weights: USUAL,
         }
     }

@@ -6,6 +6,12 @@ pub struct Rng {
     state: u64,
 }
 
+impl Default for Rng {
+    fn default() -> Self {
+        Rng::new(0)
+    }
+}
+
 impl Rng {
     /// The generator of a seed; each seed gives another run.
     pub fn new(seed: u64) -> Self {

@@ -7,7 +7,7 @@ use differential::{lists, parallel};
 
 /// How many lists of each profile, fewer of those with a full table, and how many
 /// of them in one job.
-const LISTS: u64 = 3_750;
+const LISTS: u64 = 3_500;
 const JOB: u64 = 10;
 
 /// Each event, refusal and kind must be reached so often.
@@ -22,6 +22,11 @@ const RECORDED: u64 = 8_000_000;
 /// After so many calls the next ready instant must be never, before the last accepted time,
 /// at it, after it, and after 2^62.
 const NEXTS: [u64; 5] = [5_000_000, 8_000_000, 1_000_000, 15_000_000, 2_000_000];
+
+/// So many times to be passed to a slot must be decided by each of `slot_times::CASES`, and so
+/// many must be tried by slots.
+const SLOT_TIMES: u64 = 2_000_000;
+const TRIED: u64 = 100_000;
 
 /// Runs the lists of a job: a profile's place, and the number of the first.
 fn run_job((place, first): (usize, u64)) -> Result<Coverage, Difference> {
@@ -63,4 +68,11 @@ fn library_and_reference_agree_on_lists_that_reach_every_edge() {
         .zip(NEXTS)
         .all(|(count, least)| *count >= least);
     assert!(enough, "next {nexts:?}");
+    let decided = total.slot_times;
+    assert_eq!(decided.iter().sum::<u64>(), total.calls);
+    assert!(
+        decided.iter().all(|count| *count >= SLOT_TIMES),
+        "{decided:?}"
+    );
+    assert!(total.tried >= TRIED, "{} tried", total.tried);
 }

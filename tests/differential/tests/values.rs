@@ -1,6 +1,6 @@
 //! The checked values of document 01, through the safe binding, the count of
 //! unanswered cells at the largest CRM, and contracts without a minimum (document
-//! 02, L5) and full addresses (L6).
+//! 02, L5), full addresses (L6) and the ends of a member's (L13).
 
 use abr::{
     Cell, Closed, Kind, Params, Refusal, Rm, Table, CELL_OCTETS, OUT_OF_RATE_INTERVAL, TIME_MAX,
@@ -175,6 +175,23 @@ fn ends_of_time_and_of_the_addresses() {
         table.slot(TIME_MAX - 1, &mut cell),
         Err(Refusal::TimeBackward)
     );
+}
+
+/// A VCI over 65,535 is no member of an open path, and on no other path is there a member.
+#[test]
+fn a_member_past_the_last_vci() {
+    let params = Params::house(THOUSAND, 0x4000, THOUSAND);
+    let mut table = Table::new();
+    assert_eq!(table.open_path(VPI, 0, &params), Ok(1));
+    assert_eq!(table.add(VPI, 65_535), Ok(()));
+    for vci in [65_536, 70_000, 131_071, u32::MAX] {
+        assert_eq!(table.add(VPI, vci), Err(Refusal::NotOpen));
+        let expected = [(VPI, Refusal::NotAMember), (VPI + 256, Refusal::NotOpen)];
+        for (vpi, refusal) in expected.into_iter().chain([(0, Refusal::NotOpen)]) {
+            assert_eq!(table.offer_member(vpi, vci, 0), Err(refusal), "{vpi} {vci}");
+            assert_eq!(table.remove(vpi, vci), Err(refusal), "{vpi} {vci}");
+        }
+    }
 }
 
 #[test]

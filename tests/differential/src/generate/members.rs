@@ -115,8 +115,9 @@ impl Generator {
         let channel = self.open_one(seen).unwrap_or(like);
         let outside = self.outside(like);
         let path = Address::of_path(own);
+        let past = self.past_vci(like);
         self.rng
-            .pick(&[other_path, other_vci, channel, path, outside, outside])
+            .pick(&[other_path, other_vci, channel, path, outside, outside, past])
     }
 
     /// A pair that is not accepted as a member where one of the list would be: of a low VCI,
@@ -130,7 +131,20 @@ impl Generator {
         let channel = *channel.unwrap_or(&own);
         let other_path = Address::new(own.vpi ^ 1 << self.rng.below(8), own.vci);
         let outside = self.outside(own);
-        self.rng
-            .pick(&[low, member, channel, channel, other_path, outside, outside])
+        let past = self.past_vci(member);
+        self.rng.pick(&[
+            low, member, channel, channel, other_path, outside, outside, past,
+        ])
+    }
+
+    /// A pair with a VCI over 65,535, on the VPI of another or on one of the list's paths,
+    /// open or not, sometimes with more bits: often one that would be that pair, or a path's
+    /// own name, if it were cut.
+    fn past_vci(&mut self, like: Address) -> Address {
+        let (any, own) = (self.rng.next() as u32, self.rng.pick(&self.paths));
+        let vpi = self.rng.pick(&[like.vpi, like.vpi, own, own, own + 256]);
+        let over = VCI_MAX + 1;
+        let edges = [over, over | PATH_VCI, over | like.vci, u32::MAX, any | over];
+        Address::new(vpi, self.rng.pick(&edges))
     }
 }

@@ -26,9 +26,10 @@ impl Observation {
             let written = reference::write_rm(&on_path_0, &mut [0; CELL_OCTETS]);
             coverage.reach(Event::WritePath, written.is_ok());
         }
-        let (Some(at), 7 | 11) = (call.address(), number) else {
+        let (Some(at), 7 | 11 | 28) = (call.address(), number) else {
             return;
         };
+        self.past_vci(call, at, number, coverage);
         if at.fits() {
             let unknown = number == 11 && self.elsewhere(at);
             coverage.reach(Event::OtherPath, unknown);
@@ -41,6 +42,17 @@ impl Observation {
         let sum = Address::new(added >> 16, added & VCI_MAX);
         let like_open = [cut, sum].map(|other| self.finds(call, other));
         coverage.count_out_of_range(call, like_open);
+    }
+
+    /// A call on a member was refused: it may have named a VCI out of its range, which is no
+    /// member of a path that is open, and unknown where none is (document 02, L13).
+    fn past_vci(&self, call: &Call, at: Address, number: u32, coverage: &mut Coverage) {
+        if at.vci <= VCI_MAX {
+            return;
+        }
+        let cut = self.path_is_open(at.vpi & VPI_MAX);
+        let (open, fits) = (self.path_is_open(at.vpi), at.vpi <= VPI_MAX);
+        coverage.count_past_vci(call, number, [open, fits && !open, !fits && cut]);
     }
 
     /// Whether a call would find at another pair what it names: a member, the path of one,

@@ -1,0 +1,7 @@
+-- What a transmitter in C delivers.
+pub mod SlotTime
+pub mod Policed
+pub mod Obeyed
+pub mod Rounds
+pub mod Delivered
+pub mod Room

@@ -1,0 +1,21 @@
+-- A policer finds nothing to drop, said of what a caller records: the pairs and kinds that abr_slot returned, with the times passed and the rates that abr_acr returned before.
+use Prim.Native.Nat.{ℕ}
+use mathlib.Core.Path.{_≡_}
+use mathlib.Core.List.{List}
+use mathlib.Core.Option.{none, some}
+use Rattle.rate.specs.Gap.{gap}
+use Rattle.params.specs.declared.params.Params.{Params}
+use Rattle.params.specs.Params.{peak}
+use Rattle.model.specs.Call.{Call}
+use Rattle.answers.specs.declared.calls.AcrAnswer.{AcrAnswer}
+use Rattle.abr.specs.Exports.{Observation, Trace, finalWords, zeros}
+use Rattle.exports.specs.Exports.{paramsObserved}
+use Rattle.exports.specs.Recorded.{recorded, RatesRead}
+use Rattle.exports.specs.Returned.{noMember, membersSeen}
+use Rattle.delivery.specs.Policed.{PolicedCells}
+
+-- After any exported calls, of a connection that is open with the parameters p, and any further ones until it is closed.
+abbrev pub ExportsPoliced : Type 0
+ExportsPoliced =
+    (cs ds : List Call) (os ps : List Observation) (v : ℕ) (p : Params) (rs : List AcrAnswer) → Trace cs zeros os → Trace ds (finalWords zeros os) ps → paramsObserved v none cs os ≡ some p
+    → RatesRead v (finalWords zeros os) ps rs → PolicedCells (gap (peak p)) (recorded v (membersSeen noMember cs os) ds ps rs)

@@ -1,0 +1,159 @@
+-- The rounds of a transmitter that passes each slot the time that abr_slot_time returns, said of the numbers that exported calls return; and what they deliver where no slot is passed
+-- more than k behind its own time.
+use Prim.Native.Nat.{ℕ, _+_, _-_, _*_, _≤_, min, max}
+use mathlib.Core.Path.{_≡_}
+use mathlib.Core.Bool.{Bool, true, cond}
+use mathlib.Core.List.{List, [], _∷_}
+use mathlib.Core.Option.{Option, none, some}
+use lib.Dec.{eqb}
+use Rattle.rate.specs.Units.{latestTime}
+use Rattle.rate.specs.Gap.{gap}
+use Rattle.params.specs.declared.params.Params.{Params}
+use Rattle.params.specs.Params.{least}
+use Rattle.model.specs.Call.{Call, opening, closing, receiving, offering, levelling, slot, making, outOfRate, openingPath, adding, offeringMember, removing}
+use Rattle.tournament.specs.Next.{GivesNext, GivesSlotTime}
+use Rattle.answers.specs.declared.calls.AcrAnswer.{AcrAnswer}
+use Rattle.abr.specs.Contract.{AnswersAcr}
+use Rattle.abr.specs.Exports.{Observation, Performs, Trace, finalWords}
+use Rattle.promises.specs.All.{All}
+use Rattle.exports.specs.Exports.{paramsObserved}
+use Rattle.exports.specs.Returned.{noMember, membersSeen, wentTo}
+use Rattle.exports_rates.specs.Seen.{Watched, watch, watchedFrom, watched}
+use Rattle.exports_service.specs.Ready.{waitsSeen}
+use Rattle.delivery.specs.Calls.{sortOf}
+use Rattle.delivery.specs.Turns.{Turn, NoSlot}
+use Rattle.delivery.specs.Served.{NotCloser, movedOn, oneMore}
+
+-- one round: the calls since the last slot with what they returned; the slot's own time, what abr_next and abr_slot_time return at it, what abr_slot did, and what abr_acr returns of each
+-- name before it
+pub record Round : Type 0 where
+  pub between : List Call
+  pub seen : List Observation
+  pub now : ℕ
+  pub next : ℕ
+  pub passed : ℕ
+  pub sent : Observation
+  pub acrs : ℕ → AcrAnswer
+
+-- the last accepted time, from the calls and the numbers that they returned: 0 is no refusal
+unfoldable pub timeKept : Call → (accepted : Bool) → (last : ℕ) → ℕ
+timeKept (opening vpi vci t p) a l = cond a t l
+timeKept (closing vpi vci) a l = l
+timeKept (receiving o) a l = l
+timeKept (offering vpi vci n) a l = l
+timeKept (levelling n) a l = l
+timeKept (slot t room) a l = cond a t l
+timeKept (making vpi vci t) a l = cond a t l
+timeKept (outOfRate vpi vci t room) a l = cond a t l
+timeKept (openingPath vpi t p) a l = cond a t l
+timeKept (adding vpi vci) a l = l
+timeKept (offeringMember vpi vci n) a l = l
+timeKept (removing vpi vci) a l = l
+
+abbrev pub lastSeen : (last : ℕ) → List Call → List Observation → ℕ
+lastSeen l [] os = l
+lastSeen l (c ∷ cs) [] = l
+lastSeen l (c ∷ cs) (o ∷ os) = lastSeen (timeKept c (eqb (o .returned .refusal) 0) l) cs os
+
+abbrev pub wordsAt : List ℕ → Round → List ℕ
+wordsAt t x = finalWords t (x .seen)
+
+-- on a table with these words, the last accepted time being `last` and the slot before at m by the clock
+pub record RoundRuns (S lag m last : ℕ) (t : List ℕ) (x : Round) : Type 0 where
+  pub done : Trace (x .between) t (x .seen)
+  pub asked : GivesNext (wordsAt t x) (x .next)
+  pub timed : GivesSlotTime (wordsAt t x) (x .now) lag (x .passed)
+  pub slotted : Performs (slot (x .passed) 53) (wordsAt t x) (x .sent)
+  pub read : (v : ℕ) → AnswersAcr v (wordsAt t x) (x .acrs v)
+  pub others : All (λ c. NoSlot (sortOf c)) (x .between)
+  -- opens, made and out-of-rate cells take the last passed time, so that no call but the slots moves the last accepted one; and the clock is not behind it
+  pub still : lastSeen last (x .between) (x .seen) ≡ last
+  pub timely : last ≤ x .now
+  pub inRange : x .now ≤ latestTime
+  -- the slot comes at most S after the one before, or at most S after the last instant before the next ready one: a transmitter may sleep until that
+  pub soon : x .now ≤ max m (x .next - 1) + S
+
+abbrev pub RoundsRun : (S lag m last : ℕ) → List ℕ → List Round → Type 0
+RoundsRun S lag m last t [] = Unit
+RoundsRun S lag m last t (x ∷ xs) = RoundRuns S lag m last t x × RoundsRun S lag (x .now) (x .passed) (x .sent .table) xs
+
+abbrev pub turnsOf : List Round → List Turn
+turnsOf [] = []
+turnsOf (x ∷ xs) = record { between = x .between; now = x .now } ∷ turnsOf xs
+
+-- the lag does not decide, and the slot is passed no more than k behind its own time
+pub record PassedNear (k last : ℕ) (x : Round) : Type 0 where
+  pub undelayed : x .passed ≡ min (x .now) (max (x .next) last)
+  pub near : x .now ≤ x .passed + k
+
+abbrev pub AllPassedNear : (k last : ℕ) → List Round → Type 0
+AllPassedNear k last [] = Unit
+AllPassedNear k last (x ∷ xs) = PassedNear k last x × AllPassedNear k (x .passed) xs
+
+-- what a caller keeps of v before the slot of a round, by what it kept after the slot before, and after it
+abbrev pub watchedAt : (v : ℕ) → Watched → Round → Watched
+watchedAt v k x = watchedFrom v k (x .between) (x .seen)
+
+abbrev pub watchedAfter : (v : ℕ) → Watched → Round → Watched
+watchedAfter v k x = watch v (slot (x .passed) 53) (x .sent) (watchedAt v k x)
+
+-- something waits on v before the slot, data, a turned or a made cell; and v was not closed since the last slot
+pub record Waiting (v : ℕ) (k : Watched) (x : Round) : Type 0 where
+  pub some : waitsSeen (watchedAt v k x .connection) ≡ true
+  pub kept : All (λ c. NotCloser v (sortOf c)) (x .between)
+
+abbrev pub AllWaiting : (v : ℕ) → Watched → List Round → Type 0
+AllWaiting v k [] = Unit
+AllWaiting v k (x ∷ xs) = Waiting v k x × AllWaiting v (watchedAfter v k x) xs
+
+-- each slot's own time is at most k, and a gap for each cell of v before it, after `start`; f says which pairs are members
+abbrev pub AllSent : (v gap k start cells : ℕ) → (ℕ → Bool) → List Round → Type 0
+AllSent v g k start n f [] = Unit
+AllSent v g k start n f (x ∷ xs) =
+    let h = membersSeen f (x .between) (x .seen) in
+    (x .now ≤ start + n * g + k) × AllSent v g k start (oneMore v n (wentTo h (x .sent .returned))) h xs
+
+-- the rate that abr_acr returns for v before each slot is from low to high
+abbrev pub AllRatesIn : (v low high : ℕ) → List Round → Type 0
+AllRatesIn v low high [] = Unit
+AllRatesIn v low high (x ∷ xs) = ((low ≤ x .acrs v .acr) × (x .acrs v .acr ≤ high)) × AllRatesIn v low high xs
+
+-- no slot is passed a time after `by`, and one that returns a cell of v none before `from`: after a cell of v these are a gap at low, and one at high, after it
+abbrev pub AllSpaced : (v low high from by : ℕ) → (ℕ → Bool) → List Round → Type 0
+AllSpaced v low high from by f [] = Unit
+AllSpaced v low high from by f (x ∷ xs) =
+    let h = membersSeen f (x .between) (x .seen) in
+    let w = wentTo h (x .sent .returned) in
+    ((x .passed ≤ by) × (w ≡ some v → from ≤ x .passed)) × AllSpaced v low high (movedOn v (gap high) (x .passed) from w) (movedOn v (gap low) (x .passed) by w) h xs
+
+-- each cell of v is passed exactly a gap g after the one before, which was passed `last`: the first has none before it
+abbrev pub Exactly : (g : ℕ) → (last : Option ℕ) → (passed : ℕ) → Type 0
+Exactly g none t = Unit
+Exactly g (some l) t = t ≡ l + g
+
+unfoldable pub lastCell : (v passed : ℕ) → (last : Option ℕ) → Option ℕ → Option ℕ
+lastCell v t l none = l
+lastCell v t l (some u) = cond (eqb u v) (some t) l
+
+abbrev pub AllExact : (v g : ℕ) → (last : Option ℕ) → (ℕ → Bool) → List Round → Type 0
+AllExact v g l f [] = Unit
+AllExact v g l f (x ∷ xs) =
+    let h = membersSeen f (x .between) (x .seen) in
+    let w = wentTo h (x .sent .returned) in
+    (w ≡ some v → Exactly g l (x .passed)) × AllExact v g (lastCell v (x .passed) l w) h xs
+
+-- after exported calls from the zero table
+pub record RoundsDelivered (cs : List Call) (os : List Observation) (k : ℕ) (xs : List Round) : Type 0 where
+  pub near : AllPassedNear k (lastSeen 0 cs os) xs
+  -- a connection with a minimum on which something waits at every slot has a cell for each gap at its minimum, but for one gap and k
+  pub minimum :
+      (v : ℕ) (p : Params) → paramsObserved v none cs os ≡ some p → 1 ≤ least p → AllWaiting v (watched v cs os) xs
+      → AllSent v (gap (least p)) k (lastSeen 0 cs os + gap (least p)) 0 (membersSeen noMember cs os) xs
+  -- at any rates its cells are passed no later than a gap at the lowest, and no sooner than one at the highest, after each other
+  pub spaced :
+      (v low high : ℕ) (p : Params) → paramsObserved v none cs os ≡ some p → 1 ≤ low → AllWaiting v (watched v cs os) xs → AllRatesIn v low high xs
+      → AllSpaced v low high 0 (lastSeen 0 cs os + gap low) (membersSeen noMember cs os) xs
+  -- at a constant rate, from the second cell on, exactly a gap apart
+  pub exact :
+      (v a : ℕ) (p : Params) → paramsObserved v none cs os ≡ some p → 1 ≤ a → AllWaiting v (watched v cs os) xs → AllRatesIn v a a xs
+      → AllExact v (gap a) none (membersSeen noMember cs os) xs
