@@ -3,16 +3,18 @@
 #   make lib                prove the library and write target/staticlib/libabr.a
 #   make demo               two connections, slot by slot, and pictures: of them, and of ten sources at a port
 #   make test               the gate: proofs, then every test
+#   make target TARGET=     the library for another processor, target/TARGET/libabr.a; without a name it says which there are
 #   make tools              abr-judge and abr-trace, in target/cargo/release
 #   make transmitter        a whole transmitter, both ends of a link, and its picture; make demo runs it too
 #   make install PREFIX=    library, as an archive and as a shared object linked from it, header and abr.pc
-#   make dist               the tarball that is sold; only of a commit for which make test has passed
+#   make dist [TARGET=]     the tarball that is sold; only of a commit for which make test has passed
 #   make bench              the cost of each call, library and reference
 #   make soak [SEED=n]      random lists without end
+#   make soak-targets       fifty million calls on each processor, compared with x86-64
 #
 # ABR_LIB names another archive than the proved one, which then is not built.
 
-VERSION := 0.16.0
+VERSION := 0.17.0
 PREFIX ?= /usr/local
 DESTDIR ?=
 CC ?= gcc
@@ -28,7 +30,7 @@ LIB_GOAL := lib
 endif
 export ABR_LIB := $(LIB)
 
-.PHONY: lib demo test tools transmitter install dist bench soak clean
+.PHONY: lib demo test target tools transmitter install dist bench soak soak-targets clean
 
 lib:
 	rt staticlib abr
@@ -45,6 +47,11 @@ demo: $(LIB_GOAL) transmitter
 test:
 	.ci/run
 
+target:
+	@scripts/target --known "$(TARGET)"
+	@scripts/module
+	@scripts/target "$(TARGET)"
+
 tools: $(LIB_GOAL)
 	cargo build --release --quiet -p tools
 	@echo "target/cargo/release/abr-judge and abr-trace; --help says how they are called"
@@ -53,8 +60,9 @@ transmitter: $(LIB_GOAL)
 	@mkdir -p $(BUILD)
 	$(CC) -std=c99 $(CFLAGS) -Iinclude examples/transmitter.c $(LIB) -o $(BUILD)/transmitter
 	$(BUILD)/transmitter $(BUILD)/transmitter.numbers
-	cargo run --release --quiet -p picture --bin draw_transmitter -- $(BUILD)/transmitter.numbers >$(BUILD)/transmitter.svg
-	@echo "The allowed rates of three connections, and the queue of the network: $(BUILD)/transmitter.svg"
+	@$(BUILD)/transmitter $(BUILD)/own.numbers 0 >/dev/null
+	cargo run --release --quiet -p picture --bin draw_transmitter -- $(BUILD)/transmitter.numbers $(BUILD)/own.numbers >$(BUILD)/transmitter.svg
+	@echo "Allowed rates, the queue of the network, and what a leased circuit is delivered, both ways: $(BUILD)/transmitter.svg"
 
 $(BUILD)/abr.pc: abr.pc.in Makefile FORCE
 	@mkdir -p $(BUILD)
@@ -67,8 +75,13 @@ install: $(LIB_GOAL) $(BUILD)/abr.pc
 	install -m 644 include/abr.h $(DESTDIR)$(PREFIX)/include/abr.h
 	install -m 644 $(BUILD)/abr.pc $(DESTDIR)$(PREFIX)/lib/pkgconfig/abr.pc
 
+ifdef TARGET
+dist:
+	scripts/dist abr-$(VERSION)-$(TARGET) target/$(TARGET)/libabr.a $(VERSION) $(TARGET)
+else
 dist: $(LIB_GOAL)
 	CC="$(CC)" scripts/dist $(DIST) $(LIB) $(VERSION)
+endif
 
 bench: $(LIB_GOAL)
 	bench/run
@@ -76,6 +89,9 @@ bench: $(LIB_GOAL)
 
 soak: $(LIB_GOAL)
 	cargo run --release --quiet -p differential --bin soak -- $(SEED)
+
+soak-targets:
+	CALLS=50000000 LONG=100000000 tests/targets/run
 
 clean:
 	rm -rf $(BUILD) target/cargo target/tests target/bench dist
