@@ -44,16 +44,23 @@ def prototypes():
     return found
 
 
+def structs():
+    """Of each struct of the header the lines of its fields."""
+    found = re.findall(r"^typedef struct \{\n(.*?)^\} (abr_\w+);", HEADER, re.M | re.S)
+    return {name: body for body, name in found}
+
+
 def defined(prefix=""):
     """The numbers that the header defines under names with a prefix, and the comment beside each."""
-    lines = re.findall(rf"^#define ABR_{prefix}(\w+) (?:UINT64_C\()?(0x[0-9A-Fa-f]+|\d+)[u)](?: +/\* (.*) \*/)?$", HEADER, re.M)
-    return {name: (int(number, 0), comment) for name, number, comment in lines}
+    number = r"(?:UINT64_C\()?(0x[0-9A-Fa-f]+|\d+)[u)]"
+    lines = re.findall(rf"^#define ABR_{prefix}(\w+) {number}(?: +/\* (.*) \*/)?$", HEADER, re.M)
+    return {name: (int(digits, 0), comment) for name, digits, comment in lines}
 
 
 class Header(unittest.TestCase):
     def test_every_function_is_declared_with_its_types_and_no_other(self):
+        self.assertEqual(len(prototypes()), len(re.findall(r"^(?!ABR_LAYOUT)[A-Za-z].*\);$", HEADER, re.M)))
         self.assertEqual(prototypes(), c.FUNCTIONS)
-        self.assertEqual(len(c.FUNCTIONS), 28)
 
     def test_every_function_is_called_by_the_binding(self):
         called = set()
@@ -64,16 +71,17 @@ class Header(unittest.TestCase):
         self.assertEqual(called | {"abr_version", "abr_table_words"}, set(prototypes()))
 
     def test_every_struct_has_its_fields_in_order(self):
-        structs = re.findall(r"^typedef struct \{\n(.*?)^\} (abr_\w+);", HEADER, re.M | re.S)
-        self.assertEqual(len(structs), 14)
-        for body, name in structs:
+        self.assertEqual(len(structs()), HEADER.count("typedef struct"))
+        self.assertEqual(set(structs()), {name for name in vars(c) if name.startswith("abr_")})
+        for name, body in structs().items():
             fields = re.findall(r"^    (\w+) (\w+)(?:\[(\w+)\])?;", body, re.M)
-            expected = [(field, c_type(kind) * c.TABLE_WORDS if count else c_type(kind)) for kind, field, count in fields]
+            typed = [(field, c_type(kind), count) for kind, field, count in fields]
+            expected = [(field, kind * c.TABLE_WORDS if count else kind) for field, kind, count in typed]
             self.assertEqual(getattr(c, name)._fields_, expected, name)
 
     def test_sizes_and_offsets_are_those_of_c(self):
         sizes = re.findall(r"^ABR_LAYOUT\(\w+, sizeof\((\w+)\) == ([\w* ]+)\);", HEADER, re.M)
-        self.assertEqual(len(sizes), 14)
+        self.assertEqual(sorted(name for name, _ in sizes), sorted(structs()))
         for name, size in sizes:
             expected = 8 * abr.TABLE_WORDS if name == "abr_table" else int(size)
             self.assertEqual(ctypes.sizeof(getattr(c, name)), expected, name)
