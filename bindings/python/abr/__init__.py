@@ -5,8 +5,10 @@ second), but for the doubles of Table.export and import_rate, which are in cells
 refused call raises Refused, with the number and the text of the refusal. A number that C's types cannot hold raises
 OverflowError, before any call."""
 
+# All that is imported here is what the package offers.
+# flake8: noqa: F401, F403
 from .cell import Data, Rm, read, write_rm
-from .constants import *  # noqa: F403
+from .constants import *
 from .params import Params
 from .rates import Contract, Imported, code, import_rate, rate
 from .refusal import Refusal, Refused

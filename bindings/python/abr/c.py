@@ -99,8 +99,8 @@ FUNCTIONS = {
 
 
 def path() -> str:
-    """The shared object: the one that ABR_SHARED names, else, in an unpacked delivery, that of its lib, else the one that
-    the loader finds by its name."""
+    """The shared object: the one that ABR_SHARED names, else, in an unpacked delivery, that of its lib, else the one
+    that the loader finds by its name."""
     major_minor = f"{VERSION >> 16}.{VERSION >> 8 & 0xFF}"
     delivered = Path(__file__).resolve().parents[2] / "lib" / f"libabr.so.{major_minor}"
     return os.environ.get("ABR_SHARED") or (str(delivered) if delivered.is_file() else delivered.name)
@@ -108,8 +108,8 @@ def path() -> str:
 
 def load(name: str) -> PyDLL:
     """Loads the shared object, which must be of this binding's version: with another one a table may be too short. The
-    interpreter's lock is held while a call runs (PyDLL), so that no two threads are in one table; where Python runs without
-    that lock, the caller must see to it."""
+    interpreter's lock is held while a call runs (PyDLL), so that no two threads are in one table; where Python runs
+    without that lock, the caller must see to it."""
     library = PyDLL(name)
     found = tuple(function(library, name) for name in ("abr_version", "abr_table_words"))
     if tuple(call() for call in found) != (VERSION, TABLE_WORDS):

@@ -10,8 +10,8 @@ from .refusal import accepted
 
 
 def fair_share(capacity: int, demands: Iterable[int]) -> int | None:
-    """The share of a capacity: the greatest whole rate with which all demands, each cut to it, stay within the capacity; None
-    if there is no limit. All are rates in units of 1/512 cell per second."""
+    """The share of a capacity: the greatest whole rate with which all demands, each cut to it, stay within the
+    capacity; None if there is no limit. All are rates in units of 1/512 cell per second."""
     rates = array(demands)
     share = library.abr_fair_share(u64("capacity", capacity), rates, len(rates))
     accepted(share.refusal)

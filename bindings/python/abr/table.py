@@ -136,8 +136,8 @@ class Table:
 
     def slot_time(self, now: int, lag: int) -> int:
         """The time to pass to a slot whose own time is now: the next ready instant if that has come, but not before the
-        last accepted time, and at most lag behind now, so that the next gap counts from the instant at which the cell was
-        ready. A now before the last accepted time comes back as it is, and a slot refuses it."""
+        last accepted time, and at most lag behind now, so that the next gap counts from the instant at which the cell
+        was ready. A now before the last accepted time comes back as it is, and a slot refuses it."""
         return library.abr_slot_time(self._table, u64("now", now), u64("lag", lag))
 
     def out_of_rate(self, vpi: int, vci: int, time: int) -> bytes:

@@ -19,7 +19,8 @@ class Rule(enum.IntEnum):
 
 
 class Breach(NamedTuple):
-    """Where a trace breaks a rule first: the cell, 1 for the first one, and the rule, the lowest if it breaks several."""
+    """Where a trace breaks a rule first: the cell, 1 for the first one, and the rule, the lowest if it breaks
+    several."""
 
     cell: int
     rule: Rule

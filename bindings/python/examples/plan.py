@@ -1,6 +1,6 @@
-"""A plan for one link: three contracts in cells per second are brought into rate codes, opened, shared out at a port, and
-run for a second against the explicit rates that the port gives back. Read it from top to bottom; plan.out is what it
-prints."""
+"""A plan for one link: three contracts in cells per second are brought into rate codes, opened, shared out at a port,
+and run for a second against the explicit rates that the port gives back. Read it from top to bottom; plan.out is what
+it prints."""
 
 from dataclasses import replace
 from heapq import heappop, heappush
@@ -8,7 +8,7 @@ from pathlib import Path
 import sys
 
 sys.path.insert(0, str(Path(__file__).resolve().parents[1]))  # the binding itself
-import abr
+import abr  # noqa: E402, after its path
 
 MS = 1_000_000
 SECOND = 1_000 * MS
@@ -57,8 +57,8 @@ print(f"   600 cells per second among {len(demands)}: at most {share / abr.RATE_
 wide = abr.fair_share(900 * abr.RATE_ONE, demands.values())
 print(f"   900 among them: {'no limit' if wide is None else wide / abr.RATE_ONE}")
 
-# ---- 4. A second of the link. The caller sleeps until table.next() and sends; a forward cell comes back after the round
-# ---- trip with the explicit rate of the port.
+# ---- 4. A second of the link. The caller sleeps until table.next() and sends; a forward cell comes back after the
+# ---- round trip with the explicit rate of the port.
 
 
 def number(value: int) -> bytes:

@@ -53,10 +53,10 @@ NUMBERS = {
 }
 NUMBERS["fair_share demand"] = (64, lambda table, x: abr.fair_share(0, [1, x]))
 NUMBERS["port demand"] = (64, lambda table, x: abr.port(0, [x], CELL))
-for field in fields(abr.Params):
-    NUMBERS[f"params {field.name}"] = (32, lambda table, x, name=field.name: table.open(2, 32, 0, replace(HOUSE, **{name: x})))
-for field in fields(abr.Rm):
-    NUMBERS[f"rm {field.name}"] = (32, lambda table, x, name=field.name: abr.write_rm(replace(abr.Rm(1, 32), **{name: x})))
+for name in (field.name for field in fields(abr.Params)):
+    NUMBERS[f"params {name}"] = (32, lambda table, x, name=name: table.open(2, 32, 0, replace(HOUSE, **{name: x})))
+for name in (field.name for field in fields(abr.Rm)):
+    NUMBERS[f"rm {name}"] = (32, lambda table, x, name=name: abr.write_rm(replace(abr.Rm(1, 32), **{name: x})))
 
 # Each call that takes octets.
 OCTETS = {
