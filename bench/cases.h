@@ -1,12 +1,13 @@
 /*
- * Every call in its costliest known case, accepted: a search over random states found none costlier. 1,024 connections are open,
- * and the one concerned wins all ten matches of its leaf before the call. Where it is ready again after it, all others are ready
- * at that instant too and it has the lowest name, which decides between equals: VPI 0, and VCI 32 or the path's. Nothing waits
- * then where that can be, since Trm is looked at only if nothing waits. Where the directory moves, it has the highest name, VPI
- * 255, and VCI 65,535 or the path's, with all other words behind its own, and the others are never ready. A forward cell makes
- * both of its moves, and a received one replaces another. A path has all 256 members, or all but one. A port has 1,024 demands.
- * A trace has 1,000 cells of fifteen octets. bench/worst.c counts the instructions of these calls, bench/cold.c measures their
- * time with table and cell in the caches and with both flushed from them, tests/c/stack.c their stack.
+ * Every call in its costliest known case, accepted: a search over random states found none costlier. 1,024 connections
+ * are open, and the one concerned wins all ten matches of its leaf before the call. Where it is ready again after it,
+ * all others are ready at that instant too and it has the lowest name, which decides between equals: VPI 0, and VCI 32
+ * or the path's. Nothing waits then where that can be, since Trm is looked at only if nothing waits. Where the
+ * directory moves, it has the highest name, VPI 255, and VCI 65,535 or the path's, with all other words behind its own,
+ * and the others are never ready. A forward cell makes both of its moves, and a received one replaces another. A path
+ * has all 256 members, or all but one. A port has 1,024 demands. A trace has 1,000 cells of fifteen octets.
+ * bench/worst.c counts the instructions of these calls, bench/cold.c measures their time with table and cell in the
+ * caches and with both flushed from them, tests/c/stack.c their stack.
  */
 #ifndef CASES_H
 #define CASES_H
@@ -31,8 +32,9 @@
 enum need {
     NOTHING, DATA_WAITS, FORWARD_DUE, TURNED_WAITS, TURNED_REPLACED, MADE_WAITS, MADE_REPLACED, OUTSIDE, FORWARD_CELL,
     BACKWARD_CELL, DATA_CELL, CLOSED, DEMANDS, TRACE,
-    /* The one concerned is a path, whose highest member was served last; one cell waits on the lowest, whose turn is next; or
-     * only on the highest itself; or a member is missing; or a data cell of a member is needed; or the path is closed. */
+    /* The one concerned is a path, whose highest member was served last; one cell waits on the lowest, whose turn is
+     * next; or only on the highest itself; or a member is missing; or a data cell of a member is needed; or the path is
+     * closed. */
     MEMBERS, NEXT_MEMBER, SAME_MEMBER, MISSING_MEMBER, MEMBER_CELL, CLOSED_PATH
 };
 
@@ -155,8 +157,8 @@ static int slot_sends(uint64_t time, uint32_t kind)
     return sent.refusal != ABR_OK || sent.kind != kind;
 }
 
-/* At one cell per second, on VPIs between the two ends. Beside the lowest name each has sent its first cell at 0 and is ready
- * at one second. */
+/* At one cell per second, on VPIs between the two ends. Beside the lowest name each has sent its first cell at 0 and is
+ * ready at one second. */
 static int open_others(enum name end)
 {
     int wrong = 0, busy = end == LOWEST;
@@ -172,7 +174,7 @@ static int open_others(enum name end)
     return wrong;
 }
 
-/* One is missing where it is to be added, and where a turn goes round: it then looks at a free word, which costs more. */
+/* One is missing where it is to be added, and where a turn goes round: looking at a free word costs more. */
 static uint32_t lowest_member(const abr_case *which)
 {
     return MEMBER_VCI + (which->need == MISSING_MEMBER || which->call == call_slot);
@@ -235,7 +237,7 @@ static int make_backward(uint64_t time)
     return abr_set_level(&table, 2) != ABR_OK || abr_make(&table, at.vpi, at.vci, time).refusal != ABR_OK;
 }
 
-/* A forward cell, two data cells and a turned one. Nothing waits then, so that Trm makes the ready instant: one second. */
+/* A forward cell, two data cells and a turned one. Nothing waits then: Trm makes the ready instant, one second. */
 static int send_four(void)
 {
     return offer_to(LAST_MEMBER_VCI, 2) || slot_sends(FORWARD_AT, ABR_SENT_FORWARD) ||
@@ -250,8 +252,8 @@ static int send_fifth(void)
 }
 
 /*
- * As many demands as there may be, and the capacity for which sharing goes through them most often: each pass finds some of
- * them met that the pass before left one unit short. The counts are of those that are not met yet.
+ * As many demands as there may be, and the capacity for which sharing goes through them most often: each pass finds
+ * some of them met that the pass before left one unit short. The counts are of those that are not met yet.
  */
 static void make_demands(void)
 {
@@ -273,8 +275,8 @@ static void make_demands(void)
 }
 
 /*
- * A trace that passes: 1,000 cells, 2^50 nanoseconds apart, at the largest rate. Trm has always passed, so that every third
- * cell is forward. The time of the first one is 0.
+ * A trace that passes: 1,000 cells, 2^50 nanoseconds apart, at the largest rate. Trm has always passed, so that every
+ * third cell is forward. The time of the first one is 0.
  */
 static void make_trace(void)
 {

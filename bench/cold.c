@@ -1,7 +1,8 @@
 /*
- * The time of each call on a table in its costliest known case (cases.h), with the table and the cell in the caches and with
- * both flushed from them, as other work leaves them on a loaded machine. The code stays in the caches. A median and what 99 of
- * 100 calls took, in nanoseconds, less the median of measuring nothing. These are figures of the machine that it runs on.
+ * The time of each call on a table in its costliest known case (cases.h), with the table and the cell in the caches and
+ * with both flushed from them, as other work leaves them on a loaded machine. The code stays in the caches. A median
+ * and what 99 of 100 calls took, in nanoseconds, less the median of measuring nothing. These are figures of the machine
+ * that it runs on.
  */
 #define _POSIX_C_SOURCE 199309L
 #include <emmintrin.h>

@@ -1,7 +1,7 @@
 /*
- * A call made over and over, for counting its instructions on any processor: steady CALL COUNT, with 64 connections open. CALL is
- * slot (data, and a forward cell after every 31), backward, forward or data (a received cell), offer, next, or nothing, the
- * loop alone. bench/targets takes the difference between two counts.
+ * A call made over and over, for counting its instructions on any processor: steady CALL COUNT, with 64 connections
+ * open. CALL is slot (data, and a forward cell after every 31), backward, forward or data (a received cell), offer,
+ * next, or nothing, the loop alone. bench/targets takes the difference between two counts.
  */
 #include <stdio.h>
 #include <stdlib.h>

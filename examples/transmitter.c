@@ -1,11 +1,11 @@
 /*
  * A whole transmitter, twice: both ends of a link of 10,000 cells per second each way, with a network between them.
- * Four connections are open at both ends. The near end sends most of the data: a leased circuit, whose minimum is its peak
- * and on which data always waits, and beside it one connection steadily, one in bursts, one without a minimum rate; the
- * far end sends a little, and turns the near end's RM cells round. The network delays cells by 5 ms each way. Towards the
- * far end it has room for 6,000 cells per second, for a while for 3,500 only: it marks data cells (EFCI) while cells
- * queue, and writes explicit rates into the backward cells on their way to the near end. For a while the far end's memory is
- * short, and for a while the network gives the fourth connection a rate of 0.
+ * Four connections are open at both ends. The near end sends most of the data: a leased circuit, whose minimum is its
+ * peak and on which data always waits, and beside it one connection steadily, one in bursts, one without a minimum
+ * rate; the far end sends a little, and turns the near end's RM cells round. The network delays cells by 5 ms each way.
+ * Towards the far end it has room for 6,000 cells per second, for a while for 3,500 only: it marks data cells (EFCI)
+ * while cells queue, and writes explicit rates into the backward cells on their way to the near end. For a while the
+ * far end's memory is short, and for a while the network gives the fourth connection a rate of 0.
  *
  * Each slot is passed the time of abr_slot_time, so that what it comes late is not lost: the leased circuit has every
  * cell that its contract promises. With a lag of 0 it is passed its own time, and a sixth of these cells is missing.
@@ -75,9 +75,9 @@ typedef struct {
 
 static station ends[ENDS] = {{.name = "near"}, {.name = "far"}};
 
-/* How long before its own time a slot may be passed: a slot for each connection that is opened. The peaks of all together
- * fit the link, so it never has to be longer. Opens, made and out-of-rate cells take the time that the last slot was
- * passed: a later one would take from the connections what they lag. */
+/* How long before its own time a slot may be passed: a slot for each connection that is opened. The peaks of all
+ * together fit the link, so it never has to be longer. Opens, made and out-of-rate cells take the time that the last
+ * slot was passed: a later one would take from the connections what they lag. */
 static uint64_t lag = CONNECTIONS * SLOT;
 
 /* The network: when its queue will be empty, who sent data when, and the cells that it marked. */
@@ -212,8 +212,8 @@ static void towards_far(uint64_t now, uint8_t *cell)
     put(&ends[FAR].in, queue_end + DELAY, cell);
 }
 
-/* The explicit rate for those that sent data in the last 20 ms: a fair share of what the leased circuit leaves of 15/16 of
- * the room. */
+/* The explicit rate for those that sent data in the last 20 ms: a fair share of what the leased circuit leaves of 15/16
+ * of the room. */
 static abr_share share(uint64_t now)
 {
     uint64_t demands[CONNECTIONS];

@@ -226,7 +226,7 @@ extern "C" {
 
 /* Because of the input, added later. */
 #define ABR_REFUSED_RESERVED_BIT 19u /* reserved bit of a rate code is set */
-#define ABR_REFUSED_DOUBLE 20u       /* not a rate: not a number, infinite, below 0, between 0 and 1, or 2^32 and more */
+#define ABR_REFUSED_DOUBLE 20u /* not a rate: not a number, infinite, below 0, between 0 and 1, or 2^32 and more */
 #define ABR_REFUSED_DEMANDS 21u      /* over 1,024 demands */
 #define ABR_REFUSED_DEMAND 22u       /* a demand is above the largest rate */
 #define ABR_REFUSED_TRACE_NUMBER 23u /* a number of a trace is not in shortest form or over 64 bits */
@@ -308,7 +308,7 @@ typedef struct {
 typedef struct {
     uint32_t refusal;
     uint64_t acr;   /* the allowed rate; 0 is possible if the minimum is 0 */
-    int64_t change; /* what its last accepted backward cell changed: new minus old, below 0 if it fell, 0 before the first */
+    int64_t change; /* by its last accepted backward cell: new minus old, below 0 if it fell, 0 before the first */
 } abr_allowed;
 
 /* The answer of abr_read. */

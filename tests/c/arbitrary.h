@@ -123,7 +123,8 @@ static void reached_table(abr_table *table)
             refused |= abr_close(table, other.vpi, other.vci).refusal;
         }
     }
-    (void)refused; /* more than 1,024 opens, opens of members, closes of what is not open and makings at level 0 are among them */
+    /* among them more than 1,024 opens, opens of members, closes of what is not open and makings at level 0 */
+    (void)refused;
 }
 
 /* A word for a place of the directory or of the tournament, in range but by chance only the right one. */

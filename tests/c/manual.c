@@ -235,8 +235,8 @@ static void gaps(void)
     CHECK(gap(ABR_RATE_MAX) == 1);
 }
 
-/* One second of an STM-1 link that is busy with some connections of one rate: how many cells go, if a slot is passed its own
- * time or that of abr_slot_time, at most a slot for each connection before it. */
+/* One second of an STM-1 link that is busy with some connections of one rate: how many cells go, if a slot is passed
+ * its own time or that of abr_slot_time, at most a slot for each connection before it. */
 enum { STM1 = 353207, SLOT = 2831 };
 
 /* Keeps data waiting on what a slot sent. */
@@ -299,8 +299,9 @@ static void slotted_link(void)
 
 enum { MANY = 16, MANY_SLOTS = 100000 };
 
-/* What busy connections with these gaps, in slots, are delivered of their rates in percent, if times are passed up to so
- * many slots before a slot's own: the least and the greatest share. With a lag for all of them the bounds must hold. */
+/* What busy connections with these gaps, in slots, are delivered of their rates in percent, if times are passed up to
+ * so many slots before a slot's own: the least and the greatest share. With a lag for all of them the bounds must
+ * hold. */
 static void shares(const double *gaps, uint32_t connections, uint32_t lag_slots, int *least, int *most)
 {
     int waiting[MANY], cells[MANY] = {0};
@@ -364,8 +365,8 @@ static void delivered_shares(void)
     print_shares("sixteen from 16.5 to 22 slots", sixteen, MANY);
 }
 
-/* A leased circuit beside three others whose peak is the line's rate: what it has in a second, if the line is its own port or
- * not. Every forward cell is answered after 200 slots, without a mark and with the highest explicit rate. */
+/* A leased circuit beside three others whose peak is the line's rate: what it has in a second, if the line is its own
+ * port or not. Every forward cell is answered after 200 slots, without a mark and with the highest explicit rate. */
 enum { PARTIES = 4, LEASED_CELLS = 100000, ROUND_TRIP = 200, RING = 256 };
 
 typedef struct {
@@ -863,8 +864,8 @@ static void adtf_too_short(void)
     CHECK(last > 110 * MS && last < 122 * MS && acr() == CELLS(20));
 }
 
-/* An initial rate of 5 and a peak of 10 cells per second, slots of an STM-1 link, every forward cell answered: the rate after
- * a hundred of them. */
+/* An initial rate of 5 and a peak of 10 cells per second, slots of an STM-1 link, every forward cell answered: the rate
+ * after a hundred of them. */
 static uint64_t rate_reached(uint32_t adtf)
 {
     abr_params params = house(10, 1, 5);
@@ -1109,7 +1110,7 @@ static void copy_goes_on(void)
     CHECK(abr_close(&table, PAIR).cells == 7 && abr_close(&copy, PAIR).cells == 7);
 }
 
-/* The cells of one second at 100 cells per second, a slot every millisecond of a clock that shows this at its beginning. */
+/* The cells of one second at 100 cells per second, a slot every millisecond of a clock that first shows this. */
 static int a_second_from(steady_clock *clock, uint64_t raw)
 {
     int sent = 0;

@@ -47,7 +47,7 @@ static void make_objects(void)
     }
 }
 
-/* One of the table's addresses, the path of its VPI, or any numbers, sometimes such an address with a number out of its range. */
+/* One of the table's addresses, sometimes with a number out of its range, the path of its VPI, or any numbers. */
 static address any_address(void)
 {
     address at = address_of((uint32_t)(next() % (next() % 4 ? 70 : 1040)));

@@ -41,7 +41,7 @@ static int passed_is(uint64_t now, uint64_t lag, uint64_t time)
     return abr_slot_time(&table, now, lag) == time;
 }
 
-/* The slot at a time goes to a connection with this kind and rate; it is idle exactly before the earliest ready instant. */
+/* The slot at a time goes to a connection with this kind and rate; idle exactly before the earliest ready instant. */
 static int slot_is(uint64_t time, uint32_t vpi, uint32_t vci, uint32_t kind, uint64_t acr)
 {
     int early = time < abr_next(&table);
@@ -353,7 +353,7 @@ static void reserved_bit_in_an_open(void)
     }
 }
 
-/* 100 cells were offered to each; the first had three data slots, the second two. Made and turned cells do not count. */
+/* 100 cells were offered to each; the first had three data slots, the second two. Only data cells count. */
 static void closes(void)
 {
     abr_allowed allowed;
@@ -464,8 +464,8 @@ static void a_path_with_members(void)
 }
 
 /*
- * TBE 64 and a round trip of 128 ms allow 500 cells per second to begin with, half of the given initial rate (document 02,
- * L14). CRM is 2, so that the third unanswered forward cell cuts the rate by a sixteenth.
+ * TBE 64 and a round trip of 128 ms allow 500 cells per second to begin with, half of the given initial rate (document
+ * 02, L14). CRM is 2, so that the third unanswered forward cell cuts the rate by a sixteenth.
  */
 static void tbe_and_round_trip(void)
 {
@@ -516,8 +516,8 @@ static int verdict_is(const uint8_t *trace, size_t len, uint32_t refusal, uint32
 }
 
 /*
- * A trace with Nrm 4 and Trm 100 ms: forward, data, backward, data and forward, a millisecond apart, which is the gap of
- * 512,000. Then one octet is another.
+ * A trace with Nrm 4 and Trm 100 ms: forward, data, backward, data and forward, a millisecond apart, which is the gap
+ * of 512,000. Then one octet is another.
  */
 static void judges_a_trace(void)
 {

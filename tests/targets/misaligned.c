@@ -1,7 +1,7 @@
 /*
- * The kernel flavour for x86-64 on a stack that is aligned to eight octets alone, as a kernel may have it: misaligned. Every
- * slot is called once with the stack at a multiple of 16 and once eight octets below it, on two tables, and both must answer
- * alike. (A compiler's usual code for x86-64 may count on 16.)
+ * The kernel flavour for x86-64 on a stack that is aligned to eight octets alone, as a kernel may have it: misaligned.
+ * Every slot is called once with the stack at a multiple of 16 and once eight octets below it, on two tables, and both
+ * must answer alike. (A compiler's usual code for x86-64 may count on 16.)
  */
 #include <stdio.h>
 #include <string.h>

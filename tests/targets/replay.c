@@ -1,8 +1,8 @@
 /*
  * Makes the calls of the differential lists again, on any processor: replay <CALLS. CALLS is what
- * tests/differential/src/bin/calls.rs writes. After every thousand calls it prints a digest of every answer, every octet
- * written, every next ready instant, slot's time and allowed rate so far, and of the words of the table: numbers, so that the order of
- * octets does not count. Two processors agree if they print the same.
+ * tests/differential/src/bin/calls.rs writes. After every thousand calls it prints a digest of every answer, every
+ * octet written, every next ready instant, slot's time and allowed rate so far, and of the words of the table: numbers,
+ * so that the order of octets does not count. Two processors agree if they print the same.
  */
 #include <stdio.h>
 #include <stdlib.h>

@@ -1,8 +1,8 @@
 /*
  * The standards' published vectors through the C interface, on any processor: vectors. The two checks are computed here
- * by long division, bit by bit, held to the catalogues' values of the nine octets "123456789" and to the headers that ITU-T
- * I.432 gives octet by octet, and then to what the library reads and writes. Beside them document 01's values of rates and
- * codes.
+ * by long division, bit by bit, held to the catalogues' values of the nine octets "123456789" and to the headers that
+ * ITU-T I.432 gives octet by octet, and then to what the library reads and writes. Beside them document 01's values of
+ * rates and codes.
  */
 #include <string.h>
 
