@@ -149,7 +149,7 @@ fn makings_are_accepted() {
     let at = library.last;
     for time in (1..10).map(|i| library.time + i * library.step) {
         let table = &mut *library.engine.table;
-        // SAFETY: the pointer is live.
+        // SAFETY: the pointer is live for the call.
         let ours = unsafe { ffi::abr_make(table, at.vpi, at.vci, time) };
         assert_eq!(ours.refusal, 0);
         let theirs = reference.engine.engine.make(at, time);
@@ -166,8 +166,8 @@ fn out_of_rate_cells_are_accepted() {
     for time in (1..10).map(|i| library.time + i * library.step) {
         let (mut cell, mut other) = ([0; abr::CELL_OCTETS], [0; abr::CELL_OCTETS]);
         let table = &mut *library.engine.table;
-        // SAFETY: both pointers are live and the length is the buffer's own.
         let (octets, len) = (cell.as_mut_ptr(), cell.len());
+        // SAFETY: both pointers are live and the length is the buffer's own.
         let ours = unsafe { ffi::abr_out_of_rate(table, at.vpi, at.vci, time, octets, len) };
         assert_eq!(ours, 0);
         let theirs = reference.engine.engine.out_of_rate(at, time, &mut other);
@@ -181,7 +181,7 @@ fn a_next_ready_instant_is_found() {
     for connections in [1, 1_024] {
         let library = Fixture::<Library>::new(connections, Workload::Next);
         let reference = Fixture::<Reference>::new(connections, Workload::Next);
-        // SAFETY: the pointer is live.
+        // SAFETY: the pointer is live for the call.
         let ours = unsafe { ffi::abr_next(&*library.engine.table) };
         assert_ne!(ours, ffi::ABR_NEVER);
         assert_eq!(reference.engine.engine.next(), Some(ours));
@@ -195,7 +195,7 @@ fn a_slot_time_is_behind() {
         let library = Fixture::<Library>::new(connections, Workload::SlotTime);
         let reference = Fixture::<Reference>::new(connections, Workload::SlotTime);
         let now = library.time + library.step;
-        // SAFETY: the pointer is live.
+        // SAFETY: the pointer is live for the call.
         let ours = unsafe { ffi::abr_slot_time(&*library.engine.table, now, LAG) };
         assert!(ours < now);
         assert_eq!(reference.engine.engine.slot_time(now, LAG), ours);

@@ -5,7 +5,7 @@
 //! computes every ready instant again and compares them all. The tournament of
 //! document 02 only counts comparisons.
 //!
-//! * [`rate`]: rate codes and the gap between cells;
+//! * [`mod@rate`]: rate codes and the gap between cells;
 //! * [`double`]: rates as doubles, exported and imported;
 //! * [`address`]: VPI and VCI, and the name that they make;
 //! * [`params`]: the parameters of an open, their ranges, the house set;
