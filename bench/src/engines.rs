@@ -4,7 +4,7 @@
 use std::hint::black_box;
 
 use abr::ffi;
-use reference::{Address, Params, Rm};
+use abr_reference::{Address, Params, Rm};
 
 /// The octets of a cell.
 pub type Octets = [u8; abr::CELL_OCTETS];
@@ -61,11 +61,11 @@ impl Engine for Library {
     type Rm = ffi::abr_rm;
 
     fn params(params: &Params) -> ffi::abr_params {
-        convert::library_params(params)
+        abr_convert::library_params(params)
     }
 
     fn rm(rm: &Rm) -> ffi::abr_rm {
-        convert::library_rm(rm)
+        abr_convert::library_rm(rm)
     }
 
     fn empty() -> Self {
@@ -215,7 +215,7 @@ impl Engine for Library {
 /// The reference. None of its calls is inlined into the loop that measures it,
 /// since a call of the library cannot be.
 pub struct Reference {
-    pub engine: reference::Engine,
+    pub engine: abr_reference::Engine,
 }
 
 impl Engine for Reference {
@@ -232,7 +232,7 @@ impl Engine for Reference {
 
     fn empty() -> Self {
         Reference {
-            engine: reference::Engine::new(),
+            engine: abr_reference::Engine::new(),
         }
     }
 
@@ -318,47 +318,47 @@ impl Engine for Reference {
 
     #[inline(never)]
     fn write_rm(rm: &Rm, buffer: &mut Octets) {
-        black_box(&reference::write_rm(rm, buffer));
+        black_box(&abr_reference::write_rm(rm, buffer));
     }
 
     #[inline(never)]
     fn read(cell: &Octets) {
-        black_box(&reference::read(cell));
+        black_box(&abr_reference::read(cell));
     }
 
     #[inline(never)]
     fn code(rate: u64) {
-        black_box(&reference::code_of(rate));
+        black_box(&abr_reference::code_of(rate));
     }
 
     #[inline(never)]
     fn rate(code: u32) {
-        black_box(&reference::rate(code));
+        black_box(&abr_reference::rate(code));
     }
 
     #[inline(never)]
     fn import(cells_per_second: f64) {
-        black_box(&reference::import(cells_per_second));
+        black_box(&abr_reference::import(cells_per_second));
     }
 
     #[inline(never)]
     fn fair_share(capacity: u64, demands: &[u64]) {
-        black_box(&reference::fair_share(capacity, demands));
+        black_box(&abr_reference::fair_share(capacity, demands));
     }
 
     #[inline(never)]
     fn limit(rate: u64, cell: &mut Octets) {
-        black_box(&reference::limit(rate, cell));
+        black_box(&abr_reference::limit(rate, cell));
     }
 
     #[inline(never)]
     fn port(capacity: u64, demands: &[u64], cell: &mut Octets) {
-        black_box(&reference::port::port(capacity, demands, cell));
+        black_box(&abr_reference::port::port(capacity, demands, cell));
     }
 
     #[inline(never)]
     fn judge(trace: &[u8]) {
-        black_box(&reference::judge::judge(trace));
+        black_box(&abr_reference::judge::judge(trace));
     }
 
     #[inline(never)]

@@ -1,6 +1,6 @@
 use abr::ffi;
-use reference::refusal::{CRC, NOT_OPEN};
-use reference::Kind;
+use abr_reference::refusal::{CRC, NOT_OPEN};
+use abr_reference::Kind;
 
 use super::*;
 use crate::engines::{Library, Reference};
@@ -10,7 +10,7 @@ use crate::workload::ROWS;
 const SLOTS: u64 = 4_096;
 
 /// What the slots of a workload send, on the reference.
-fn sent(connections: u32, workload: Workload) -> Vec<Option<reference::Sent>> {
+fn sent(connections: u32, workload: Workload) -> Vec<Option<abr_reference::Sent>> {
     let mut fixture = Fixture::<Reference>::new(connections, workload);
     fixture.refill(SLOTS);
     let mut buffer = [0; abr::CELL_OCTETS];
@@ -89,7 +89,7 @@ fn idle_slots_are_idle() {
 }
 
 /// The connection that a slot went to.
-fn sent_by(sent: &reference::Sent) -> Address {
+fn sent_by(sent: &abr_reference::Sent) -> Address {
     Address::new(sent.vpi, sent.vci)
 }
 
@@ -208,8 +208,8 @@ fn a_slot_time_is_behind() {
 fn doubles_are_accepted() {
     let fixture = Fixture::<Reference>::new(64, Workload::Export);
     let exported = fixture.engine.engine.export(fixture.last).unwrap();
-    assert_eq!(reference::import(exported.pcr).unwrap().code, CODE);
-    let remainder = |cells| reference::import(cells).unwrap().remainder;
+    assert_eq!(abr_reference::import(exported.pcr).unwrap().code, CODE);
+    let remainder = |cells| abr_reference::import(cells).unwrap().remainder;
     assert_eq!(remainder(1_000.0), 0.0);
     assert!(remainder(1_000.7) > 0.0);
 }
@@ -220,7 +220,7 @@ fn doubles_are_accepted() {
 fn ports_limit() {
     for row in ROWS {
         let fixture = Fixture::<Reference>::new(0, row.workload);
-        let share = reference::fair_share(fixture.capacity, &fixture.demands).unwrap();
+        let share = abr_reference::fair_share(fixture.capacity, &fixture.demands).unwrap();
         let rate = match row.workload {
             Workload::Limit => LIMIT,
             Workload::FairShare { .. } | Workload::Port { .. } => share.expect("a limit"),
@@ -228,7 +228,12 @@ fn ports_limit() {
         };
         for mut cell in fixture.cells {
             let before = cell;
-            assert_eq!(reference::limit(rate, &mut cell), Ok(()), "{}", row.name);
+            assert_eq!(
+                abr_reference::limit(rate, &mut cell),
+                Ok(()),
+                "{}",
+                row.name
+            );
             assert_ne!(cell, before, "{}", row.name);
         }
     }

@@ -5,10 +5,10 @@
 //! and every result is the reference's. Rates and times are in decimal, all
 //! other numbers in hexadecimal.
 
-use reference::cell::{self, Cell, Octets, Rm};
-use reference::connection::RateRecord;
-use reference::params::{Contract, FRTT_MAX, TBE_MAX, TRM_TIMES};
-use reference::{code_of, gap, rate_of, read, write_rm, Address, Params};
+use abr_reference::cell::{self, Cell, Octets, Rm};
+use abr_reference::connection::RateRecord;
+use abr_reference::params::{Contract, FRTT_MAX, TBE_MAX, TRM_TIMES};
+use abr_reference::{code_of, gap, rate_of, read, write_rm, Address, Params};
 
 /// What the proved program must write.
 const EXPECTED: &str = include_str!("../../crates/vectors/stdout");

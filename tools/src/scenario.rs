@@ -4,7 +4,7 @@ use std::fmt;
 use std::str::FromStr;
 
 use abr::Refusal;
-use picture::scenario as pictured;
+use abr_support::scenario as pictured;
 
 use crate::random;
 use crate::record::Recorder;
@@ -38,7 +38,7 @@ impl FromStr for Address {
 /// A scenario by its name.
 #[derive(Debug, Clone, Copy, PartialEq, Eq)]
 pub enum Scenario {
-    /// The two connections of examples/picture.
+    /// The two connections that examples/picture draws.
     Two,
     /// Connections, data, feedback and slots drawn from a seed.
     Random(u64),

@@ -1,8 +1,10 @@
 //! The picture of two connections.
 
-use crate::plot::Plot;
-use crate::scenario::{END, PHASES, VCIS};
-use crate::svg::{self, text};
+use abr::Refusal;
+use abr_support::plot::Plot;
+use abr_support::scenario::{self, END, PHASES, VCIS};
+use abr_support::svg::{self, text};
+
 use crate::track::Track;
 
 const WIDTH: f64 = 960.0;
@@ -18,6 +20,18 @@ const PLOT: Plot = Plot {
     end: END,
     most: 9_000.0,
 };
+
+/// The allowed rates of both connections, over the scenario.
+pub fn tracks() -> Result<[Track; 2], Refusal> {
+    let mut tracks = [Track::default(), Track::default()];
+    scenario::run(|slot| {
+        for (track, acr) in tracks.iter_mut().zip(slot.after) {
+            track.add(slot.time, acr);
+        }
+    })?;
+    tracks.iter_mut().for_each(|track| track.end(END));
+    Ok(tracks)
+}
 
 /// The whole picture.
 pub fn svg(tracks: &[Track; 2]) -> String {

@@ -2,7 +2,7 @@
 //! ready instant, a slot's time to be passed, waiting data and table compared.
 
 use abr::TIME_MAX;
-use reference::{Address, Allowed, Engine};
+use abr_reference::{Address, Allowed, Engine};
 
 use crate::accounts::Accounts;
 use crate::call::{Answer, Call, Outcome};

@@ -1,7 +1,7 @@
 //! A call with its arguments.
 
 use abr::ffi::{abr_params, abr_rm};
-use reference::{Address, Allowed, Closed};
+use abr_reference::{Address, Allowed, Closed};
 
 use crate::demands::Demands;
 use crate::octets::Octets;

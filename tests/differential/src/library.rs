@@ -6,7 +6,7 @@ use abr::ffi::{
     self, abr_allowed, abr_answer, abr_cell, abr_closed, abr_coded, abr_imported, abr_rated,
     abr_sent, abr_share, abr_table, abr_verdict,
 };
-use reference::{Address, Allowed, Closed};
+use abr_reference::{Address, Allowed, Closed};
 
 use crate::call::{Answer, Call, Outcome};
 use crate::drawn::Drawn;

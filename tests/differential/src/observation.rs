@@ -19,7 +19,7 @@ use std::collections::{BTreeMap, BTreeSet};
 
 use abr::ffi::{abr_params, abr_sent};
 use abr::{CONNECTIONS_MAX, TIME_MAX, WAITING_MAX};
-use reference::Address;
+use abr_reference::Address;
 
 use crate::call::{address_of, Answer, Call, Outcome};
 use crate::coverage::{Coverage, Event};
@@ -73,7 +73,7 @@ pub struct Connection {
 
 impl Connection {
     fn new(params: abr_params, time: u64, acr: u64) -> Self {
-        let rate = |code: u32| reference::rate_of(code);
+        let rate = |code: u32| abr_reference::rate_of(code);
         Connection {
             params,
             pcr: rate(params.pcr),
@@ -122,7 +122,7 @@ impl Connection {
 
     /// The ready instant, if there is one; none at rate 0.
     pub fn ready(&self) -> Option<u64> {
-        let gap = reference::gap(self.acr)?;
+        let gap = abr_reference::gap(self.acr)?;
         let Some(sends) = self.sends else {
             return self.waits().then_some(self.opened);
         };
@@ -288,7 +288,7 @@ impl Observation {
             coverage.reach(Event::EfciCleared, connection.efci && !efci);
             connection.efci = efci;
         } else {
-            let er = reference::rate_of(u32::from(cell[7]) << 8 | u32::from(cell[8]));
+            let er = abr_reference::rate_of(u32::from(cell[7]) << 8 | u32::from(cell[8]));
             backward_received(connection, bits, er, coverage);
             zero::received(connection, bits, er, acr, coverage);
             change::received(connection, bits, acr, coverage);

@@ -15,7 +15,7 @@
 use std::ops::Range;
 
 use abr::CELL_OCTETS;
-use reference::{Address, Allowed};
+use abr_reference::{Address, Allowed};
 
 use crate::accounts::Accounts;
 use crate::call::{Answer, Call, Outcome};
@@ -232,7 +232,7 @@ fn congested(call: &Call, rng: &mut Rng, tally: &mut Tally) -> Call {
     let Call::Receive { cell } = call else {
         return *call;
     };
-    let Ok(reference::Cell::Rm(rm)) = reference::read(cell.as_slice()) else {
+    let Ok(abr_reference::Cell::Rm(rm)) = abr_reference::read(cell.as_slice()) else {
         return *call;
     };
     let Ok(octets) = <[u8; CELL_OCTETS]>::try_from(cell.as_slice()) else {

@@ -3,14 +3,14 @@
 
 use abr::ffi::{abr_cell, abr_params, abr_rm};
 use abr::{CELL_OCTETS, RATE_MAX};
-use convert::{library_cell, library_params, reference_rm};
-use differential::both::Both;
-use differential::call::{Answer, Call};
-use differential::library::Library;
-use differential::lists;
-use differential::octets::{put_crc, put_header, Buffer, Header, Octets};
-use differential::rng::Rng;
-use reference::Address;
+use abr_convert::{library_cell, library_params, reference_rm};
+use abr_differential::both::Both;
+use abr_differential::call::{Answer, Call};
+use abr_differential::library::Library;
+use abr_differential::lists;
+use abr_differential::octets::{put_crc, put_header, Buffer, Header, Octets};
+use abr_differential::rng::Rng;
+use abr_reference::Address;
 
 /// The connection that is open.
 const AT: Address = Address::new(0xA5, 32);
@@ -67,7 +67,7 @@ fn random_rm(rng: &mut Rng) -> abr_rm {
 
 /// What reading must give of a cell that was written.
 fn as_read(rm: &abr_rm) -> abr_cell {
-    library_cell(&reference::Cell::Rm(reference_rm(rm)))
+    library_cell(&abr_reference::Cell::Rm(reference_rm(rm)))
 }
 
 #[test]
@@ -253,7 +253,7 @@ fn every_rate_code_and_the_rates_beside_it() {
 /// out-of-rate cell, which carries all three, and closes it.
 fn opens(both: &mut Both, pcr: u32, mcr: u32, icr: u32) -> Result<(), u32> {
     let (at, time, len) = (AT, 0, CELL_OCTETS);
-    let params = library_params(&reference::Params::house(pcr, mcr, icr));
+    let params = library_params(&abr_reference::Params::house(pcr, mcr, icr));
     agree(both, &Call::Open { at, time, params })?;
     let cell = agree(both, &Call::OutOfRate { at, time, len });
     assert_eq!(cell, Ok(Answer::Done));
@@ -266,7 +266,7 @@ fn every_code_of_the_three_rates() {
     let mut both = Both::default();
     for code in 0..=0x1_FFFF {
         for (pcr, mcr, icr) in [(0x5000, code, 0x5000), (0x5000, 0, code), (code, 0, 0)] {
-            let [peak, minimum, initial] = [pcr, mcr, icr].map(reference::rate_of);
+            let [peak, minimum, initial] = [pcr, mcr, icr].map(abr_reference::rate_of);
             let in_order = minimum <= initial && initial <= peak && peak >= 512;
             let expected = match refused_code(code) {
                 Some(number) => Err(number),
@@ -342,7 +342,7 @@ fn every_parameter_at_and_past_its_ends() {
     ];
     for (set, low, high, number) in ranges {
         for value in [0, 1, low, high, high + 1, high + 256, 1 << 31, u32::MAX] {
-            let house = reference::Params::house(0x7FFF, 0x4000, 0x53E8);
+            let house = abr_reference::Params::house(0x7FFF, 0x4000, 0x53E8);
             let mut params = library_params(&house);
             set(&mut params, value);
             let open = Call::Open {
@@ -365,7 +365,7 @@ fn every_vpi_and_every_vci() {
     let vpis = (0..=256).map(|vpi| Address::new(vpi, 0x1234));
     let vcis = (0..=65_536).map(|vci| Address::new(0xA5, vci));
     let mut both = Both::default();
-    let params = library_params(&reference::Params::house(0x7FFF, 0x4000, 0x53E8));
+    let params = library_params(&abr_reference::Params::house(0x7FFF, 0x4000, 0x53E8));
     for at in vpis.chain(vcis) {
         let (time, len) = (0, CELL_OCTETS);
         let opened = agree(&mut both, &Call::Open { at, time, params });
@@ -408,7 +408,7 @@ const OUT_OF_RANGE: [(u32, u32); 9] = [
 #[test]
 fn a_pair_out_of_range_is_never_another_pair() {
     let mut both = Both::default();
-    let params = library_params(&reference::Params::house(0x7FFF, 0x4000, 0x53E8));
+    let params = library_params(&abr_reference::Params::house(0x7FFF, 0x4000, 0x53E8));
     let (time, len, cells) = (0, CELL_OCTETS, 1);
     for (vpi, vci) in [(0, 32), (1, 32), (255, 65_535)] {
         let at = Address::new(vpi, vci);

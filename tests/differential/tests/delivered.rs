@@ -12,7 +12,7 @@ mod own_port;
 #[path = "delivered/sets.rs"]
 mod sets;
 
-use differential::{lists, parallel};
+use abr_differential::{lists, parallel};
 use sets::Tally;
 
 /// Runs so many sets.

@@ -2,12 +2,12 @@
 //! what is imported, and random doubles, on both sides, and checked in whole numbers.
 
 use abr::RATE_MAX;
-use convert::library_params;
-use differential::both::Both;
-use differential::call::{Answer, Call, Outcome};
-use differential::lists;
-use differential::rng::Rng;
-use reference::{code_of, rate_of, Address, Params};
+use abr_convert::library_params;
+use abr_differential::both::Both;
+use abr_differential::call::{Answer, Call, Outcome};
+use abr_differential::lists;
+use abr_differential::rng::Rng;
+use abr_reference::{code_of, rate_of, Address, Params};
 
 /// The connection whose contract is exported.
 const AT: Address = Address::new(0xA5, 32);

@@ -4,13 +4,13 @@
 
 use abr::ffi::abr_verdict;
 use abr::RATE_MAX;
-use differential::call::{Answer, Outcome};
-use differential::coverage::Coverage;
-use differential::drawn::{Drawn, Verdict};
-use differential::profile::{Profile, PROFILES};
-use differential::rng::Rng;
-use differential::trace::{Trace, CELL, HEAD};
-use differential::{library, lists, parallel};
+use abr_differential::call::{Answer, Outcome};
+use abr_differential::coverage::Coverage;
+use abr_differential::drawn::{Drawn, Verdict};
+use abr_differential::profile::{Profile, PROFILES};
+use abr_differential::rng::Rng;
+use abr_differential::trace::{Trace, CELL, HEAD};
+use abr_differential::{library, lists, parallel};
 
 /// The verdict of an outcome, by its numbers.
 fn numbers(outcome: Outcome) -> Verdict {
@@ -24,7 +24,7 @@ fn numbers(outcome: Outcome) -> Verdict {
 /// The verdict of the library and of the reference, which must agree.
 fn judged(trace: &[u8]) -> Verdict {
     let ours = numbers(library::judge(trace).unwrap_or_else(|why| panic!("{why}: {trace:x?}")));
-    let breach = reference::judge::judge(trace);
+    let breach = abr_reference::judge::judge(trace);
     let theirs = breach.map(|breach| breach.map_or((0, 0), |breach| (breach.cell, breach.rule)));
     assert_eq!(ours, theirs, "{trace:x?}");
     ours
@@ -203,7 +203,7 @@ fn moved(trace: &mut Trace, place: usize) -> u64 {
         return 0;
     }
     breaks([time, kind, 0], 2);
-    let exact = reference::gap(rate) == Some(time);
+    let exact = abr_reference::gap(rate) == Some(time);
     if exact {
         breaks([time - 1, kind, rate], 2);
     }

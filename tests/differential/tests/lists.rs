@@ -1,9 +1,9 @@
 //! Random lists of calls, both sides compared. ABR_SEED gives other lists.
 
-use differential::coverage::Coverage;
-use differential::library::Difference;
-use differential::profile::PROFILES;
-use differential::{lists, parallel};
+use abr_differential::coverage::Coverage;
+use abr_differential::library::Difference;
+use abr_differential::profile::PROFILES;
+use abr_differential::{lists, parallel};
 
 /// How many lists of each profile, fewer of those with a full table, and how many
 /// of them in one job.

@@ -1,10 +1,10 @@
 //! Random pairs of lists, the second at least as congested. ABR_SEED gives
 //! other lists.
 
-use differential::library::Difference;
-use differential::pairs::{self, Tally};
-use differential::profile::{Profile, NO_MINIMUM, PROFILES, SPACED};
-use differential::{lists, parallel};
+use abr_differential::library::Difference;
+use abr_differential::pairs::{self, Tally};
+use abr_differential::profile::{Profile, NO_MINIMUM, PROFILES, SPACED};
+use abr_differential::{lists, parallel};
 
 /// The pairs of one job.
 const JOB: u64 = 10;

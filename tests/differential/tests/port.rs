@@ -2,17 +2,17 @@
 //! small lists all of them and on random ones up to 1,024 demands; the limit on every ER.
 
 use abr::{Share, CELL_OCTETS, DEMANDS_MAX, RATE_MAX};
-use differential::lists;
-use differential::octets::{put_crc, put_header, Header};
-use differential::rng::Rng;
-use reference::{code_of, rate_of};
+use abr_differential::lists;
+use abr_differential::octets::{put_crc, put_header, Header};
+use abr_differential::rng::Rng;
+use abr_reference::{code_of, rate_of};
 
 type Cell = [u8; CELL_OCTETS];
 
 /// The share of the library and of the reference, which must agree.
 fn share(capacity: u64, demands: &[u64]) -> Result<Share, u32> {
     let ours = abr::fair_share(capacity, demands).map_err(u32::from);
-    let theirs = reference::fair_share(capacity, demands);
+    let theirs = abr_reference::fair_share(capacity, demands);
     let same = theirs.map(|share| share.map_or(Share::NoLimit, Share::Rate));
     assert_eq!(ours, same, "{capacity} among {demands:?}");
     ours
@@ -195,7 +195,7 @@ fn with_er(mut cell: Cell, er: u32) -> Cell {
 fn limited(rate: u64, cell: &Cell) -> Cell {
     let [mut after, mut passed, mut theirs] = [*cell; 3];
     assert_eq!(abr::limit(rate, &mut after), Ok(()));
-    assert_eq!(reference::limit(rate, &mut theirs), Ok(()));
+    assert_eq!(abr_reference::limit(rate, &mut theirs), Ok(()));
     assert_eq!(after, theirs, "{rate}: {cell:02x?}");
     if rate < RATE_MAX {
         assert_eq!(abr::port(rate, &[RATE_MAX], &mut passed), Ok(()));

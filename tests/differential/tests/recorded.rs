@@ -3,10 +3,10 @@
 //! cell breaks some trace here, since they have cells on every edge of the rules.
 
 use abr::ffi::abr_verdict;
-use differential::call::{Answer, SORTS};
-use differential::coverage::{Coverage, Event};
-use differential::profile::{Profile, PROFILES};
-use differential::{edges, library, lists, parallel};
+use abr_differential::call::{Answer, SORTS};
+use abr_differential::coverage::{Coverage, Event};
+use abr_differential::profile::{Profile, PROFILES};
+use abr_differential::{edges, library, lists, parallel};
 
 /// Cells on each edge.
 const LEAST: u64 = 200;

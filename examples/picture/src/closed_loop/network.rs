@@ -1,13 +1,13 @@
 //! The network between ten sources and the far end, with the port in it.
 
 use abr::{Params, Refusal, Share, Table, CELL_OCTETS, RATE_ONE};
+use abr_support::delay::DelayLine;
+use abr_support::plot::MS;
+use abr_support::refusals::accepted_too;
 
 use super::port::Port;
 use super::sources::{changes, Source, END, SOURCES};
 use super::station::{History, Station, VPI};
-use crate::delay::DelayLine;
-use crate::plot::MS;
-use crate::refusals::accepted_too;
 
 /// Every link has 200,000 slots a second.
 const SLOT: u64 = 5_000;

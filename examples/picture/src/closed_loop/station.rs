@@ -1,10 +1,10 @@
 //! A source with its engine.
 
 use abr::{Cell, Kind, Refusal, Table, CELL_OCTETS};
+use abr_support::delay::Octets;
 
 use super::feedbacks::Feedbacks;
 use super::sources::Source;
-use crate::delay::Octets;
 use crate::track::Track;
 
 /// The VPI of every connection.

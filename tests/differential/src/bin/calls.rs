@@ -10,13 +10,13 @@ use std::io::{BufWriter, ErrorKind, Write};
 use std::process::ExitCode;
 
 use abr::ffi::{abr_params, abr_rm};
-use differential::call::{Call, SORTS};
-use differential::coverage::Coverage;
-use differential::drawn::Drawn;
-use differential::generate::Generator;
-use differential::lists::{self, List};
-use differential::trace::put;
-use reference::Address;
+use abr_differential::call::{Call, SORTS};
+use abr_differential::coverage::Coverage;
+use abr_differential::drawn::Drawn;
+use abr_differential::generate::Generator;
+use abr_differential::lists::{self, List};
+use abr_differential::trace::put;
+use abr_reference::Address;
 
 fn main() -> ExitCode {
     let Some(Ok(count)) = std::env::args().nth(1).map(|text| text.parse()) else {

@@ -84,7 +84,7 @@ fn first_kind(draft: &mut Draft, rng: &mut Rng) -> Verdict {
 fn gap_less_one(draft: &mut Draft, rng: &mut Rng) -> Verdict {
     let place = later(draft, 0, rng);
     let cell = draft.trace.cell(place);
-    cell[0] = reference::gap(cell[2]).expect("a rate above 0") - 1;
+    cell[0] = abr_reference::gap(cell[2]).expect("a rate above 0") - 1;
     breaks(place, 2)
 }
 

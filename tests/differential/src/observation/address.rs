@@ -3,8 +3,8 @@
 
 use abr::ffi::abr_rm;
 use abr::{CELL_OCTETS, VCI_MAX, VPI_MAX};
-use convert::reference_rm;
-use reference::Address;
+use abr_convert::reference_rm;
+use abr_reference::Address;
 
 use super::Observation;
 use crate::call::Call;
@@ -23,7 +23,7 @@ impl Observation {
     pub(super) fn refused_address(&self, call: &Call, number: u32, coverage: &mut Coverage) {
         if let (Call::WriteRm { rm, .. }, 7) = (call, number) {
             let on_path_0 = reference_rm(&abr_rm { vpi: 0, ..*rm });
-            let written = reference::write_rm(&on_path_0, &mut [0; CELL_OCTETS]);
+            let written = abr_reference::write_rm(&on_path_0, &mut [0; CELL_OCTETS]);
             coverage.reach(Event::WritePath, written.is_ok());
         }
         let (Some(at), 7 | 11 | 28) = (call.address(), number) else {

@@ -1,7 +1,7 @@
 //! Closes (document 02, L12): what waited, and what is not counted.
 
 use abr::WAITING_MAX;
-use reference::Address;
+use abr_reference::Address;
 
 use super::{Connection, Observation};
 use crate::call::Call;

@@ -1,7 +1,7 @@
 //! Made cells (document 02, L1): what is known of them, and their edges.
 
 use abr::MAKE_INTERVAL;
-use reference::Address;
+use abr_reference::Address;
 
 use super::{Connection, Observation};
 use crate::call::Call;

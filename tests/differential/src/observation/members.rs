@@ -1,7 +1,7 @@
 //! Paths and their members (document 02, L13): what is known of them, and their edges.
 
 use abr::{MEMBERS_MAX, PATH_VCI, WAITING_MAX};
-use reference::Address;
+use abr_reference::Address;
 
 use super::Observation;
 use crate::call::Call;

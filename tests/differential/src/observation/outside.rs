@@ -1,7 +1,7 @@
 //! Out-of-rate cells (document 02, L5): what is known of them, and their edges.
 
 use abr::{OUT_OF_RATE_INTERVAL, RATE_ONE};
-use reference::Address;
+use abr_reference::Address;
 
 use super::Observation;
 use crate::call::Call;

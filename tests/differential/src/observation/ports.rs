@@ -2,7 +2,7 @@
 //! were reached.
 
 use abr::{DEMANDS_MAX, RATE_MAX};
-use reference::{fair_share, rate_of, read, Cell};
+use abr_reference::{fair_share, rate_of, read, Cell};
 
 use crate::call::Call;
 use crate::coverage::{Coverage, Event};
@@ -63,7 +63,7 @@ fn passed(share: Option<u64>, cell: &Octets, coverage: &mut Coverage) {
         return coverage.reach(Event::PassedNoLimitCoded, zero_coded);
     };
     coverage.reach(Event::PassedLowered, share < er);
-    let code = reference::code_of(share.min(RATE_MAX)).unwrap_or(0);
+    let code = abr_reference::code_of(share.min(RATE_MAX)).unwrap_or(0);
     coverage.reach(Event::PassedRounded, share < er && rate_of(code) < share);
     coverage.reach(Event::PassedEqual, share == er);
     coverage.reach(Event::PassedKept, share > er);

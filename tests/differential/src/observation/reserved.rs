@@ -2,8 +2,8 @@
 //! what is not.
 
 use abr::ffi::abr_params;
-use convert::reference_params;
-use reference::rate::is_reserved;
+use abr_convert::reference_params;
+use abr_reference::rate::is_reserved;
 
 use super::Observation;
 use crate::call::Call;
@@ -88,7 +88,7 @@ fn is_rm(cell: &[u8]) -> bool {
 }
 
 /// The parameters, for the reference, without the bit in any code of 16 bits.
-fn cleared(params: abr_params) -> reference::Params {
+fn cleared(params: abr_params) -> abr_reference::Params {
     let clear = |code: u32| {
         if is_reserved(code) {
             code & 0x7FFF
@@ -97,7 +97,7 @@ fn cleared(params: abr_params) -> reference::Params {
         }
     };
     let given = reference_params(&params);
-    reference::Params {
+    abr_reference::Params {
         pcr: clear(given.pcr),
         mcr: clear(given.mcr),
         icr: clear(given.icr),

@@ -14,7 +14,7 @@ fn limit(params: &abr_params) -> Option<u64> {
 
 /// The initial rate that is used.
 pub(super) fn icr_used(params: &abr_params) -> u64 {
-    let [icr, mcr] = [params.icr, params.mcr].map(reference::rate_of);
+    let [icr, mcr] = [params.icr, params.mcr].map(abr_reference::rate_of);
     match limit(params) {
         Some(limit) if limit < icr => limit.max(mcr),
         _ => icr,
@@ -23,7 +23,7 @@ pub(super) fn icr_used(params: &abr_params) -> u64 {
 
 /// A connection was opened with these parameters.
 pub(super) fn opened(params: &abr_params, coverage: &mut Coverage) {
-    let [icr, mcr] = [params.icr, params.mcr].map(reference::rate_of);
+    let [icr, mcr] = [params.icr, params.mcr].map(abr_reference::rate_of);
     let (limit, used) = (limit(params), icr_used(params));
     let nrm = 1 << params.n;
     coverage.reach(Event::CrmWhole, params.tbe.is_multiple_of(nrm));

@@ -7,8 +7,8 @@
 
 use abr::ffi::abr_rm;
 use abr::{Share, CELL_OCTETS};
-use differential::library::Difference;
-use differential::rng::Rng;
+use abr_differential::library::Difference;
+use abr_differential::rng::Rng;
 
 use super::circuit::{Circuit, Sums};
 use super::line::{backward, code, params, Line, ENDLESS, SECOND};
@@ -97,7 +97,7 @@ impl Own {
         let mut rng = Rng::new(seed);
         let slot = 1_000 + rng.below(2_000);
         let spaced = slot * 105 / 100;
-        let peak = reference::rate_of(code(SECOND / slot));
+        let peak = abr_reference::rate_of(code(SECOND / slot));
         let count = 2 + rng.below(9);
         let leased = 1 + rng.below(count - 1);
         let parts: Vec<u64> = (0..leased).map(|_| 1 + rng.below(100)).collect();
@@ -252,7 +252,7 @@ impl Own {
 
     /// What a cell allows its connection at most.
     fn cap(&self, place: usize, cell: &[u8; CELL_OCTETS]) -> u64 {
-        let er = reference::rate_of(u32::from(cell[7]) << 8 | u32::from(cell[8]));
+        let er = abr_reference::rate_of(u32::from(cell[7]) << 8 | u32::from(cell[8]));
         let circuit = &self.circuits[place];
         er.min(circuit.pcr).max(circuit.mcr)
     }

@@ -2,9 +2,9 @@
 //! Each call is made on both, and they must agree on every answer and octet.
 
 use abr::{Allowed, Cell, Kind, Params, Rm, Table, CELL_OCTETS};
-use convert::{library_sent, reference_params, reference_rm};
-use differential::octets::{put_header, Header};
-use reference::{Address, Engine};
+use abr_convert::{library_sent, reference_params, reference_rm};
+use abr_differential::octets::{put_header, Header};
+use abr_reference::{Address, Engine};
 
 /// A cell's octets.
 pub type Octets = [u8; CELL_OCTETS];
@@ -200,7 +200,7 @@ impl Station {
     /// The allowed rate; what the last backward cell made of it is compared too.
     pub fn acr(&self) -> u64 {
         let Allowed { acr, change } = self.library.allowed(VPI, VCI).expect("library");
-        let ours = reference::Allowed { acr, change };
+        let ours = abr_reference::Allowed { acr, change };
         assert_eq!(
             self.reference.allowed(AT),
             Ok(ours),
@@ -216,7 +216,7 @@ pub fn read(cell: &Octets) -> Rm {
         panic!("not an RM cell: {cell:02x?}");
     };
     let same = reference_rm(&rm.into());
-    assert_eq!(reference::read(cell), Ok(reference::Cell::Rm(same)));
+    assert_eq!(abr_reference::read(cell), Ok(abr_reference::Cell::Rm(same)));
     rm
 }
 
@@ -229,7 +229,7 @@ pub fn written(rm: &Rm) -> Octets {
     };
     let (mut cell, mut other) = ([0; CELL_OCTETS], [0; CELL_OCTETS]);
     abr::write_rm(&rm, &mut cell).expect("library");
-    reference::write_rm(&reference_rm(&rm.into()), &mut other).expect("reference");
+    abr_reference::write_rm(&reference_rm(&rm.into()), &mut other).expect("reference");
     assert_eq!(cell, other, "library and reference: {rm:?}");
     cell
 }
@@ -246,11 +246,11 @@ fn the_rates_of_the_papers_have_codes_of_their_own() {
     ];
     for (code, rate) in rates {
         assert_eq!(
-            (abr::rate(code), reference::rate(code)),
+            (abr::rate(code), abr_reference::rate(code)),
             (Ok(rate), Ok(rate))
         );
         assert_eq!(
-            (abr::code(rate), reference::code_of(rate)),
+            (abr::code(rate), abr_reference::code_of(rate)),
             (Ok(code), Ok(code))
         );
     }

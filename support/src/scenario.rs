@@ -5,7 +5,6 @@ use abr::{Cell, Kind, Params, Refusal, Rm, Sent, Table, CELL_OCTETS, RATE_ONE};
 use crate::delay::{DelayLine, Octets};
 use crate::plot::MS;
 use crate::refusals::accepted_too;
-use crate::track::Track;
 
 /// How long the scenario lasts.
 pub const END: u64 = 1_600 * MS;
@@ -61,18 +60,6 @@ pub const PHASES: [Phase; 3] = [
         cells: 1_000_000,
     },
 ];
-
-/// The allowed rates of both connections, over the scenario.
-pub fn tracks() -> Result<[Track; 2], Refusal> {
-    let mut tracks = [Track::default(), Track::default()];
-    run(|slot| {
-        for (track, acr) in tracks.iter_mut().zip(slot.after) {
-            track.add(slot.time, acr);
-        }
-    })?;
-    tracks.iter_mut().for_each(|track| track.end(END));
-    Ok(tracks)
-}
 
 /// A slot of the scenario.
 pub struct Slot {
