@@ -1,8 +1,8 @@
 //! The picture of two connections.
 
-use abr::Refusal;
+use abr::{Address, Refusal};
 use abr_support::plot::Plot;
-use abr_support::scenario::{self, END, PHASES, VCIS};
+use abr_support::scenario::{self, CONNECTIONS, END, PHASES};
 use abr_support::svg::{self, text};
 
 use crate::track::Track;
@@ -39,8 +39,8 @@ pub fn svg(tracks: &[Track; 2]) -> String {
     let mut out = svg::begin((WIDTH, HEIGHT), (LEFT, 28.0), title);
     phases(&mut out);
     axes(&mut out);
-    for ((track, vci), colour) in tracks.iter().zip(VCIS).zip(COLOURS) {
-        line(&mut out, track, vci, colour);
+    for ((track, at), colour) in tracks.iter().zip(CONNECTIONS).zip(COLOURS) {
+        line(&mut out, track, at, colour);
     }
     out.push_str("</svg>\n");
     out
@@ -71,10 +71,10 @@ fn axes(out: &mut String) {
 }
 
 /// A rate over time, named at its end.
-fn line(out: &mut String, track: &Track, vci: u32, colour: &str) {
+fn line(out: &mut String, track: &Track, at: Address, colour: &str) {
     svg::path(out, &PLOT.steps(&track.points), colour, 2.2);
     if let Some((time, cells)) = track.points.last() {
-        let at = (PLOT.x(*time) + 8.0, PLOT.y(*cells) + 5.0);
-        svg::name(out, at, "start", colour, &format!("VCI {vci}"));
+        let end = (PLOT.x(*time) + 8.0, PLOT.y(*cells) + 5.0);
+        svg::name(out, end, "start", colour, &format!("VCI {}", at.vci));
     }
 }
