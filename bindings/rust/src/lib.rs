@@ -49,9 +49,9 @@ pub use address::{Address, PATH_VCI, VCI_MAX, VCI_MIN, VPI_MAX};
 pub use cell::{read, write_rm, Cell, Rm, CELL_OCTETS};
 pub use double::{import, Contract, Imported};
 pub use judge::{judge, Rule, Verdict};
-pub use params::{Params, FRTT_MAX, TBE_MAX};
+pub use params::{Params, ADTF_MAX, CDF_ZERO, FRTT_MAX, TBE_MAX};
 pub use port::{fair_share, limit, port, Share, DEMANDS_MAX};
-pub use rate::{code, rate, RATE_MAX, RATE_ONE};
+pub use rate::{code, rate, CODE_MAX, RATE_MAX, RATE_ONE};
 pub use refusal::Refusal;
 pub use table::{
     Allowed, Closed, Kind, Sent, Table, COMPARISONS_MAX, CONNECTIONS_MAX, LEVEL_MAX, MAKE_INTERVAL,

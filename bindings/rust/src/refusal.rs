@@ -15,7 +15,7 @@ macro_rules! refusals {
         /// assert_eq!(Refusal::Range.number(), 7);
         /// assert_eq!(Refusal::try_from(7), Ok(Refusal::Range));
         /// assert_eq!(Refusal::try_from(3), Err(3));
-        /// assert_eq!(Refusal::try_from(31), Err(31));
+        /// assert_eq!(Refusal::try_from(1_000), Err(1_000));
         /// assert_eq!(Refusal::Full.to_string(), "1,024 connections are open");
         /// ```
         #[derive(Debug, Clone, Copy, PartialEq, Eq, Hash)]
