@@ -1,6 +1,5 @@
 use abr::ffi;
-use abr_reference::refusal::{CRC, NOT_OPEN};
-use abr_reference::Kind;
+use abr_reference::{Kind, Refusal};
 
 use super::*;
 use crate::engines::{Library, Reference};
@@ -110,9 +109,9 @@ fn the_last_opened_sends_first() {
 fn both_sides_answer_the_same() {
     for row in ROWS {
         let expected = match row.workload {
-            Workload::Receive(Sort::Damaged) => CRC,
-            Workload::Receive(_) => 0,
-            Workload::Unknown(_) => NOT_OPEN,
+            Workload::Receive(Sort::Damaged) => Some(Refusal::Crc),
+            Workload::Receive(_) => None,
+            Workload::Unknown(_) => Some(Refusal::NotOpen),
             _ => continue,
         };
         let mut library = Fixture::<Library>::new(row.connections, row.workload);
@@ -122,8 +121,9 @@ fn both_sides_answer_the_same() {
             let table = &mut *library.engine.table;
             // SAFETY: both pointers are live and the length is the cell's own.
             let answer = unsafe { ffi::abr_receive(table, cell.as_ptr(), cell.len()) };
-            assert_eq!(answer.refusal, expected, "{}", row.name);
-            let answer = reference.engine.engine.receive(&cell).err().unwrap_or(0);
+            let number = expected.map_or(0, Refusal::number);
+            assert_eq!(answer.refusal, number, "{}", row.name);
+            let answer = reference.engine.engine.receive(&cell).err();
             assert_eq!(answer, expected, "{}", row.name);
         }
     }

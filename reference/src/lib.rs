@@ -18,7 +18,7 @@
 //! * [`engine`]: the table of connections and the calls on it;
 //! * [`port`]: the share of a capacity, and the port of a switch that limits ER by it;
 //! * [`trace`], [`judge`]: the numbers of a trace, and the judge of one;
-//! * [`refusal`]: the numbers of the refusals.
+//! * [`refusal`]: the refusals and their numbers.
 
 #![forbid(unsafe_code)]
 

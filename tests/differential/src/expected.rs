@@ -4,7 +4,7 @@ use abr_convert::{
     library_cell, library_params, library_sent, library_share, library_verdict, reference_params,
     reference_rm,
 };
-use abr_reference::{judge, port, Engine, Exported, Imported, Params};
+use abr_reference::{judge, port, Engine, Exported, Imported, Params, Refusal};
 
 use crate::call::{Answer, Call, Outcome};
 use crate::drawn::Drawn;
@@ -81,6 +81,6 @@ fn imported(imported: Imported) -> Answer {
     Answer::Imported { code, remainder }
 }
 
-fn done(outcome: Result<(), u32>) -> Outcome {
+fn done(outcome: Result<(), Refusal>) -> Outcome {
     outcome.map(|()| Answer::Done)
 }

@@ -6,7 +6,7 @@ use abr::ffi::{
     self, abr_allowed, abr_answer, abr_cell, abr_closed, abr_coded, abr_imported, abr_rated,
     abr_sent, abr_share, abr_table, abr_verdict,
 };
-use abr_reference::{Address, Allowed, Closed};
+use abr_reference::{Address, Allowed, Closed, Refusal};
 
 use crate::call::{Answer, Call, Outcome};
 use crate::drawn::Drawn;
@@ -51,7 +51,7 @@ impl Library {
                 answered(unsafe { ffi::abr_offer(table, at.vpi, at.vci, cells) })?
             }
             // SAFETY: the pointer is live for the call.
-            Call::SetLevel { level } => done(unsafe { ffi::abr_set_level(table, level) }),
+            Call::SetLevel { level } => done(unsafe { ffi::abr_set_level(table, level) })?,
             Call::Make { at, time } => {
                 // SAFETY: the pointer is live for the call.
                 answered(unsafe { ffi::abr_make(table, at.vpi, at.vci, time) })?
@@ -87,8 +87,7 @@ impl Library {
                 let (vpi, vci) = (at.vpi, at.vci);
                 let octets = buffer.octets(len).as_mut_ptr();
                 // SAFETY: both pointers are live and the buffer has this length.
-                let refusal = unsafe { ffi::abr_out_of_rate(table, vpi, vci, time, octets, len) };
-                Ok(done(refusal))
+                done(unsafe { ffi::abr_out_of_rate(table, vpi, vci, time, octets, len) })
             }
             _ => Err("a call without octets".to_owned()),
         }
@@ -148,7 +147,7 @@ impl Library {
         for call in [Call::Close { at }, Call::Remove { at }] {
             match self.call(&call, &mut Buffer::new(0))? {
                 Ok(Answer::Closed(closed)) => return Ok(closed.cells),
-                Err(11 | 28) => {}
+                Err(Refusal::NotOpen | Refusal::NotAMember) => {}
                 other => return Err(format!("{call:?}: {other:?}")),
             }
         }
@@ -163,7 +162,7 @@ impl Library {
         let bits = [contract.pcr, contract.mcr, contract.icr].map(f64::to_bits);
         match refusal {
             0 => Ok(Ok(Answer::Exported(bits))),
-            number if bits == [0; 3] => Ok(Err(number)),
+            number if bits == [0; 3] => refused(number),
             number => Err(format!("refused {number}, with {bits:x?} beside it")),
         }
     }
@@ -175,7 +174,7 @@ fn without_table(call: &Call, buffer: &mut Buffer) -> Result<Outcome, Difference
         Call::WriteRm { rm, len } => {
             let octets = buffer.octets(len).as_mut_ptr();
             // SAFETY: the pointer is live and the buffer has this length.
-            done(unsafe { ffi::abr_write_rm(rm, octets, len) })
+            done(unsafe { ffi::abr_write_rm(rm, octets, len) })?
         }
         Call::Read { cell } => {
             let octets = cell.as_slice();
@@ -190,13 +189,13 @@ fn without_table(call: &Call, buffer: &mut Buffer) -> Result<Outcome, Difference
         Call::Limit { rate, cell } => {
             let octets = buffer.cell(&cell);
             // SAFETY: the pointer is live and the length is the cell's own.
-            done(unsafe { ffi::abr_limit(rate, octets.as_mut_ptr(), octets.len()) })
+            done(unsafe { ffi::abr_limit(rate, octets.as_mut_ptr(), octets.len()) })?
         }
         Call::Port {
             capacity,
             demands,
             cell,
-        } => port(capacity, &demands.list(), buffer.cell(&cell)),
+        } => port(capacity, &demands.list(), buffer.cell(&cell))?,
         Call::Judge { trace } => judge(&Drawn::new(trace).octets)?,
         _ => return without_pointer(call),
     })
@@ -221,7 +220,7 @@ fn without_pointer(call: &Call) -> Result<Outcome, Difference> {
 }
 
 /// A cell at a port.
-fn port(capacity: u64, demands: &[u64], cell: &mut [u8]) -> Outcome {
+fn port(capacity: u64, demands: &[u64], cell: &mut [u8]) -> Result<Outcome, Difference> {
     let (rates, count) = (demands.as_ptr(), demands.len());
     let (octets, len) = (cell.as_mut_ptr(), cell.len());
     // SAFETY: both pointers are live, with the count and the length of their memory.
@@ -235,11 +234,17 @@ pub fn judge(trace: &[u8]) -> Result<Outcome, Difference> {
 }
 
 /// The outcome of a call that answers nothing but its refusal.
-fn done(refusal: u32) -> Outcome {
+fn done(refusal: u32) -> Result<Outcome, Difference> {
     match refusal {
-        0 => Ok(Answer::Done),
-        number => Err(number),
+        0 => Ok(Ok(Answer::Done)),
+        number => refused(number),
     }
+}
+
+/// The outcome of a refused call, whose number is that of a refusal.
+fn refused(number: u32) -> Result<Outcome, Difference> {
+    let refusal = Refusal::try_from(number);
+    refusal.map(Err).map_err(|other| format!("refused {other}"))
 }
 
 /// An answer with other fields beside the refusal.
@@ -252,7 +257,7 @@ trait Answered: Copy + Default + Debug {
 fn answered<T: Answered>(mut answer: T) -> Result<Outcome, Difference> {
     match std::mem::take(answer.refusal()) {
         0 => Ok(Ok(answer.answer())),
-        number if answer.answer() == T::default().answer() => Ok(Err(number)),
+        number if answer.answer() == T::default().answer() => refused(number),
         number => Err(format!("refused {number}, with {answer:x?} beside it")),
     }
 }

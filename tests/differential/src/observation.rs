@@ -19,7 +19,7 @@ use std::collections::{BTreeMap, BTreeSet};
 
 use abr::ffi::{abr_params, abr_sent};
 use abr::{CONNECTIONS_MAX, TIME_MAX, WAITING_MAX};
-use abr_reference::Address;
+use abr_reference::{Address, Refusal};
 
 use crate::call::{address_of, Answer, Call, Outcome};
 use crate::coverage::{Coverage, Event};
@@ -174,7 +174,7 @@ impl Observation {
         judged(call, coverage);
         let answer = match outcome {
             Ok(answer) => answer,
-            Err(number) => return self.add_refused(call, *number, coverage),
+            Err(refusal) => return self.add_refused(call, *refusal, coverage),
         };
         self.accepted_path(call, coverage);
         reserved::accepted(call, coverage);
@@ -206,17 +206,17 @@ impl Observation {
     }
 
     /// Adds a call that was refused.
-    fn add_refused(&mut self, call: &Call, number: u32, coverage: &mut Coverage) {
-        self.refused_address(call, number, coverage);
-        self.refused_reserved(call, number, coverage);
+    fn add_refused(&mut self, call: &Call, refusal: Refusal, coverage: &mut Coverage) {
+        self.refused_address(call, refusal, coverage);
+        self.refused_reserved(call, refusal, coverage);
         self.refused_change(call, coverage);
         doubles::refused(call, coverage);
-        ports::refused(call, number, coverage);
-        self.refused_offer(call, number);
-        self.refused_member(call, number, coverage);
-        setup::refused(call, number, coverage);
-        self.refused(call, number, coverage);
-        self.refused_outside(call, number, coverage);
+        ports::refused(call, refusal, coverage);
+        self.refused_offer(call, refusal);
+        self.refused_member(call, refusal, coverage);
+        setup::refused(call, refusal, coverage);
+        self.refused(call, refusal, coverage);
+        self.refused_outside(call, refusal, coverage);
     }
 
     fn opened(

@@ -15,7 +15,7 @@
 use std::ops::Range;
 
 use abr::CELL_OCTETS;
-use abr_reference::{Address, Allowed};
+use abr_reference::{Address, Allowed, Refusal};
 
 use crate::accounts::Accounts;
 use crate::call::{Answer, Call, Outcome};
@@ -195,12 +195,12 @@ fn allowed(outcome: &Outcome) -> Option<Allowed> {
 /// What two calls of a pair must have in common beside the connection: the kind
 /// of cell, 0 if none is sent, and its VCI, that of the member if it is a path's data; the
 /// data cells of a close, 0 of any other; or the refusal.
-fn sends(outcome: &Outcome) -> Result<(u32, u64), u32> {
+fn sends(outcome: &Outcome) -> Result<(u32, u64), Refusal> {
     match outcome {
         Ok(Answer::Sent(sent)) => Ok((sent.kind, sent.vci.into())),
         Ok(Answer::Closed(closed)) => Ok((0, closed.cells)),
         Ok(_) => Ok((0, 0)),
-        Err(number) => Err(*number),
+        Err(refusal) => Err(*refusal),
     }
 }
 

@@ -11,6 +11,7 @@ use abr_differential::profile::{Profile, PROFILES};
 use abr_differential::rng::Rng;
 use abr_differential::trace::{Trace, CELL, HEAD};
 use abr_differential::{library, lists, parallel};
+use abr_reference::Refusal;
 
 /// The verdict of an outcome, by its numbers.
 fn numbers(outcome: Outcome) -> Verdict {
@@ -40,7 +41,7 @@ impl Tally {
     fn count(&mut self, verdict: Verdict) {
         let place = match verdict {
             Ok((_, rule)) => rule,
-            Err(refusal) => refusal - 19,
+            Err(refusal) => refusal.number() - 19,
         };
         self.counts[place as usize] += 1;
     }
@@ -105,7 +106,11 @@ fn every_length() {
             let whole = len > 0 && drawn.octets[len - 1] < 0x80;
             numbers += usize::from(whole);
             let record = whole && numbers >= HEAD && (numbers - HEAD).is_multiple_of(CELL);
-            let expected = if record { Ok((0, 0)) } else { Err(24) };
+            let expected = if record {
+                Ok((0, 0))
+            } else {
+                Err(Refusal::TraceEnd)
+            };
             assert_eq!(judged(&drawn.octets[..len]), expected);
         }
     }
@@ -144,7 +149,7 @@ fn long_numbers() {
                 let verdict = judged(&octets);
                 let form = groups > 10 || (groups == 10 && last != 1) || (groups > 1 && last == 0);
                 if form {
-                    assert_eq!(verdict, Err(23), "{octets:x?}");
+                    assert_eq!(verdict, Err(Refusal::TraceNumber), "{octets:x?}");
                 }
             }
         }
@@ -221,10 +226,10 @@ fn a_long_trace() {
     }
     let mut octets = trace.octets();
     assert_eq!(judged(&octets), Ok((0, 0)));
-    assert_eq!(judged(&octets[..octets.len() - 1]), Err(24));
+    assert_eq!(judged(&octets[..octets.len() - 1]), Err(Refusal::TraceEnd));
     trace.cell(CELLS as usize - 1)[0] = 0;
     assert_eq!(judged(&trace.octets()), Ok((CELLS, 2)));
     octets.push(0x80);
     octets.push(0);
-    assert_eq!(judged(&octets), Err(23));
+    assert_eq!(judged(&octets), Err(Refusal::TraceNumber));
 }

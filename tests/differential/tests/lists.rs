@@ -54,8 +54,6 @@ fn library_and_reference_agree_on_lists_that_reach_every_edge() {
     }
     println!("all: {}", total.summary());
     assert_eq!(total.missing(LEAST), Vec::<String>::new());
-    let withdrawn: u64 = total.outcomes.iter().map(|counts| counts[3]).sum();
-    assert_eq!(withdrawn, 0, "refusal 3");
     let calls = PROFILES.map(|profile| profile.share(LISTS) * lists::length(profile));
     assert_eq!(total.calls, calls.iter().sum());
     assert!(total.rates >= RATES, "{} rates", total.rates);

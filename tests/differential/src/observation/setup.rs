@@ -2,6 +2,7 @@
 
 use abr::ffi::abr_params;
 use abr::{FRTT_MAX, TBE_MAX, TIME_MAX};
+use abr_reference::Refusal;
 
 use crate::call::Call;
 use crate::coverage::{Coverage, Event};
@@ -38,13 +39,16 @@ pub(super) fn opened(params: &abr_params, coverage: &mut Coverage) {
 }
 
 /// A call was refused: it may be an open with a TBE or an FRTT out of range.
-pub(super) fn refused(call: &Call, number: u32, coverage: &mut Coverage) {
+pub(super) fn refused(call: &Call, refusal: Refusal, coverage: &mut Coverage) {
     let (Call::Open { params, time, .. } | Call::OpenPath { params, time, .. }) = call else {
         return;
     };
     let tbe = params.tbe == 0 || params.tbe > TBE_MAX;
     let frtt = params.frtt > FRTT_MAX;
-    coverage.reach(Event::RangeBeforeTbe, number == 7 && tbe);
-    coverage.reach(Event::TbeBeforeFrtt, number == 29 && frtt);
-    coverage.reach(Event::FrttBeforeTime, number == 30 && *time > TIME_MAX);
+    coverage.reach(Event::RangeBeforeTbe, refusal == Refusal::Range && tbe);
+    coverage.reach(Event::TbeBeforeFrtt, refusal == Refusal::Tbe && frtt);
+    coverage.reach(
+        Event::FrttBeforeTime,
+        refusal == Refusal::Frtt && *time > TIME_MAX,
+    );
 }

@@ -69,7 +69,7 @@ impl Line {
     /// A call that is accepted.
     pub fn call(&mut self, call: &Call) -> Result<Answer, Difference> {
         let outcome = self.library.call(call, &mut Buffer::new(0))?;
-        outcome.map_err(|number| format!("{call:x?}: refused {number}"))
+        outcome.map_err(|refusal| format!("{call:x?}: {refusal:?}"))
     }
 
     /// Opens a channel, or a path by its own name, at the time that was passed last.
