@@ -219,26 +219,16 @@ fn each_forward_cell_begins_anew() {
     ];
     let cells = [&[FIRST][..], &step.repeat(5)].concat();
     assert_eq!(verdict(&trace(2, 7, &cells)), PASSES);
-    let late = [
-        &cells[..],
-        &[
+    let ended = |time| {
+        let last = [
             (1, DATA, LARGEST),
             (1, DATA, LARGEST),
-            (99_999_997, DATA, LARGEST),
-        ],
-    ]
-    .concat();
-    assert_eq!(verdict(&trace(2, 7, &late)), PASSES); // a nanosecond before Trm
-    let due = [
-        &cells[..],
-        &[
-            (1, DATA, LARGEST),
-            (1, DATA, LARGEST),
-            (99_999_998, DATA, LARGEST),
-        ],
-    ]
-    .concat();
-    assert_eq!(verdict(&trace(2, 7, &due)), Ok((24, 3)));
+            (time, DATA, LARGEST),
+        ];
+        verdict(&trace(2, 7, &[&cells[..], &last].concat()))
+    };
+    assert_eq!(ended(99_999_997), PASSES); // a nanosecond before Trm
+    assert_eq!(ended(99_999_998), Ok((24, 3)));
 }
 
 #[test]

@@ -4,6 +4,7 @@ use abr::{COMPARISONS_MAX, TIME_MAX};
 use abr_reference::Refusal;
 
 use crate::call::{Call, Outcome, SORTS};
+use crate::parallel::Counts;
 use crate::slot_times::CASES;
 
 macro_rules! events {
@@ -767,38 +768,6 @@ impl Coverage {
         self.events[event as usize]
     }
 
-    /// Adds the counts of another run.
-    pub fn add(&mut self, other: &Coverage) {
-        let add = |to: &mut [u64], from: &[u64]| {
-            to.iter_mut().zip(from).for_each(|(to, from)| *to += from);
-        };
-        self.calls += other.calls;
-        self.rates += other.rates;
-        self.recorded += other.recorded;
-        for (to, from) in self.outcomes.iter_mut().zip(&other.outcomes) {
-            add(to, from);
-        }
-        for (to, from) in self.comparisons.iter_mut().zip(&other.comparisons) {
-            add(to, from);
-        }
-        for (to, from) in self.out_of_range.iter_mut().zip(&other.out_of_range) {
-            add(to, from);
-        }
-        for (to, from) in self.past_vci.iter_mut().zip(&other.past_vci) {
-            add(to, from);
-        }
-        for (to, from) in self.reserved.iter_mut().zip(&other.reserved) {
-            add(to, from);
-        }
-        add(&mut self.kinds, &other.kinds);
-        add(&mut self.on_path, &other.on_path);
-        add(&mut self.on_member, &other.on_member);
-        add(&mut self.damaged, &other.damaged);
-        add(&mut self.nexts, &other.nexts);
-        self.add_slot_times(&other.slot_times, other.tried);
-        add(&mut self.events, &other.events);
-    }
-
     /// What was reached fewer than `least` times, by name.
     pub fn missing(&self, least: u64) -> Vec<String> {
         let counts = [self.of_calls(), self.of_arguments(), self.of_edges()];
@@ -883,5 +852,38 @@ impl Coverage {
             self.tried,
             events.join(", ")
         )
+    }
+}
+
+impl Counts for Coverage {
+    fn add(&mut self, other: &Coverage) {
+        let add = |to: &mut [u64], from: &[u64]| {
+            to.iter_mut().zip(from).for_each(|(to, from)| *to += from);
+        };
+        self.calls += other.calls;
+        self.rates += other.rates;
+        self.recorded += other.recorded;
+        for (to, from) in self.outcomes.iter_mut().zip(&other.outcomes) {
+            add(to, from);
+        }
+        for (to, from) in self.comparisons.iter_mut().zip(&other.comparisons) {
+            add(to, from);
+        }
+        for (to, from) in self.out_of_range.iter_mut().zip(&other.out_of_range) {
+            add(to, from);
+        }
+        for (to, from) in self.past_vci.iter_mut().zip(&other.past_vci) {
+            add(to, from);
+        }
+        for (to, from) in self.reserved.iter_mut().zip(&other.reserved) {
+            add(to, from);
+        }
+        add(&mut self.kinds, &other.kinds);
+        add(&mut self.on_path, &other.on_path);
+        add(&mut self.on_member, &other.on_member);
+        add(&mut self.damaged, &other.damaged);
+        add(&mut self.nexts, &other.nexts);
+        self.add_slot_times(&other.slot_times, other.tried);
+        add(&mut self.events, &other.events);
     }
 }

@@ -24,6 +24,7 @@ use abr_reference::{Address, Refusal};
 use crate::call::{address_of, Answer, Call, Outcome};
 use crate::coverage::{Coverage, Event};
 use crate::drawn::Drawn;
+use crate::octets::{code_at, ER};
 use turned::Turned;
 
 /// What a connection has sent, from its first cell on.
@@ -288,7 +289,7 @@ impl Observation {
             coverage.reach(Event::EfciCleared, connection.efci && !efci);
             connection.efci = efci;
         } else {
-            let er = abr_reference::rate_of(u32::from(cell[7]) << 8 | u32::from(cell[8]));
+            let er = abr_reference::rate_of(code_at(cell, ER));
             backward_received(connection, bits, er, coverage);
             zero::received(connection, bits, er, acr, coverage);
             change::received(connection, bits, acr, coverage);

@@ -25,6 +25,7 @@ use crate::library::{Difference, Library};
 use crate::lists::concerned;
 use crate::observation::Observation;
 use crate::octets::{put_crc, Buffer, Octets};
+use crate::parallel::Counts;
 use crate::profile::Profile;
 use crate::rng::Rng;
 
@@ -58,9 +59,8 @@ pub struct Tally {
     pub members: u64,
 }
 
-impl Tally {
-    /// Adds the counts of another run.
-    pub fn add(&mut self, other: &Tally) {
+impl Counts for Tally {
+    fn add(&mut self, other: &Tally) {
         self.pairs += other.pairs;
         self.cut_off += other.cut_off;
         self.compared += other.compared;

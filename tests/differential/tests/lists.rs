@@ -48,10 +48,7 @@ fn jobs(place: usize) -> impl Iterator<Item = (usize, u64)> {
 fn library_and_reference_agree_on_lists_that_reach_every_edge() {
     println!("seed {}", lists::seed());
     let jobs = (0..PROFILES.len()).flat_map(jobs).collect();
-    let mut total = Coverage::default();
-    for coverage in parallel::run(jobs, run_job).unwrap_or_else(|why| panic!("{why}")) {
-        total.add(&coverage);
-    }
+    let total = parallel::total(jobs, run_job);
     println!("all: {}", total.summary());
     assert_eq!(total.missing(LEAST), Vec::<String>::new());
     let calls = PROFILES.map(|profile| profile.share(LISTS) * lists::length(profile));

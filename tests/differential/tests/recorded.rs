@@ -42,11 +42,7 @@ fn recorded(mut profile: Profile) -> Result<Coverage, String> {
 
 #[test]
 fn recorded_traces_pass_and_are_on_every_edge() {
-    let mut total = Coverage::default();
-    for reached in parallel::run(PROFILES.to_vec(), recorded).unwrap_or_else(|why| panic!("{why}"))
-    {
-        total.add(&reached);
-    }
+    let total = parallel::total(PROFILES.to_vec(), recorded);
     for event in EDGES {
         let count = total.reached(event);
         println!("{event:?}: {count}");

@@ -417,10 +417,7 @@ fn every_number_of_comparisons(total: &Coverage) {
 
 #[test]
 fn up_to_1_024_connections_and_down_again() {
-    let mut total = Coverage::default();
-    for coverage in parallel::run(jobs(), run).unwrap_or_else(|why| panic!("{why}")) {
-        total.add(&coverage);
-    }
+    let total = parallel::total(jobs(), run);
     println!("all: {}", total.summary());
     println!("comparisons: {:?}", &total.comparisons[..12]);
     let [open, close, receive, offer, _, _, make, out_of_rate, open_path, add, ..] = total.outcomes;

@@ -9,6 +9,7 @@ use abr_reference::Refusal;
 use super::Observation;
 use crate::call::Call;
 use crate::coverage::{Coverage, Event};
+use crate::octets::code_at;
 
 /// The code of bit 14 alone, one cell per second.
 const NZ_ALONE: u32 = 0x4000;
@@ -85,8 +86,7 @@ fn codes(call: &Call) -> Option<[u32; 3]> {
         | Call::Limit { cell, .. }
         | Call::Port { cell, .. } => {
             let octets = cell.as_slice().get(7..13)?;
-            let code = |place: usize| u32::from(octets[place]) << 8 | u32::from(octets[place + 1]);
-            Some([code(0), code(2), code(4)])
+            Some([0, 2, 4].map(|place| code_at(octets, place)))
         }
         _ => None,
     }

@@ -8,6 +8,8 @@
 use abr::ffi::abr_rm;
 use abr::{Share, CELL_OCTETS};
 use abr_differential::library::Difference;
+use abr_differential::octets::{code_at, ER};
+use abr_differential::parallel::Counts;
 use abr_differential::rng::Rng;
 
 use super::circuit::{Circuit, Sums};
@@ -37,9 +39,8 @@ pub struct Tally {
     pub least: Option<u64>,
 }
 
-impl Tally {
-    /// Adds the counts of another run.
-    pub fn add(&mut self, other: &Tally) {
+impl Counts for Tally {
+    fn add(&mut self, other: &Tally) {
         self.sums.add(&other.sums);
         self.slots += other.slots;
         self.falls += other.falls;
@@ -252,7 +253,7 @@ impl Own {
 
     /// What a cell allows its connection at most.
     fn cap(&self, place: usize, cell: &[u8; CELL_OCTETS]) -> u64 {
-        let er = abr_reference::rate_of(u32::from(cell[7]) << 8 | u32::from(cell[8]));
+        let er = abr_reference::rate_of(code_at(cell, ER));
         let circuit = &self.circuits[place];
         er.min(circuit.pcr).max(circuit.mcr)
     }

@@ -7,6 +7,7 @@ use abr::ffi::abr_rm;
 use abr::CELL_OCTETS;
 use abr_differential::call::Call;
 use abr_differential::library::Difference;
+use abr_differential::parallel::Counts;
 use abr_differential::rng::Rng;
 
 use super::circuit::{Circuit, Sums};
@@ -36,9 +37,8 @@ pub struct Tally {
     pub late: u64,
 }
 
-impl Tally {
-    /// Adds the counts of another set.
-    pub fn add(&mut self, other: &Tally) {
+impl Counts for Tally {
+    fn add(&mut self, other: &Tally) {
         self.sums.add(&other.sums);
         self.slots += other.slots;
         self.slept += other.slept;
