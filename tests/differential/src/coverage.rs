@@ -526,7 +526,10 @@ events! {
 }
 
 /// The greatest number of a refusal.
-const REFUSAL_MAX: usize = 30;
+const REFUSAL_MAX: usize = {
+    let all = abr::Refusal::ALL;
+    all[all.len() - 1].number() as usize
+};
 
 /// Counts of all that was reached.
 #[derive(Debug, Clone)]
