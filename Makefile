@@ -39,8 +39,8 @@ demo: $(LIB_GOAL) transmitter
 	@mkdir -p $(BUILD)
 	$(CC) -std=c99 $(CFLAGS) -Iinclude examples/two_connections.c $(LIB) -o $(BUILD)/two_connections
 	$(BUILD)/two_connections
-	cargo run --release --quiet -p picture -- rates $(BUILD)/rates.svg
-	cargo run --release --quiet -p picture -- closed-loop $(BUILD)/closed-loop.svg
+	cargo run --release --quiet -p abr-picture -- rates $(BUILD)/rates.svg
+	cargo run --release --quiet -p abr-picture -- closed-loop $(BUILD)/closed-loop.svg
 	@echo "The allowed rates of two connections over time: $(BUILD)/rates.svg"
 	@echo "Those of ten sources that share a port: $(BUILD)/closed-loop.svg"
 
@@ -53,7 +53,7 @@ target:
 	@scripts/target "$(TARGET)"
 
 tools: $(LIB_GOAL)
-	cargo build --release --quiet -p tools
+	cargo build --release --quiet -p abr-tools
 	@echo "target/cargo/release/abr-judge and abr-trace; --help says how they are called"
 
 transmitter: $(LIB_GOAL)
@@ -61,7 +61,7 @@ transmitter: $(LIB_GOAL)
 	$(CC) -std=c99 $(CFLAGS) -Iinclude examples/transmitter.c $(LIB) -o $(BUILD)/transmitter
 	$(BUILD)/transmitter $(BUILD)/transmitter.numbers
 	@$(BUILD)/transmitter $(BUILD)/own.numbers 0 >/dev/null
-	cargo run --release --quiet -p picture --bin draw_transmitter -- $(BUILD)/transmitter.numbers $(BUILD)/own.numbers >$(BUILD)/transmitter.svg
+	cargo run --release --quiet -p abr-picture --bin draw_transmitter -- $(BUILD)/transmitter.numbers $(BUILD)/own.numbers >$(BUILD)/transmitter.svg
 	@echo "Allowed rates, the queue of the network, and what a leased circuit is delivered, both ways: $(BUILD)/transmitter.svg"
 
 $(BUILD)/abr.pc: abr.pc.in Makefile FORCE
@@ -88,7 +88,7 @@ bench: $(LIB_GOAL)
 	bench/worst
 
 soak: $(LIB_GOAL)
-	cargo run --release --quiet -p differential --bin soak -- $(SEED)
+	cargo run --release --quiet -p abr-differential --bin soak -- $(SEED)
 
 soak-targets:
 	CALLS=50000000 LONG=100000000 tests/targets/run

@@ -1,6 +1,6 @@
 //! The picture of slot cost over the number of connections.
 
-use picture::svg::{self, put, text};
+use abr_support::svg::{self, put, text};
 
 const WIDTH: f64 = 820.0;
 const HEIGHT: f64 = 420.0;

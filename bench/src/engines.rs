@@ -4,7 +4,7 @@
 use std::hint::black_box;
 
 use abr::ffi;
-use reference::{Address, Params, Rm};
+use abr_reference::{Address, Params, Rm};
 
 /// The octets of a cell.
 pub type Octets = [u8; abr::CELL_OCTETS];
@@ -61,11 +61,11 @@ impl Engine for Library {
     type Rm = ffi::abr_rm;
 
     fn params(params: &Params) -> ffi::abr_params {
-        convert::library_params(params)
+        abr_convert::library_params(params)
     }
 
     fn rm(rm: &Rm) -> ffi::abr_rm {
-        convert::library_rm(rm)
+        abr_convert::library_rm(rm)
     }
 
     fn empty() -> Self {
@@ -76,113 +76,138 @@ impl Engine for Library {
     }
 
     fn open(&mut self, at: Address, time: u64, params: &ffi::abr_params) {
-        // SAFETY: here and below every pointer is live and every length true.
+        // SAFETY: the pointer is live for the call.
         black_box(unsafe { ffi::abr_open(&mut *self.table, at.vpi, at.vci, time, *params) });
     }
 
     fn close(&mut self, at: Address) {
+        // SAFETY: the pointer is live for the call.
         black_box(unsafe { ffi::abr_close(&mut *self.table, at.vpi, at.vci) });
     }
 
     fn offer(&mut self, at: Address, cells: u64) {
+        // SAFETY: the pointer is live for the call.
         black_box(unsafe { ffi::abr_offer(&mut *self.table, at.vpi, at.vci, cells) });
     }
 
     fn open_path(&mut self, vpi: u32, time: u64, params: &ffi::abr_params) {
+        // SAFETY: the pointer is live for the call.
         black_box(unsafe { ffi::abr_open_path(&mut *self.table, vpi, time, *params) });
     }
 
     fn add(&mut self, at: Address) {
+        // SAFETY: the pointer is live for the call.
         black_box(unsafe { ffi::abr_add(&mut *self.table, at.vpi, at.vci) });
     }
 
     fn offer_member(&mut self, at: Address, cells: u64) {
+        // SAFETY: the pointer is live for the call.
         black_box(unsafe { ffi::abr_offer_member(&mut *self.table, at.vpi, at.vci, cells) });
     }
 
     fn remove(&mut self, at: Address) {
+        // SAFETY: the pointer is live for the call.
         black_box(unsafe { ffi::abr_remove(&mut *self.table, at.vpi, at.vci) });
     }
 
     fn receive(&mut self, cell: &Octets) {
+        // SAFETY: both pointers are live and the length is the cell's own.
         black_box(unsafe { ffi::abr_receive(&mut *self.table, cell.as_ptr(), cell.len()) });
     }
 
     fn slot(&mut self, time: u64, buffer: &mut Octets) {
         let (at, len) = (buffer.as_mut_ptr(), buffer.len());
+        // SAFETY: both pointers are live and the length is the buffer's own.
         black_box(&unsafe { ffi::abr_slot(&mut *self.table, time, at, len) });
     }
 
     fn set_level(&mut self, level: u32) {
+        // SAFETY: the pointer is live for the call.
         black_box(unsafe { ffi::abr_set_level(&mut *self.table, level) });
     }
 
     fn make(&mut self, at: Address, time: u64) {
+        // SAFETY: the pointer is live for the call.
         black_box(unsafe { ffi::abr_make(&mut *self.table, at.vpi, at.vci, time) });
     }
 
     fn out_of_rate(&mut self, at: Address, time: u64, buffer: &mut Octets) {
         let (cell, len) = (buffer.as_mut_ptr(), buffer.len());
         let (vpi, vci) = (at.vpi, at.vci);
+        // SAFETY: both pointers are live and the length is the buffer's own.
         black_box(unsafe { ffi::abr_out_of_rate(&mut *self.table, vpi, vci, time, cell, len) });
     }
 
     fn acr(&self, at: Address) {
+        // SAFETY: the pointer is live for the call.
         black_box(&unsafe { ffi::abr_acr(&*self.table, at.vpi, at.vci) });
     }
 
     fn export(&self, at: Address) {
         let mut refusal = 0;
+        // SAFETY: both pointers are live for the call.
         black_box(&unsafe { ffi::abr_export(&*self.table, at.vpi, at.vci, &mut refusal) });
         black_box(refusal);
     }
 
     fn next(&self) {
+        // SAFETY: the pointer is live for the call.
         black_box(unsafe { ffi::abr_next(&*self.table) });
     }
 
     fn slot_time(&self, now: u64, lag: u64) {
+        // SAFETY: the pointer is live for the call.
         black_box(unsafe { ffi::abr_slot_time(&*self.table, now, lag) });
     }
 
     fn write_rm(rm: &ffi::abr_rm, buffer: &mut Octets) {
+        // SAFETY: the pointer is live and the length is the buffer's own.
         black_box(unsafe { ffi::abr_write_rm(*rm, buffer.as_mut_ptr(), buffer.len()) });
     }
 
     fn read(cell: &Octets) {
+        // SAFETY: the pointer is live and the length is the cell's own.
         black_box(&unsafe { ffi::abr_read(cell.as_ptr(), cell.len()) });
     }
 
     fn code(rate: u64) {
+        // SAFETY: the call has no pointer.
         black_box(&unsafe { ffi::abr_code(rate) });
     }
 
     fn rate(code: u32) {
+        // SAFETY: the call has no pointer.
         black_box(&unsafe { ffi::abr_rate(code) });
     }
 
     fn import(cells_per_second: f64) {
+        // SAFETY: the call has no pointer.
         black_box(&unsafe { ffi::abr_import(cells_per_second) });
     }
 
     fn fair_share(capacity: u64, demands: &[u64]) {
+        // SAFETY: the pointer is live and the count is the slice's own.
         black_box(&unsafe { ffi::abr_fair_share(capacity, demands.as_ptr(), demands.len()) });
     }
 
     fn limit(rate: u64, cell: &mut Octets) {
+        // SAFETY: the pointer is live and the length is the cell's own.
         black_box(unsafe { ffi::abr_limit(rate, cell.as_mut_ptr(), cell.len()) });
     }
 
     fn port(capacity: u64, demands: &[u64], cell: &mut Octets) {
         let (rates, count) = (demands.as_ptr(), demands.len());
+        // SAFETY: both pointers are live, and count and length are those of the slices.
         black_box(unsafe { ffi::abr_port(capacity, rates, count, cell.as_mut_ptr(), cell.len()) });
     }
 
     fn judge(trace: &[u8]) {
+        // SAFETY: the pointer is live and the length is the slice's own.
         black_box(&unsafe { ffi::abr_judge(trace.as_ptr(), trace.len()) });
     }
 
     fn house(code: u32) {
+        // SAFETY: the call has no pointer.
         black_box(&unsafe { ffi::abr_house(code, code, code) });
     }
 }
@@ -190,7 +215,7 @@ impl Engine for Library {
 /// The reference. None of its calls is inlined into the loop that measures it,
 /// since a call of the library cannot be.
 pub struct Reference {
-    pub engine: reference::Engine,
+    pub engine: abr_reference::Engine,
 }
 
 impl Engine for Reference {
@@ -207,7 +232,7 @@ impl Engine for Reference {
 
     fn empty() -> Self {
         Reference {
-            engine: reference::Engine::new(),
+            engine: abr_reference::Engine::new(),
         }
     }
 
@@ -293,47 +318,47 @@ impl Engine for Reference {
 
     #[inline(never)]
     fn write_rm(rm: &Rm, buffer: &mut Octets) {
-        black_box(&reference::write_rm(rm, buffer));
+        black_box(&abr_reference::write_rm(rm, buffer));
     }
 
     #[inline(never)]
     fn read(cell: &Octets) {
-        black_box(&reference::read(cell));
+        black_box(&abr_reference::read(cell));
     }
 
     #[inline(never)]
     fn code(rate: u64) {
-        black_box(&reference::code_of(rate));
+        black_box(&abr_reference::code_of(rate));
     }
 
     #[inline(never)]
     fn rate(code: u32) {
-        black_box(&reference::rate(code));
+        black_box(&abr_reference::rate(code));
     }
 
     #[inline(never)]
     fn import(cells_per_second: f64) {
-        black_box(&reference::import(cells_per_second));
+        black_box(&abr_reference::import(cells_per_second));
     }
 
     #[inline(never)]
     fn fair_share(capacity: u64, demands: &[u64]) {
-        black_box(&reference::fair_share(capacity, demands));
+        black_box(&abr_reference::fair_share(capacity, demands));
     }
 
     #[inline(never)]
     fn limit(rate: u64, cell: &mut Octets) {
-        black_box(&reference::limit(rate, cell));
+        black_box(&abr_reference::limit(rate, cell));
     }
 
     #[inline(never)]
     fn port(capacity: u64, demands: &[u64], cell: &mut Octets) {
-        black_box(&reference::port::port(capacity, demands, cell));
+        black_box(&abr_reference::port::port(capacity, demands, cell));
     }
 
     #[inline(never)]
     fn judge(trace: &[u8]) {
-        black_box(&reference::judge::judge(trace));
+        black_box(&abr_reference::judge::judge(trace));
     }
 
     #[inline(never)]

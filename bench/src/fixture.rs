@@ -2,7 +2,7 @@
 
 use std::hint::black_box;
 
-use reference::{Address, Params, Rm};
+use abr_reference::{Address, Params, Rm};
 
 use crate::engines::{Engine, Octets};
 use crate::traces;
@@ -312,8 +312,8 @@ fn step(connections: u32, workload: Workload) -> u64 {
         .into_iter()
         .map(|place| params_of(place, workload).icr);
     let path = workload.members().map(|_| CODE);
-    let total: u64 = codes.chain(path).map(reference::rate_of).sum();
-    let gap = reference::gap(total.max(512)).expect("a rate above 0");
+    let total: u64 = codes.chain(path).map(abr_reference::rate_of).sum();
+    let gap = abr_reference::gap(total.max(512)).expect("a rate above 0");
     let step = gap + 1;
     match workload {
         Workload::Mixed => 2 * step,
@@ -327,7 +327,7 @@ fn step(connections: u32, workload: Workload) -> u64 {
 fn rates(count: u32) -> Vec<u64> {
     let code = |place: u32| CODE - place * 37 % 1_024;
     (0..count)
-        .map(|place| reference::rate_of(code(place)))
+        .map(|place| abr_reference::rate_of(code(place)))
         .collect()
 }
 
@@ -353,12 +353,12 @@ fn rms(last: Address, workload: Workload) -> [Rm; 2] {
 /// The cell with these fields, or the data cell with this address.
 fn cell_of(rm: &Rm, workload: Workload) -> Octets {
     let mut cell = [0; abr::CELL_OCTETS];
-    reference::write_rm(rm, &mut cell).expect("fields in range");
+    abr_reference::write_rm(rm, &mut cell).expect("fields in range");
     match workload.sort() {
         Some(Sort::Data) => {
             let header = (rm.vpi << 20 | rm.vci << 4 | 2 << 1).to_be_bytes();
             cell[..4].copy_from_slice(&header);
-            cell[4] = reference::cell::header_check(&header);
+            cell[4] = abr_reference::cell::header_check(&header);
         }
         Some(Sort::Damaged) => cell[20] ^= 1,
         _ => {}

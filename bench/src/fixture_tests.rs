@@ -1,6 +1,5 @@
 use abr::ffi;
-use reference::refusal::{CRC, NOT_OPEN};
-use reference::Kind;
+use abr_reference::{Kind, Refusal};
 
 use super::*;
 use crate::engines::{Library, Reference};
@@ -10,7 +9,7 @@ use crate::workload::ROWS;
 const SLOTS: u64 = 4_096;
 
 /// What the slots of a workload send, on the reference.
-fn sent(connections: u32, workload: Workload) -> Vec<Option<reference::Sent>> {
+fn sent(connections: u32, workload: Workload) -> Vec<Option<abr_reference::Sent>> {
     let mut fixture = Fixture::<Reference>::new(connections, workload);
     fixture.refill(SLOTS);
     let mut buffer = [0; abr::CELL_OCTETS];
@@ -89,7 +88,7 @@ fn idle_slots_are_idle() {
 }
 
 /// The connection that a slot went to.
-fn sent_by(sent: &reference::Sent) -> Address {
+fn sent_by(sent: &abr_reference::Sent) -> Address {
     Address::new(sent.vpi, sent.vci)
 }
 
@@ -110,9 +109,9 @@ fn the_last_opened_sends_first() {
 fn both_sides_answer_the_same() {
     for row in ROWS {
         let expected = match row.workload {
-            Workload::Receive(Sort::Damaged) => CRC,
-            Workload::Receive(_) => 0,
-            Workload::Unknown(_) => NOT_OPEN,
+            Workload::Receive(Sort::Damaged) => Some(Refusal::Crc),
+            Workload::Receive(_) => None,
+            Workload::Unknown(_) => Some(Refusal::NotOpen),
             _ => continue,
         };
         let mut library = Fixture::<Library>::new(row.connections, row.workload);
@@ -122,8 +121,9 @@ fn both_sides_answer_the_same() {
             let table = &mut *library.engine.table;
             // SAFETY: both pointers are live and the length is the cell's own.
             let answer = unsafe { ffi::abr_receive(table, cell.as_ptr(), cell.len()) };
-            assert_eq!(answer.refusal, expected, "{}", row.name);
-            let answer = reference.engine.engine.receive(&cell).err().unwrap_or(0);
+            let number = expected.map_or(0, Refusal::number);
+            assert_eq!(answer.refusal, number, "{}", row.name);
+            let answer = reference.engine.engine.receive(&cell).err();
             assert_eq!(answer, expected, "{}", row.name);
         }
     }
@@ -149,7 +149,7 @@ fn makings_are_accepted() {
     let at = library.last;
     for time in (1..10).map(|i| library.time + i * library.step) {
         let table = &mut *library.engine.table;
-        // SAFETY: the pointer is live.
+        // SAFETY: the pointer is live for the call.
         let ours = unsafe { ffi::abr_make(table, at.vpi, at.vci, time) };
         assert_eq!(ours.refusal, 0);
         let theirs = reference.engine.engine.make(at, time);
@@ -166,8 +166,8 @@ fn out_of_rate_cells_are_accepted() {
     for time in (1..10).map(|i| library.time + i * library.step) {
         let (mut cell, mut other) = ([0; abr::CELL_OCTETS], [0; abr::CELL_OCTETS]);
         let table = &mut *library.engine.table;
-        // SAFETY: both pointers are live and the length is the buffer's own.
         let (octets, len) = (cell.as_mut_ptr(), cell.len());
+        // SAFETY: both pointers are live and the length is the buffer's own.
         let ours = unsafe { ffi::abr_out_of_rate(table, at.vpi, at.vci, time, octets, len) };
         assert_eq!(ours, 0);
         let theirs = reference.engine.engine.out_of_rate(at, time, &mut other);
@@ -181,7 +181,7 @@ fn a_next_ready_instant_is_found() {
     for connections in [1, 1_024] {
         let library = Fixture::<Library>::new(connections, Workload::Next);
         let reference = Fixture::<Reference>::new(connections, Workload::Next);
-        // SAFETY: the pointer is live.
+        // SAFETY: the pointer is live for the call.
         let ours = unsafe { ffi::abr_next(&*library.engine.table) };
         assert_ne!(ours, ffi::ABR_NEVER);
         assert_eq!(reference.engine.engine.next(), Some(ours));
@@ -195,7 +195,7 @@ fn a_slot_time_is_behind() {
         let library = Fixture::<Library>::new(connections, Workload::SlotTime);
         let reference = Fixture::<Reference>::new(connections, Workload::SlotTime);
         let now = library.time + library.step;
-        // SAFETY: the pointer is live.
+        // SAFETY: the pointer is live for the call.
         let ours = unsafe { ffi::abr_slot_time(&*library.engine.table, now, LAG) };
         assert!(ours < now);
         assert_eq!(reference.engine.engine.slot_time(now, LAG), ours);
@@ -208,8 +208,8 @@ fn a_slot_time_is_behind() {
 fn doubles_are_accepted() {
     let fixture = Fixture::<Reference>::new(64, Workload::Export);
     let exported = fixture.engine.engine.export(fixture.last).unwrap();
-    assert_eq!(reference::import(exported.pcr).unwrap().code, CODE);
-    let remainder = |cells| reference::import(cells).unwrap().remainder;
+    assert_eq!(abr_reference::import(exported.pcr).unwrap().code, CODE);
+    let remainder = |cells| abr_reference::import(cells).unwrap().remainder;
     assert_eq!(remainder(1_000.0), 0.0);
     assert!(remainder(1_000.7) > 0.0);
 }
@@ -220,7 +220,7 @@ fn doubles_are_accepted() {
 fn ports_limit() {
     for row in ROWS {
         let fixture = Fixture::<Reference>::new(0, row.workload);
-        let share = reference::fair_share(fixture.capacity, &fixture.demands).unwrap();
+        let share = abr_reference::fair_share(fixture.capacity, &fixture.demands).unwrap();
         let rate = match row.workload {
             Workload::Limit => LIMIT,
             Workload::FairShare { .. } | Workload::Port { .. } => share.expect("a limit"),
@@ -228,7 +228,12 @@ fn ports_limit() {
         };
         for mut cell in fixture.cells {
             let before = cell;
-            assert_eq!(reference::limit(rate, &mut cell), Ok(()), "{}", row.name);
+            assert_eq!(
+                abr_reference::limit(rate, &mut cell),
+                Ok(()),
+                "{}",
+                row.name
+            );
             assert_ne!(cell, before, "{}", row.name);
         }
     }

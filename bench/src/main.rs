@@ -1,11 +1,11 @@
 //! The cost of each call, library and reference.
 //!
-//! * `bench`: nanoseconds of library and reference and their ratio;
-//! * `bench names`: the workloads by name;
-//! * `bench times`: the same numbers in columns, for a script;
-//! * `bench count NAME library|reference [CALLS]`: one workload in the function
+//! * `abr-bench`: nanoseconds of library and reference and their ratio;
+//! * `abr-bench names`: the workloads by name;
+//! * `abr-bench times`: the same numbers in columns, for a script;
+//! * `abr-bench count NAME library|reference [CALLS]`: one workload in the function
 //!   `bench_region`, for callgrind;
-//! * `bench picture FILE`: slot cost over the number of connections, an SVG.
+//! * `abr-bench picture FILE`: slot cost over the number of connections, an SVG.
 
 mod draw;
 mod engines;
@@ -39,7 +39,9 @@ fn main() -> ExitCode {
 }
 
 fn usage() -> ExitCode {
-    eprintln!("usage: bench [names | times | count NAME library|reference [CALLS] | picture FILE]");
+    eprintln!(
+        "usage: abr-bench [names | times | count NAME library|reference [CALLS] | picture FILE]"
+    );
     ExitCode::from(2)
 }
 

@@ -18,8 +18,8 @@ pub fn octets(cells: u32, numbers: Numbers) -> Vec<u8> {
     const CODE: u32 = 0x6121;
     let (rate, step, forward) = match numbers {
         Numbers::Usual => {
-            let rate = reference::rate_of(CODE);
-            (rate, reference::gap(rate).expect("a rate above 0"), 32)
+            let rate = abr_reference::rate_of(CODE);
+            (rate, abr_reference::gap(rate).expect("a rate above 0"), 32)
         }
         Numbers::Long => (RATE_MAX, 1 << 50, 3),
     };
@@ -40,7 +40,7 @@ fn the_traces_pass() {
     for (numbers, each) in [(Numbers::Usual, 7), (Numbers::Long, 15)] {
         let octets = octets(256, numbers);
         assert_eq!(abr::judge(&octets), Ok(abr::Verdict::Passes));
-        assert_eq!(reference::judge::judge(&octets), Ok(None));
+        assert_eq!(abr_reference::judge::judge(&octets), Ok(None));
         assert_eq!((octets.len() + 128) / 256, each); // rounded
     }
 }

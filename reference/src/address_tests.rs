@@ -3,7 +3,7 @@
 use crate::cell::{header_check, Octets, LENGTH};
 use crate::engine::{Engine, TIME_MAX};
 use crate::engine_tests::{at, backward, data, forward, octets, params, refused, slot_rm, MS};
-use crate::{read, Address, Cell, Kind, Params, Rm};
+use crate::{read, Address, Cell, Kind, Params, Refusal, Rm};
 
 /// The address of these two numbers.
 fn address(vpi: u32, vci: u32) -> Address {
@@ -58,7 +58,7 @@ fn both_numbers_at_their_ends() {
         assert!(engine.acr(address(vpi, vci)).is_ok());
     }
     for (vpi, vci) in [(256, 32), (u32::MAX, 32), (0, 65_536), (255, u32::MAX)] {
-        refused(&engine, 7, |engine| {
+        refused(&engine, Refusal::Range, |engine| {
             engine.open(address(vpi, vci), 0, &params())
         });
     }
@@ -70,13 +70,13 @@ fn refusal_10_looks_at_the_vci_alone_and_comes_first() {
     let bad = Params { n: 0, ..params() };
     for vpi in [0, 1, 255, 256, u32::MAX] {
         for vci in [0, 31] {
-            refused(&engine, 10, |engine| {
+            refused(&engine, Refusal::LowVci, |engine| {
                 engine.open(address(vpi, vci), TIME_MAX + 1, &bad)
             });
         }
     }
     for (vpi, vci) in [(256, 32), (256, 65_536), (0, 65_536)] {
-        refused(&engine, 7, |engine| {
+        refused(&engine, Refusal::Range, |engine| {
             engine.open(address(vpi, vci), TIME_MAX + 1, &params()) // before 8
         });
     }
@@ -89,15 +89,19 @@ fn a_pair_out_of_range_is_refused_with_7_in_an_open_and_11_elsewhere() {
     engine.set_level(2).unwrap();
     for (vpi, vci) in OUT_OF_RANGE {
         let at = address(vpi, vci);
-        let number = if vci < 32 { 10 } else { 7 };
-        refused(&engine, number, |engine| engine.open(at, 0, &params()));
-        refused(&engine, 11, |engine| engine.close(at));
-        refused(&engine, 11, |engine| engine.offer(at, 1));
-        refused(&engine, 11, |engine| engine.make(at, 0));
-        refused(&engine, 11, |engine| {
+        let refusal = if vci < 32 {
+            Refusal::LowVci
+        } else {
+            Refusal::Range
+        };
+        refused(&engine, refusal, |engine| engine.open(at, 0, &params()));
+        refused(&engine, Refusal::NotOpen, |engine| engine.close(at));
+        refused(&engine, Refusal::NotOpen, |engine| engine.offer(at, 1));
+        refused(&engine, Refusal::NotOpen, |engine| engine.make(at, 0));
+        refused(&engine, Refusal::NotOpen, |engine| {
             engine.out_of_rate(at, 0, &mut [0; LENGTH])
         });
-        refused(&engine, 11, |engine| engine.acr(at));
+        refused(&engine, Refusal::NotOpen, |engine| engine.acr(at));
     }
 }
 
@@ -107,19 +111,21 @@ fn the_same_vci_on_another_path_is_another_connection() {
     engine.set_level(1).unwrap();
     for vpi in [0, 6, 8, 0x17, 0x87] {
         let at = address(vpi, 40);
-        refused(&engine, 11, |engine| engine.close(at));
-        refused(&engine, 11, |engine| engine.offer(at, 0));
-        refused(&engine, 11, |engine| engine.make(at, 0));
-        refused(&engine, 11, |engine| engine.acr(at));
-        refused(&engine, 11, |engine| {
+        refused(&engine, Refusal::NotOpen, |engine| engine.close(at));
+        refused(&engine, Refusal::NotOpen, |engine| engine.offer(at, 0));
+        refused(&engine, Refusal::NotOpen, |engine| engine.make(at, 0));
+        refused(&engine, Refusal::NotOpen, |engine| engine.acr(at));
+        refused(&engine, Refusal::NotOpen, |engine| {
             engine.out_of_rate(at, 0, &mut [0; LENGTH])
         });
         for cell in [data(40, true), octets(&forward(40)), octets(&backward(40))] {
-            refused(&engine, 11, |engine| engine.receive(&on(cell, 0, vpi)));
+            refused(&engine, Refusal::NotOpen, |engine| {
+                engine.receive(&on(cell, 0, vpi))
+            });
         }
         assert!(engine.clone().open(at, 0, &params()).is_ok());
     }
-    refused(&engine, 12, |engine| {
+    refused(&engine, Refusal::AlreadyOpen, |engine| {
         engine.open(address(7, 40), 0, &params())
     });
 }
@@ -214,7 +220,7 @@ fn gfc_makes_no_other_connection() {
         let cell = on(data(32, gfc % 2 == 1), gfc, 0x10);
         assert!(engine.receive(&cell).is_ok());
     }
-    refused(&engine, 11, |engine| {
+    refused(&engine, Refusal::NotOpen, |engine| {
         engine.receive(&on(data(32, true), 1, 0))
     });
 }
@@ -227,7 +233,7 @@ fn a_thousand_and_24_over_all_paths() {
         engine.open(*at, 0, &params()).unwrap();
         engine.offer(*at, 1).unwrap();
     }
-    refused(&engine, 13, |engine| {
+    refused(&engine, Refusal::Full, |engine| {
         engine.open(address(0, 40), 0, &params())
     });
     let mut rising = places;

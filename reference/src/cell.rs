@@ -5,7 +5,7 @@
 
 use crate::address::{Address, VCI_MAX, VPI_MAX};
 use crate::rate::{is_reserved, MAX_CODE};
-use crate::refusal::{self, Refusal};
+use crate::refusal::Refusal;
 
 /// The octets of a cell.
 pub const LENGTH: usize = 53;
@@ -195,14 +195,14 @@ pub(crate) fn set_clp(cell: &mut Octets) {
 
 /// Writes an RM cell into a buffer. Refusals: 1, 7.
 pub fn write_rm(rm: &Rm, buffer: &mut [u8]) -> Result<(), Refusal> {
-    let buffer: &mut Octets = buffer.try_into().map_err(|_| refusal::LENGTH)?;
+    let buffer: &mut Octets = buffer.try_into().map_err(|_| Refusal::Length)?;
     let bits = [rm.dir, rm.bn, rm.ci, rm.ni, rm.ra];
     let codes = [rm.er, rm.ccr, rm.mcr];
     let fits = rm.address().fits()
         && bits.iter().all(|bit| *bit <= 1)
         && codes.iter().all(|code| *code <= MAX_CODE);
     if !fits {
-        return Err(refusal::RANGE);
+        return Err(Refusal::Range);
     }
     *buffer = rm_octets(rm);
     Ok(())
@@ -226,9 +226,9 @@ pub(crate) fn rm_octets(rm: &Rm) -> Octets {
 
 /// Reads a cell. Refusals: 1, 2, 4, and for RM cells 5, 6, 19.
 pub fn read(cell: &[u8]) -> Result<Cell, Refusal> {
-    let cell: &Octets = cell.try_into().map_err(|_| refusal::LENGTH)?;
+    let cell: &Octets = cell.try_into().map_err(|_| Refusal::Length)?;
     if cell[HEADER_CHECK] != header_check(&cell[..HEADER_CHECK]) {
-        return Err(refusal::HEADER_CHECK);
+        return Err(Refusal::HeaderCheck);
     }
     let header = double_word(cell, 0);
     let vpi = (header >> 20) & VPI_MAX;
@@ -241,21 +241,21 @@ pub fn read(cell: &[u8]) -> Result<Cell, Refusal> {
             efci: payload_type & 2 != 0,
         }),
         PAYLOAD_TYPE_RM => read_rm(cell, Address::new(vpi, vci)).map(Cell::Rm),
-        _ => Err(refusal::PAYLOAD_TYPE),
+        _ => Err(Refusal::PayloadType),
     }
 }
 
 /// Reads the payload of an RM cell. Refusals: 5, 6, 19.
 fn read_rm(cell: &Octets, at: Address) -> Result<Rm, Refusal> {
     if carried_crc(cell) != payload_crc(cell) {
-        return Err(refusal::CRC);
+        return Err(Refusal::Crc);
     }
     if cell[PROTOCOL] != PROTOCOL_ABR {
-        return Err(refusal::PROTOCOL);
+        return Err(Refusal::Protocol);
     }
     let codes @ [er, ccr, mcr] = [ER, CCR, MCR].map(|at| word(cell, at));
     if codes.into_iter().any(is_reserved) {
-        return Err(refusal::RESERVED_BIT);
+        return Err(Refusal::ReservedBit);
     }
     let bit = |mask: u8| u32::from(cell[BITS] & mask != 0);
     Ok(Rm {

@@ -200,8 +200,8 @@ fn fields_too_large_to_write_are_refused_with_7() {
         };
         assert_eq!(answer(0), Ok(()));
         assert_eq!(answer(largest), Ok(()));
-        assert_eq!(answer(largest + 1), Err(7));
-        assert_eq!(answer(u32::MAX), Err(7));
+        assert_eq!(answer(largest + 1), Err(Refusal::Range));
+        assert_eq!(answer(u32::MAX), Err(Refusal::Range));
     }
 }
 
@@ -210,11 +210,11 @@ fn writing_tests_1_before_7() {
     let bad = Rm { ci: 2, ..sample() };
     for length in [0, 52, 54] {
         let mut buffer = vec![0xA5; length];
-        assert_eq!(write_rm(&bad, &mut buffer), Err(1));
-        assert_eq!(write_rm(&sample(), &mut buffer), Err(1));
+        assert_eq!(write_rm(&bad, &mut buffer), Err(Refusal::Length));
+        assert_eq!(write_rm(&sample(), &mut buffer), Err(Refusal::Length));
         assert!(buffer.iter().all(|octet| *octet == 0xA5));
     }
-    assert_eq!(write_rm(&bad, &mut [0; LENGTH]), Err(7));
+    assert_eq!(write_rm(&bad, &mut [0; LENGTH]), Err(Refusal::Range));
 }
 
 #[test]
@@ -238,8 +238,8 @@ fn data_cells_and_other_payload_types() {
                 vci: 77,
                 efci: true,
             }),
-            6 => Err(6), // CRC right, since all is 0, but the protocol is not 1
-            _ => Err(4),
+            6 => Err(Refusal::Protocol), // CRC right, since all is 0, but the protocol is not 1
+            _ => Err(Refusal::PayloadType),
         };
         assert_eq!(read(&header(0, vpi, 77, payload_type, 0)), expected);
         assert_eq!(read(&header(15, vpi, 77, payload_type, 1)), expected);
@@ -276,22 +276,22 @@ fn gfc_clp_and_reserved_bits_are_ignored() {
 fn the_order_of_refusals_when_reading() {
     let mut cell = rm_octets(&sample());
     cell[5] = 2; // 6, and 5 as the CRC is unchanged
-    assert_eq!(read(&cell), Err(5));
+    assert_eq!(read(&cell), Err(Refusal::Crc));
     put_crc(&mut cell);
-    assert_eq!(read(&cell), Err(6));
+    assert_eq!(read(&cell), Err(Refusal::Protocol));
     cell[52] ^= 1;
     let mut other = header(0, 0, 0x1234, 5, 0);
     other[5..].copy_from_slice(&cell[5..]);
-    assert_eq!(read(&other), Err(4));
+    assert_eq!(read(&other), Err(Refusal::PayloadType));
     for vpi in [1, 0x10, 0x80, 0xFF] {
         other[..5].copy_from_slice(&header(0, vpi, 0x1234, 5, 0)[..5]);
-        assert_eq!(read(&other), Err(4)); // 3 is withdrawn
+        assert_eq!(read(&other), Err(Refusal::PayloadType)); // 3 is withdrawn
     }
     other[4] ^= 0x80;
-    assert_eq!(read(&other), Err(2));
-    assert_eq!(read(&other[..52]), Err(1));
-    assert_eq!(read(&[]), Err(1));
-    assert_eq!(read(&[0; 54]), Err(1));
+    assert_eq!(read(&other), Err(Refusal::HeaderCheck));
+    assert_eq!(read(&other[..52]), Err(Refusal::Length));
+    assert_eq!(read(&[]), Err(Refusal::Length));
+    assert_eq!(read(&[0; 54]), Err(Refusal::Length));
 }
 
 #[test]
@@ -299,7 +299,11 @@ fn every_single_wrong_bit_is_refused() {
     for bit in 0..LENGTH * 8 {
         let mut cell = rm_octets(&sample());
         cell[bit / 8] ^= 0x80 >> (bit % 8);
-        let expected = if bit < 40 { 2 } else { 5 };
+        let expected = if bit < 40 {
+            Refusal::HeaderCheck
+        } else {
+            Refusal::Crc
+        };
         assert_eq!(read(&cell), Err(expected));
     }
 }

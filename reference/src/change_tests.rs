@@ -5,7 +5,7 @@ use crate::engine::Engine;
 use crate::engine_tests::{
     at, backward, data, engine_with, forward, octets, params, refused, with_crc, MS, RATE, THOUSAND,
 };
-use crate::{Address, Allowed, Params, Rm};
+use crate::{Address, Allowed, Params, Refusal, Rm};
 
 /// The change that is read of the connection.
 fn change(engine: &Engine) -> i64 {
@@ -155,16 +155,18 @@ fn a_refused_cell_does_not_touch_it() {
     let engine = fallen(&params());
     let mut cell = octets(&rising());
     cell[20] ^= 1;
-    refused(&engine, 5, |engine| engine.receive(&cell));
+    refused(&engine, Refusal::Crc, |engine| engine.receive(&cell));
     cell[9] |= 0x80;
-    refused(&engine, 19, |engine| engine.receive(&with_crc(cell)));
+    refused(&engine, Refusal::ReservedBit, |engine| {
+        engine.receive(&with_crc(cell))
+    });
 }
 
 #[test]
 fn a_new_open_starts_at_0() {
     let mut engine = fallen(&params());
     engine.close(at(32)).unwrap();
-    refused(&engine, 11, |engine| engine.allowed(at(32)));
+    refused(&engine, Refusal::NotOpen, |engine| engine.allowed(at(32)));
     engine.open(at(32), 0, &params()).unwrap();
     assert_eq!(change(&engine), 0);
 }
@@ -174,6 +176,6 @@ fn a_pair_that_is_not_open_is_refused_with_11() {
     let engine = fallen(&params());
     for (vpi, vci) in [(0, 33), (1, 32), (256, 32), (0, 65_568)] {
         let at = Address::new(vpi, vci);
-        refused(&engine, 11, |engine| engine.allowed(at));
+        refused(&engine, Refusal::NotOpen, |engine| engine.allowed(at));
     }
 }

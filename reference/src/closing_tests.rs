@@ -7,7 +7,7 @@ use crate::engine::{Closed, Engine};
 use crate::engine_tests::{
     at, backward, draws, engine_with, forward, kind, octets, params, refused, MS,
 };
-use crate::{Address, Kind};
+use crate::{Address, Kind, Refusal};
 
 /// The data cells of a close.
 fn closed(engine: &mut Engine, vci: u32) -> u64 {
@@ -22,7 +22,7 @@ fn nothing_waits() {
         comparisons: 1,
     };
     assert_eq!(engine.close(at(32)), Ok(nothing));
-    refused(&engine, 11, |engine| engine.close(at(32)));
+    refused(&engine, Refusal::NotOpen, |engine| engine.close(at(32)));
 }
 
 #[test]
@@ -31,7 +31,9 @@ fn accepted_offers_less_data_slots() {
     for cells in [3, 0, 4] {
         engine.offer(at(32), cells).unwrap();
     }
-    refused(&engine, 15, |engine| engine.offer(at(32), 65_529));
+    refused(&engine, Refusal::TooMuchData, |engine| {
+        engine.offer(at(32), 65_529)
+    });
     assert_eq!(kind(&mut engine, 0), Some(Kind::Forward)); // no data cell
     assert_eq!(engine.waiting(at(32)), 7);
     assert_eq!(kind(&mut engine, MS), Some(Kind::Data));

@@ -3,7 +3,7 @@
 use crate::cell::LENGTH;
 use crate::engine::{Engine, CONNECTIONS_MAX};
 use crate::engine_tests::{at, backward, data, engine_with, forward, octets, params, refused, MS};
-use crate::{Params, Rm};
+use crate::{Params, Refusal, Rm};
 
 /// An engine with VCIs 32, 33, .. opened at these times, on leaves 0, 1, ..; one
 /// data cell waits on each.
@@ -55,7 +55,7 @@ fn a_made_cell_replays_as_an_offer_does() {
     assert_eq!(engine.make(at(32), 0), Ok(10));
     engine.open(at(33), 0, &params()).unwrap();
     assert_eq!(engine.make(at(33), 0), Ok(1)); // VCI 32 wins as before
-    refused(&engine, 17, |engine| engine.make(at(33), 0));
+    refused(&engine, Refusal::TooSoon, |engine| engine.make(at(33), 0));
 }
 
 #[test]
@@ -124,7 +124,9 @@ fn the_table_filled_and_emptied() {
     for vci in vcis.clone() {
         assert_eq!(engine.open(at(vci), 0, &params()), Ok(1));
     }
-    refused(&engine, 13, |engine| engine.open(at(5_000), 0, &params()));
+    refused(&engine, Refusal::Full, |engine| {
+        engine.open(at(5_000), 0, &params())
+    });
     // Leaf x is later than all before it in its block: it wins as many levels as
     // x has zeros at its end, and loses the next match.
     for (leaf, vci) in vcis.clone().enumerate() {
@@ -144,12 +146,20 @@ fn the_table_filled_and_emptied() {
 #[test]
 fn refused_calls_replay_nothing() {
     let engine = waiting(&[0, 0]);
-    refused(&engine, 12, |engine| engine.open(at(32), 0, &params()));
-    refused(&engine, 7, |engine| {
+    refused(&engine, Refusal::AlreadyOpen, |engine| {
+        engine.open(at(32), 0, &params())
+    });
+    refused(&engine, Refusal::Range, |engine| {
         engine.open(at(40), 0, &Params { n: 0, ..params() })
     });
-    refused(&engine, 15, |engine| engine.offer(at(33), 65_535));
-    refused(&engine, 11, |engine| engine.close(at(34)));
-    refused(&engine, 16, |engine| engine.make(at(33), 0));
-    refused(&engine, 11, |engine| engine.receive(&data(34, true)));
+    refused(&engine, Refusal::TooMuchData, |engine| {
+        engine.offer(at(33), 65_535)
+    });
+    refused(&engine, Refusal::NotOpen, |engine| engine.close(at(34)));
+    refused(&engine, Refusal::NotCongested, |engine| {
+        engine.make(at(33), 0)
+    });
+    refused(&engine, Refusal::NotOpen, |engine| {
+        engine.receive(&data(34, true))
+    });
 }

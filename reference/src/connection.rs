@@ -13,7 +13,7 @@ use crate::double::{self, Exported};
 use crate::load::{Load, Members};
 use crate::params::{Contract, CDF_ZERO, CRM_MAX, MRM};
 use crate::rate::{code_within, gap, rate_of};
-use crate::refusal::{self, Refusal};
+use crate::refusal::Refusal;
 use crate::spacing::Spacing;
 
 /// The kinds of cell that a slot sends.
@@ -238,7 +238,7 @@ impl Connection {
     /// CLP is 1. Nothing changes but the instant of the last such cell. Refusal: 18.
     pub fn out_of_rate(&mut self, time: u64) -> Result<Octets, Refusal> {
         if !self.out_of_rate.allow(time) {
-            return Err(refusal::TOO_OFTEN);
+            return Err(Refusal::TooOften);
         }
         let mut cell = self.forward_octets();
         cell::set_clp(&mut cell);

@@ -4,7 +4,7 @@
 use crate::address::Address;
 use crate::cell::{self, Octets, Rm};
 use crate::rate::code_within;
-use crate::refusal::{self, Refusal};
+use crate::refusal::Refusal;
 use crate::spacing::Spacing;
 
 /// What a connection's receiving side keeps.
@@ -40,10 +40,10 @@ impl Destination {
     /// that waits. Refusals: 16, 17.
     pub fn make(&mut self, at: Address, time: u64, level: u32, pcr: u64) -> Result<(), Refusal> {
         if level == 0 {
-            return Err(refusal::NOT_CONGESTED);
+            return Err(Refusal::NotCongested);
         }
         if !self.makings.allow(time) {
-            return Err(refusal::TOO_SOON);
+            return Err(Refusal::TooSoon);
         }
         self.made = Some(cell::rm_octets(&Rm {
             vpi: at.vpi,

@@ -113,17 +113,26 @@ fn the_interval_counts_from_the_last_accepted_making() {
     let start = 7;
     assert_eq!(destination.make(AT, start, 1, RATE), Ok(()));
     for time in [start, start + INTERVAL - 1] {
-        assert_eq!(destination.make(AT, time, 1, RATE), Err(17));
-        assert_eq!(destination.make(AT, time, 0, RATE), Err(16));
+        assert_eq!(destination.make(AT, time, 1, RATE), Err(Refusal::TooSoon));
+        assert_eq!(
+            destination.make(AT, time, 0, RATE),
+            Err(Refusal::NotCongested)
+        );
     }
     destination.take(); // sent or not
     let refused = destination.make(AT, start + INTERVAL - 1, 2, RATE);
-    assert_eq!(refused, Err(17));
+    assert_eq!(refused, Err(Refusal::TooSoon));
     assert!(!destination.waits());
     let next = start + INTERVAL;
-    assert_eq!(destination.make(AT, next, 0, RATE), Err(16));
+    assert_eq!(
+        destination.make(AT, next, 0, RATE),
+        Err(Refusal::NotCongested)
+    );
     assert_eq!(destination.make(AT, next, 1, RATE), Ok(()));
-    assert_eq!(destination.make(AT, next + INTERVAL - 1, 1, RATE), Err(17));
+    assert_eq!(
+        destination.make(AT, next + INTERVAL - 1, 1, RATE),
+        Err(Refusal::TooSoon)
+    );
     assert_eq!(destination.make(AT, next + INTERVAL, 1, RATE), Ok(()));
 }
 

@@ -5,7 +5,7 @@
 //! since none is made.
 
 use crate::rate::{code_within, rate_of, LARGEST};
-use crate::refusal::{self, Refusal};
+use crate::refusal::Refusal;
 
 /// The bits of a double's fraction.
 const FRACTION_BITS: u32 = 52;
@@ -82,7 +82,7 @@ pub fn import(given: f64) -> Result<Imported, Refusal> {
     // not a number.
     let accepted = BIAS..BIAS + POWERS;
     if given.is_sign_negative() || !accepted.contains(&exponent) {
-        return Err(refusal::DOUBLE);
+        return Err(Refusal::Double);
     }
     let number = IMPLIED | fraction;
     let power = exponent - BIAS - FRACTION_BITS as i32;

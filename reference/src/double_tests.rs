@@ -18,12 +18,12 @@ fn beside(x: f64) -> [f64; 2] {
 }
 
 /// Code and remainder, the latter by its bits, so that the zeros differ.
-fn imported(x: f64) -> Result<(u32, u64), u32> {
+fn imported(x: f64) -> Result<(u32, u64), Refusal> {
     import(x).map(|imported| (imported.code, imported.remainder.to_bits()))
 }
 
 /// The same with the remainder as a number.
-fn exact(code: u32, remainder: f64) -> Result<(u32, u64), u32> {
+fn exact(code: u32, remainder: f64) -> Result<(u32, u64), Refusal> {
     Ok((code, remainder.to_bits()))
 }
 
@@ -103,7 +103,7 @@ fn what_is_no_rate_is_refused_with_20() {
         f64::MIN,
     ];
     for x in refused {
-        assert_eq!(imported(x), Err(20), "{x:e}");
+        assert_eq!(imported(x), Err(Refusal::Double), "{x:e}");
     }
 }
 

@@ -14,7 +14,7 @@ use crate::connection::{Allowed, Connection, Kind};
 use crate::double::Exported;
 use crate::load::{Load, Members, MEMBERS_MAX};
 use crate::params::Params;
-use crate::refusal::{self, Refusal};
+use crate::refusal::Refusal;
 use crate::tournament::{Tournament, LEAVES};
 
 /// The connections that may be open at once.
@@ -102,20 +102,20 @@ impl Engine {
         params: &Params,
     ) -> Result<u32, Refusal> {
         params.check()?; // 19 before 7, which the name has too
-        let name = at.name().ok_or(refusal::RANGE)?;
+        let name = at.name().ok_or(Refusal::Range)?;
         let contract = params.contract()?;
         check_range(time)?;
         if self.table.contains_key(&at) {
-            return Err(refusal::ALREADY_OPEN);
+            return Err(Refusal::AlreadyOpen);
         }
         if self.is_member(at) {
-            return Err(refusal::ALREADY_MEMBER);
+            return Err(Refusal::AlreadyMember);
         }
         if self.table.len() >= CONNECTIONS_MAX {
-            return Err(refusal::FULL);
+            return Err(Refusal::Full);
         }
         self.advance(time)?;
-        let leaf = self.tournament.take().ok_or(refusal::FULL)?;
+        let leaf = self.tournament.take().ok_or(Refusal::Full)?;
         let connection = Connection::new(at, time, contract, load);
         let entry = Entry {
             name,
@@ -129,7 +129,7 @@ impl Engine {
     /// Closes a connection, a path with all its members, drops all that waits on it and
     /// answers how many data cells that were, and the comparisons. Refusal: 11.
     pub fn close(&mut self, at: Address) -> Result<Closed, Refusal> {
-        let entry = self.table.remove(&at).ok_or(refusal::NOT_OPEN)?;
+        let entry = self.table.remove(&at).ok_or(Refusal::NotOpen)?;
         Ok(Closed {
             cells: entry.connection.waiting(),
             comparisons: self.tournament.release(entry.leaf),
@@ -140,7 +140,7 @@ impl Engine {
     /// path. Refusals: 1, 2, 4, for RM cells 5, 6 and 19, then 11.
     pub fn receive(&mut self, cell: &[u8]) -> Result<u32, Refusal> {
         let content = cell::read(cell)?;
-        let octets: &Octets = cell.try_into().map_err(|_| refusal::LENGTH)?;
+        let octets: &Octets = cell.try_into().map_err(|_| Refusal::Length)?;
         let level = self.level;
         let at = self.receiver(&content)?;
         let connection = self.connection(at)?;
@@ -164,16 +164,16 @@ impl Engine {
     pub fn add(&mut self, at: Address) -> Result<(), Refusal> {
         check_vci(at)?;
         if self.path_of(at).is_none() {
-            return Err(refusal::NOT_OPEN);
+            return Err(Refusal::NotOpen);
         }
         if self.table.contains_key(&at) {
-            return Err(refusal::ALREADY_OPEN);
+            return Err(Refusal::AlreadyOpen);
         }
         if self.is_member(at) {
-            return Err(refusal::ALREADY_MEMBER);
+            return Err(Refusal::AlreadyMember);
         }
         if self.member_count() >= MEMBERS_MAX {
-            return Err(refusal::MEMBERS_FULL);
+            return Err(Refusal::MembersFull);
         }
         self.members(at.vpi)?.add(at.vci);
         Ok(())
@@ -197,7 +197,7 @@ impl Engine {
     /// Sets the congestion level of the whole engine. Refusal: 9.
     pub fn set_level(&mut self, level: u32) -> Result<(), Refusal> {
         if level > LEVEL_MAX {
-            return Err(refusal::TOO_LARGE);
+            return Err(Refusal::TooLarge);
         }
         self.level = level;
         Ok(())
@@ -224,7 +224,7 @@ impl Engine {
         time: u64,
         buffer: &mut [u8],
     ) -> Result<(), Refusal> {
-        let buffer: &mut Octets = buffer.try_into().map_err(|_| refusal::LENGTH)?;
+        let buffer: &mut Octets = buffer.try_into().map_err(|_| Refusal::Length)?;
         check_range(time)?;
         let order = self.in_order(time);
         let connection = self.connection(at)?;
@@ -238,7 +238,7 @@ impl Engine {
     /// turned or made cell is written to the buffer, which is unchanged otherwise.
     /// Refusals: 1, 8, 14.
     pub fn slot(&mut self, time: u64, buffer: &mut [u8]) -> Result<Option<Sent>, Refusal> {
-        let buffer: &mut Octets = buffer.try_into().map_err(|_| refusal::LENGTH)?;
+        let buffer: &mut Octets = buffer.try_into().map_err(|_| Refusal::Length)?;
         check_range(time)?;
         self.advance(time)?;
         let Some(at) = self.winner(time) else {
@@ -310,12 +310,12 @@ impl Engine {
 
     /// The entry with this address. Refusal: 11.
     fn entry(&self, at: Address) -> Result<&Entry, Refusal> {
-        self.table.get(&at).ok_or(refusal::NOT_OPEN)
+        self.table.get(&at).ok_or(Refusal::NotOpen)
     }
 
     /// The connection with this address. Refusal: 11.
     fn connection(&mut self, at: Address) -> Result<&mut Connection, Refusal> {
-        let entry = self.table.get_mut(&at).ok_or(refusal::NOT_OPEN)?;
+        let entry = self.table.get_mut(&at).ok_or(Refusal::NotOpen)?;
         Ok(&mut entry.connection)
     }
 
@@ -328,7 +328,7 @@ impl Engine {
     /// The members of the path with this VPI, to be changed. Refusal: 11.
     fn members(&mut self, vpi: u32) -> Result<&mut Members, Refusal> {
         let path = self.connection(Address::of_path(vpi))?;
-        path.members_mut().ok_or(refusal::NOT_OPEN)
+        path.members_mut().ok_or(Refusal::NotOpen)
     }
 
     /// Whether an address is that of a member.
@@ -351,7 +351,7 @@ impl Engine {
     fn receiver(&self, content: &Cell) -> Result<Address, Refusal> {
         let at = content.address();
         match content {
-            Cell::Data { .. } if at.vci == PATH_VCI => Err(refusal::NOT_OPEN),
+            Cell::Data { .. } if at.vci == PATH_VCI => Err(Refusal::NotOpen),
             Cell::Data { .. } if self.is_member(at) => Ok(Address::of_path(at.vpi)),
             _ => Ok(at),
         }
@@ -368,7 +368,7 @@ impl Engine {
     /// Refuses a time before the last accepted one with 14.
     fn in_order(&self, time: u64) -> Result<(), Refusal> {
         if time < self.last {
-            return Err(refusal::TIME_BACKWARD);
+            return Err(Refusal::TimeBackward);
         }
         Ok(())
     }
@@ -395,7 +395,7 @@ impl Engine {
 /// Refuses a VCI under 32, on any VPI, with 10.
 fn check_vci(at: Address) -> Result<(), Refusal> {
     if at.vci < VCI_MIN {
-        return Err(refusal::LOW_VCI);
+        return Err(Refusal::LowVci);
     }
     Ok(())
 }
@@ -403,7 +403,7 @@ fn check_vci(at: Address) -> Result<(), Refusal> {
 /// Refuses a time over 2^62 with 8.
 fn check_range(time: u64) -> Result<(), Refusal> {
     if time > TIME_MAX {
-        return Err(refusal::TIME);
+        return Err(Refusal::Time);
     }
     Ok(())
 }

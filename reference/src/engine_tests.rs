@@ -3,7 +3,7 @@
 use crate::address_tests::on;
 use crate::cell::{crc10, header_check, LENGTH};
 use crate::engine::{Engine, TIME_MAX};
-use crate::{code_of, rate_of, read, write_rm, Address, Cell, Kind, Params, Rm, Sent};
+use crate::{code_of, rate_of, read, write_rm, Address, Cell, Kind, Params, Refusal, Rm, Sent};
 
 /// One millisecond, the gap at 1,000 cells per second.
 pub(crate) const MS: u64 = 1_000_000;
@@ -100,14 +100,14 @@ pub(crate) fn slot_rm(engine: &mut Engine, time: u64) -> (Sent, Rm) {
     }
 }
 
-/// Asserts that a call is refused with a number and changes nothing.
+/// Asserts that a call is refused for a reason and changes nothing.
 pub(crate) fn refused<T: std::fmt::Debug + PartialEq>(
     engine: &Engine,
-    number: u32,
-    call: impl FnOnce(&mut Engine) -> Result<T, u32>,
+    refusal: Refusal,
+    call: impl FnOnce(&mut Engine) -> Result<T, Refusal>,
 ) {
     let mut after = engine.clone();
-    assert_eq!(call(&mut after), Err(number));
+    assert_eq!(call(&mut after), Err(refusal));
     assert_eq!(&after, engine);
 }
 
@@ -580,7 +580,7 @@ fn a_vci_opened_again_starts_anew() {
         .unwrap();
     assert_eq!(kind(&mut engine, 0), Some(Kind::Forward));
     engine.close(at(32)).unwrap();
-    refused(&engine, 11, |engine| engine.acr(at(32)));
+    refused(&engine, Refusal::NotOpen, |engine| engine.acr(at(32)));
     engine.open(at(32), 0, &params()).unwrap();
     assert_eq!(engine, engine_with(&params()));
 }
@@ -588,27 +588,37 @@ fn a_vci_opened_again_starts_anew() {
 #[test]
 fn offers_up_to_65_535() {
     let mut engine = engine_with(&params());
-    refused(&engine, 15, |engine| engine.offer(at(32), 65_536));
-    refused(&engine, 15, |engine| engine.offer(at(32), u64::MAX));
+    refused(&engine, Refusal::TooMuchData, |engine| {
+        engine.offer(at(32), 65_536)
+    });
+    refused(&engine, Refusal::TooMuchData, |engine| {
+        engine.offer(at(32), u64::MAX)
+    });
     assert!(engine.offer(at(32), 0).is_ok());
     assert_eq!(engine, engine_with(&params()));
     assert!(engine.offer(at(32), 65_535).is_ok());
     assert!(engine.offer(at(32), 0).is_ok());
-    refused(&engine, 15, |engine| engine.offer(at(32), 1));
-    refused(&engine, 15, |engine| engine.offer(at(32), u64::MAX));
-    refused(&engine, 11, |engine| engine.offer(at(33), u64::MAX));
+    refused(&engine, Refusal::TooMuchData, |engine| {
+        engine.offer(at(32), 1)
+    });
+    refused(&engine, Refusal::TooMuchData, |engine| {
+        engine.offer(at(32), u64::MAX)
+    });
+    refused(&engine, Refusal::NotOpen, |engine| {
+        engine.offer(at(33), u64::MAX)
+    });
 }
 
 #[test]
 fn calls_on_what_is_not_open_are_refused_with_11() {
     let engine = engine_with(&params());
     for vci in [0, 31, 33, 65_535, 65_536, 65_568, u32::MAX] {
-        refused(&engine, 11, |engine| engine.close(at(vci)));
-        refused(&engine, 11, |engine| engine.offer(at(vci), 0));
-        refused(&engine, 11, |engine| engine.acr(at(vci)));
+        refused(&engine, Refusal::NotOpen, |engine| engine.close(at(vci)));
+        refused(&engine, Refusal::NotOpen, |engine| engine.offer(at(vci), 0));
+        refused(&engine, Refusal::NotOpen, |engine| engine.acr(at(vci)));
     }
     for cell in [data(33, true), octets(&forward(33)), octets(&backward(31))] {
-        refused(&engine, 11, |engine| engine.receive(&cell));
+        refused(&engine, Refusal::NotOpen, |engine| engine.receive(&cell));
     }
 }
 
@@ -618,8 +628,10 @@ fn levels_over_2_are_refused_with_9() {
     for level in 0..3 {
         assert_eq!(engine.set_level(level), Ok(()));
     }
-    refused(&engine, 9, |engine| engine.set_level(3));
-    refused(&engine, 9, |engine| engine.set_level(u32::MAX));
+    refused(&engine, Refusal::TooLarge, |engine| engine.set_level(3));
+    refused(&engine, Refusal::TooLarge, |engine| {
+        engine.set_level(u32::MAX)
+    });
 }
 
 #[test]
@@ -631,20 +643,24 @@ fn vcis_that_open() {
     }
     let engine = Engine::new();
     for vci in [0, 31] {
-        refused(&engine, 10, |engine| engine.open(at(vci), 0, &params()));
+        refused(&engine, Refusal::LowVci, |engine| {
+            engine.open(at(vci), 0, &params())
+        });
     }
     for vci in [65_536, u32::MAX] {
-        refused(&engine, 7, |engine| engine.open(at(vci), 0, &params()));
+        refused(&engine, Refusal::Range, |engine| {
+            engine.open(at(vci), 0, &params())
+        });
     }
 }
 
 #[test]
 fn the_latest_time() {
     let mut engine = Engine::new();
-    refused(&engine, 8, |engine| {
+    refused(&engine, Refusal::Time, |engine| {
         engine.open(at(32), TIME_MAX + 1, &params())
     });
-    refused(&engine, 8, |engine| {
+    refused(&engine, Refusal::Time, |engine| {
         engine.slot(TIME_MAX + 1, &mut [0; LENGTH])
     });
     assert_eq!(TIME_MAX, 4_611_686_018_427_387_904);
@@ -660,7 +676,9 @@ fn a_thousand_and_24_may_be_open() {
     for vci in 32..32 + 1_024 {
         assert!(engine.open(at(vci), 0, &params()).is_ok());
     }
-    refused(&engine, 13, |engine| engine.open(at(1_056), 0, &params()));
+    refused(&engine, Refusal::Full, |engine| {
+        engine.open(at(1_056), 0, &params())
+    });
     engine.close(at(40)).unwrap();
     assert!(engine.open(at(1_056), 0, &params()).is_ok());
 }
@@ -673,16 +691,28 @@ fn the_order_of_refusals_when_opening() {
     }
     let bad = Params { n: 0, ..params() };
     let late = TIME_MAX + 1;
-    refused(&engine, 10, |engine| engine.open(at(31), late, &bad));
-    refused(&engine, 7, |engine| engine.open(at(32), late, &bad));
-    refused(&engine, 7, |engine| {
+    refused(&engine, Refusal::LowVci, |engine| {
+        engine.open(at(31), late, &bad)
+    });
+    refused(&engine, Refusal::Range, |engine| {
+        engine.open(at(32), late, &bad)
+    });
+    refused(&engine, Refusal::Range, |engine| {
         engine.open(at(65_536), late, &params())
     });
-    refused(&engine, 8, |engine| engine.open(at(32), late, &params()));
-    refused(&engine, 12, |engine| engine.open(at(32), 8, &params()));
-    refused(&engine, 13, |engine| engine.open(at(1_056), 8, &params()));
+    refused(&engine, Refusal::Time, |engine| {
+        engine.open(at(32), late, &params())
+    });
+    refused(&engine, Refusal::AlreadyOpen, |engine| {
+        engine.open(at(32), 8, &params())
+    });
+    refused(&engine, Refusal::Full, |engine| {
+        engine.open(at(1_056), 8, &params())
+    });
     engine.close(at(95)).unwrap();
-    refused(&engine, 14, |engine| engine.open(at(1_056), 8, &params()));
+    refused(&engine, Refusal::TimeBackward, |engine| {
+        engine.open(at(1_056), 8, &params())
+    });
     assert!(engine.open(at(1_056), 9, &params()).is_ok());
 }
 
@@ -693,12 +723,20 @@ fn the_order_of_refusals_of_a_slot() {
     engine.open(at(33), 9, &params()).unwrap();
     for length in [0, 52, 54] {
         let mut buffer = vec![0xA5; length];
-        refused(&engine, 1, |engine| engine.slot(TIME_MAX + 1, &mut buffer));
-        refused(&engine, 1, |engine| engine.slot(8, &mut buffer));
+        refused(&engine, Refusal::Length, |engine| {
+            engine.slot(TIME_MAX + 1, &mut buffer)
+        });
+        refused(&engine, Refusal::Length, |engine| {
+            engine.slot(8, &mut buffer)
+        });
     }
     let mut buffer = [0xA5; LENGTH];
-    refused(&engine, 8, |engine| engine.slot(TIME_MAX + 1, &mut buffer));
-    refused(&engine, 14, |engine| engine.slot(8, &mut buffer));
+    refused(&engine, Refusal::Time, |engine| {
+        engine.slot(TIME_MAX + 1, &mut buffer)
+    });
+    refused(&engine, Refusal::TimeBackward, |engine| {
+        engine.slot(8, &mut buffer)
+    });
     assert_eq!(buffer, [0xA5; LENGTH]);
     assert_eq!(kind(&mut engine, 9), Some(Kind::Forward));
 }
@@ -707,31 +745,45 @@ fn the_order_of_refusals_of_a_slot() {
 fn the_order_of_refusals_when_receiving() {
     let engine = engine_with(&params());
     let mut cell = octets(&forward(33));
-    refused(&engine, 11, |engine| engine.receive(&cell));
+    refused(&engine, Refusal::NotOpen, |engine| engine.receive(&cell));
     cell[5] = 0;
-    refused(&engine, 5, |engine| engine.receive(&cell));
-    refused(&engine, 6, |engine| engine.receive(&with_crc(cell)));
+    refused(&engine, Refusal::Crc, |engine| engine.receive(&cell));
+    refused(&engine, Refusal::Protocol, |engine| {
+        engine.receive(&with_crc(cell))
+    });
     cell[3] ^= 0x0A; // payload type 3 without the CLP touched
     cell[4] = header_check(&cell[..4]);
-    refused(&engine, 11, |engine| engine.receive(&cell));
+    refused(&engine, Refusal::NotOpen, |engine| engine.receive(&cell));
     cell[3] |= 0x0E;
     cell[4] = header_check(&cell[..4]);
-    refused(&engine, 4, |engine| engine.receive(&cell));
+    refused(&engine, Refusal::PayloadType, |engine| {
+        engine.receive(&cell)
+    });
     cell[1] |= 0x10; // another VPI, which is judged last
     cell[4] = header_check(&cell[..4]);
-    refused(&engine, 4, |engine| engine.receive(&cell));
+    refused(&engine, Refusal::PayloadType, |engine| {
+        engine.receive(&cell)
+    });
     cell[4] ^= 1;
-    refused(&engine, 2, |engine| engine.receive(&cell));
-    refused(&engine, 1, |engine| engine.receive(&cell[1..]));
+    refused(&engine, Refusal::HeaderCheck, |engine| {
+        engine.receive(&cell)
+    });
+    refused(&engine, Refusal::Length, |engine| {
+        engine.receive(&cell[1..])
+    });
 }
 
 #[test]
 fn an_idle_slots_time_counts_and_a_refused_ones_does_not() {
     let mut engine = engine_with(&params());
     assert_eq!(kind(&mut engine, 10), None);
-    refused(&engine, 14, |engine| engine.slot(9, &mut [0; LENGTH]));
-    refused(&engine, 14, |engine| engine.open(at(33), 9, &params()));
-    refused(&engine, 1, |engine| engine.slot(20, &mut []));
+    refused(&engine, Refusal::TimeBackward, |engine| {
+        engine.slot(9, &mut [0; LENGTH])
+    });
+    refused(&engine, Refusal::TimeBackward, |engine| {
+        engine.open(at(33), 9, &params())
+    });
+    refused(&engine, Refusal::Length, |engine| engine.slot(20, &mut []));
     assert_eq!(kind(&mut engine, 10), None);
     assert!(engine.open(at(33), 10, &params()).is_ok());
 }
@@ -741,7 +793,9 @@ fn closing_does_not_reset_the_last_time() {
     let mut engine = Engine::new();
     engine.open(at(32), 10, &params()).unwrap();
     engine.close(at(32)).unwrap();
-    refused(&engine, 14, |engine| engine.open(at(32), 9, &params()));
+    refused(&engine, Refusal::TimeBackward, |engine| {
+        engine.open(at(32), 9, &params())
+    });
 }
 
 /// The code of the least rate of a connection in the random calls: those on even
@@ -780,7 +834,7 @@ fn random_call(
     engine: &mut Engine,
     time: &mut u64,
     mut draw: impl FnMut(u32) -> u32,
-) -> Result<u32, u32> {
+) -> Result<u32, Refusal> {
     let at = RANDOM[draw(4) as usize];
     match draw(10) {
         0 if draw(8) == 0 => engine.close(at).map(|closed| closed.comparisons),
@@ -818,7 +872,7 @@ fn random_call(
 
 /// A slot, which goes to the winner of the tournament with ten comparisons if
 /// that one is ready, and else is idle.
-fn slot_of_the_top(engine: &mut Engine, time: u64) -> Result<u32, u32> {
+fn slot_of_the_top(engine: &mut Engine, time: u64) -> Result<u32, Refusal> {
     let top = engine.top().filter(|(ready, _)| *ready <= time);
     let sent = engine.slot(time, &mut [0; LENGTH])?;
     let name = |sent: Sent| Address::new(sent.vpi, sent.vci).name();

@@ -2,7 +2,7 @@
 
 use crate::engine::Engine;
 use crate::engine_tests::{at, backward, engine_with, octets, params, refused, THOUSAND};
-use crate::{import, Address, Exported, Params, Rm};
+use crate::{import, Address, Exported, Params, Refusal, Rm};
 
 /// What an open with these codes exports.
 fn exported(pcr: u32, mcr: u32, icr: u32) -> Exported {
@@ -84,9 +84,11 @@ fn a_pair_that_is_not_open_is_refused_with_11() {
     let mut engine = engine_with(&params());
     for (vpi, vci) in [(0, 33), (1, 32), (256, 32), (0, 65_568), (0, 0)] {
         let at = Address::new(vpi, vci);
-        refused(&engine, 11, |engine| engine.export(at));
+        refused(&engine, Refusal::NotOpen, |engine| engine.export(at));
     }
     engine.close(at(32)).unwrap();
-    refused(&engine, 11, |engine| engine.export(at(32)));
-    refused(&Engine::new(), 11, |engine| engine.export(at(32)));
+    refused(&engine, Refusal::NotOpen, |engine| engine.export(at(32)));
+    refused(&Engine::new(), Refusal::NotOpen, |engine| {
+        engine.export(at(32))
+    });
 }

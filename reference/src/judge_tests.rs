@@ -57,10 +57,10 @@ fn a_trace_without_a_cell_passes() {
 
 #[test]
 fn an_empty_trace_and_one_inside_its_first_record_are_refused_with_24() {
-    assert_eq!(verdict(&[]), Err(24));
-    assert_eq!(verdict(&[5]), Err(24));
-    assert_eq!(verdict(&[0x85]), Err(24));
-    assert_eq!(verdict(&[5, 0x87]), Err(24));
+    assert_eq!(verdict(&[]), Err(Refusal::TraceEnd));
+    assert_eq!(verdict(&[5]), Err(Refusal::TraceEnd));
+    assert_eq!(verdict(&[0x85]), Err(Refusal::TraceEnd));
+    assert_eq!(verdict(&[5, 0x87]), Err(Refusal::TraceEnd));
 }
 
 #[test]
@@ -71,20 +71,24 @@ fn a_trace_may_end_behind_a_record_only() {
         .collect();
     let whole = trace(2, 7, &cells);
     for len in 0..=whole.len() {
-        let expected = if ends.contains(&len) { PASSES } else { Err(24) };
+        let expected = if ends.contains(&len) {
+            PASSES
+        } else {
+            Err(Refusal::TraceEnd)
+        };
         assert_eq!(verdict(&whole[..len]), expected, "{len} octets");
     }
 }
 
 #[test]
 fn n_and_the_trm_number_at_their_ends() {
-    assert_eq!(verdict(&[0]), Err(25)); // seen at the first octet
-    assert_eq!(verdict(&[9]), Err(25));
-    assert_eq!(verdict(&[8, 8]), Err(25));
+    assert_eq!(verdict(&[0]), Err(Refusal::TraceRange)); // seen at the first octet
+    assert_eq!(verdict(&[9]), Err(Refusal::TraceRange));
+    assert_eq!(verdict(&[8, 8]), Err(Refusal::TraceRange));
     assert_eq!(verdict(&[1, 7]), PASSES);
     for far in [64, 128, 256, 1 << 32, 1 << 63, u64::MAX] {
-        assert_eq!(verdict(&trace(far | 5, 7, &[])), Err(25));
-        assert_eq!(verdict(&trace(5, far | 7, &[])), Err(25));
+        assert_eq!(verdict(&trace(far | 5, 7, &[])), Err(Refusal::TraceRange));
+        assert_eq!(verdict(&trace(5, far | 7, &[])), Err(Refusal::TraceRange));
     }
 }
 
@@ -106,10 +110,13 @@ fn the_rate_of_the_first_cell_is_not_judged() {
 #[test]
 fn the_first_time_must_be_0() {
     for time in [1, MS, 1 << 62, u64::MAX] {
-        assert_eq!(judged(&[(time, FORWARD, THOUSAND)]), Err(25));
+        assert_eq!(
+            judged(&[(time, FORWARD, THOUSAND)]),
+            Err(Refusal::TraceRange)
+        );
     }
     // Seen at that number, before the kind, which is out of range too, and the end.
-    assert_eq!(verdict(&[2, 0, 1]), Err(25));
+    assert_eq!(verdict(&[2, 0, 1]), Err(Refusal::TraceRange));
 }
 
 #[test]
@@ -212,26 +219,16 @@ fn each_forward_cell_begins_anew() {
     ];
     let cells = [&[FIRST][..], &step.repeat(5)].concat();
     assert_eq!(verdict(&trace(2, 7, &cells)), PASSES);
-    let late = [
-        &cells[..],
-        &[
+    let ended = |time| {
+        let last = [
             (1, DATA, LARGEST),
             (1, DATA, LARGEST),
-            (99_999_997, DATA, LARGEST),
-        ],
-    ]
-    .concat();
-    assert_eq!(verdict(&trace(2, 7, &late)), PASSES); // a nanosecond before Trm
-    let due = [
-        &cells[..],
-        &[
-            (1, DATA, LARGEST),
-            (1, DATA, LARGEST),
-            (99_999_998, DATA, LARGEST),
-        ],
-    ]
-    .concat();
-    assert_eq!(verdict(&trace(2, 7, &due)), Ok((24, 3)));
+            (time, DATA, LARGEST),
+        ];
+        verdict(&trace(2, 7, &[&cells[..], &last].concat()))
+    };
+    assert_eq!(ended(99_999_997), PASSES); // a nanosecond before Trm
+    assert_eq!(ended(99_999_998), Ok((24, 3)));
 }
 
 #[test]
@@ -251,13 +248,16 @@ fn the_answer_is_the_first_cell_and_its_lowest_rule() {
 #[test]
 fn kinds_and_rates_at_their_ends() {
     for kind in [0, 4, 5, 64, 129, 1 << 32 | 1, u64::MAX] {
-        assert_eq!(judged(&[(0, kind, THOUSAND)]), Err(25));
-        assert_eq!(judged(&[FIRST, (MS, kind, THOUSAND)]), Err(25));
+        assert_eq!(judged(&[(0, kind, THOUSAND)]), Err(Refusal::TraceRange));
+        assert_eq!(
+            judged(&[FIRST, (MS, kind, THOUSAND)]),
+            Err(Refusal::TraceRange)
+        );
     }
     assert_eq!(judged(&[(0, FORWARD, LARGEST)]), PASSES);
     for rate in [LARGEST + 1, 1 << 41, u64::MAX] {
-        assert_eq!(judged(&[(0, FORWARD, rate)]), Err(25));
-        assert_eq!(judged(&[FIRST, (MS, DATA, rate)]), Err(25));
+        assert_eq!(judged(&[(0, FORWARD, rate)]), Err(Refusal::TraceRange));
+        assert_eq!(judged(&[FIRST, (MS, DATA, rate)]), Err(Refusal::TraceRange));
     }
 }
 
@@ -266,11 +266,11 @@ fn the_sum_of_the_times_is_at_most_2_to_62() {
     let half = TIME_MAX / 2;
     let at = |times: [u64; 2]| judged(&[FIRST, (times[0], DATA, 1), (times[1], DATA, 1)]);
     assert_eq!(at([half, half]), PASSES);
-    assert_eq!(at([half, half + 1]), Err(25));
-    assert_eq!(at([TIME_MAX + 1, 0]), Err(25));
-    assert_eq!(at([TIME_MAX, 1]), Err(25));
-    assert_eq!(at([half, u64::MAX]), Err(25)); // nor is it below because 64 bits are too few
-    assert_eq!(at([half, u64::MAX - half + 1]), Err(25));
+    assert_eq!(at([half, half + 1]), Err(Refusal::TraceRange));
+    assert_eq!(at([TIME_MAX + 1, 0]), Err(Refusal::TraceRange));
+    assert_eq!(at([TIME_MAX, 1]), Err(Refusal::TraceRange));
+    assert_eq!(at([half, u64::MAX]), Err(Refusal::TraceRange)); // nor is it below because 64 bits are too few
+    assert_eq!(at([half, u64::MAX - half + 1]), Err(Refusal::TraceRange));
     assert_eq!(judged(&[FIRST, (TIME_MAX, DATA, 1)]), PASSES);
 }
 
@@ -297,28 +297,37 @@ fn a_number_out_of_form_is_refused_with_23_wherever_it_is() {
         let mut longer = right.clone();
         *longer.last_mut().unwrap() |= 0x80;
         longer.push(0);
-        assert_eq!(with(&longer), Err(23));
+        assert_eq!(with(&longer), Err(Refusal::TraceNumber));
         for tenth in [0, 2, 0x7F, 0x80, 0x81, 0xFF] {
             let long = [&[0xFF; 9][..], &[tenth]].concat();
-            assert_eq!(with(&long), Err(23));
+            assert_eq!(with(&long), Err(Refusal::TraceNumber));
         }
         let greatest = [&[0xFF; 9][..], &[1]].concat();
-        assert_eq!(with(&greatest), Err(25)); // in form, and out of every range
+        assert_eq!(with(&greatest), Err(Refusal::TraceRange)); // in form, and out of every range
     }
 }
 
 #[test]
 fn the_earliest_octet_decides() {
     let long_zero = [0x80, 0]; // 23, and out of range for n and a kind: 23 before 25
-    assert_eq!(verdict(&long_zero), Err(23));
-    assert_eq!(verdict(&[&[2, 0, 0][..], &long_zero].concat()), Err(23));
-    assert_eq!(verdict(&[&[9][..], &long_zero].concat()), Err(25)); // n, then the Trm number
-    assert_eq!(verdict(&[&long_zero[..], &[8]].concat()), Err(23));
-    assert_eq!(verdict(&[2, 8, 0x80]), Err(25)); // before the end
-    assert_eq!(verdict(&[2, 0, 0, 1, 0x80, 0]), Err(23));
-    assert_eq!(verdict(&[2, 0, 0, 4, 0x80, 0]), Err(25));
-    assert_eq!(verdict(&[2, 0, 1, 0x81, 0]), Err(25)); // the first time, then a kind
-    assert_eq!(verdict(&[2, 0, 0x81, 0, 9]), Err(23));
+    assert_eq!(verdict(&long_zero), Err(Refusal::TraceNumber));
+    assert_eq!(
+        verdict(&[&[2, 0, 0][..], &long_zero].concat()),
+        Err(Refusal::TraceNumber)
+    );
+    assert_eq!(
+        verdict(&[&[9][..], &long_zero].concat()),
+        Err(Refusal::TraceRange)
+    ); // n, then the Trm number
+    assert_eq!(
+        verdict(&[&long_zero[..], &[8]].concat()),
+        Err(Refusal::TraceNumber)
+    );
+    assert_eq!(verdict(&[2, 8, 0x80]), Err(Refusal::TraceRange)); // before the end
+    assert_eq!(verdict(&[2, 0, 0, 1, 0x80, 0]), Err(Refusal::TraceNumber));
+    assert_eq!(verdict(&[2, 0, 0, 4, 0x80, 0]), Err(Refusal::TraceRange));
+    assert_eq!(verdict(&[2, 0, 1, 0x81, 0]), Err(Refusal::TraceRange)); // the first time, then a kind
+    assert_eq!(verdict(&[2, 0, 0x81, 0, 9]), Err(Refusal::TraceNumber));
 }
 
 #[test]
@@ -326,10 +335,10 @@ fn a_refusal_goes_before_any_broken_rule() {
     let broken = trace(2, 0, &[(0, DATA, 0), (0, DATA, 0)]);
     assert_eq!(verdict(&broken), Ok((1, 1)));
     for (more, refusal) in [
-        (&[0x80, 0][..], 23),
-        (&[0], 24),
-        (&[0, 4], 25), // a time of 0 and a kind out of range
-        (&[0, 1], 24),
+        (&[0x80, 0][..], Refusal::TraceNumber),
+        (&[0], Refusal::TraceEnd),
+        (&[0, 4], Refusal::TraceRange), // a time of 0 and a kind out of range
+        (&[0, 1], Refusal::TraceEnd),
     ] {
         let whole = [&broken[..], more].concat();
         assert_eq!(verdict(&whole), Err(refusal));

@@ -5,7 +5,7 @@
 //! computes every ready instant again and compares them all. The tournament of
 //! document 02 only counts comparisons.
 //!
-//! * [`rate`]: rate codes and the gap between cells;
+//! * [`mod@rate`]: rate codes and the gap between cells;
 //! * [`double`]: rates as doubles, exported and imported;
 //! * [`address`]: VPI and VCI, and the name that they make;
 //! * [`params`]: the parameters of an open, their ranges, the house set;
@@ -18,7 +18,7 @@
 //! * [`engine`]: the table of connections and the calls on it;
 //! * [`port`]: the share of a capacity, and the port of a switch that limits ER by it;
 //! * [`trace`], [`judge`]: the numbers of a trace, and the judge of one;
-//! * [`refusal`]: the numbers of the refusals.
+//! * [`refusal`]: the refusals and their numbers.
 
 #![forbid(unsafe_code)]
 

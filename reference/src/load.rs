@@ -4,7 +4,7 @@
 use std::collections::BTreeMap;
 use std::ops::Bound;
 
-use crate::refusal::{self, Refusal};
+use crate::refusal::Refusal;
 
 /// The most data cells that may wait on a channel, and on each member of a path.
 pub const DATA_MAX: u64 = 65_535;
@@ -44,7 +44,7 @@ impl Load {
     pub fn offer(&mut self, cells: u64) -> Result<(), Refusal> {
         match self {
             Load::Channel(data) => fill(data, cells),
-            Load::Path(_) => Err(refusal::NOT_A_MEMBER),
+            Load::Path(_) => Err(Refusal::NotAMember),
         }
     }
 
@@ -85,7 +85,7 @@ impl Members {
     /// The cells that wait on a member. Refusal: 28.
     pub fn waiting(&self, vci: u32) -> Result<u64, Refusal> {
         let cells = self.cells.get(&vci).copied();
-        cells.ok_or(refusal::NOT_A_MEMBER)
+        cells.ok_or(Refusal::NotAMember)
     }
 
     /// Adds a member, without data.
@@ -95,13 +95,13 @@ impl Members {
 
     /// Adds cells to those of a member. Refusals: 28, 15.
     pub fn offer(&mut self, vci: u32, cells: u64) -> Result<(), Refusal> {
-        let waiting = self.cells.get_mut(&vci).ok_or(refusal::NOT_A_MEMBER)?;
+        let waiting = self.cells.get_mut(&vci).ok_or(Refusal::NotAMember)?;
         fill(waiting, cells)
     }
 
     /// Removes a member and gives the cells that waited on it. Refusal: 28.
     pub fn remove(&mut self, vci: u32) -> Result<u64, Refusal> {
-        self.cells.remove(&vci).ok_or(refusal::NOT_A_MEMBER)
+        self.cells.remove(&vci).ok_or(Refusal::NotAMember)
     }
 
     /// The member whose turn it is: the first with data above the one served last, else,
@@ -125,7 +125,7 @@ impl Members {
 /// Adds cells to those that wait. Refusal: 15.
 fn fill(waiting: &mut u64, cells: u64) -> Result<(), Refusal> {
     if cells > DATA_MAX - *waiting {
-        return Err(refusal::TOO_MUCH_DATA);
+        return Err(Refusal::TooMuchData);
     }
     *waiting += cells;
     Ok(())

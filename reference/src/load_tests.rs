@@ -65,22 +65,22 @@ fn a_member_that_comes_is_served_in_its_place() {
 #[test]
 fn each_member_has_its_own_limit() {
     let mut members = members(&[(40, 65_535), (50, 65_535)]);
-    assert_eq!(members.offer(40, 1), Err(15));
+    assert_eq!(members.offer(40, 1), Err(Refusal::TooMuchData));
     assert_eq!(members.offer(40, 0), Ok(()));
-    assert_eq!(members.offer(50, u64::MAX), Err(15));
+    assert_eq!(members.offer(50, u64::MAX), Err(Refusal::TooMuchData));
     let mut load = Load::Path(members);
     assert_eq!(load.waiting(), 131_070);
-    assert_eq!(load.offer(0), Err(28));
+    assert_eq!(load.offer(0), Err(Refusal::NotAMember));
 }
 
 #[test]
 fn no_member() {
     let mut members = members(&[(40, 1)]);
-    assert_eq!(members.offer(41, 0), Err(28));
-    assert_eq!(members.remove(41), Err(28));
-    assert_eq!(members.waiting(41), Err(28));
+    assert_eq!(members.offer(41, 0), Err(Refusal::NotAMember));
+    assert_eq!(members.remove(41), Err(Refusal::NotAMember));
+    assert_eq!(members.waiting(41), Err(Refusal::NotAMember));
     assert_eq!(members.remove(40), Ok(1));
-    assert_eq!(members.remove(40), Err(28));
+    assert_eq!(members.remove(40), Err(Refusal::NotAMember));
     assert_eq!(members.count(), 0);
 }
 

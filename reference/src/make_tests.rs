@@ -6,7 +6,7 @@ use crate::engine_tests::{
     at, engine_with, forward, kind, octets, params, refused, slot_rm, MS, RATE, THOUSAND,
 };
 use crate::spacing::INTERVAL;
-use crate::{Kind, Params, Rm, Sent};
+use crate::{Kind, Params, Refusal, Rm, Sent};
 
 /// The cell that is made at a level, on VCI 32 with the largest peak.
 fn made(level: u32) -> Rm {
@@ -44,14 +44,18 @@ fn the_order_of_refusals_when_making() {
     engine.make(at(33), 9).unwrap();
     engine.set_level(0).unwrap();
     let late = TIME_MAX + 1;
-    refused(&engine, 8, |engine| engine.make(at(34), late));
+    refused(&engine, Refusal::Time, |engine| engine.make(at(34), late));
     for vci in [0, 31, 34, 65_535, 65_536, 65_568, u32::MAX] {
-        refused(&engine, 11, |engine| engine.make(at(vci), 8));
+        refused(&engine, Refusal::NotOpen, |engine| engine.make(at(vci), 8));
     }
-    refused(&engine, 14, |engine| engine.make(at(33), 8));
-    refused(&engine, 16, |engine| engine.make(at(33), 9));
+    refused(&engine, Refusal::TimeBackward, |engine| {
+        engine.make(at(33), 8)
+    });
+    refused(&engine, Refusal::NotCongested, |engine| {
+        engine.make(at(33), 9)
+    });
     engine.set_level(1).unwrap();
-    refused(&engine, 17, |engine| engine.make(at(33), 9));
+    refused(&engine, Refusal::TooSoon, |engine| engine.make(at(33), 9));
     assert!(engine.make(at(32), 9).is_ok()); // another connection
 }
 
@@ -59,13 +63,19 @@ fn the_order_of_refusals_when_making() {
 fn its_time_counts_for_opens_and_slots_and_a_refused_ones_does_not() {
     let mut engine = engine_at(2, &params());
     engine.make(at(32), 10).unwrap();
-    refused(&engine, 17, |engine| engine.make(at(32), 20));
-    refused(&engine, 11, |engine| engine.make(at(33), 30));
-    refused(&engine, 14, |engine| engine.slot(9, &mut [0; LENGTH]));
-    refused(&engine, 14, |engine| engine.open(at(33), 9, &params()));
+    refused(&engine, Refusal::TooSoon, |engine| engine.make(at(32), 20));
+    refused(&engine, Refusal::NotOpen, |engine| engine.make(at(33), 30));
+    refused(&engine, Refusal::TimeBackward, |engine| {
+        engine.slot(9, &mut [0; LENGTH])
+    });
+    refused(&engine, Refusal::TimeBackward, |engine| {
+        engine.open(at(33), 9, &params())
+    });
     assert!(engine.open(at(33), 10, &params()).is_ok());
     assert!(engine.make(at(33), TIME_MAX).is_ok());
-    refused(&engine, 8, |engine| engine.make(at(33), TIME_MAX + 1));
+    refused(&engine, Refusal::Time, |engine| {
+        engine.make(at(33), TIME_MAX + 1)
+    });
 }
 
 #[test]
@@ -179,7 +189,7 @@ fn a_vci_opened_again_has_no_made_cell_and_no_last_making() {
     let mut engine = engine_at(1, &params());
     engine.make(at(32), 0).unwrap();
     engine.close(at(32)).unwrap();
-    refused(&engine, 11, |engine| engine.make(at(32), 0));
+    refused(&engine, Refusal::NotOpen, |engine| engine.make(at(32), 0));
     engine.open(at(32), 0, &params()).unwrap();
     assert_eq!(engine, engine_at(1, &params()));
     assert!(engine.make(at(32), 0).is_ok());
@@ -191,7 +201,9 @@ fn each_connection_has_its_own_made_cell_and_interval() {
     engine.open(at(33), 0, &params()).unwrap();
     engine.make(at(32), 0).unwrap();
     engine.make(at(33), MS).unwrap();
-    refused(&engine, 17, |engine| engine.make(at(33), INTERVAL));
+    refused(&engine, Refusal::TooSoon, |engine| {
+        engine.make(at(33), INTERVAL)
+    });
     assert!(engine.make(at(32), INTERVAL).is_ok());
     assert!(engine.make(at(33), INTERVAL + MS).is_ok());
 }

@@ -2,7 +2,7 @@
 
 use crate::engine::{Engine, TIME_MAX};
 use crate::engine_tests::{at, backward, engine_with, forward, kind, octets, params, MS};
-use crate::{Address, Kind, Params, Rm};
+use crate::{Address, Kind, Params, Refusal, Rm};
 
 /// Trm of the house set.
 const TRM: u64 = 100 * MS;
@@ -20,7 +20,10 @@ fn next_is(engine: &Engine, next: u64) {
     assert_eq!(engine.next(), Some(next));
     if let Some(before) = next.checked_sub(1) {
         let early = engine.clone().slot(before, &mut [0; 53]);
-        assert!(matches!(early, Ok(None) | Err(14)), "{early:?}");
+        assert!(
+            matches!(early, Ok(None) | Err(Refusal::TimeBackward)),
+            "{early:?}"
+        );
     }
     assert_ne!(kind(&mut engine.clone(), next), None);
 }

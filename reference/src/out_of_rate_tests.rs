@@ -6,7 +6,7 @@ use crate::engine_tests::{
     at, backward, engine_with, forward, kind, octets, params, refused, MS, RATE, THOUSAND,
 };
 use crate::spacing::INTERVAL;
-use crate::{code_of, read, Cell, Kind, Params, Rm, Sent};
+use crate::{code_of, read, Cell, Kind, Params, Refusal, Rm, Sent};
 
 /// What fills a buffer before a call.
 const FILL: u8 = 0xA5;
@@ -18,11 +18,11 @@ fn cell(engine: &mut Engine, vci: u32, time: u64) -> Octets {
     buffer
 }
 
-/// Asserts that a call is refused with a number and changes neither the engine nor
+/// Asserts that a call is refused for a reason and changes neither the engine nor
 /// the buffer.
-fn refuses(engine: &Engine, number: u32, vci: u32, time: u64, length: usize) {
+fn refuses(engine: &Engine, refusal: Refusal, vci: u32, time: u64, length: usize) {
     let mut buffer = vec![FILL; length];
-    refused(engine, number, |engine| {
+    refused(engine, refusal, |engine| {
         engine.out_of_rate(at(vci), time, &mut buffer)
     });
     assert_eq!(buffer, vec![FILL; length]);
@@ -116,19 +116,19 @@ fn the_order_of_refusals() {
     cell(&mut engine, 33, 9);
     let late = TIME_MAX + 1;
     for length in [0, 52, 54] {
-        refuses(&engine, 1, 34, late, length); // before 8 and 11
-        refuses(&engine, 1, 33, 8, length); // before 14
-        refuses(&engine, 1, 33, 9, length); // before 18
+        refuses(&engine, Refusal::Length, 34, late, length); // before 8 and 11
+        refuses(&engine, Refusal::Length, 33, 8, length); // before 14
+        refuses(&engine, Refusal::Length, 33, 9, length); // before 18
     }
-    refuses(&engine, 8, 34, late, LENGTH); // before 11
-    refuses(&engine, 8, 33, late, LENGTH);
+    refuses(&engine, Refusal::Time, 34, late, LENGTH); // before 11
+    refuses(&engine, Refusal::Time, 33, late, LENGTH);
     for vci in [0, 31, 34, 65_535, 65_536, 65_568, u32::MAX] {
-        refuses(&engine, 11, vci, 8, LENGTH); // before 14
-        refuses(&engine, 11, vci, 9, LENGTH);
+        refuses(&engine, Refusal::NotOpen, vci, 8, LENGTH); // before 14
+        refuses(&engine, Refusal::NotOpen, vci, 9, LENGTH);
     }
-    refuses(&engine, 14, 33, 8, LENGTH); // before 18
-    refuses(&engine, 14, 32, 8, LENGTH);
-    refuses(&engine, 18, 33, 9, LENGTH);
+    refuses(&engine, Refusal::TimeBackward, 33, 8, LENGTH); // before 18
+    refuses(&engine, Refusal::TimeBackward, 32, 8, LENGTH);
+    refuses(&engine, Refusal::TooOften, 33, 9, LENGTH);
     cell(&mut engine, 32, 9); // another connection
 }
 
@@ -136,13 +136,13 @@ fn the_order_of_refusals() {
 fn exactly_100_ms_later_the_next_is_accepted() {
     let mut engine = engine_with(&params());
     cell(&mut engine, 32, 7);
-    refuses(&engine, 18, 32, 7, LENGTH);
-    refuses(&engine, 18, 32, 7 + INTERVAL - 1, LENGTH);
+    refuses(&engine, Refusal::TooOften, 32, 7, LENGTH);
+    refuses(&engine, Refusal::TooOften, 32, 7 + INTERVAL - 1, LENGTH);
     cell(&mut engine, 32, 7 + INTERVAL);
-    refuses(&engine, 18, 32, 6 + 2 * INTERVAL, LENGTH);
+    refuses(&engine, Refusal::TooOften, 32, 6 + 2 * INTERVAL, LENGTH);
     cell(&mut engine, 32, TIME_MAX);
-    refuses(&engine, 18, 32, TIME_MAX, LENGTH);
-    refuses(&engine, 8, 32, TIME_MAX + 1, LENGTH);
+    refuses(&engine, Refusal::TooOften, 32, TIME_MAX, LENGTH);
+    refuses(&engine, Refusal::Time, 32, TIME_MAX + 1, LENGTH);
 }
 
 #[test]
@@ -150,7 +150,7 @@ fn a_new_open_starts_without_one() {
     let mut engine = engine_with(&params());
     cell(&mut engine, 32, 0);
     engine.close(at(32)).unwrap();
-    refuses(&engine, 11, 32, 0, LENGTH);
+    refuses(&engine, Refusal::NotOpen, 32, 0, LENGTH);
     engine.open(at(32), 0, &params()).unwrap();
     assert_eq!(engine, engine_with(&params()));
     cell(&mut engine, 32, 0);
@@ -165,11 +165,13 @@ fn each_connection_has_its_own_interval_and_made_cells_another() {
     engine.make(at(32), 0).unwrap();
     cell(&mut engine, 33, MS);
     engine.make(at(33), 2 * MS).unwrap();
-    refuses(&engine, 18, 33, INTERVAL, LENGTH);
+    refuses(&engine, Refusal::TooOften, 33, INTERVAL, LENGTH);
     cell(&mut engine, 32, INTERVAL);
     engine.make(at(32), INTERVAL).unwrap();
     cell(&mut engine, 33, INTERVAL + MS);
-    refused(&engine, 17, |engine| engine.make(at(33), INTERVAL + MS));
+    refused(&engine, Refusal::TooSoon, |engine| {
+        engine.make(at(33), INTERVAL + MS)
+    });
 }
 
 #[test]
@@ -178,13 +180,19 @@ fn its_time_counts_for_14_and_a_refused_ones_does_not() {
     engine.open(at(33), 0, &params()).unwrap();
     engine.set_level(2).unwrap();
     cell(&mut engine, 32, 10);
-    refuses(&engine, 18, 32, 20, LENGTH);
-    refuses(&engine, 11, 34, 20, LENGTH);
-    refuses(&engine, 1, 33, 20, 0);
-    refused(&engine, 14, |engine| engine.slot(9, &mut [0; LENGTH]));
-    refused(&engine, 14, |engine| engine.open(at(34), 9, &params()));
-    refused(&engine, 14, |engine| engine.make(at(33), 9));
-    refuses(&engine, 14, 33, 9, LENGTH);
+    refuses(&engine, Refusal::TooOften, 32, 20, LENGTH);
+    refuses(&engine, Refusal::NotOpen, 34, 20, LENGTH);
+    refuses(&engine, Refusal::Length, 33, 20, 0);
+    refused(&engine, Refusal::TimeBackward, |engine| {
+        engine.slot(9, &mut [0; LENGTH])
+    });
+    refused(&engine, Refusal::TimeBackward, |engine| {
+        engine.open(at(34), 9, &params())
+    });
+    refused(&engine, Refusal::TimeBackward, |engine| {
+        engine.make(at(33), 9)
+    });
+    refuses(&engine, Refusal::TimeBackward, 33, 9, LENGTH);
     assert_eq!(kind(&mut engine, 10), None);
     assert!(engine.make(at(33), 10).is_ok());
     assert!(engine.open(at(34), 10, &params()).is_ok());
@@ -195,12 +203,12 @@ fn its_time_counts_for_14_and_a_refused_ones_does_not() {
 fn times_of_opens_slots_and_makings_count_for_it() {
     let mut engine = engine_with(&params());
     engine.open(at(33), 5, &params()).unwrap();
-    refuses(&engine, 14, 32, 4, LENGTH);
+    refuses(&engine, Refusal::TimeBackward, 32, 4, LENGTH);
     assert_eq!(kind(&mut engine, 6), None);
-    refuses(&engine, 14, 32, 5, LENGTH);
+    refuses(&engine, Refusal::TimeBackward, 32, 5, LENGTH);
     engine.set_level(1).unwrap();
     engine.make(at(33), 7).unwrap();
-    refuses(&engine, 14, 32, 6, LENGTH);
+    refuses(&engine, Refusal::TimeBackward, 32, 6, LENGTH);
     cell(&mut engine, 32, 7);
 }
 
@@ -234,7 +242,7 @@ fn slots(outside: bool) -> (Vec<Option<Sent>>, Vec<Octets>) {
         };
         if outside {
             let answer = engine.out_of_rate(at(32), time, &mut [0; LENGTH]);
-            assert!(matches!(answer, Ok(()) | Err(18)));
+            assert!(matches!(answer, Ok(()) | Err(Refusal::TooOften)));
         }
         let mut buffer = [FILL; LENGTH];
         sent.push(engine.slot(time, &mut buffer).unwrap());

@@ -5,7 +5,7 @@
 use std::ops::RangeInclusive;
 
 use crate::rate::{self, SMALLEST};
-use crate::refusal::{self, Refusal};
+use crate::refusal::Refusal;
 
 /// The eight times of Trm in nanoseconds, by Trm number.
 pub const TRM_TIMES: [u64; 8] = [
@@ -110,15 +110,15 @@ impl Params {
             .into_iter()
             .any(rate::is_reserved)
         {
-            return Err(refusal::RESERVED_BIT);
+            return Err(Refusal::ReservedBit);
         }
         let rates = self.rates()?;
-        within(self.n, 1..=8, refusal::RANGE)?;
-        within(self.r, 0..=15, refusal::RANGE)?;
-        within(self.d, 0..=15, refusal::RANGE)?;
-        within(self.c, 0..=CDF_ZERO, refusal::RANGE)?;
-        within(self.adtf, 1..=1_023, refusal::RANGE)?;
-        within(self.trm, 0..=7, refusal::RANGE)?;
+        within(self.n, 1..=8, Refusal::Range)?;
+        within(self.r, 0..=15, Refusal::Range)?;
+        within(self.d, 0..=15, Refusal::Range)?;
+        within(self.c, 0..=CDF_ZERO, Refusal::Range)?;
+        within(self.adtf, 1..=1_023, Refusal::Range)?;
+        within(self.trm, 0..=7, Refusal::Range)?;
         Ok(rates)
     }
 
@@ -126,8 +126,8 @@ impl Params {
     /// 19, 7, 29, 30.
     pub fn contract(&self) -> Result<Contract, Refusal> {
         let (pcr, mcr, icr) = self.check()?;
-        within(self.tbe, 1..=TBE_MAX, refusal::TBE)?;
-        within(self.frtt, 0..=FRTT_MAX, refusal::FRTT)?;
+        within(self.tbe, 1..=TBE_MAX, Refusal::Tbe)?;
+        within(self.frtt, 0..=FRTT_MAX, Refusal::Frtt)?;
         Ok(Contract {
             pcr,
             mcr,
@@ -168,7 +168,7 @@ impl Params {
         if mcr <= icr && icr <= pcr && SMALLEST <= pcr {
             Ok((pcr, mcr, icr))
         } else {
-            Err(refusal::RANGE)
+            Err(Refusal::Range)
         }
     }
 }
@@ -261,14 +261,14 @@ mod tests {
     #[test]
     fn numbers_at_their_ends() {
         let cases: [(Setter, u32, u32, Refusal); 8] = [
-            (|p, v| p.n = v, 1, 8, 7),
-            (|p, v| p.r = v, 0, 15, 7),
-            (|p, v| p.d = v, 0, 15, 7),
-            (|p, v| p.c = v, 0, 7, 7),
-            (|p, v| p.adtf = v, 1, 1_023, 7),
-            (|p, v| p.trm = v, 0, 7, 7),
-            (|p, v| p.tbe = v, 1, 16_777_215, 29),
-            (|p, v| p.frtt = v, 0, 16_700_000, 30),
+            (|p, v| p.n = v, 1, 8, Refusal::Range),
+            (|p, v| p.r = v, 0, 15, Refusal::Range),
+            (|p, v| p.d = v, 0, 15, Refusal::Range),
+            (|p, v| p.c = v, 0, 7, Refusal::Range),
+            (|p, v| p.adtf = v, 1, 1_023, Refusal::Range),
+            (|p, v| p.trm = v, 0, 7, Refusal::Range),
+            (|p, v| p.tbe = v, 1, 16_777_215, Refusal::Tbe),
+            (|p, v| p.frtt = v, 0, 16_700_000, Refusal::Frtt),
         ];
         for (set, low, high, refusal) in cases {
             let answer = |value| {
@@ -291,10 +291,10 @@ mod tests {
         let answer = |pcr, mcr, icr| Params::house(pcr, mcr, icr).contract().map(|_| ());
         assert_eq!(answer(0x4000, 0x4000, 0x4000), Ok(()));
         assert_eq!(answer(0x7FFF, 0x4000, 0x7FFF), Ok(()));
-        assert_eq!(answer(0x4001, 0x4000, 0x4002), Err(7));
-        assert_eq!(answer(0x4002, 0x4001, 0x4000), Err(7));
-        assert_eq!(answer(0x4000, 0x4001, 0x4001), Err(7));
-        assert_eq!(answer(0x4000, 0x4000, 0x3FFF), Err(7));
+        assert_eq!(answer(0x4001, 0x4000, 0x4002), Err(Refusal::Range));
+        assert_eq!(answer(0x4002, 0x4001, 0x4000), Err(Refusal::Range));
+        assert_eq!(answer(0x4000, 0x4001, 0x4001), Err(Refusal::Range));
+        assert_eq!(answer(0x4000, 0x4000, 0x3FFF), Err(Refusal::Range));
     }
 
     #[test]
@@ -308,13 +308,13 @@ mod tests {
             assert_eq!(answer(0x4000, zero, zero), Ok((512, 0, 0)));
             assert_eq!(answer(0x4000, zero, 0x0000), Ok((512, 0, 0)));
             assert_eq!(answer(0x4000, 0x3FFF, zero), Ok((512, 0, 0)));
-            assert_eq!(answer(0x4000, zero, 0x4001), Err(7));
-            assert_eq!(answer(0x4000, 0x4000, zero), Err(7));
-            assert_eq!(answer(zero, zero, zero), Err(7));
-            assert_eq!(answer(zero, 0x0000, 0x4000), Err(7));
-            assert_eq!(answer(zero, 0x4000, 0x4000), Err(7));
+            assert_eq!(answer(0x4000, zero, 0x4001), Err(Refusal::Range));
+            assert_eq!(answer(0x4000, 0x4000, zero), Err(Refusal::Range));
+            assert_eq!(answer(zero, zero, zero), Err(Refusal::Range));
+            assert_eq!(answer(zero, 0x0000, 0x4000), Err(Refusal::Range));
+            assert_eq!(answer(zero, 0x4000, 0x4000), Err(Refusal::Range));
         }
-        assert_eq!(answer(0x4000, 0x1_0000, 0x4000), Err(7));
+        assert_eq!(answer(0x4000, 0x1_0000, 0x4000), Err(Refusal::Range));
     }
 
     #[test]
@@ -328,13 +328,13 @@ mod tests {
                 codes
             };
             let [pcr, mcr, icr] = with(0x8000);
-            assert_eq!(answer(pcr, mcr, icr), Err(19));
+            assert_eq!(answer(pcr, mcr, icr), Err(Refusal::ReservedBit));
             for bits in [0x1_0000, 0x1_8000, 0xFFFF_8000] {
                 let [pcr, mcr, icr] = with(bits);
-                assert_eq!(answer(pcr, mcr, icr), Err(7));
+                assert_eq!(answer(pcr, mcr, icr), Err(Refusal::Range));
             }
         }
-        assert_eq!(answer(0x8000, 0x8000, 0x8000), Err(19));
+        assert_eq!(answer(0x8000, 0x8000, 0x8000), Err(Refusal::ReservedBit));
     }
 
     #[test]
@@ -345,14 +345,17 @@ mod tests {
             (wide, 0x8000, 0),
             (wide, wide, 0xC000),
         ] {
-            assert_eq!(Params::house(pcr, mcr, icr).contract(), Err(19));
+            assert_eq!(
+                Params::house(pcr, mcr, icr).contract(),
+                Err(Refusal::ReservedBit)
+            );
         }
         let peak = Params::house(0xC000, 0x4001, 0x4001); // also below the minimum
-        assert_eq!(peak.contract(), Err(19));
+        assert_eq!(peak.contract(), Err(Refusal::ReservedBit));
         let bad = Params {
             n: 0,
             ..Params::house(0x53E8, 0xC000, 0x53E8)
         };
-        assert_eq!(bad.contract(), Err(19));
+        assert_eq!(bad.contract(), Err(Refusal::ReservedBit));
     }
 }

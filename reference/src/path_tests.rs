@@ -6,7 +6,7 @@ use crate::engine::{Closed, Engine, TIME_MAX};
 use crate::engine_tests::{
     at, backward, data, draws, forward, kind, octets, params, refused, slot_rm, MS, RATE,
 };
-use crate::{Address, Kind, Params, Rm};
+use crate::{Address, Kind, Params, Refusal, Rm};
 
 /// The VPI of the path.
 const VPI: u32 = 3;
@@ -57,39 +57,48 @@ fn the_refusals_of_opening_a_path_in_their_order() {
         n: 9,
         ..params()
     };
-    refused(&engine, 19, |engine| {
+    refused(&engine, Refusal::ReservedBit, |engine| {
         engine.open_path(256, TIME_MAX + 1, &wrong)
     });
     let out_of_range = Params { n: 9, ..params() };
-    refused(&engine, 7, |engine| {
+    refused(&engine, Refusal::Range, |engine| {
         engine.open_path(VPI, TIME_MAX + 1, &out_of_range)
     });
     for vpi in [256, VPI + 256, 65_536 + VPI, u32::MAX] {
-        refused(&engine, 7, |engine| {
+        refused(&engine, Refusal::Range, |engine| {
             engine.open_path(vpi, TIME_MAX + 1, &params())
         });
     }
     engine.open_path(VPI, 7, &params()).unwrap();
-    refused(&engine, 8, |engine| {
-        engine.open_path(VPI, TIME_MAX + 1, &params())
-    });
-    refused(&engine, 12, |engine| engine.open_path(VPI, 6, &params()));
-    refused(&engine, 14, |engine| engine.open_path(0, 6, &params()));
+    for (refusal, vpi, time) in [
+        (Refusal::Time, VPI, TIME_MAX + 1),
+        (Refusal::AlreadyOpen, VPI, 6),
+        (Refusal::TimeBackward, 0, 6),
+    ] {
+        refused(&engine, refusal, |engine| {
+            engine.open_path(vpi, time, &params())
+        });
+    }
     assert_eq!(engine.open_path(0, 7, &params()), Ok(1));
     assert_eq!(engine.open_path(255, 7, &params()), Ok(1));
     for vci in 32..1_053 {
         engine.open(at(vci), 7, &params()).unwrap();
     }
-    refused(&engine, 13, |engine| engine.open_path(9, 6, &params()));
-    refused(&engine, 12, |engine| engine.open_path(255, 6, &params()));
+    for (refusal, vpi) in [(Refusal::Full, 9), (Refusal::AlreadyOpen, 255)] {
+        refused(&engine, refusal, |engine| {
+            engine.open_path(vpi, 6, &params())
+        });
+    }
 }
 
 /// No open makes the name of a path a channel.
 #[test]
 fn vci_6_is_opened_by_no_other_call() {
     let engine = Engine::new();
-    refused(&engine, 10, |engine| engine.open(PATH, 0, &params()));
-    refused(&path_with(&[]), 10, |engine| {
+    refused(&engine, Refusal::LowVci, |engine| {
+        engine.open(PATH, 0, &params())
+    });
+    refused(&path_with(&[]), Refusal::LowVci, |engine| {
         engine.open(PATH, 0, &params())
     });
 }
@@ -99,23 +108,27 @@ fn the_refusals_of_adding_in_their_order() {
     let mut engine = path_with(&[(40, 0)]);
     engine.open(of(50), 0, &params()).unwrap();
     for vci in [0, 6, 31] {
-        refused(&engine, 10, |engine| engine.add(of(vci)));
-        refused(&engine, 10, |engine| engine.add(Address::new(256, vci)));
+        refused(&engine, Refusal::LowVci, |engine| engine.add(of(vci)));
+        refused(&engine, Refusal::LowVci, |engine| {
+            engine.add(Address::new(256, vci))
+        });
     }
-    refused(&engine, 11, |engine| engine.add(at(40)));
-    refused(&engine, 11, |engine| {
+    refused(&engine, Refusal::NotOpen, |engine| engine.add(at(40)));
+    refused(&engine, Refusal::NotOpen, |engine| {
         engine.add(Address::new(VPI + 256, 41))
     });
-    refused(&engine, 11, |engine| engine.add(of(65_536)));
-    refused(&engine, 11, |engine| engine.add(of(65_536 + 41)));
-    refused(&engine, 12, |engine| engine.add(of(50)));
-    refused(&engine, 27, |engine| engine.add(of(40)));
+    refused(&engine, Refusal::NotOpen, |engine| engine.add(of(65_536)));
+    refused(&engine, Refusal::NotOpen, |engine| {
+        engine.add(of(65_536 + 41))
+    });
+    refused(&engine, Refusal::AlreadyOpen, |engine| engine.add(of(50)));
+    refused(&engine, Refusal::AlreadyMember, |engine| engine.add(of(40)));
     for vci in 100..355 {
         engine.add(of(vci)).unwrap();
     }
-    refused(&engine, 26, |engine| engine.add(of(41)));
-    refused(&engine, 27, |engine| engine.add(of(40)));
-    refused(&engine, 12, |engine| engine.add(of(50)));
+    refused(&engine, Refusal::MembersFull, |engine| engine.add(of(41)));
+    refused(&engine, Refusal::AlreadyMember, |engine| engine.add(of(40)));
+    refused(&engine, Refusal::AlreadyOpen, |engine| engine.add(of(50)));
     engine.remove(of(40)).unwrap();
     assert_eq!(engine.add(of(41)), Ok(()));
 }
@@ -129,31 +142,47 @@ fn all_paths_share_the_members() {
         engine.add(of(32 + vci)).unwrap();
         engine.add(Address::new(200, 65_535 - vci)).unwrap();
     }
-    refused(&engine, 26, |engine| engine.add(Address::new(200, 32)));
-    refused(&engine, 11, |engine| engine.add(Address::new(201, 32)));
+    refused(&engine, Refusal::MembersFull, |engine| {
+        engine.add(Address::new(200, 32))
+    });
+    refused(&engine, Refusal::NotOpen, |engine| {
+        engine.add(Address::new(201, 32))
+    });
     engine.close(PATH).unwrap();
     assert_eq!(engine.add(Address::new(200, 32)), Ok(()));
-    refused(&engine, 11, |engine| engine.add(of(32)));
+    refused(&engine, Refusal::NotOpen, |engine| engine.add(of(32)));
 }
 
 #[test]
 fn a_pair_is_a_channel_or_a_member() {
     let mut engine = path_with(&[(40, 2)]);
-    refused(&engine, 27, |engine| engine.open(of(40), 0, &params()));
-    refused(&engine, 8, |engine| {
+    refused(&engine, Refusal::AlreadyMember, |engine| {
+        engine.open(of(40), 0, &params())
+    });
+    refused(&engine, Refusal::Time, |engine| {
         engine.open(of(40), TIME_MAX + 1, &params())
     });
     engine.open(of(41), 5, &params()).unwrap();
-    refused(&engine, 12, |engine| engine.add(of(41)));
-    refused(&engine, 12, |engine| engine.open(of(41), 4, &params()));
-    refused(&engine, 27, |engine| engine.open(of(40), 4, &params()));
-    refused(&engine, 14, |engine| engine.open(of(42), 4, &params()));
+    refused(&engine, Refusal::AlreadyOpen, |engine| engine.add(of(41)));
+    refused(&engine, Refusal::AlreadyOpen, |engine| {
+        engine.open(of(41), 4, &params())
+    });
+    refused(&engine, Refusal::AlreadyMember, |engine| {
+        engine.open(of(40), 4, &params())
+    });
+    refused(&engine, Refusal::TimeBackward, |engine| {
+        engine.open(of(42), 4, &params())
+    });
     assert_eq!(engine.open(at(40), 5, &params()), Ok(1)); // on another VPI
     for vci in 100..1_121 {
         engine.open(at(vci), 5, &params()).unwrap();
     }
-    refused(&engine, 13, |engine| engine.open(of(42), 5, &params()));
-    refused(&engine, 27, |engine| engine.open(of(40), 5, &params()));
+    refused(&engine, Refusal::Full, |engine| {
+        engine.open(of(42), 5, &params())
+    });
+    refused(&engine, Refusal::AlreadyMember, |engine| {
+        engine.open(of(40), 5, &params())
+    });
     engine.remove(of(40)).unwrap();
     engine.close(of(41)).unwrap();
     assert_eq!(engine.open(of(40), 5, &params()), Ok(1));
@@ -167,16 +196,26 @@ fn the_refusals_of_a_members_offer_and_removal() {
     let mut engine = path_with(&[(40, 65_530)]);
     engine.open(of(50), 0, &params()).unwrap();
     for vci in [0, 6, 41, 50] {
-        refused(&engine, 28, |engine| engine.offer_member(of(vci), u64::MAX));
-        refused(&engine, 28, |engine| engine.remove(of(vci)));
+        refused(&engine, Refusal::NotAMember, |engine| {
+            engine.offer_member(of(vci), u64::MAX)
+        });
+        refused(&engine, Refusal::NotAMember, |engine| {
+            engine.remove(of(vci))
+        });
     }
     for pair in [at(40), Address::new(VPI + 256, 40)] {
-        refused(&engine, 11, |engine| engine.offer_member(pair, u64::MAX));
-        refused(&engine, 11, |engine| engine.remove(pair));
+        refused(&engine, Refusal::NotOpen, |engine| {
+            engine.offer_member(pair, u64::MAX)
+        });
+        refused(&engine, Refusal::NotOpen, |engine| engine.remove(pair));
     }
-    refused(&engine, 15, |engine| engine.offer_member(of(40), 6));
+    refused(&engine, Refusal::TooMuchData, |engine| {
+        engine.offer_member(of(40), 6)
+    });
     engine.offer_member(of(40), 5).unwrap();
-    refused(&engine, 15, |engine| engine.offer_member(of(40), 1));
+    refused(&engine, Refusal::TooMuchData, |engine| {
+        engine.offer_member(of(40), 1)
+    });
     assert_eq!(engine.offer_member(of(40), 0), Ok(10));
 }
 
@@ -190,22 +229,32 @@ fn a_vci_out_of_range_is_no_member_of_an_open_path() {
     for vci in [65_536, 65_542, 65_576, 65_586, 70_000, u32::MAX] {
         for path in [VPI - 1, VPI] {
             let pair = Address::new(path, vci);
-            refused(&engine, 28, |engine| engine.offer_member(pair, 0));
-            refused(&engine, 28, |engine| engine.offer_member(pair, u64::MAX));
-            refused(&engine, 28, |engine| engine.remove(pair));
-            refused(&engine, 11, |engine| engine.add(pair));
-            refused(&engine, 11, |engine| engine.offer(pair, 0));
+            refused(&engine, Refusal::NotAMember, |engine| {
+                engine.offer_member(pair, 0)
+            });
+            refused(&engine, Refusal::NotAMember, |engine| {
+                engine.offer_member(pair, u64::MAX)
+            });
+            refused(&engine, Refusal::NotAMember, |engine| engine.remove(pair));
+            refused(&engine, Refusal::NotOpen, |engine| engine.add(pair));
+            refused(&engine, Refusal::NotOpen, |engine| engine.offer(pair, 0));
         }
         for path in [0, 256, VPI + 256, u32::MAX] {
             let pair = Address::new(path, vci);
-            refused(&engine, 11, |engine| engine.offer_member(pair, u64::MAX));
-            refused(&engine, 11, |engine| engine.remove(pair));
-            refused(&engine, 11, |engine| engine.add(pair));
+            refused(&engine, Refusal::NotOpen, |engine| {
+                engine.offer_member(pair, u64::MAX)
+            });
+            refused(&engine, Refusal::NotOpen, |engine| engine.remove(pair));
+            refused(&engine, Refusal::NotOpen, |engine| engine.add(pair));
         }
     }
     engine.close(PATH).unwrap();
-    refused(&engine, 11, |engine| engine.offer_member(of(70_000), 0));
-    refused(&engine, 11, |engine| engine.remove(of(70_000)));
+    refused(&engine, Refusal::NotOpen, |engine| {
+        engine.offer_member(of(70_000), 0)
+    });
+    refused(&engine, Refusal::NotOpen, |engine| {
+        engine.remove(of(70_000))
+    });
 }
 
 /// Each member has a limit of its own, and the path none.
@@ -221,23 +270,31 @@ fn members_fill_one_by_one() {
 fn plain_calls_on_a_members_pair_meet_11() {
     let mut engine = path_with(&[(40, 9)]);
     engine.set_level(1).unwrap();
-    refused(&engine, 11, |engine| engine.offer(of(40), u64::MAX));
-    refused(&engine, 11, |engine| engine.close(of(40)));
-    refused(&engine, 11, |engine| engine.make(of(40), 0));
-    refused(&engine, 11, |engine| {
+    refused(&engine, Refusal::NotOpen, |engine| {
+        engine.offer(of(40), u64::MAX)
+    });
+    refused(&engine, Refusal::NotOpen, |engine| engine.close(of(40)));
+    refused(&engine, Refusal::NotOpen, |engine| engine.make(of(40), 0));
+    refused(&engine, Refusal::NotOpen, |engine| {
         engine.out_of_rate(of(40), 0, &mut [0; LENGTH])
     });
-    refused(&engine, 11, |engine| engine.allowed(of(40)));
-    refused(&engine, 11, |engine| engine.export(of(40)).map(|_| ()));
+    refused(&engine, Refusal::NotOpen, |engine| engine.allowed(of(40)));
+    refused(&engine, Refusal::NotOpen, |engine| {
+        engine.export(of(40)).map(|_| ())
+    });
 }
 
 #[test]
 fn plain_calls_on_a_paths_own_name() {
     let mut engine = path_with(&[(40, 9)]);
     engine.set_level(1).unwrap();
-    refused(&engine, 28, |engine| engine.offer(PATH, 0));
-    refused(&engine, 28, |engine| engine.offer(PATH, u64::MAX));
-    refused(&engine, 11, |engine| engine.offer(Address::of_path(4), 0));
+    refused(&engine, Refusal::NotAMember, |engine| engine.offer(PATH, 0));
+    refused(&engine, Refusal::NotAMember, |engine| {
+        engine.offer(PATH, u64::MAX)
+    });
+    refused(&engine, Refusal::NotOpen, |engine| {
+        engine.offer(Address::of_path(4), 0)
+    });
     assert_eq!(engine.acr(PATH), Ok(RATE));
     assert_eq!(engine.export(PATH).unwrap().icr, 1_000.0);
     assert_eq!(engine.make(PATH, 0), Ok(10));
@@ -245,7 +302,7 @@ fn plain_calls_on_a_paths_own_name() {
     assert_eq!(engine.out_of_rate(PATH, 0, &mut cell), Ok(()));
     assert_eq!(cell[..4], [0x00, 0x30, 0x00, 0x6D]); // VPI 3, VCI 6, payload type 6, CLP 1
     assert_eq!(engine.close(PATH).unwrap().cells, 9);
-    refused(&engine, 11, |engine| engine.close(PATH));
+    refused(&engine, Refusal::NotOpen, |engine| engine.close(PATH));
 }
 
 /// Forward, turned and made cells bear the path's name; data that of the member.
@@ -274,17 +331,17 @@ fn an_rm_cell_on_a_members_pair_is_refused() {
     let engine = path_with(&[(40, 1)]);
     for rm in [forward(40), backward(40)] {
         let cell = octets(&Rm { vpi: VPI, ..rm });
-        refused(&engine, 11, |engine| engine.receive(&cell));
+        refused(&engine, Refusal::NotOpen, |engine| engine.receive(&cell));
     }
 }
 
 #[test]
 fn a_data_cell_on_a_paths_own_name_is_refused() {
     let engine = path_with(&[(40, 1)]);
-    refused(&engine, 11, |engine| {
+    refused(&engine, Refusal::NotOpen, |engine| {
         engine.receive(&on(data(6, true), 0, VPI))
     });
-    refused(&engine, 11, |engine| {
+    refused(&engine, Refusal::NotOpen, |engine| {
         engine.receive(&on(data(41, true), 0, VPI))
     });
 }
@@ -351,7 +408,9 @@ fn the_last_served_goes_with_the_path() {
     assert_eq!(served(&mut engine, MS), Some((40, Kind::Data)));
     assert_eq!(engine.close(PATH).unwrap().cells, 3);
     engine.open_path(VPI, MS, &params()).unwrap();
-    refused(&engine, 28, |engine| engine.offer_member(of(40), 0));
+    refused(&engine, Refusal::NotAMember, |engine| {
+        engine.offer_member(of(40), 0)
+    });
     for vci in [40, 50] {
         engine.add(of(vci)).unwrap();
         engine.offer_member(of(vci), 1).unwrap();

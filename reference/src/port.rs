@@ -3,7 +3,7 @@
 
 use crate::cell::{self, Cell, Octets};
 use crate::rate::{code_within, rate_of, LARGEST};
-use crate::refusal::{self, Refusal};
+use crate::refusal::Refusal;
 
 /// The most demands of a list.
 pub const DEMANDS_MAX: usize = 1_024;
@@ -16,10 +16,10 @@ pub const DEMANDS_MAX: usize = 1_024;
 /// first for which it is less gets that part, and so do all that follow.
 pub fn fair_share(capacity: u64, demands: &[u64]) -> Result<Option<u64>, Refusal> {
     if demands.len() > DEMANDS_MAX {
-        return Err(refusal::DEMANDS);
+        return Err(Refusal::Demands);
     }
     if demands.iter().any(|demand| *demand > LARGEST) {
-        return Err(refusal::DEMAND);
+        return Err(Refusal::Demand);
     }
     let mut rising = demands.to_vec();
     rising.sort_unstable();
@@ -39,7 +39,7 @@ pub fn fair_share(capacity: u64, demands: &[u64]) -> Result<Option<u64>, Refusal
 /// 5, 6, 19.
 pub fn limit(rate: u64, buffer: &mut [u8]) -> Result<(), Refusal> {
     let content = cell::read(buffer)?;
-    let buffer: &mut Octets = buffer.try_into().map_err(|_| refusal::LENGTH)?;
+    let buffer: &mut Octets = buffer.try_into().map_err(|_| Refusal::Length)?;
     match content {
         Cell::Rm(rm) if rm.dir == 1 => {
             cell::put_er(buffer, code_within(rate_of(rm.er).min(rate)));

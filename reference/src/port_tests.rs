@@ -94,10 +94,10 @@ fn the_most_and_the_largest_demands() {
 fn over_1_024_demands_are_refused_with_21_before_22() {
     let mut demands = vec![1; DEMANDS_MAX + 1];
     assert_eq!(fair_share(0, &demands[..DEMANDS_MAX]), Ok(Some(0)));
-    assert_eq!(fair_share(0, &demands), Err(21));
+    assert_eq!(fair_share(0, &demands), Err(Refusal::Demands));
     demands[0] = LARGEST + 1;
-    assert_eq!(fair_share(0, &demands), Err(21));
-    assert_eq!(fair_share(0, &demands[..DEMANDS_MAX]), Err(22));
+    assert_eq!(fair_share(0, &demands), Err(Refusal::Demands));
+    assert_eq!(fair_share(0, &demands[..DEMANDS_MAX]), Err(Refusal::Demand));
 }
 
 #[test]
@@ -105,9 +105,9 @@ fn a_demand_above_the_largest_rate_is_refused_with_22_wherever_it_is() {
     for place in 0..5 {
         let mut demands = [LARGEST; 5];
         demands[place] += 1;
-        assert_eq!(fair_share(u64::MAX, &demands), Err(22));
+        assert_eq!(fair_share(u64::MAX, &demands), Err(Refusal::Demand));
         demands[place] = u64::MAX;
-        assert_eq!(fair_share(0, &demands), Err(22));
+        assert_eq!(fair_share(0, &demands), Err(Refusal::Demand));
     }
 }
 
@@ -212,36 +212,36 @@ fn the_port_is_the_share_and_then_the_limit() {
 const RATES: [u64; 2] = [300_000, 2_000_000];
 
 /// Asserts that limit and port refuse a cell, and leave it.
-fn refuses(number: u32, cell: &[u8]) {
+fn refuses(refusal: Refusal, cell: &[u8]) {
     let mut after = cell.to_vec();
-    assert_eq!(limit(0, &mut after), Err(number));
-    assert_eq!(port(0, &[1], &mut after), Err(number)); // limited to 0
-    assert_eq!(port(1, &[1], &mut after), Err(number)); // no limit
+    assert_eq!(limit(0, &mut after), Err(refusal));
+    assert_eq!(port(0, &[1], &mut after), Err(refusal)); // limited to 0
+    assert_eq!(port(1, &[1], &mut after), Err(refusal)); // no limit
     assert_eq!(after, cell);
 }
 
 #[test]
 fn the_refusals_of_a_cell_with_or_without_a_limit() {
     let good = passing(0x7FFF);
-    refuses(1, &good[..52]);
-    refuses(1, &[]);
-    refuses(1, &[0; 54]);
+    refuses(Refusal::Length, &good[..52]);
+    refuses(Refusal::Length, &[]);
+    refuses(Refusal::Length, &[0; 54]);
     let mut cell = good;
     cell[4] ^= 1;
-    refuses(2, &cell);
+    refuses(Refusal::HeaderCheck, &cell);
     let mut cell = good;
     cell[3] = cell[3] & 0xF1 | 5 << 1;
     cell[4] = header_check(&cell[..4]);
-    refuses(4, &cell);
+    refuses(Refusal::PayloadType, &cell);
     let mut cell = octets(&backward(32));
     cell[5] = 2;
-    refuses(5, &cell);
-    refuses(6, &with_crc(cell));
+    refuses(Refusal::Crc, &cell);
+    refuses(Refusal::Protocol, &with_crc(cell));
     for code in [7, 9, 11] {
         let mut cell = octets(&backward(32));
         cell[code] |= 0x80;
-        refuses(5, &cell);
-        refuses(19, &with_crc(cell));
+        refuses(Refusal::Crc, &cell);
+        refuses(Refusal::ReservedBit, &with_crc(cell));
     }
 }
 
@@ -249,8 +249,8 @@ fn the_refusals_of_a_cell_with_or_without_a_limit() {
 fn the_demands_are_looked_at_before_the_cell() {
     let many = [LARGEST + 1; DEMANDS_MAX + 1];
     for cell in [&mut [0; 52][..], &mut [0; LENGTH]] {
-        assert_eq!(port(0, &many, cell), Err(21));
-        assert_eq!(port(0, &many[..1], cell), Err(22));
+        assert_eq!(port(0, &many, cell), Err(Refusal::Demands));
+        assert_eq!(port(0, &many[..1], cell), Err(Refusal::Demand));
     }
 }
 

@@ -2,7 +2,7 @@
 //! and the 16-bit rate code" and "Slots"; with document 02's L7 the reserved bit of a
 //! code isn't ignored).
 
-use crate::refusal::{self, Refusal};
+use crate::refusal::Refusal;
 
 /// The largest rate that has a code: exponent 31 and mantissa 511.
 pub const LARGEST: u64 = 1023 << 31;
@@ -45,10 +45,10 @@ pub fn rate_of(code: u32) -> u64 {
 /// The rate of a caller's code. Refusals: 7 over 16 bits, 19 with the reserved bit.
 pub fn rate(code: u32) -> Result<u64, Refusal> {
     if code > MAX_16_BITS {
-        return Err(refusal::RANGE);
+        return Err(Refusal::Range);
     }
     if is_reserved(code) {
-        return Err(refusal::RESERVED_BIT);
+        return Err(Refusal::ReservedBit);
     }
     Ok(rate_of(code))
 }
@@ -56,7 +56,7 @@ pub fn rate(code: u32) -> Result<u64, Refusal> {
 /// The code of a rate, rounded down. Refusal: 9 above the largest rate.
 pub fn code_of(rate: u64) -> Result<u32, Refusal> {
     if rate > LARGEST {
-        return Err(refusal::TOO_LARGE);
+        return Err(Refusal::TooLarge);
     }
     Ok(code_within(rate))
 }
@@ -138,8 +138,8 @@ mod tests {
     #[test]
     fn rates_above_the_largest_are_refused_with_9() {
         assert_eq!(code_of(LARGEST), Ok(0x7FFF));
-        assert_eq!(code_of(LARGEST + 1), Err(9));
-        assert_eq!(code_of(u64::MAX), Err(9));
+        assert_eq!(code_of(LARGEST + 1), Err(Refusal::TooLarge));
+        assert_eq!(code_of(u64::MAX), Err(Refusal::TooLarge));
     }
 
     #[test]
@@ -147,10 +147,10 @@ mod tests {
         assert_eq!(rate(0x7FFF), Ok(LARGEST));
         assert_eq!(rate(0x4000), Ok(512)); // bit 14 alone is no refusal
         for code in [0x8000, 0x8001, 0xBFFF, 0xC000, 0xFFFF] {
-            assert_eq!(rate(code), Err(19));
+            assert_eq!(rate(code), Err(Refusal::ReservedBit));
         }
         for code in [0x1_0000, 0x1_4000, 0x1_8000, 0x1_C000, 0x1_FFFF, u32::MAX] {
-            assert_eq!(rate(code), Err(7));
+            assert_eq!(rate(code), Err(Refusal::Range));
         }
     }
 }

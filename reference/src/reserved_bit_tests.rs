@@ -7,7 +7,7 @@ use crate::engine_tests::{
     at, backward, data, engine_with, forward, octets, params, refused, slot_rm, with_crc, MS, RATE,
     THOUSAND,
 };
-use crate::{read, write_rm, Address, Kind, Params, Rm};
+use crate::{read, write_rm, Address, Kind, Params, Refusal, Rm};
 
 /// The octets that the three codes of a cell begin with: ER, CCR and MCR.
 const CODES: [usize; 3] = [7, 9, 11];
@@ -41,10 +41,12 @@ fn each_code_of_a_cell_alone_is_refused_with_19() {
     for rm in [forward(32), backward(32)] {
         for code in CODES {
             let cell = reserved(&rm, &[code]);
-            assert_eq!(read(&cell), Err(19));
-            refused(&engine, 19, |engine| engine.receive(&cell));
+            assert_eq!(read(&cell), Err(Refusal::ReservedBit));
+            refused(&engine, Refusal::ReservedBit, |engine| {
+                engine.receive(&cell)
+            });
         }
-        assert_eq!(read(&reserved(&rm, &CODES)), Err(19));
+        assert_eq!(read(&reserved(&rm, &CODES)), Err(Refusal::ReservedBit));
         assert!(read(&reserved(&rm, &[])).is_ok());
     }
 }
@@ -60,7 +62,7 @@ fn the_bit_is_refused_in_a_code_of_rate_0() {
         ..backward(32)
     };
     for code in CODES {
-        refused(&engine, 19, |engine| {
+        refused(&engine, Refusal::ReservedBit, |engine| {
             engine.receive(&reserved(&rm, &[code]))
         });
     }
@@ -83,15 +85,23 @@ fn bit_14_alone_is_no_refusal() {
 fn receiving_tests_5_and_6_before_19_and_19_before_11() {
     let engine = engine_with(&params());
     let mut cell = reserved(&backward(33), &CODES);
-    refused(&engine, 19, |engine| engine.receive(&cell)); // VCI 33 is not open
+    refused(&engine, Refusal::ReservedBit, |engine| {
+        engine.receive(&cell)
+    }); // VCI 33 is not open
     cell[5] = 2;
-    refused(&engine, 6, |engine| engine.receive(&with_crc(cell)));
-    refused(&engine, 5, |engine| engine.receive(&cell));
-    assert_eq!(read(&with_crc(cell)), Err(6));
-    assert_eq!(read(&cell), Err(5));
+    refused(&engine, Refusal::Protocol, |engine| {
+        engine.receive(&with_crc(cell))
+    });
+    refused(&engine, Refusal::Crc, |engine| engine.receive(&cell));
+    assert_eq!(read(&with_crc(cell)), Err(Refusal::Protocol));
+    assert_eq!(read(&cell), Err(Refusal::Crc));
     cell[4] ^= 1;
-    refused(&engine, 2, |engine| engine.receive(&cell));
-    refused(&engine, 1, |engine| engine.receive(&cell[..52]));
+    refused(&engine, Refusal::HeaderCheck, |engine| {
+        engine.receive(&cell)
+    });
+    refused(&engine, Refusal::Length, |engine| {
+        engine.receive(&cell[..52])
+    });
 }
 
 #[test]
@@ -108,7 +118,9 @@ fn each_code_of_an_open_alone_is_refused_with_19() {
     let engine = Engine::new();
     for place in 0..3 {
         let params = with_bit(&[place]);
-        refused(&engine, 19, |engine| engine.open(at(32), 0, &params));
+        refused(&engine, Refusal::ReservedBit, |engine| {
+            engine.open(at(32), 0, &params)
+        });
     }
     assert!(engine.clone().open(at(32), 0, &with_bit(&[])).is_ok());
 }
@@ -122,12 +134,17 @@ fn opening_tests_10_before_19_and_19_before_7_8_12_and_14() {
         let open = |number, at, time, params: &Params| {
             refused(&engine, number, |engine| engine.open(at, time, params));
         };
-        open(10, at(31), 9, &params);
-        open(19, Address::new(256, 32), 9, &params); // before 7
-        open(19, at(33), 9, &Params { trm: 8, ..params });
-        open(19, at(33), TIME_MAX + 1, &params); // before 8
-        open(19, at(32), 9, &params); // before 12
-        open(19, at(33), 8, &params); // before 14
+        open(Refusal::LowVci, at(31), 9, &params);
+        open(Refusal::ReservedBit, Address::new(256, 32), 9, &params); // before 7
+        open(
+            Refusal::ReservedBit,
+            at(33),
+            9,
+            &Params { trm: 8, ..params },
+        );
+        open(Refusal::ReservedBit, at(33), TIME_MAX + 1, &params); // before 8
+        open(Refusal::ReservedBit, at(32), 9, &params); // before 12
+        open(Refusal::ReservedBit, at(33), 8, &params); // before 14
     }
 }
 
@@ -137,8 +154,10 @@ fn opening_tests_19_before_13() {
     for vci in 32..32 + 1024 {
         engine.open(at(vci), 0, &params()).unwrap();
     }
-    refused(&engine, 13, |engine| engine.open(at(2000), 0, &params()));
-    refused(&engine, 19, |engine| {
+    refused(&engine, Refusal::Full, |engine| {
+        engine.open(at(2000), 0, &params())
+    });
+    refused(&engine, Refusal::ReservedBit, |engine| {
         engine.open(at(2000), 0, &with_bit(&[1]))
     });
 }
@@ -152,10 +171,14 @@ fn a_code_over_16_bits_is_refused_with_7_whatever_its_bit_15_is() {
             Params::house(0x7FFF, wide | 0x4000, THOUSAND),
             Params::house(0x7FFF, 0x4000, wide | THOUSAND),
         ] {
-            refused(&engine, 7, |engine| engine.open(at(32), 0, &params));
+            refused(&engine, Refusal::Range, |engine| {
+                engine.open(at(32), 0, &params)
+            });
         }
         let beside = Params::house(wide, 0x4000, 0x8000 | THOUSAND);
-        refused(&engine, 19, |engine| engine.open(at(32), 0, &beside));
+        refused(&engine, Refusal::ReservedBit, |engine| {
+            engine.open(at(32), 0, &beside)
+        });
     }
 }
 
@@ -168,7 +191,7 @@ fn a_code_to_write_with_the_bit_is_refused_with_7() {
         Rm { ccr: 0xFFFF, ..rm },
         Rm { mcr: 0xC000, ..rm },
     ] {
-        assert_eq!(write_rm(&rm, &mut [0; LENGTH]), Err(7));
+        assert_eq!(write_rm(&rm, &mut [0; LENGTH]), Err(Refusal::Range));
     }
 }
 
@@ -183,7 +206,7 @@ fn a_turned_cell_never_has_the_bit() {
             er: 0x4001,
             ..forward(32)
         };
-        refused(&engine, 19, |engine| {
+        refused(&engine, Refusal::ReservedBit, |engine| {
             engine.receive(&reserved(&other, &[code]))
         });
     }

@@ -3,7 +3,7 @@
 use crate::engine::{Engine, TIME_MAX};
 use crate::engine_tests::{at, backward, engine_with, kind, octets, refused, slot_rm, MS, RATE};
 use crate::params::Contract;
-use crate::{Address, Kind, Params, Rm};
+use crate::{Address, Kind, Params, Refusal, Rm};
 
 /// Peak and initial rate 1,000 cells per second, minimum one, with this setup.
 fn params(tbe: u32, frtt: u32) -> Params {
@@ -116,28 +116,38 @@ fn first_cell_and_idle_bring_it_down_to_the_rate_that_is_used() {
 fn the_refusals_of_an_open_in_their_order() {
     let mut engine = Engine::new();
     let late = TIME_MAX + 1;
-    let open = |at, params| move |engine: &mut Engine| engine.open(at, late, &params);
-    let both = params(0, 16_700_001);
+    let (both, trip) = (params(0, 16_700_001), params(1, u32::MAX));
     let reserved = Params {
         pcr: 0xD3E8,
         ..both
     };
-    refused(&engine, 10, open(at(31), both));
-    refused(&engine, 19, open(Address::new(256, 32), reserved));
-    refused(&engine, 7, open(Address::new(256, 32), both));
-    refused(&engine, 7, open(at(65_536), both));
-    refused(&engine, 7, open(at(32), Params { n: 0, ..both }));
-    refused(&engine, 29, open(at(32), both));
-    refused(&engine, 29, open(at(32), params(16_777_216, 16_700_001)));
-    refused(&engine, 30, open(at(32), params(1, 16_700_001)));
-    refused(&engine, 8, open(at(32), params(1, 16_700_000)));
-    refused(&engine, 7, |engine| engine.open_path(256, late, &both));
-    refused(&engine, 29, |engine| engine.open_path(1, late, &both));
-    let trip = params(1, u32::MAX);
-    refused(&engine, 30, |engine| engine.open_path(1, late, &trip));
+    let beyond = Address::new(256, 32);
+    for (refusal, at, params) in [
+        (Refusal::LowVci, at(31), both),
+        (Refusal::ReservedBit, beyond, reserved),
+        (Refusal::Range, beyond, both),
+        (Refusal::Range, at(65_536), both),
+        (Refusal::Range, at(32), Params { n: 0, ..both }),
+        (Refusal::Tbe, at(32), both),
+        (Refusal::Tbe, at(32), params(16_777_216, 16_700_001)),
+        (Refusal::Frtt, at(32), params(1, 16_700_001)),
+        (Refusal::Time, at(32), params(1, 16_700_000)),
+    ] {
+        refused(&engine, refusal, |engine| engine.open(at, late, &params));
+    }
+    for (refusal, vpi, params) in [
+        (Refusal::Range, 256, both),
+        (Refusal::Tbe, 1, both),
+        (Refusal::Frtt, 1, trip),
+    ] {
+        refused(&engine, refusal, |engine| {
+            engine.open_path(vpi, late, &params)
+        });
+    }
     engine.open(at(32), 9, &params(1, 1)).unwrap();
-    refused(&engine, 29, |engine| engine.open(at(32), 0, &both));
-    refused(&engine, 30, |engine| engine.open(at(32), 0, &trip));
+    for (refusal, params) in [(Refusal::Tbe, both), (Refusal::Frtt, trip)] {
+        refused(&engine, refusal, |engine| engine.open(at(32), 0, &params));
+    }
 }
 
 /// 7 judges the given initial rate, whatever is used.
@@ -148,7 +158,9 @@ fn the_given_rate_is_judged() {
         ..params(1, 16_700_000)
     };
     let engine = Engine::new();
-    refused(&engine, 7, |engine| engine.open(at(32), 0, &above));
+    refused(&engine, Refusal::Range, |engine| {
+        engine.open(at(32), 0, &above)
+    });
 }
 
 /// At the rate that is used no more than TBE cells go in a round trip before any feedback,

@@ -3,7 +3,7 @@
 use crate::cell::LENGTH;
 use crate::engine::{Engine, TIME_MAX};
 use crate::engine_tests::{at, backward, draws, engine_with, kind, octets, params, MS};
-use crate::{Address, Kind, Params, Rm};
+use crate::{Address, Kind, Params, Refusal, Rm};
 
 /// An engine whose connection has a cell to send from 0 on, a millisecond apart.
 fn busy() -> Engine {
@@ -90,8 +90,11 @@ fn it_is_not_before_the_last_accepted_time() {
 #[test]
 fn a_refused_slot_leaves_it() {
     let mut engine = busy();
-    assert_eq!(engine.slot(3 * MS, &mut [0; 52]), Err(1));
-    assert_eq!(engine.slot(TIME_MAX + 1, &mut [0; LENGTH]), Err(8));
+    assert_eq!(engine.slot(3 * MS, &mut [0; 52]), Err(Refusal::Length));
+    assert_eq!(
+        engine.slot(TIME_MAX + 1, &mut [0; LENGTH]),
+        Err(Refusal::Time)
+    );
     assert_eq!(engine.slot_time(5 * MS, u64::MAX), MS);
 }
 
@@ -104,7 +107,7 @@ fn a_wrong_clock_gives_now_which_the_slot_refuses() {
             assert_eq!(engine.slot_time(now, lag), now);
         }
         let refused = engine.clone().slot(now, &mut [0; LENGTH]);
-        assert_eq!(refused, Err(14));
+        assert_eq!(refused, Err(Refusal::TimeBackward));
     }
     assert_eq!(engine.slot_time(5 * MS, u64::MAX), 5 * MS);
 }

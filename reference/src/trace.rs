@@ -1,7 +1,7 @@
 //! The numbers of a trace (document 02, L11): groups of seven bits, the low group first,
 //! the top bit of an octet set when more follow, in the shortest form only.
 
-use crate::refusal::{self, Refusal};
+use crate::refusal::Refusal;
 
 /// The bits of a group.
 const GROUP: u32 = 7;
@@ -31,7 +31,7 @@ impl<'a> Reader<'a> {
 
     /// The next octet. Refusal: 24 if there is none.
     fn octet(&mut self) -> Result<u8, Refusal> {
-        let (first, rest) = self.rest.split_first().ok_or(refusal::TRACE_END)?;
+        let (first, rest) = self.rest.split_first().ok_or(Refusal::TraceEnd)?;
         self.rest = rest;
         Ok(*first)
     }
@@ -48,7 +48,7 @@ impl<'a> Reader<'a> {
             let empty = last && group == 0 && place > 0;
             let over = place == GROUPS - 1 && (group > 1 || !last);
             if empty || over {
-                return Err(refusal::TRACE_NUMBER);
+                return Err(Refusal::TraceNumber);
             }
             number |= group << (GROUP * place);
             if last {
@@ -64,7 +64,7 @@ impl<'a> Reader<'a> {
         if in_range(number) {
             Ok(number)
         } else {
-            Err(refusal::TRACE_RANGE)
+            Err(Refusal::TraceRange)
         }
     }
 }
@@ -112,21 +112,21 @@ mod tests {
         };
         assert_eq!(with(1), Ok((u64::MAX, 1)));
         for tenth in (0..=255).filter(|tenth| *tenth != 1) {
-            assert_eq!(with(tenth), Err(23), "{tenth:x}");
+            assert_eq!(with(tenth), Err(Refusal::TraceNumber), "{tenth:x}");
         }
-        assert_eq!(read(&[0x80; 9]), Err(24));
-        assert_eq!(read(&[0x80; 10]), Err(23)); // seen there, whatever would follow
+        assert_eq!(read(&[0x80; 9]), Err(Refusal::TraceEnd));
+        assert_eq!(read(&[0x80; 10]), Err(Refusal::TraceNumber)); // seen there, whatever would follow
     }
 
     #[test]
     fn a_last_group_of_0_is_refused_with_23_but_not_as_the_first() {
         for groups in 1..=9 {
             let mut octets = vec![MORE; groups];
-            assert_eq!(read(&octets), Err(24));
+            assert_eq!(read(&octets), Err(Refusal::TraceEnd));
             octets.push(0);
-            assert_eq!(read(&octets), Err(23));
+            assert_eq!(read(&octets), Err(Refusal::TraceNumber));
             octets[0] = 0xFF;
-            assert_eq!(read(&octets), Err(23));
+            assert_eq!(read(&octets), Err(Refusal::TraceNumber));
         }
     }
 
@@ -134,7 +134,7 @@ mod tests {
     fn a_trace_that_ends_inside_a_number_is_refused_with_24() {
         let whole = [0xFF, 0xFF, 0xFF, 0xFF, 0xFF, 0xFF, 0xFF, 0xFF, 0xFF, 1];
         for len in 0..whole.len() {
-            assert_eq!(read(&whole[..len]), Err(24));
+            assert_eq!(read(&whole[..len]), Err(Refusal::TraceEnd));
         }
     }
 
@@ -142,8 +142,8 @@ mod tests {
     fn the_form_of_a_number_is_looked_at_before_its_range() {
         let within = |octets: &[u8]| Reader::new(octets).number_where(|number| number <= 7);
         assert_eq!(within(&[7]), Ok(7));
-        assert_eq!(within(&[8]), Err(25));
-        assert_eq!(within(&[0x88, 0]), Err(23));
-        assert_eq!(within(&[0x88]), Err(24));
+        assert_eq!(within(&[8]), Err(Refusal::TraceRange));
+        assert_eq!(within(&[0x88, 0]), Err(Refusal::TraceNumber));
+        assert_eq!(within(&[0x88]), Err(Refusal::TraceEnd));
     }
 }

@@ -5,10 +5,10 @@
 //! and every result is the reference's. Rates and times are in decimal, all
 //! other numbers in hexadecimal.
 
-use reference::cell::{self, Cell, Octets, Rm};
-use reference::connection::RateRecord;
-use reference::params::{Contract, FRTT_MAX, TBE_MAX, TRM_TIMES};
-use reference::{code_of, gap, rate_of, read, write_rm, Address, Params};
+use abr_reference::cell::{self, Cell, Octets, Rm};
+use abr_reference::connection::RateRecord;
+use abr_reference::params::{Contract, FRTT_MAX, TBE_MAX, TRM_TIMES};
+use abr_reference::{code_of, gap, rate_of, read, write_rm, Address, Params, Refusal};
 
 /// What the proved program must write.
 const EXPECTED: &str = include_str!("../../crates/vectors/stdout");
@@ -60,7 +60,7 @@ fn coded() -> Lines {
         lines.push(decimal(&[rate_of(code), gap]));
         lines.push(match code_of(rate) {
             Ok(code) => hex(&[code, 0]),
-            Err(number) => hex(&[0, number]),
+            Err(refusal) => hex(&[0, refusal.number()]),
         });
     }
     lines
@@ -71,7 +71,7 @@ fn coded() -> Lines {
 fn parameters(p: &Params) -> [String; 3] {
     let [pcr, mcr, icr] = [p.pcr, p.mcr, p.icr].map(rate_of);
     let others = p.check();
-    assert!(others.is_ok_and(|rates| rates == (pcr, mcr, icr)) || others == Err(7));
+    assert!(others.is_ok_and(|rates| rates == (pcr, mcr, icr)) || others == Err(Refusal::Range));
     let tbe = (1..=TBE_MAX).contains(&p.tbe);
     let frtt = p.frtt <= FRTT_MAX;
     [
@@ -237,7 +237,7 @@ fn most() -> Rm {
 /// EFCI, or an RM cell's fields, the VPI before the VCI.
 fn reading(cell: &[u8]) -> [String; 2] {
     let got = match read(cell) {
-        Err(number) => hex(&[number]),
+        Err(refusal) => hex(&[refusal.number()]),
         Ok(Cell::Data { vpi, vci, efci }) => hex(&[vpi, vci, u32::from(efci)]),
         Ok(Cell::Rm(rm)) => {
             let bits = [rm.dir, rm.bn, rm.ci, rm.ni, rm.ra];
@@ -252,7 +252,7 @@ fn reading(cell: &[u8]) -> [String; 2] {
 fn refusal(rm: &Rm, buffer: &mut [u8]) -> u32 {
     match write_rm(rm, buffer) {
         Ok(()) => 0,
-        Err(number) => number,
+        Err(refusal) => refusal.number(),
     }
 }
 

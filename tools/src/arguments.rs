@@ -3,6 +3,8 @@
 use std::ffi::{OsStr, OsString};
 use std::process::ExitCode;
 
+use abr::Address;
+
 use crate::console::Console;
 
 /// Standard input or output, where a file is named.
@@ -45,6 +47,14 @@ pub fn files(
         }
     }
     Ok(files)
+}
+
+/// The connection that an argument names.
+pub fn address(text: &str) -> Result<Address, String> {
+    let wrong = || format!("\"{text}\" is no connection; one is written VPI/VCI, as 1/32");
+    let number = |digits: &str| digits.parse().map_err(|_| wrong());
+    let (vpi, vci) = text.split_once('/').ok_or_else(wrong)?;
+    Ok(Address::new(number(vpi)?, number(vci)?))
 }
 
 /// Whether help is asked for.

@@ -2,7 +2,7 @@
 //! to keep, the rate in force, and a red mark where a rule is broken.
 
 use abr::RATE_ONE;
-use picture::svg::{self, path, put, text, thousands};
+use abr_support::svg::{self, path, put, text, thousands};
 
 use crate::excerpt::Excerpt;
 use crate::history::gap;

@@ -1,7 +1,7 @@
 //! A verdict in a sentence.
 
 use abr::{Refusal, Rule, Verdict, RATE_ONE};
-use picture::svg::thousands;
+use abr_support::svg::thousands;
 
 use crate::excerpt::Excerpt;
 use crate::fault::Unit;

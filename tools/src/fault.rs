@@ -3,7 +3,7 @@
 use std::fmt;
 
 use abr::{Refusal, RATE_MAX};
-use picture::svg::thousands;
+use abr_support::svg::thousands;
 
 use crate::number::NoNumber;
 

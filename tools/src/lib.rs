@@ -26,4 +26,4 @@ pub mod scenario;
 pub mod text;
 pub mod trace;
 
-pub use picture::console;
+pub use abr_support::console;

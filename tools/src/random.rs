@@ -1,10 +1,9 @@
 //! A small random scenario: three connections, with data, feedback, cells to be turned round and
 //! slots drawn from a seed.
 
-use abr::{Params, Refusal, Rm, Table, CELL_OCTETS, RATE_ONE};
+use abr::{Address, Params, Refusal, Rm, Table, CELL_OCTETS, RATE_ONE};
 
 use crate::record::Recorder;
-use crate::scenario::Address;
 
 /// The connections.
 const CONNECTIONS: u32 = 3;
@@ -40,12 +39,9 @@ pub fn run(seed: u64) -> Result<Vec<(Address, Recorder)>, Refusal> {
     let mut table = Table::new();
     let mut traces = Vec::new();
     for place in 0..CONNECTIONS {
-        let at = Address {
-            vpi: place,
-            vci: 32 + draw.below(1_000) as u32,
-        };
+        let at = Address::new(place, 32 + draw.below(1_000) as u32);
         let params = params(&mut draw)?;
-        table.open(at.vpi, at.vci, 0, &params)?;
+        table.open(at, 0, &params)?;
         traces.push((at, Recorder::new(&params)));
     }
     for slot in 0..SLOTS {
@@ -80,7 +76,7 @@ fn between(
 ) -> Result<(), Refusal> {
     for (at, _) in traces {
         if draw.once_in(20) {
-            table.offer(at.vpi, at.vci, draw.below(40))?;
+            table.offer(*at, draw.below(40))?;
         }
         if draw.once_in(12) {
             receive(table, *at, draw)?;
@@ -107,15 +103,12 @@ fn receive(table: &mut Table, at: Address, draw: &mut Draw) -> Result<(), Refusa
 
 /// A slot: the rates are read before it.
 fn send(table: &mut Table, traces: &mut [(Address, Recorder)], time: u64) -> Result<(), Refusal> {
-    let rates: Result<Vec<u64>, Refusal> = traces
-        .iter()
-        .map(|(at, _)| table.acr(at.vpi, at.vci))
-        .collect();
+    let rates: Result<Vec<u64>, Refusal> = traces.iter().map(|(at, _)| table.acr(*at)).collect();
     let Some(sent) = table.slot(time, &mut [0; CELL_OCTETS])? else {
         return Ok(());
     };
     for ((at, recorder), rate) in traces.iter_mut().zip(rates?) {
-        if (at.vpi, at.vci) == (sent.vpi, sent.vci) {
+        if *at == sent.address() {
             recorder.sent(time, sent.kind, rate);
         }
     }

@@ -1,7 +1,7 @@
 //! Cells of 53 octets, written and read without a table.
 
 use crate::ffi;
-use crate::Refusal;
+use crate::{Address, Refusal};
 
 /// The octets of a cell.
 pub const CELL_OCTETS: usize = 53;
@@ -35,6 +35,13 @@ pub struct Rm {
     pub sn: u32,
 }
 
+impl Rm {
+    /// The connection.
+    pub const fn address(&self) -> Address {
+        Address::new(self.vpi, self.vci)
+    }
+}
+
 /// What reading a cell gives.
 #[derive(Debug, Clone, Copy, PartialEq, Eq, Hash)]
 pub enum Cell {
@@ -51,18 +58,29 @@ pub enum Cell {
     Rm(Rm),
 }
 
+impl Cell {
+    /// The connection.
+    pub const fn address(&self) -> Address {
+        match *self {
+            Cell::Data { vpi, vci, .. } => Address::new(vpi, vci),
+            Cell::Rm(rm) => rm.address(),
+        }
+    }
+}
+
 /// Writes an RM cell into a buffer of 53 octets.
 ///
 /// # Errors
 /// In this order: [`Refusal::Length`], [`Refusal::Range`].
 ///
 /// ```
-/// use abr::{Cell, Refusal, Rm, CELL_OCTETS};
+/// use abr::{Address, Cell, Refusal, Rm, CELL_OCTETS};
 ///
 /// let rm = Rm { vpi: 255, vci: 32, backward: true, er: 0x53E8, ..Rm::default() };
 /// let mut cell = [0; CELL_OCTETS];
 /// abr::write_rm(&rm, &mut cell)?;
 /// assert_eq!(abr::read(&cell)?, Cell::Rm(rm));
+/// assert_eq!(abr::read(&cell)?.address(), Address::new(255, 32));
 ///
 /// cell[20] ^= 1;
 /// assert_eq!(abr::read(&cell), Err(Refusal::Crc));

@@ -5,22 +5,23 @@
 //! state is in a [`Table`]. Rates are whole numbers of 1/512 cell per second,
 //! times are nanoseconds. An accepted open, close, receive, offer or make answers
 //! the comparisons that it made between ready instants, 1 to [`COMPARISONS_MAX`], and a
-//! close the data cells that waited. A connection is named by its VPI and its VCI
-//! together, a path, which serves many channels at one rate, by its VPI and
+//! close the data cells that waited. A connection is named by its [`Address`], its VPI
+//! and its VCI together, a path, which serves many channels at one rate, by its VPI and
 //! [`PATH_VCI`].
 //!
 //! ```
-//! use abr::{Kind, Params, Table, CELL_OCTETS};
+//! use abr::{Address, Kind, Params, Table, CELL_OCTETS};
 //!
 //! # fn main() -> Result<(), abr::Refusal> {
 //! let mut table = Table::new();
 //! let thousand = abr::code(512_000)?; // 1,000 cells per second
-//! table.open(1, 32, 0, &Params::house(thousand, abr::code(512)?, thousand))?;
-//! table.offer(1, 32, 10)?;
+//! let at = Address::new(1, 32);
+//! table.open(at, 0, &Params::house(thousand, abr::code(512)?, thousand))?;
+//! table.offer(at, 10)?;
 //!
 //! let mut cell = [0; CELL_OCTETS];
 //! let sent = table.slot(0, &mut cell)?.expect("data waits");
-//! assert_eq!((sent.vpi, sent.vci), (1, 32));
+//! assert_eq!(sent.address(), at);
 //! assert_eq!((sent.kind, sent.acr), (Kind::Forward, 512_000));
 //! // The next cell is allowed a millisecond later.
 //! assert_eq!(table.next(), Some(1_000_000));
@@ -33,6 +34,7 @@
 
 #![warn(missing_docs)]
 
+mod address;
 mod cell;
 mod double;
 pub mod ffi;
@@ -43,14 +45,15 @@ mod rate;
 mod refusal;
 mod table;
 
+pub use address::{Address, PATH_VCI, VCI_MAX, VCI_MIN, VPI_MAX};
 pub use cell::{read, write_rm, Cell, Rm, CELL_OCTETS};
 pub use double::{import, Contract, Imported};
 pub use judge::{judge, Rule, Verdict};
-pub use params::{Params, FRTT_MAX, TBE_MAX};
+pub use params::{Params, ADTF_MAX, CDF_ZERO, FRTT_MAX, TBE_MAX};
 pub use port::{fair_share, limit, port, Share, DEMANDS_MAX};
-pub use rate::{code, rate, RATE_MAX, RATE_ONE};
+pub use rate::{code, rate, CODE_MAX, RATE_MAX, RATE_ONE};
 pub use refusal::Refusal;
 pub use table::{
     Allowed, Closed, Kind, Sent, Table, COMPARISONS_MAX, CONNECTIONS_MAX, LEVEL_MAX, MAKE_INTERVAL,
-    MEMBERS_MAX, OUT_OF_RATE_INTERVAL, PATH_VCI, TIME_MAX, VCI_MAX, VCI_MIN, VPI_MAX, WAITING_MAX,
+    MEMBERS_MAX, OUT_OF_RATE_INTERVAL, TIME_MAX, WAITING_MAX,
 };

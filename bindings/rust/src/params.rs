@@ -2,10 +2,14 @@
 
 use crate::ffi;
 
+/// The `c` that means a CDF of zero.
+pub const CDF_ZERO: u32 = 7;
 /// The largest TBE, in cells.
 pub const TBE_MAX: u32 = 16_777_215;
 /// The largest FRTT, in microseconds.
 pub const FRTT_MAX: u32 = 16_700_000;
+/// The largest ADTF, in steps of 10 ms.
+pub const ADTF_MAX: u32 = 1_023;
 
 /// What an open gives beside VPI, VCI and time (the manual, section 4), with the
 /// layout of the C struct. [`crate::Table::open`] checks the ranges.

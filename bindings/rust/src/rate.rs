@@ -9,6 +9,9 @@ pub const RATE_ONE: u64 = 512;
 /// The largest rate that has a code.
 pub const RATE_MAX: u64 = 1023 << 31;
 
+/// Its code, the largest.
+pub const CODE_MAX: u32 = 0x7FFF;
+
 /// Codes a rate: the code of the greatest code rate not above it.
 ///
 /// # Errors

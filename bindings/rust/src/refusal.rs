@@ -7,7 +7,7 @@ use std::fmt;
 macro_rules! refusals {
     ($($(#[$doc:meta])* $name:ident = $number:literal: $text:literal,)*) => {
         /// A refused call changes nothing and says why (the manual, section
-        /// 14). The number 3 is no longer given.
+        /// 14). The number 3 is no longer given; a later version may give others.
         ///
         /// ```
         /// use abr::Refusal;
@@ -15,10 +15,11 @@ macro_rules! refusals {
         /// assert_eq!(Refusal::Range.number(), 7);
         /// assert_eq!(Refusal::try_from(7), Ok(Refusal::Range));
         /// assert_eq!(Refusal::try_from(3), Err(3));
-        /// assert_eq!(Refusal::try_from(31), Err(31));
+        /// assert_eq!(Refusal::try_from(1_000), Err(1_000));
         /// assert_eq!(Refusal::Full.to_string(), "1,024 connections are open");
         /// ```
         #[derive(Debug, Clone, Copy, PartialEq, Eq, Hash)]
+        #[non_exhaustive]
         #[repr(u32)]
         pub enum Refusal { $($(#[$doc])* $name = $number,)* }
 

@@ -3,7 +3,7 @@
 use std::fmt;
 
 use crate::ffi;
-use crate::{Contract, Params, Refusal};
+use crate::{Address, Contract, Params, Refusal};
 
 /// The connections that may be open at once.
 pub const CONNECTIONS_MAX: usize = 1_024;
@@ -11,14 +11,6 @@ pub const CONNECTIONS_MAX: usize = 1_024;
 pub const MEMBERS_MAX: usize = 256;
 /// The most comparisons of a call.
 pub const COMPARISONS_MAX: u32 = 10;
-/// The greatest VPI.
-pub const VPI_MAX: u32 = 255;
-/// The VCI in the name of a path, and in its RM cells.
-pub const PATH_VCI: u32 = 6;
-/// The least VCI that can be opened.
-pub const VCI_MIN: u32 = 32;
-/// The greatest VCI that can be opened.
-pub const VCI_MAX: u32 = 65_535;
 /// The latest time.
 pub const TIME_MAX: u64 = 1 << 62;
 /// The most data cells that wait on one channel, and on one member of a path.
@@ -76,6 +68,13 @@ pub struct Allowed {
     pub change: i64,
 }
 
+impl Sent {
+    /// The connection; for data of a path the member.
+    pub const fn address(&self) -> Address {
+        Address::new(self.vpi, self.vci)
+    }
+}
+
 /// The connections of one link. A refused call leaves it as it was.
 #[derive(Clone, PartialEq, Eq)]
 pub struct Table {
@@ -111,22 +110,23 @@ impl Table {
     /// [`Refusal::Full`], [`Refusal::TimeBackward`].
     ///
     /// ```
-    /// use abr::{Params, Refusal, Table};
+    /// use abr::{Address, Params, Refusal, Table};
     /// let mut table = Table::new();
+    /// let at = Address::new(1, 32);
     /// let params = Params::house(0x53E8, 0x4000, 0x53E8);
-    /// assert_eq!(table.open(1, 31, 0, &params), Err(Refusal::LowVci));
-    /// assert_eq!(table.open(1, 32, 0, &params), Ok(1));
-    /// assert_eq!(table.open(1, 32, 0, &params), Err(Refusal::AlreadyOpen));
-    /// assert_eq!(table.open(256, 32, 0, &params), Err(Refusal::Range));
-    /// assert_eq!(table.acr(1, 32), Ok(512_000));
-    /// assert_eq!(table.acr(0, 65_568), Err(Refusal::NotOpen)); // not 1 and 32
-    /// assert_eq!(table.open(2, 32, 0, &params), Ok(1)); // another connection
+    /// assert_eq!(table.open(Address::new(1, 31), 0, &params), Err(Refusal::LowVci));
+    /// assert_eq!(table.open(at, 0, &params), Ok(1));
+    /// assert_eq!(table.open(at, 0, &params), Err(Refusal::AlreadyOpen));
+    /// assert_eq!(table.open(Address::new(256, 32), 0, &params), Err(Refusal::Range));
+    /// assert_eq!(table.acr(at), Ok(512_000));
+    /// assert_eq!(table.acr(Address::new(0, 65_568)), Err(Refusal::NotOpen)); // not 1 and 32
+    /// assert_eq!(table.open(Address::new(2, 32), 0, &params), Ok(1)); // another connection
     /// let flagged = Params { pcr: 0xD3E8, ..params };
-    /// assert_eq!(table.open(3, 32, 0, &flagged), Err(Refusal::ReservedBit));
+    /// assert_eq!(table.open(Address::new(3, 32), 0, &flagged), Err(Refusal::ReservedBit));
     /// ```
-    pub fn open(&mut self, vpi: u32, vci: u32, time: u64, params: &Params) -> Result<u32, Refusal> {
+    pub fn open(&mut self, at: Address, time: u64, params: &Params) -> Result<u32, Refusal> {
         // SAFETY: the pointer is live for the call.
-        comparisons(unsafe { ffi::abr_open(self.raw(), vpi, vci, time, *params) })
+        comparisons(unsafe { ffi::abr_open(self.raw(), at.vpi, at.vci, time, *params) })
     }
 
     /// Closes a connection, drops all that waits on it and answers how many data cells
@@ -138,22 +138,23 @@ impl Table {
     /// [`Refusal::NotOpen`].
     ///
     /// ```
-    /// # use abr::{Closed, Params, Refusal, Table, COMPARISONS_MAX};
+    /// # use abr::{Address, Closed, Params, Refusal, Table, COMPARISONS_MAX};
     /// # let mut table = Table::new();
-    /// # table.open(1, 32, 0, &Params::house(0x53E8, 0x4000, 0x53E8)).unwrap();
-    /// table.offer(1, 32, 7)?;
+    /// # let at = Address::new(1, 32);
+    /// # table.open(at, 0, &Params::house(0x53E8, 0x4000, 0x53E8)).unwrap();
+    /// table.offer(at, 7)?;
     /// let closed = Closed { cells: 7, comparisons: COMPARISONS_MAX };
-    /// assert_eq!(table.close(1, 32), Ok(closed));
-    /// assert_eq!(table.close(1, 32), Err(Refusal::NotOpen));
+    /// assert_eq!(table.close(at), Ok(closed));
+    /// assert_eq!(table.close(at), Err(Refusal::NotOpen));
     /// # Ok::<(), Refusal>(())
     /// ```
-    pub fn close(&mut self, vpi: u32, vci: u32) -> Result<Closed, Refusal> {
+    pub fn close(&mut self, at: Address) -> Result<Closed, Refusal> {
         // SAFETY: the pointer is live for the call.
-        closed(unsafe { ffi::abr_close(self.raw(), vpi, vci) })
+        closed(unsafe { ffi::abr_close(self.raw(), at.vpi, at.vci) })
     }
 
     /// Opens a path, a connection for a whole VPI, without members, and answers the
-    /// comparisons. The other calls take it by its VPI and [`PATH_VCI`].
+    /// comparisons. The other calls take it by [`Address::of_path`].
     ///
     /// # Errors
     /// In this order: [`Refusal::ReservedBit`] in one of the three rate codes,
@@ -161,24 +162,25 @@ impl Table {
     /// [`Refusal::AlreadyOpen`], [`Refusal::Full`], [`Refusal::TimeBackward`].
     ///
     /// ```
-    /// use abr::{Kind, Params, Refusal, Table, CELL_OCTETS, PATH_VCI};
+    /// use abr::{Address, Kind, Params, Refusal, Table, CELL_OCTETS, PATH_VCI};
     /// let mut table = Table::new();
     /// let params = Params::house(0x53E8, 0x4000, 0x53E8);
     /// assert_eq!(table.open_path(3, 0, &params), Ok(1));
     /// assert_eq!(table.open_path(3, 0, &params), Err(Refusal::AlreadyOpen));
     /// assert_eq!(table.open_path(256, 0, &params), Err(Refusal::Range));
-    /// for vci in [40, 50] {
-    ///     table.add(3, vci)?;
-    ///     table.offer_member(3, vci, 2)?;
+    /// let members = [40, 50].map(|vci| Address::new(3, vci));
+    /// for member in members {
+    ///     table.add(member)?;
+    ///     table.offer_member(member, 2)?;
     /// }
     /// let mut cell = [0; CELL_OCTETS];
     /// let forward = table.slot(0, &mut cell)?.expect("data waits");
     /// assert_eq!((forward.vci, forward.kind), (PATH_VCI, Kind::Forward));
-    /// for (ms, vci) in [(1, 40), (2, 50), (3, 40), (4, 50)] {
+    /// for (ms, member) in (1..=4).zip(members.iter().cycle()) {
     ///     let data = table.slot(ms * 1_000_000, &mut cell)?.expect("data waits");
-    ///     assert_eq!((data.vpi, data.vci, data.kind), (3, vci, Kind::Data));
+    ///     assert_eq!((data.address(), data.kind), (*member, Kind::Data));
     /// }
-    /// assert_eq!(table.acr(3, PATH_VCI), Ok(512_000)); // one rate for both
+    /// assert_eq!(table.acr(Address::of_path(3)), Ok(512_000)); // one rate for both
     /// # Ok::<(), Refusal>(())
     /// ```
     pub fn open_path(&mut self, vpi: u32, time: u64, params: &Params) -> Result<u32, Refusal> {
@@ -194,20 +196,21 @@ impl Table {
     /// [`Refusal::MembersFull`] with [`MEMBERS_MAX`] in the whole table.
     ///
     /// ```
-    /// # use abr::{Params, Refusal, Table};
+    /// # use abr::{Address, Params, Refusal, Table};
     /// # let mut table = Table::new();
     /// # let params = Params::house(0x53E8, 0x4000, 0x53E8);
     /// table.open_path(3, 0, &params)?;
-    /// assert_eq!(table.add(3, 31), Err(Refusal::LowVci));
-    /// assert_eq!(table.add(4, 40), Err(Refusal::NotOpen));
-    /// assert_eq!(table.add(3, 40), Ok(()));
-    /// assert_eq!(table.add(3, 40), Err(Refusal::AlreadyMember));
-    /// assert_eq!(table.open(3, 40, 0, &params), Err(Refusal::AlreadyMember));
+    /// let member = Address::new(3, 40);
+    /// assert_eq!(table.add(Address::new(3, 31)), Err(Refusal::LowVci));
+    /// assert_eq!(table.add(Address::new(4, 40)), Err(Refusal::NotOpen));
+    /// assert_eq!(table.add(member), Ok(()));
+    /// assert_eq!(table.add(member), Err(Refusal::AlreadyMember));
+    /// assert_eq!(table.open(member, 0, &params), Err(Refusal::AlreadyMember));
     /// # Ok::<(), Refusal>(())
     /// ```
-    pub fn add(&mut self, vpi: u32, vci: u32) -> Result<(), Refusal> {
+    pub fn add(&mut self, at: Address) -> Result<(), Refusal> {
         // SAFETY: the pointer is live for the call.
-        Refusal::outcome(unsafe { ffi::abr_add(self.raw(), vpi, vci) }.refusal)
+        Refusal::outcome(unsafe { ffi::abr_add(self.raw(), at.vpi, at.vci) }.refusal)
     }
 
     /// Adds data cells to those that wait on a member of a path, and answers the
@@ -218,21 +221,24 @@ impl Table {
     /// [`Refusal::TooMuchData`] on this member.
     ///
     /// ```
-    /// # use abr::{Params, Refusal, Table, COMPARISONS_MAX, PATH_VCI, WAITING_MAX};
+    /// # use abr::{Address, Params, Refusal, Table, COMPARISONS_MAX, WAITING_MAX};
     /// # let mut table = Table::new();
     /// # table.open_path(3, 0, &Params::house(0x53E8, 0x4000, 0x53E8)).unwrap();
-    /// table.add(3, 40)?;
-    /// assert_eq!(table.offer_member(3, 40, WAITING_MAX), Ok(COMPARISONS_MAX));
-    /// assert_eq!(table.offer_member(3, 40, 1), Err(Refusal::TooMuchData));
-    /// assert_eq!(table.offer_member(3, 41, 1), Err(Refusal::NotAMember));
-    /// assert_eq!(table.offer_member(3, 65_576, 1), Err(Refusal::NotAMember)); // not 40
-    /// assert_eq!(table.offer(3, PATH_VCI, 1), Err(Refusal::NotAMember));
-    /// assert_eq!(table.offer(3, 40, 1), Err(Refusal::NotOpen)); // no channel
+    /// let member = Address::new(3, 40);
+    /// table.add(member)?;
+    /// assert_eq!(table.offer_member(member, WAITING_MAX), Ok(COMPARISONS_MAX));
+    /// assert_eq!(table.offer_member(member, 1), Err(Refusal::TooMuchData));
+    /// for other in [41, 65_576] {
+    ///     let other = Address::new(3, other); // 65,576 is not 40
+    ///     assert_eq!(table.offer_member(other, 1), Err(Refusal::NotAMember));
+    /// }
+    /// assert_eq!(table.offer(Address::of_path(3), 1), Err(Refusal::NotAMember));
+    /// assert_eq!(table.offer(member, 1), Err(Refusal::NotOpen)); // no channel
     /// # Ok::<(), Refusal>(())
     /// ```
-    pub fn offer_member(&mut self, vpi: u32, vci: u32, cells: u64) -> Result<u32, Refusal> {
+    pub fn offer_member(&mut self, at: Address, cells: u64) -> Result<u32, Refusal> {
         // SAFETY: the pointer is live for the call.
-        comparisons(unsafe { ffi::abr_offer_member(self.raw(), vpi, vci, cells) })
+        comparisons(unsafe { ffi::abr_offer_member(self.raw(), at.vpi, at.vci, cells) })
     }
 
     /// Removes a member from its path, drops the data that waits on it and answers how
@@ -242,23 +248,24 @@ impl Table {
     /// In this order: [`Refusal::NotOpen`], [`Refusal::NotAMember`].
     ///
     /// ```
-    /// # use abr::{Params, Refusal, Table, PATH_VCI};
+    /// # use abr::{Address, Params, Refusal, Table};
     /// # let mut table = Table::new();
     /// # table.open_path(3, 0, &Params::house(0x53E8, 0x4000, 0x53E8)).unwrap();
-    /// for vci in [40, 50] {
-    ///     table.add(3, vci)?;
-    ///     table.offer_member(3, vci, 7)?;
+    /// let members = [40, 50].map(|vci| Address::new(3, vci));
+    /// for member in members {
+    ///     table.add(member)?;
+    ///     table.offer_member(member, 7)?;
     /// }
-    /// assert_eq!(table.remove(3, 40)?.cells, 7);
-    /// assert_eq!(table.remove(3, 40), Err(Refusal::NotAMember));
-    /// assert_eq!(table.remove(3, 70_000), Err(Refusal::NotAMember));
-    /// assert_eq!(table.close(3, PATH_VCI)?.cells, 7); // with the other member
-    /// assert_eq!(table.remove(3, 50), Err(Refusal::NotOpen));
+    /// assert_eq!(table.remove(members[0])?.cells, 7);
+    /// assert_eq!(table.remove(members[0]), Err(Refusal::NotAMember));
+    /// assert_eq!(table.remove(Address::new(3, 70_000)), Err(Refusal::NotAMember));
+    /// assert_eq!(table.close(Address::of_path(3))?.cells, 7); // with the other member
+    /// assert_eq!(table.remove(members[1]), Err(Refusal::NotOpen));
     /// # Ok::<(), Refusal>(())
     /// ```
-    pub fn remove(&mut self, vpi: u32, vci: u32) -> Result<Closed, Refusal> {
+    pub fn remove(&mut self, at: Address) -> Result<Closed, Refusal> {
         // SAFETY: the pointer is live for the call.
-        closed(unsafe { ffi::abr_remove(self.raw(), vpi, vci) })
+        closed(unsafe { ffi::abr_remove(self.raw(), at.vpi, at.vci) })
     }
 
     /// Receives a cell: a backward RM cell moves the rate of its connection, a
@@ -272,14 +279,15 @@ impl Table {
     /// [`Refusal::Protocol`] and [`Refusal::ReservedBit`], [`Refusal::NotOpen`].
     ///
     /// ```
-    /// use abr::{Params, Rm, Table, CELL_OCTETS};
+    /// use abr::{Address, Params, Rm, Table, CELL_OCTETS};
     /// let mut table = Table::new();
-    /// table.open(1, 32, 0, &Params::house(0x53E8, 0x4000, 0x53E8))?;
+    /// let at = Address::new(1, 32);
+    /// table.open(at, 0, &Params::house(0x53E8, 0x4000, 0x53E8))?;
     /// let rm = Rm { vpi: 1, vci: 32, backward: true, ci: true, er: 0x7FFF, ..Rm::default() };
     /// let mut cell = [0; CELL_OCTETS];
     /// abr::write_rm(&rm, &mut cell)?;
     /// table.receive(&cell)?;
-    /// assert_eq!(table.acr(1, 32), Ok(480_000)); // a sixteenth less
+    /// assert_eq!(table.acr(at), Ok(480_000)); // a sixteenth less
     /// # Ok::<(), abr::Refusal>(())
     /// ```
     pub fn receive(&mut self, cell: &[u8]) -> Result<u32, Refusal> {
@@ -295,16 +303,17 @@ impl Table {
     /// name, [`Refusal::TooMuchData`].
     ///
     /// ```
-    /// # use abr::{Params, Refusal, Table, COMPARISONS_MAX, WAITING_MAX};
+    /// # use abr::{Address, Params, Refusal, Table, COMPARISONS_MAX, WAITING_MAX};
     /// # let mut table = Table::new();
-    /// # table.open(1, 32, 0, &Params::house(0x53E8, 0x4000, 0x53E8)).unwrap();
+    /// # let at = Address::new(1, 32);
+    /// # table.open(at, 0, &Params::house(0x53E8, 0x4000, 0x53E8)).unwrap();
     /// // It becomes ready, and wins at every level.
-    /// assert_eq!(table.offer(1, 32, WAITING_MAX), Ok(COMPARISONS_MAX));
-    /// assert_eq!(table.offer(1, 32, 1), Err(Refusal::TooMuchData));
+    /// assert_eq!(table.offer(at, WAITING_MAX), Ok(COMPARISONS_MAX));
+    /// assert_eq!(table.offer(at, 1), Err(Refusal::TooMuchData));
     /// ```
-    pub fn offer(&mut self, vpi: u32, vci: u32, cells: u64) -> Result<u32, Refusal> {
+    pub fn offer(&mut self, at: Address, cells: u64) -> Result<u32, Refusal> {
         // SAFETY: the pointer is live for the call.
-        comparisons(unsafe { ffi::abr_offer(self.raw(), vpi, vci, cells) })
+        comparisons(unsafe { ffi::abr_offer(self.raw(), at.vpi, at.vci, cells) })
     }
 
     /// Sets the congestion level, which marks the cells turned or made from now
@@ -337,13 +346,14 @@ impl Table {
     /// last made cell.
     ///
     /// ```
-    /// use abr::{Cell, Kind, Params, Refusal, Rm, Table, CELL_OCTETS, MAKE_INTERVAL};
+    /// use abr::{Address, Cell, Kind, Params, Refusal, Rm, Table, CELL_OCTETS, MAKE_INTERVAL};
     /// let mut table = Table::new();
-    /// table.open(1, 32, 0, &Params::house(0x53E8, 0x4000, 0x53E8))?;
-    /// assert_eq!(table.make(1, 32, 0), Err(Refusal::NotCongested));
+    /// let at = Address::new(1, 32);
+    /// table.open(at, 0, &Params::house(0x53E8, 0x4000, 0x53E8))?;
+    /// assert_eq!(table.make(at, 0), Err(Refusal::NotCongested));
     /// table.set_level(2)?;
-    /// table.make(1, 32, 0)?;
-    /// assert_eq!(table.make(1, 32, MAKE_INTERVAL - 1), Err(Refusal::TooSoon));
+    /// table.make(at, 0)?;
+    /// assert_eq!(table.make(at, MAKE_INTERVAL - 1), Err(Refusal::TooSoon));
     ///
     /// let mut cell = [0; CELL_OCTETS];
     /// let first = table.slot(0, &mut cell)?.expect("the made cell waits");
@@ -354,9 +364,9 @@ impl Table {
     /// assert_eq!(abr::read(&cell)?, Cell::Rm(made));
     /// # Ok::<(), Refusal>(())
     /// ```
-    pub fn make(&mut self, vpi: u32, vci: u32, time: u64) -> Result<u32, Refusal> {
+    pub fn make(&mut self, at: Address, time: u64) -> Result<u32, Refusal> {
         // SAFETY: the pointer is live for the call.
-        comparisons(unsafe { ffi::abr_make(self.raw(), vpi, vci, time) })
+        comparisons(unsafe { ffi::abr_make(self.raw(), at.vpi, at.vci, time) })
     }
 
     /// Gives the slot at a time to the connection with the earliest ready
@@ -391,11 +401,12 @@ impl Table {
     /// no other call does.
     ///
     /// ```
-    /// use abr::{Params, Table, CELL_OCTETS};
+    /// use abr::{Address, Params, Table, CELL_OCTETS};
     /// let mut table = Table::new();
-    /// table.open(1, 32, 5, &Params::house(0x53E8, 0x4000, 0x53E8))?;
+    /// let at = Address::new(1, 32);
+    /// table.open(at, 5, &Params::house(0x53E8, 0x4000, 0x53E8))?;
     /// assert_eq!(table.next(), None); // nothing waits
-    /// table.offer(1, 32, 2)?;
+    /// table.offer(at, 2)?;
     /// assert_eq!(table.next(), Some(5)); // its opening
     /// let mut cell = [0; CELL_OCTETS];
     /// assert!(table.slot(7, &mut cell)?.is_some());
@@ -418,10 +429,11 @@ impl Table {
     /// before the last accepted time comes back as it is, and a slot refuses it.
     ///
     /// ```
-    /// use abr::{Params, Refusal, Table, CELL_OCTETS};
+    /// use abr::{Address, Params, Refusal, Table, CELL_OCTETS};
     /// let mut table = Table::new();
-    /// table.open(1, 32, 0, &Params::house(0x53E8, 0x4000, 0x53E8))?; // a gap of 1 ms
-    /// table.offer(1, 32, 2)?;
+    /// let at = Address::new(1, 32);
+    /// table.open(at, 0, &Params::house(0x53E8, 0x4000, 0x53E8))?; // a gap of 1 ms
+    /// table.offer(at, 2)?;
     /// let mut cell = [0; CELL_OCTETS];
     /// assert!(table.slot(0, &mut cell)?.is_some());
     /// assert_eq!(table.slot_time(700_000, 700_000), 700_000); // nothing is ready
@@ -450,36 +462,32 @@ impl Table {
     /// [`OUT_OF_RATE_INTERVAL`] after the connection's last such cell.
     ///
     /// ```
-    /// use abr::{Cell, Params, Refusal, Rm, Table, CELL_OCTETS, OUT_OF_RATE_INTERVAL};
+    /// use abr::{Address, Cell, Params, Refusal, Rm, Table, CELL_OCTETS, OUT_OF_RATE_INTERVAL};
     /// let mut table = Table::new();
-    /// table.open(1, 32, 0, &Params::house(0x53E8, 0, 0))?; // no minimum, initial rate 0
-    /// table.offer(1, 32, 1)?;
+    /// let at = Address::new(1, 32);
+    /// table.open(at, 0, &Params::house(0x53E8, 0, 0))?; // no minimum, initial rate 0
+    /// table.offer(at, 1)?;
     /// let mut cell = [0; CELL_OCTETS];
     /// assert_eq!(table.slot(0, &mut cell), Ok(None)); // never ready at rate 0
     ///
-    /// table.out_of_rate(1, 32, 0, &mut cell)?;
+    /// table.out_of_rate(at, 0, &mut cell)?;
     /// let forward = Rm { vpi: 1, vci: 32, er: 0x53E8, ..Rm::default() };
     /// assert_eq!(abr::read(&cell)?, Cell::Rm(forward));
     /// assert_eq!(cell[3] & 1, 1); // CLP
-    /// let again = table.out_of_rate(1, 32, OUT_OF_RATE_INTERVAL - 1, &mut cell);
+    /// let again = table.out_of_rate(at, OUT_OF_RATE_INTERVAL - 1, &mut cell);
     /// assert_eq!(again, Err(Refusal::TooOften));
     ///
     /// abr::write_rm(&Rm { backward: true, ..forward }, &mut cell)?; // its answer
     /// table.receive(&cell)?;
-    /// assert_eq!(table.acr(1, 32), Ok(32_000)); // a sixteenth of the peak
+    /// assert_eq!(table.acr(at), Ok(32_000)); // a sixteenth of the peak
     /// assert!(table.slot(0, &mut cell)?.is_some());
     /// # Ok::<(), Refusal>(())
     /// ```
-    pub fn out_of_rate(
-        &mut self,
-        vpi: u32,
-        vci: u32,
-        time: u64,
-        cell: &mut [u8],
-    ) -> Result<(), Refusal> {
+    pub fn out_of_rate(&mut self, at: Address, time: u64, cell: &mut [u8]) -> Result<(), Refusal> {
         let (octets, len) = (cell.as_mut_ptr(), cell.len());
+        let (table, Address { vpi, vci }) = (self.raw(), at);
         // SAFETY: both pointers are live and the length is the buffer's own.
-        Refusal::outcome(unsafe { ffi::abr_out_of_rate(self.raw(), vpi, vci, time, octets, len) })
+        Refusal::outcome(unsafe { ffi::abr_out_of_rate(table, vpi, vci, time, octets, len) })
     }
 
     /// The allowed rate of a connection, and the change that its last accepted backward
@@ -489,20 +497,21 @@ impl Table {
     /// [`Refusal::NotOpen`].
     ///
     /// ```
-    /// use abr::{Allowed, Params, Rm, Table, CELL_OCTETS};
+    /// use abr::{Address, Allowed, Params, Rm, Table, CELL_OCTETS};
     /// let mut table = Table::new();
-    /// table.open(1, 32, 0, &Params::house(0x53E8, 0x4000, 0x53E8))?;
-    /// assert_eq!(table.allowed(1, 32), Ok(Allowed { acr: 512_000, change: 0 }));
+    /// let at = Address::new(1, 32);
+    /// table.open(at, 0, &Params::house(0x53E8, 0x4000, 0x53E8))?;
+    /// assert_eq!(table.allowed(at), Ok(Allowed { acr: 512_000, change: 0 }));
     /// let rm = Rm { vpi: 1, vci: 32, backward: true, ci: true, er: 0x7FFF, ..Rm::default() };
     /// let mut cell = [0; CELL_OCTETS];
     /// abr::write_rm(&rm, &mut cell)?;
     /// table.receive(&cell)?;
-    /// assert_eq!(table.allowed(1, 32), Ok(Allowed { acr: 480_000, change: -32_000 }));
+    /// assert_eq!(table.allowed(at), Ok(Allowed { acr: 480_000, change: -32_000 }));
     /// # Ok::<(), abr::Refusal>(())
     /// ```
-    pub fn allowed(&self, vpi: u32, vci: u32) -> Result<Allowed, Refusal> {
+    pub fn allowed(&self, at: Address) -> Result<Allowed, Refusal> {
         // SAFETY: the pointer is live for the call.
-        let allowed = unsafe { ffi::abr_acr(self.words.as_ptr().cast(), vpi, vci) };
+        let allowed = unsafe { ffi::abr_acr(self.words.as_ptr().cast(), at.vpi, at.vci) };
         Refusal::outcome(allowed.refusal)?;
         let ffi::abr_allowed { acr, change, .. } = allowed;
         Ok(Allowed { acr, change })
@@ -514,10 +523,11 @@ impl Table {
     /// [`Refusal::NotOpen`].
     ///
     /// ```
-    /// assert_eq!(abr::Table::new().acr(1, 32), Err(abr::Refusal::NotOpen));
+    /// use abr::{Address, Refusal, Table};
+    /// assert_eq!(Table::new().acr(Address::new(1, 32)), Err(Refusal::NotOpen));
     /// ```
-    pub fn acr(&self, vpi: u32, vci: u32) -> Result<u64, Refusal> {
-        Ok(self.allowed(vpi, vci)?.acr)
+    pub fn acr(&self, at: Address) -> Result<u64, Refusal> {
+        Ok(self.allowed(at)?.acr)
     }
 
     /// The peak, minimum and initial rate of a connection as doubles in cells per
@@ -527,19 +537,20 @@ impl Table {
     /// [`Refusal::NotOpen`].
     ///
     /// ```
-    /// use abr::{Contract, Imported, Params, Table};
+    /// use abr::{Address, Contract, Imported, Params, Table};
     /// let mut table = Table::new();
-    /// table.open(1, 32, 0, &Params::house(0x53E8, 0, 0x4001))?;
-    /// let contract = table.export(1, 32)?;
+    /// let at = Address::new(1, 32);
+    /// table.open(at, 0, &Params::house(0x53E8, 0, 0x4001))?;
+    /// let contract = table.export(at)?;
     /// assert_eq!(contract, Contract { pcr: 1_000.0, mcr: 0.0, icr: 1.001953125 });
     /// assert_eq!(abr::import(contract.icr)?, Imported::Exact(0x4001));
     /// # Ok::<(), abr::Refusal>(())
     /// ```
-    pub fn export(&self, vpi: u32, vci: u32) -> Result<Contract, Refusal> {
+    pub fn export(&self, at: Address) -> Result<Contract, Refusal> {
         let mut refusal = 0;
         let table = self.words.as_ptr().cast();
         // SAFETY: both pointers are live for the call.
-        let contract = unsafe { ffi::abr_export(table, vpi, vci, &mut refusal) };
+        let contract = unsafe { ffi::abr_export(table, at.vpi, at.vci, &mut refusal) };
         Refusal::outcome(refusal)?;
         Ok(contract)
     }

@@ -1,8 +1,10 @@
 //! The picture of two connections.
 
-use crate::plot::Plot;
-use crate::scenario::{END, PHASES, VCIS};
-use crate::svg::{self, text};
+use abr::{Address, Refusal};
+use abr_support::plot::Plot;
+use abr_support::scenario::{self, CONNECTIONS, END, PHASES};
+use abr_support::svg::{self, text};
+
 use crate::track::Track;
 
 const WIDTH: f64 = 960.0;
@@ -19,14 +21,26 @@ const PLOT: Plot = Plot {
     most: 9_000.0,
 };
 
+/// The allowed rates of both connections, over the scenario.
+pub fn tracks() -> Result<[Track; 2], Refusal> {
+    let mut tracks = [Track::default(), Track::default()];
+    scenario::run(|slot| {
+        for (track, acr) in tracks.iter_mut().zip(slot.after) {
+            track.add(slot.time, acr);
+        }
+    })?;
+    tracks.iter_mut().for_each(|track| track.end(END));
+    Ok(tracks)
+}
+
 /// The whole picture.
 pub fn svg(tracks: &[Track; 2]) -> String {
     let title = "Allowed rates of two connections under changing congestion";
     let mut out = svg::begin((WIDTH, HEIGHT), (LEFT, 28.0), title);
     phases(&mut out);
     axes(&mut out);
-    for ((track, vci), colour) in tracks.iter().zip(VCIS).zip(COLOURS) {
-        line(&mut out, track, vci, colour);
+    for ((track, at), colour) in tracks.iter().zip(CONNECTIONS).zip(COLOURS) {
+        line(&mut out, track, at, colour);
     }
     out.push_str("</svg>\n");
     out
@@ -57,10 +71,10 @@ fn axes(out: &mut String) {
 }
 
 /// A rate over time, named at its end.
-fn line(out: &mut String, track: &Track, vci: u32, colour: &str) {
+fn line(out: &mut String, track: &Track, at: Address, colour: &str) {
     svg::path(out, &PLOT.steps(&track.points), colour, 2.2);
     if let Some((time, cells)) = track.points.last() {
-        let at = (PLOT.x(*time) + 8.0, PLOT.y(*cells) + 5.0);
-        svg::name(out, at, "start", colour, &format!("VCI {vci}"));
+        let end = (PLOT.x(*time) + 8.0, PLOT.y(*cells) + 5.0);
+        svg::name(out, end, "start", colour, &format!("VCI {}", at.vci));
     }
 }

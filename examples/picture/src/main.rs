@@ -1,15 +1,17 @@
-//! Draws a scene: `picture rates [FILE]` or `picture closed-loop [FILE]`.
+//! Draws a scene: `abr-picture rates [FILE]` or `abr-picture closed-loop [FILE]`.
 
 use std::ffi::OsString;
 use std::process::ExitCode;
 
-use picture::console::Console;
-use picture::{closed_loop, draw, scenario};
+use abr_picture::{closed_loop, draw};
+use abr_support::console::Console;
 
-const CONSOLE: Console = Console { program: "picture" };
+const CONSOLE: Console = Console {
+    program: "abr-picture",
+};
 
 const HELP: &str = "\
-usage: picture SCENE [FILE]
+usage: abr-picture SCENE [FILE]
 
 Runs a scene over the ABR rate engine and draws the allowed rates over time, as an SVG.
 
@@ -52,7 +54,7 @@ fn main() -> ExitCode {
 
 /// Two connections.
 fn rates() -> Result<Drawn, String> {
-    let tracks = scenario::tracks().map_err(refused)?;
+    let tracks = draw::tracks().map_err(refused)?;
     Ok(Drawn {
         svg: draw::svg(&tracks),
         words: String::new(),

@@ -1,8 +1,8 @@
 //! The scene of ten sources: shares computed by hand, and the rates that they lead to.
 
 use abr::RATE_ONE;
-use picture::closed_loop::{self, sum, CAPACITY, END, SOURCES};
-use picture::plot::MS;
+use abr_picture::closed_loop::{self, sum, CAPACITY, END, SOURCES};
+use abr_support::plot::MS;
 
 /// The milliseconds at which the share changes, and the share in units of 1/512 cell per second
 /// from then on, 0 for no limit. From 1,500 to 1,900 source 5 has its minimum, 3,000, and the

@@ -29,9 +29,9 @@ fn run(program: &str, words: &[impl AsRef<OsStr>], to: Stdio) -> (i32, String, S
     )
 }
 
-/// Runs `picture`.
+/// Runs `abr-picture`.
 fn picture(words: &[&str], to: Stdio) -> (i32, String, String) {
-    run(env!("CARGO_BIN_EXE_picture"), words, to)
+    run(env!("CARGO_BIN_EXE_abr-picture"), words, to)
 }
 
 /// A file of numbers with these lines, by its path. Other packages have their files in the same folder.
@@ -103,7 +103,7 @@ fn with_a_file_the_feedbacks_are_printed() {
 #[test]
 fn standard_output_cannot_be_written_to() {
     for scene in ["rates", "closed-loop", "--help"] {
-        cannot_print(env!("CARGO_BIN_EXE_picture"), &[scene]);
+        cannot_print(env!("CARGO_BIN_EXE_abr-picture"), &[scene]);
     }
     cannot_print(DRAW_TRANSMITTER, &["--help"]);
     let numbers = written("full", "0 512 512 512 0 1 1\n");
@@ -120,7 +120,7 @@ fn wrong_arguments() {
     ] {
         let (status, out, err) = picture(words, Stdio::piped());
         assert_eq!((status, out.as_str()), (2, ""), "{words:?}");
-        assert!(err.starts_with("picture: "), "{err}");
+        assert!(err.starts_with("abr-picture: "), "{err}");
     }
 }
 

@@ -2,7 +2,7 @@
 //! other.
 
 use abr::ffi::{abr_cell, abr_params, abr_rm, abr_sent, abr_share, abr_verdict};
-use reference::{Breach, Cell, Kind, Params, Rm, Sent};
+use abr_reference::{Breach, Cell, Kind, Params, Rm, Sent};
 
 /// A struct with these fields of another.
 macro_rules! copied {

@@ -7,7 +7,7 @@ mod members;
 
 use std::collections::BTreeMap;
 
-use reference::Address;
+use abr_reference::Address;
 
 use crate::call::{Answer, Call, Outcome};
 use crate::library::Difference;

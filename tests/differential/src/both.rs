@@ -2,7 +2,7 @@
 //! ready instant, a slot's time to be passed, waiting data and table compared.
 
 use abr::TIME_MAX;
-use reference::{Address, Allowed, Engine};
+use abr_reference::{Address, Allowed, Engine};
 
 use crate::accounts::Accounts;
 use crate::call::{Answer, Call, Outcome};
@@ -115,7 +115,7 @@ impl Both {
     fn same_next(&mut self, call: &Call, outcome: &Outcome) -> Result<(), Difference> {
         let before = std::mem::replace(&mut self.next, self.library.next());
         self.calls += 1;
-        if self.engine.connections() < MANY || self.calls % COMPARES_NEXT == 0 {
+        if self.engine.connections() < MANY || self.calls.is_multiple_of(COMPARES_NEXT) {
             let (ours, theirs) = (self.next, self.engine.next());
             if ours != theirs {
                 return Err(format!("next: library {ours:?}, reference {theirs:?}"));
@@ -138,7 +138,7 @@ impl Both {
         let passed = self.library.slot_time(question.now, question.lag);
         question.check(passed)?;
         self.slot_times[question.case()] += 1;
-        if self.engine.connections() < MANY || self.calls % COMPARES_NEXT == 0 {
+        if self.engine.connections() < MANY || self.calls.is_multiple_of(COMPARES_NEXT) {
             let expected = self.engine.slot_time(question.now, question.lag);
             if passed != expected {
                 return Err(format!("{question:?}: library {passed}, not {expected}"));
@@ -151,7 +151,7 @@ impl Both {
     /// sometimes, on copies of the library's table.
     fn same_idle(&mut self, question: &Question, passed: u64) -> Result<(), Difference> {
         let accepted = self.last <= question.now && question.now <= TIME_MAX;
-        if !accepted || self.calls % TRIES_SLOTS != 0 {
+        if !accepted || !self.calls.is_multiple_of(TRIES_SLOTS) {
             return Ok(());
         }
         let [at_clock, at_passed] = [question.now, passed].map(|time| {
@@ -197,7 +197,7 @@ impl Both {
     pub fn same_waiting(&mut self, at: Address, accounts: &Accounts) -> Result<(), Difference> {
         accounts.same(at, self.engine.waiting(at), "in the reference")?;
         self.waitings += 1;
-        if self.waitings % READS_WAITING != 0 {
+        if !self.waitings.is_multiple_of(READS_WAITING) {
             return Ok(());
         }
         self.before.copy(&self.library);

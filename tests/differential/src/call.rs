@@ -1,7 +1,7 @@
 //! A call with its arguments.
 
 use abr::ffi::{abr_params, abr_rm};
-use reference::{Address, Allowed, Closed};
+use abr_reference::{Address, Allowed, Closed, Refusal};
 
 use crate::demands::Demands;
 use crate::octets::Octets;
@@ -252,5 +252,5 @@ impl Answer {
     }
 }
 
-/// An answer, or the number of the refusal.
-pub type Outcome = Result<Answer, u32>;
+/// An answer, or the refusal.
+pub type Outcome = Result<Answer, Refusal>;

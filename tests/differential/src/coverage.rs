@@ -1,8 +1,10 @@
 //! Counts of what the lists reached.
 
 use abr::{COMPARISONS_MAX, TIME_MAX};
+use abr_reference::Refusal;
 
 use crate::call::{Call, Outcome, SORTS};
+use crate::parallel::Counts;
 use crate::slot_times::CASES;
 
 macro_rules! events {
@@ -524,7 +526,10 @@ events! {
 }
 
 /// The greatest number of a refusal.
-const REFUSAL_MAX: usize = 30;
+const REFUSAL_MAX: usize = {
+    let all = abr::Refusal::ALL;
+    all[all.len() - 1].number() as usize
+};
 
 /// Counts of all that was reached.
 #[derive(Debug, Clone)]
@@ -591,32 +596,72 @@ impl Default for Coverage {
 }
 
 /// The refusals that each sort of call has, in the order of [`SORTS`].
-const REFUSALS: [&[usize]; SORTS.len()] = [
-    &[7, 8, 10, 12, 13, 14, 19, 27, 29, 30],
-    &[11],
-    &[1, 2, 4, 5, 6, 11, 19],
-    &[11, 15, 28],
-    &[9],
-    &[1, 8, 14],
-    &[8, 11, 14, 16, 17],
-    &[1, 8, 11, 14, 18],
-    &[7, 8, 12, 13, 14, 19, 29, 30],
-    &[10, 11, 12, 26, 27],
-    &[11, 15, 28],
-    &[11, 28],
-    &[11],
-    &[11],
-    &[1, 7],
-    &[1, 2, 4, 5, 6, 19],
-    &[9],
-    &[7, 19],
-    &[20],
-    &[21, 22],
-    &[1, 2, 4, 5, 6, 19],
-    &[1, 2, 4, 5, 6, 19, 21, 22],
-    &[23, 24, 25],
-    &[],
-];
+const REFUSALS: [&[Refusal]; SORTS.len()] = {
+    use Refusal::*;
+    [
+        &[
+            Range,
+            Time,
+            LowVci,
+            AlreadyOpen,
+            Full,
+            TimeBackward,
+            ReservedBit,
+            AlreadyMember,
+            Tbe,
+            Frtt,
+        ],
+        &[NotOpen],
+        &[
+            Length,
+            HeaderCheck,
+            PayloadType,
+            Crc,
+            Protocol,
+            NotOpen,
+            ReservedBit,
+        ],
+        &[NotOpen, TooMuchData, NotAMember],
+        &[TooLarge],
+        &[Length, Time, TimeBackward],
+        &[Time, NotOpen, TimeBackward, NotCongested, TooSoon],
+        &[Length, Time, NotOpen, TimeBackward, TooOften],
+        &[
+            Range,
+            Time,
+            AlreadyOpen,
+            Full,
+            TimeBackward,
+            ReservedBit,
+            Tbe,
+            Frtt,
+        ],
+        &[LowVci, NotOpen, AlreadyOpen, MembersFull, AlreadyMember],
+        &[NotOpen, TooMuchData, NotAMember],
+        &[NotOpen, NotAMember],
+        &[NotOpen],
+        &[NotOpen],
+        &[Length, Range],
+        &[Length, HeaderCheck, PayloadType, Crc, Protocol, ReservedBit],
+        &[TooLarge],
+        &[Range, ReservedBit],
+        &[Double],
+        &[Demands, Demand],
+        &[Length, HeaderCheck, PayloadType, Crc, Protocol, ReservedBit],
+        &[
+            Length,
+            HeaderCheck,
+            PayloadType,
+            Crc,
+            Protocol,
+            ReservedBit,
+            Demands,
+            Demand,
+        ],
+        &[TraceNumber, TraceEnd, TraceRange],
+        &[],
+    ]
+};
 
 /// The sorts of call that name a connection or a member by its two numbers, or a path by
 /// one, by their places in [`SORTS`].
@@ -624,7 +669,11 @@ const NAMING: [usize; 11] = [0, 1, 3, 6, 7, 8, 9, 10, 11, 12, 13];
 
 /// Those on a member, with the refusal of a VCI over 65,535 on an open path: adding, offer and
 /// removal.
-const ON_MEMBERS: [(usize, u32); 3] = [(9, 11), (10, 28), (11, 28)];
+const ON_MEMBERS: [(usize, Refusal); 3] = [
+    (9, Refusal::NotOpen),
+    (10, Refusal::NotAMember),
+    (11, Refusal::NotAMember),
+];
 
 /// Those that read three rate codes: open, receive, open of a path, read, limit and port.
 const READING: [usize; 6] = [0, 2, 8, 15, 20, 21];
@@ -640,8 +689,8 @@ impl Coverage {
     /// Counts a call and its outcome.
     pub fn count(&mut self, call: &Call, outcome: &Outcome) {
         self.calls += 1;
-        let number = outcome.err().unwrap_or(0) as usize;
-        self.outcomes[call.sort()][number] += 1;
+        let number = outcome.err().map_or(0, Refusal::number);
+        self.outcomes[call.sort()][number as usize] += 1;
         if let Ok(answer) = outcome {
             self.comparisons[call.sort()][answer.comparisons() as usize] += 1;
         }
@@ -658,14 +707,15 @@ impl Coverage {
 
     /// Counts a call that was refused for a VCI over 65,535, if it is one on a member, by
     /// whether its path is open, is not, and would be if its VPI were cut.
-    pub fn count_past_vci(&mut self, call: &Call, number: u32, path: [bool; 3]) {
+    pub fn count_past_vci(&mut self, call: &Call, refusal: Refusal, path: [bool; 3]) {
         let mut sorts = ON_MEMBERS.into_iter();
         let Some((sort, on_open)) = sorts.find(|(sort, _)| *sort == call.sort()) else {
             return;
         };
         let counts = self.past_vci[sort].iter_mut();
-        for ((count, is), due) in counts.zip(path).zip([on_open, 11, 11]) {
-            *count += u64::from(is && number == due);
+        let due = [on_open, Refusal::NotOpen, Refusal::NotOpen];
+        for ((count, is), due) in counts.zip(path).zip(due) {
+            *count += u64::from(is && refusal == due);
         }
     }
 
@@ -721,38 +771,6 @@ impl Coverage {
         self.events[event as usize]
     }
 
-    /// Adds the counts of another run.
-    pub fn add(&mut self, other: &Coverage) {
-        let add = |to: &mut [u64], from: &[u64]| {
-            to.iter_mut().zip(from).for_each(|(to, from)| *to += from);
-        };
-        self.calls += other.calls;
-        self.rates += other.rates;
-        self.recorded += other.recorded;
-        for (to, from) in self.outcomes.iter_mut().zip(&other.outcomes) {
-            add(to, from);
-        }
-        for (to, from) in self.comparisons.iter_mut().zip(&other.comparisons) {
-            add(to, from);
-        }
-        for (to, from) in self.out_of_range.iter_mut().zip(&other.out_of_range) {
-            add(to, from);
-        }
-        for (to, from) in self.past_vci.iter_mut().zip(&other.past_vci) {
-            add(to, from);
-        }
-        for (to, from) in self.reserved.iter_mut().zip(&other.reserved) {
-            add(to, from);
-        }
-        add(&mut self.kinds, &other.kinds);
-        add(&mut self.on_path, &other.on_path);
-        add(&mut self.on_member, &other.on_member);
-        add(&mut self.damaged, &other.damaged);
-        add(&mut self.nexts, &other.nexts);
-        self.add_slot_times(&other.slot_times, other.tried);
-        add(&mut self.events, &other.events);
-    }
-
     /// What was reached fewer than `least` times, by name.
     pub fn missing(&self, least: u64) -> Vec<String> {
         let counts = [self.of_calls(), self.of_arguments(), self.of_edges()];
@@ -767,9 +785,9 @@ impl Coverage {
         for (sort, refusals) in REFUSALS.iter().enumerate() {
             let outcomes = &self.outcomes[sort];
             counts.push((outcomes[0], format!("{} accepted", SORTS[sort])));
-            for number in *refusals {
+            for number in refusals.iter().copied().map(Refusal::number) {
                 let name = format!("{} refused {number}", SORTS[sort]);
-                counts.push((outcomes[*number], name));
+                counts.push((outcomes[number as usize], name));
             }
         }
         counts
@@ -837,5 +855,38 @@ impl Coverage {
             self.tried,
             events.join(", ")
         )
+    }
+}
+
+impl Counts for Coverage {
+    fn add(&mut self, other: &Coverage) {
+        let add = |to: &mut [u64], from: &[u64]| {
+            to.iter_mut().zip(from).for_each(|(to, from)| *to += from);
+        };
+        self.calls += other.calls;
+        self.rates += other.rates;
+        self.recorded += other.recorded;
+        for (to, from) in self.outcomes.iter_mut().zip(&other.outcomes) {
+            add(to, from);
+        }
+        for (to, from) in self.comparisons.iter_mut().zip(&other.comparisons) {
+            add(to, from);
+        }
+        for (to, from) in self.out_of_range.iter_mut().zip(&other.out_of_range) {
+            add(to, from);
+        }
+        for (to, from) in self.past_vci.iter_mut().zip(&other.past_vci) {
+            add(to, from);
+        }
+        for (to, from) in self.reserved.iter_mut().zip(&other.reserved) {
+            add(to, from);
+        }
+        add(&mut self.kinds, &other.kinds);
+        add(&mut self.on_path, &other.on_path);
+        add(&mut self.on_member, &other.on_member);
+        add(&mut self.damaged, &other.damaged);
+        add(&mut self.nexts, &other.nexts);
+        self.add_slot_times(&other.slot_times, other.tried);
+        add(&mut self.events, &other.events);
     }
 }

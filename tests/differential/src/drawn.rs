@@ -5,14 +5,16 @@
 mod changes;
 mod transmitter;
 
+use abr_reference::Refusal;
+
 use crate::coverage::Event;
 use crate::rng::Rng;
 use crate::trace::{put, Trace};
 use changes::CHANGES;
 use transmitter::Transmitter;
 
-/// Cell and rule, zeros if the trace passes; or the number of the refusal.
-pub type Verdict = Result<(u64, u32), u32>;
+/// Cell and rule, zeros if the trace passes; or the refusal.
+pub type Verdict = Result<(u64, u32), Refusal>;
 
 /// A drawn trace.
 pub struct Drawn {

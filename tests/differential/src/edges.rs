@@ -36,7 +36,7 @@ pub fn of_trace(trace: &mut Trace) -> Vec<Event> {
         let [passed, kind, rate] = [0, 1, 2].map(|number| trace.cell(place)[number]);
         time += passed;
         if place > 0 {
-            let exact = reference::gap(rate) == Some(passed);
+            let exact = abr_reference::gap(rate) == Some(passed);
             events.extend(exact.then_some(Event::TraceGapExact));
             events.extend(of_kind(n, trm, k, time - forward));
         }

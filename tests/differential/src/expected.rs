@@ -1,10 +1,10 @@
 //! The expected outcome of a call: the reference's.
 
-use convert::{
+use abr_convert::{
     library_cell, library_params, library_sent, library_share, library_verdict, reference_params,
     reference_rm,
 };
-use reference::{judge, port, Engine, Exported, Imported, Params};
+use abr_reference::{judge, port, Engine, Exported, Imported, Params, Refusal};
 
 use crate::call::{Answer, Call, Outcome};
 use crate::drawn::Drawn;
@@ -40,18 +40,21 @@ pub fn call(engine: &mut Engine, call: &Call, buffer: &mut Buffer) -> Outcome {
 /// Makes a call that is given no table.
 fn without_table(call: &Call, buffer: &mut Buffer) -> Outcome {
     match *call {
-        Call::WriteRm { rm, len } => {
-            done(reference::write_rm(&reference_rm(&rm), buffer.octets(len)))
-        }
+        Call::WriteRm { rm, len } => done(abr_reference::write_rm(
+            &reference_rm(&rm),
+            buffer.octets(len),
+        )),
         Call::Read { cell } => {
-            reference::read(cell.as_slice()).map(|cell| Answer::Cell(library_cell(&cell)))
+            abr_reference::read(cell.as_slice()).map(|cell| Answer::Cell(library_cell(&cell)))
         }
-        Call::Code { rate } => reference::code_of(rate).map(|code| Answer::Number(code.into())),
-        Call::Rate { code } => reference::rate(code).map(Answer::Number),
-        Call::Import { bits } => reference::import(f64::from_bits(bits)).map(imported),
-        Call::FairShare { capacity, demands } => reference::fair_share(capacity, &demands.list())
-            .map(|share| Answer::Share(library_share(share))),
-        Call::Limit { rate, cell } => done(reference::limit(rate, buffer.cell(&cell))),
+        Call::Code { rate } => abr_reference::code_of(rate).map(|code| Answer::Number(code.into())),
+        Call::Rate { code } => abr_reference::rate(code).map(Answer::Number),
+        Call::Import { bits } => abr_reference::import(f64::from_bits(bits)).map(imported),
+        Call::FairShare { capacity, demands } => {
+            abr_reference::fair_share(capacity, &demands.list())
+                .map(|share| Answer::Share(library_share(share)))
+        }
+        Call::Limit { rate, cell } => done(abr_reference::limit(rate, buffer.cell(&cell))),
         Call::Port {
             capacity,
             demands,
@@ -78,6 +81,6 @@ fn imported(imported: Imported) -> Answer {
     Answer::Imported { code, remainder }
 }
 
-fn done(outcome: Result<(), u32>) -> Outcome {
+fn done(outcome: Result<(), Refusal>) -> Outcome {
     outcome.map(|()| Answer::Done)
 }

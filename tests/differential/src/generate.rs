@@ -11,7 +11,7 @@ mod times;
 
 use abr::ffi::abr_params;
 use abr::{CELL_OCTETS, MAKE_INTERVAL, OUT_OF_RATE_INTERVAL, PATH_VCI, RATE_MAX, WAITING_MAX};
-use reference::Address;
+use abr_reference::Address;
 
 use crate::call::Call;
 use crate::observation::Observation;
@@ -337,7 +337,7 @@ impl Generator {
     /// A rate to code.
     fn rate(&mut self) -> u64 {
         let code = 0x4000 | self.rng.next() as u32 & 0x3FFF;
-        let rate = reference::rate_of(code);
+        let rate = abr_reference::rate_of(code);
         let any = self.rng.next();
         let shift = self.rng.below(64);
         self.rng.pick(&[

@@ -6,7 +6,7 @@ use abr::ffi::{
     self, abr_allowed, abr_answer, abr_cell, abr_closed, abr_coded, abr_imported, abr_rated,
     abr_sent, abr_share, abr_table, abr_verdict,
 };
-use reference::{Address, Allowed, Closed};
+use abr_reference::{Address, Allowed, Closed, Refusal};
 
 use crate::call::{Answer, Call, Outcome};
 use crate::drawn::Drawn;
@@ -39,31 +39,25 @@ impl Library {
     /// Makes a call. A field that is not 0 beside a refusal is a difference.
     pub fn call(&mut self, call: &Call, buffer: &mut Buffer) -> Result<Outcome, Difference> {
         let table: *mut abr_table = &mut *self.table;
-        // SAFETY: every pointer is to live memory of the length given with it.
         Ok(match *call {
             Call::Open { at, time, params } => {
+                // SAFETY: the pointer is live for the call.
                 answered(unsafe { ffi::abr_open(table, at.vpi, at.vci, time, params) })?
             }
+            // SAFETY: the pointer is live for the call.
             Call::Close { at } => answered(unsafe { ffi::abr_close(table, at.vpi, at.vci) })?,
-            Call::Receive { cell } => {
-                let octets = cell.as_slice();
-                answered(unsafe { ffi::abr_receive(table, octets.as_ptr(), octets.len()) })?
-            }
             Call::Offer { at, cells } => {
+                // SAFETY: the pointer is live for the call.
                 answered(unsafe { ffi::abr_offer(table, at.vpi, at.vci, cells) })?
             }
-            Call::SetLevel { level } => done(unsafe { ffi::abr_set_level(table, level) }),
+            // SAFETY: the pointer is live for the call.
+            Call::SetLevel { level } => done(unsafe { ffi::abr_set_level(table, level) })?,
             Call::Make { at, time } => {
+                // SAFETY: the pointer is live for the call.
                 answered(unsafe { ffi::abr_make(table, at.vpi, at.vci, time) })?
             }
-            Call::Slot { time, len } => {
-                let octets = buffer.octets(len).as_mut_ptr();
-                answered(unsafe { ffi::abr_slot(table, time, octets, len) })?
-            }
-            Call::OutOfRate { at, time, len } => {
-                let (vpi, vci) = (at.vpi, at.vci);
-                let octets = buffer.octets(len).as_mut_ptr();
-                done(unsafe { ffi::abr_out_of_rate(table, vpi, vci, time, octets, len) })
+            Call::Receive { .. } | Call::Slot { .. } | Call::OutOfRate { .. } => {
+                self.with_octets(call, buffer)?
             }
             Call::OpenPath { .. }
             | Call::Add { .. }
@@ -75,18 +69,45 @@ impl Library {
         })
     }
 
+    /// Makes a call on the table that reads a cell or writes one.
+    fn with_octets(&mut self, call: &Call, buffer: &mut Buffer) -> Result<Outcome, Difference> {
+        let table: *mut abr_table = &mut *self.table;
+        match *call {
+            Call::Receive { cell } => {
+                let octets = cell.as_slice();
+                // SAFETY: both pointers are live and the length is the cell's own.
+                answered(unsafe { ffi::abr_receive(table, octets.as_ptr(), octets.len()) })
+            }
+            Call::Slot { time, len } => {
+                let octets = buffer.octets(len).as_mut_ptr();
+                // SAFETY: both pointers are live and the buffer has this length.
+                answered(unsafe { ffi::abr_slot(table, time, octets, len) })
+            }
+            Call::OutOfRate { at, time, len } => {
+                let (vpi, vci) = (at.vpi, at.vci);
+                let octets = buffer.octets(len).as_mut_ptr();
+                // SAFETY: both pointers are live and the buffer has this length.
+                done(unsafe { ffi::abr_out_of_rate(table, vpi, vci, time, octets, len) })
+            }
+            _ => Err("a call without octets".to_owned()),
+        }
+    }
+
     /// Makes a call on a path or a member.
     fn of_path(&mut self, call: &Call) -> Result<Outcome, Difference> {
         let table: *mut abr_table = &mut *self.table;
-        // SAFETY: the pointer is live.
         match *call {
             Call::OpenPath { vpi, time, params } => {
+                // SAFETY: the pointer is live for the call.
                 answered(unsafe { ffi::abr_open_path(table, vpi, time, params) })
             }
+            // SAFETY: the pointer is live for the call.
             Call::Add { at } => answered(unsafe { ffi::abr_add(table, at.vpi, at.vci) }),
             Call::OfferMember { at, cells } => {
+                // SAFETY: the pointer is live for the call.
                 answered(unsafe { ffi::abr_offer_member(table, at.vpi, at.vci, cells) })
             }
+            // SAFETY: the pointer is live for the call.
             Call::Remove { at } => answered(unsafe { ffi::abr_remove(table, at.vpi, at.vci) }),
             _ => Err("a call on neither".to_owned()),
         }
@@ -94,20 +115,20 @@ impl Library {
 
     /// The allowed rate of an address, open or not, and its last change.
     pub fn acr(&self, at: Address) -> Result<Outcome, Difference> {
-        // SAFETY: the pointer is live.
+        // SAFETY: the pointer is live for the call.
         answered(unsafe { ffi::abr_acr(&*self.table, at.vpi, at.vci) })
     }
 
     /// The earliest ready instant; none if no connection is ever ready.
     pub fn next(&self) -> Option<u64> {
-        // SAFETY: the pointer is live.
+        // SAFETY: the pointer is live for the call.
         let next = unsafe { ffi::abr_next(&*self.table) };
         (next != ffi::ABR_NEVER).then_some(next)
     }
 
     /// The time to be passed to a slot at `now` with this tolerance.
     pub fn slot_time(&self, now: u64, lag: u64) -> u64 {
-        // SAFETY: the pointer is live.
+        // SAFETY: the pointer is live for the call.
         unsafe { ffi::abr_slot_time(&*self.table, now, lag) }
     }
 
@@ -126,7 +147,7 @@ impl Library {
         for call in [Call::Close { at }, Call::Remove { at }] {
             match self.call(&call, &mut Buffer::new(0))? {
                 Ok(Answer::Closed(closed)) => return Ok(closed.cells),
-                Err(11 | 28) => {}
+                Err(Refusal::NotOpen | Refusal::NotAMember) => {}
                 other => return Err(format!("{call:?}: {other:?}")),
             }
         }
@@ -136,12 +157,12 @@ impl Library {
     /// The contract of an address, open or not. The refusal is written in every case.
     fn export(&self, at: Address) -> Result<Outcome, Difference> {
         let mut refusal = u32::MAX;
-        // SAFETY: both pointers are live.
+        // SAFETY: both pointers are live for the call.
         let contract = unsafe { ffi::abr_export(&*self.table, at.vpi, at.vci, &mut refusal) };
         let bits = [contract.pcr, contract.mcr, contract.icr].map(f64::to_bits);
         match refusal {
             0 => Ok(Ok(Answer::Exported(bits))),
-            number if bits == [0; 3] => Ok(Err(number)),
+            number if bits == [0; 3] => refused(number),
             number => Err(format!("refused {number}, with {bits:x?} beside it")),
         }
     }
@@ -149,42 +170,57 @@ impl Library {
 
 /// Makes a call that is given no table.
 fn without_table(call: &Call, buffer: &mut Buffer) -> Result<Outcome, Difference> {
-    // SAFETY: every pointer is to live memory of the length given with it.
     Ok(match *call {
         Call::WriteRm { rm, len } => {
             let octets = buffer.octets(len).as_mut_ptr();
-            done(unsafe { ffi::abr_write_rm(rm, octets, len) })
+            // SAFETY: the pointer is live and the buffer has this length.
+            done(unsafe { ffi::abr_write_rm(rm, octets, len) })?
         }
         Call::Read { cell } => {
             let octets = cell.as_slice();
+            // SAFETY: the pointer is live and the length is the cell's own.
             answered(unsafe { ffi::abr_read(octets.as_ptr(), octets.len()) })?
         }
-        Call::Code { rate } => answered(unsafe { ffi::abr_code(rate) })?,
-        Call::Rate { code } => answered(unsafe { ffi::abr_rate(code) })?,
-        Call::Import { bits } => answered(unsafe { ffi::abr_import(f64::from_bits(bits)) })?,
         Call::FairShare { capacity, demands } => {
             let list = demands.list();
+            // SAFETY: the pointer is live and the count is the list's own.
             answered(unsafe { ffi::abr_fair_share(capacity, list.as_ptr(), list.len()) })?
         }
         Call::Limit { rate, cell } => {
             let octets = buffer.cell(&cell);
-            done(unsafe { ffi::abr_limit(rate, octets.as_mut_ptr(), octets.len()) })
+            // SAFETY: the pointer is live and the length is the cell's own.
+            done(unsafe { ffi::abr_limit(rate, octets.as_mut_ptr(), octets.len()) })?
         }
         Call::Port {
             capacity,
             demands,
             cell,
-        } => port(capacity, &demands.list(), buffer.cell(&cell)),
+        } => port(capacity, &demands.list(), buffer.cell(&cell))?,
         Call::Judge { trace } => judge(&Drawn::new(trace).octets)?,
-        Call::House { pcr, mcr, icr } => {
-            Ok(Answer::Params(unsafe { ffi::abr_house(pcr, mcr, icr) }))
-        }
-        _ => return Err("a call that is given a table".to_owned()),
+        _ => return without_pointer(call),
     })
 }
 
+/// Makes a call that is given numbers alone.
+fn without_pointer(call: &Call) -> Result<Outcome, Difference> {
+    match *call {
+        // SAFETY: the call has no pointer.
+        Call::Code { rate } => answered(unsafe { ffi::abr_code(rate) }),
+        // SAFETY: the call has no pointer.
+        Call::Rate { code } => answered(unsafe { ffi::abr_rate(code) }),
+        // SAFETY: the call has no pointer.
+        Call::Import { bits } => answered(unsafe { ffi::abr_import(f64::from_bits(bits)) }),
+        Call::House { pcr, mcr, icr } => {
+            // SAFETY: the call has no pointer.
+            let params = unsafe { ffi::abr_house(pcr, mcr, icr) };
+            Ok(Ok(Answer::Params(params)))
+        }
+        _ => Err("a call that is given a pointer".to_owned()),
+    }
+}
+
 /// A cell at a port.
-fn port(capacity: u64, demands: &[u64], cell: &mut [u8]) -> Outcome {
+fn port(capacity: u64, demands: &[u64], cell: &mut [u8]) -> Result<Outcome, Difference> {
     let (rates, count) = (demands.as_ptr(), demands.len());
     let (octets, len) = (cell.as_mut_ptr(), cell.len());
     // SAFETY: both pointers are live, with the count and the length of their memory.
@@ -198,11 +234,17 @@ pub fn judge(trace: &[u8]) -> Result<Outcome, Difference> {
 }
 
 /// The outcome of a call that answers nothing but its refusal.
-fn done(refusal: u32) -> Outcome {
+fn done(refusal: u32) -> Result<Outcome, Difference> {
     match refusal {
-        0 => Ok(Answer::Done),
-        number => Err(number),
+        0 => Ok(Ok(Answer::Done)),
+        number => refused(number),
     }
+}
+
+/// The outcome of a refused call, whose number is that of a refusal.
+fn refused(number: u32) -> Result<Outcome, Difference> {
+    let refusal = Refusal::try_from(number);
+    refusal.map(Err).map_err(|other| format!("refused {other}"))
 }
 
 /// An answer with other fields beside the refusal.
@@ -215,7 +257,7 @@ trait Answered: Copy + Default + Debug {
 fn answered<T: Answered>(mut answer: T) -> Result<Outcome, Difference> {
     match std::mem::take(answer.refusal()) {
         0 => Ok(Ok(answer.answer())),
-        number if answer.answer() == T::default().answer() => Ok(Err(number)),
+        number if answer.answer() == T::default().answer() => refused(number),
         number => Err(format!("refused {number}, with {answer:x?} beside it")),
     }
 }

@@ -1,7 +1,7 @@
 //! Whole lists, run on both sides.
 
 use abr::ffi::abr_verdict;
-use reference::Address;
+use abr_reference::Address;
 
 use crate::accounts::Accounts;
 use crate::both::Both;

@@ -19,11 +19,12 @@ use std::collections::{BTreeMap, BTreeSet};
 
 use abr::ffi::{abr_params, abr_sent};
 use abr::{CONNECTIONS_MAX, TIME_MAX, WAITING_MAX};
-use reference::Address;
+use abr_reference::{Address, Refusal};
 
 use crate::call::{address_of, Answer, Call, Outcome};
 use crate::coverage::{Coverage, Event};
 use crate::drawn::Drawn;
+use crate::octets::{code_at, ER};
 use turned::Turned;
 
 /// What a connection has sent, from its first cell on.
@@ -73,7 +74,7 @@ pub struct Connection {
 
 impl Connection {
     fn new(params: abr_params, time: u64, acr: u64) -> Self {
-        let rate = |code: u32| reference::rate_of(code);
+        let rate = |code: u32| abr_reference::rate_of(code);
         Connection {
             params,
             pcr: rate(params.pcr),
@@ -122,7 +123,7 @@ impl Connection {
 
     /// The ready instant, if there is one; none at rate 0.
     pub fn ready(&self) -> Option<u64> {
-        let gap = reference::gap(self.acr)?;
+        let gap = abr_reference::gap(self.acr)?;
         let Some(sends) = self.sends else {
             return self.waits().then_some(self.opened);
         };
@@ -174,7 +175,7 @@ impl Observation {
         judged(call, coverage);
         let answer = match outcome {
             Ok(answer) => answer,
-            Err(number) => return self.add_refused(call, *number, coverage),
+            Err(refusal) => return self.add_refused(call, *refusal, coverage),
         };
         self.accepted_path(call, coverage);
         reserved::accepted(call, coverage);
@@ -206,17 +207,17 @@ impl Observation {
     }
 
     /// Adds a call that was refused.
-    fn add_refused(&mut self, call: &Call, number: u32, coverage: &mut Coverage) {
-        self.refused_address(call, number, coverage);
-        self.refused_reserved(call, number, coverage);
+    fn add_refused(&mut self, call: &Call, refusal: Refusal, coverage: &mut Coverage) {
+        self.refused_address(call, refusal, coverage);
+        self.refused_reserved(call, refusal, coverage);
         self.refused_change(call, coverage);
         doubles::refused(call, coverage);
-        ports::refused(call, number, coverage);
-        self.refused_offer(call, number);
-        self.refused_member(call, number, coverage);
-        setup::refused(call, number, coverage);
-        self.refused(call, number, coverage);
-        self.refused_outside(call, number, coverage);
+        ports::refused(call, refusal, coverage);
+        self.refused_offer(call, refusal);
+        self.refused_member(call, refusal, coverage);
+        setup::refused(call, refusal, coverage);
+        self.refused(call, refusal, coverage);
+        self.refused_outside(call, refusal, coverage);
     }
 
     fn opened(
@@ -288,7 +289,7 @@ impl Observation {
             coverage.reach(Event::EfciCleared, connection.efci && !efci);
             connection.efci = efci;
         } else {
-            let er = reference::rate_of(u32::from(cell[7]) << 8 | u32::from(cell[8]));
+            let er = abr_reference::rate_of(code_at(cell, ER));
             backward_received(connection, bits, er, coverage);
             zero::received(connection, bits, er, acr, coverage);
             change::received(connection, bits, acr, coverage);

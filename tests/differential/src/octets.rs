@@ -105,6 +105,14 @@ pub fn put_crc(cell: &mut [u8; CELL_OCTETS]) {
     cell[52] = crc as u8;
 }
 
+/// The rate code at a place of a cell, all 16 bits.
+pub fn code_at(cell: &[u8], place: usize) -> u32 {
+    u32::from(cell[place]) << 8 | u32::from(cell[place + 1])
+}
+
+/// Where ER begins in an RM cell.
+pub const ER: usize = 7;
+
 /// The remainder of the first `bits` bits times x^degree, by the polynomial
 /// x^degree + `low`.
 pub fn remainder(octets: &[u8], bits: usize, degree: u32, low: u32) -> u32 {

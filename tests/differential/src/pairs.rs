@@ -15,7 +15,7 @@
 use std::ops::Range;
 
 use abr::CELL_OCTETS;
-use reference::{Address, Allowed};
+use abr_reference::{Address, Allowed, Refusal};
 
 use crate::accounts::Accounts;
 use crate::call::{Answer, Call, Outcome};
@@ -25,6 +25,7 @@ use crate::library::{Difference, Library};
 use crate::lists::concerned;
 use crate::observation::Observation;
 use crate::octets::{put_crc, Buffer, Octets};
+use crate::parallel::Counts;
 use crate::profile::Profile;
 use crate::rng::Rng;
 
@@ -58,9 +59,8 @@ pub struct Tally {
     pub members: u64,
 }
 
-impl Tally {
-    /// Adds the counts of another run.
-    pub fn add(&mut self, other: &Tally) {
+impl Counts for Tally {
+    fn add(&mut self, other: &Tally) {
         self.pairs += other.pairs;
         self.cut_off += other.cut_off;
         self.compared += other.compared;
@@ -195,12 +195,12 @@ fn allowed(outcome: &Outcome) -> Option<Allowed> {
 /// What two calls of a pair must have in common beside the connection: the kind
 /// of cell, 0 if none is sent, and its VCI, that of the member if it is a path's data; the
 /// data cells of a close, 0 of any other; or the refusal.
-fn sends(outcome: &Outcome) -> Result<(u32, u64), u32> {
+fn sends(outcome: &Outcome) -> Result<(u32, u64), Refusal> {
     match outcome {
         Ok(Answer::Sent(sent)) => Ok((sent.kind, sent.vci.into())),
         Ok(Answer::Closed(closed)) => Ok((0, closed.cells)),
         Ok(_) => Ok((0, 0)),
-        Err(number) => Err(*number),
+        Err(refusal) => Err(*refusal),
     }
 }
 
@@ -232,7 +232,7 @@ fn congested(call: &Call, rng: &mut Rng, tally: &mut Tally) -> Call {
     let Call::Receive { cell } = call else {
         return *call;
     };
-    let Ok(reference::Cell::Rm(rm)) = reference::read(cell.as_slice()) else {
+    let Ok(abr_reference::Cell::Rm(rm)) = abr_reference::read(cell.as_slice()) else {
         return *call;
     };
     let Ok(octets) = <[u8; CELL_OCTETS]>::try_from(cell.as_slice()) else {

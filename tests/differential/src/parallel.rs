@@ -4,6 +4,8 @@ use std::num::NonZero;
 use std::sync::{Mutex, MutexGuard};
 use std::thread;
 
+use crate::library::Difference;
+
 /// The results of all jobs, in any order, or what went wrong first; the jobs
 /// that are not begun by then are left out.
 pub fn run<J: Send, T: Send, E: Send>(
@@ -27,6 +29,27 @@ pub fn run<J: Send, T: Send, E: Send>(
         }
     });
     results.into_inner().expect("no job panicked")
+}
+
+/// Counts that jobs make, each for itself.
+pub trait Counts: Default + Send {
+    /// Adds those of another job.
+    fn add(&mut self, other: &Self);
+}
+
+/// The counts of all jobs together.
+///
+/// # Panics
+/// If one of them goes wrong, with what it says.
+pub fn total<J: Send, C: Counts>(
+    jobs: Vec<J>,
+    work: impl Fn(J) -> Result<C, Difference> + Sync,
+) -> C {
+    let mut total = C::default();
+    for counts in run(jobs, work).unwrap_or_else(|why| panic!("{why}")) {
+        total.add(&counts);
+    }
+    total
 }
 
 fn lock<T>(mutex: &Mutex<T>) -> MutexGuard<'_, T> {

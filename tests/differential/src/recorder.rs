@@ -3,7 +3,7 @@
 
 use std::collections::BTreeMap;
 
-use reference::Address;
+use abr_reference::Address;
 
 use crate::call::{Answer, Call, Outcome};
 use crate::trace::Trace;

@@ -3,20 +3,20 @@
 
 use abr::ffi::{abr_cell, abr_params, abr_rm};
 use abr::{CELL_OCTETS, RATE_MAX};
-use convert::{library_cell, library_params, reference_rm};
-use differential::both::Both;
-use differential::call::{Answer, Call};
-use differential::library::Library;
-use differential::lists;
-use differential::octets::{put_crc, put_header, Buffer, Header, Octets};
-use differential::rng::Rng;
-use reference::Address;
+use abr_convert::{library_cell, library_params, reference_rm};
+use abr_differential::both::Both;
+use abr_differential::call::{Answer, Call, Outcome};
+use abr_differential::library::Library;
+use abr_differential::lists;
+use abr_differential::octets::{put_crc, put_header, Buffer, Header, Octets};
+use abr_differential::rng::Rng;
+use abr_reference::{Address, Refusal};
 
 /// The connection that is open.
 const AT: Address = Address::new(0xA5, 32);
 
 /// Makes a call on both sides and gives their common outcome.
-fn agree(both: &mut Both, call: &Call) -> Result<Answer, u32> {
+fn agree(both: &mut Both, call: &Call) -> Outcome {
     match both.call(call) {
         Ok(outcome) => outcome,
         Err(difference) => panic!("{call:x?}: {difference}"),
@@ -67,7 +67,7 @@ fn random_rm(rng: &mut Rng) -> abr_rm {
 
 /// What reading must give of a cell that was written.
 fn as_read(rm: &abr_rm) -> abr_cell {
-    library_cell(&reference::Cell::Rm(reference_rm(rm)))
+    library_cell(&abr_reference::Cell::Rm(reference_rm(rm)))
 }
 
 #[test]
@@ -185,7 +185,10 @@ fn one_or_two_damaged_bits_anywhere_are_refused() {
                 let cell = Octets::cell(&octets);
                 let refused = agree(&mut both, &Call::Receive { cell });
                 let header = first < 40 || second.is_some_and(|second| second < 40);
-                let expected = if header { 2 } else { 5 };
+                let expected = match header {
+                    true => Refusal::HeaderCheck,
+                    false => Refusal::Crc,
+                };
                 assert_eq!(refused, Err(expected), "bits {first} and {second:?}");
                 assert_eq!(agree(&mut both, &Call::Read { cell }), Err(expected));
             }
@@ -198,7 +201,10 @@ fn every_length_but_53_is_refused() {
     let mut both = with_connection();
     for len in 0..=64 {
         let cell = Octets::cell(&good(1)).of_length(len);
-        let expected = if len == CELL_OCTETS { Ok(()) } else { Err(1) };
+        let expected = match len {
+            CELL_OCTETS => Ok(()),
+            _ => Err(Refusal::Length),
+        };
         let rm = abr_rm::default();
         let calls = [
             Call::Receive { cell },
@@ -219,11 +225,11 @@ fn every_length_but_53_is_refused() {
 }
 
 /// Why a rate code is refused, if it is (document 02, L7).
-fn refused_code(code: u32) -> Option<u32> {
+fn refused_code(code: u32) -> Option<Refusal> {
     match code {
         0..=0x7FFF => None,
-        0x8000..=0xFFFF => Some(19),
-        _ => Some(7),
+        0x8000..=0xFFFF => Some(Refusal::ReservedBit),
+        _ => Some(Refusal::Range),
     }
 }
 
@@ -251,9 +257,9 @@ fn every_rate_code_and_the_rates_beside_it() {
 
 /// Opens a connection with these codes of peak, minimum and initial rate, has an
 /// out-of-rate cell, which carries all three, and closes it.
-fn opens(both: &mut Both, pcr: u32, mcr: u32, icr: u32) -> Result<(), u32> {
+fn opens(both: &mut Both, pcr: u32, mcr: u32, icr: u32) -> Result<(), Refusal> {
     let (at, time, len) = (AT, 0, CELL_OCTETS);
-    let params = library_params(&reference::Params::house(pcr, mcr, icr));
+    let params = library_params(&abr_reference::Params::house(pcr, mcr, icr));
     agree(both, &Call::Open { at, time, params })?;
     let cell = agree(both, &Call::OutOfRate { at, time, len });
     assert_eq!(cell, Ok(Answer::Done));
@@ -266,11 +272,11 @@ fn every_code_of_the_three_rates() {
     let mut both = Both::default();
     for code in 0..=0x1_FFFF {
         for (pcr, mcr, icr) in [(0x5000, code, 0x5000), (0x5000, 0, code), (code, 0, 0)] {
-            let [peak, minimum, initial] = [pcr, mcr, icr].map(reference::rate_of);
+            let [peak, minimum, initial] = [pcr, mcr, icr].map(abr_reference::rate_of);
             let in_order = minimum <= initial && initial <= peak && peak >= 512;
             let expected = match refused_code(code) {
-                Some(number) => Err(number),
-                None => in_order.then_some(()).ok_or(7),
+                Some(refusal) => Err(refusal),
+                None => in_order.then_some(()).ok_or(Refusal::Range),
             };
             let opened = opens(&mut both, pcr, mcr, icr);
             assert_eq!(opened, expected, "{pcr:x} {mcr:x} {icr:x}");
@@ -305,7 +311,7 @@ fn where_19_comes_in_the_order_of_refusals() {
     let mut answers = |octets: &[u8; CELL_OCTETS]| {
         let cell = Octets::cell(octets);
         let read = agree(&mut both, &Call::Read { cell }).err();
-        (read, agree(&mut both, &Call::Receive { cell }).err())
+        [read, agree(&mut both, &Call::Receive { cell }).err()]
     };
     for bits in 1..8 {
         for at in [AT, Address::new(AT.vpi, AT.vci + 1)] {
@@ -314,15 +320,15 @@ fn where_19_comes_in_the_order_of_refusals() {
                 octets[octet] |= (bits >> place & 1) << 7;
             }
             put_header(&mut octets, &header(at, 6));
-            assert_eq!(answers(&octets), (Some(5), Some(5)));
+            assert_eq!(answers(&octets), [Some(Refusal::Crc); 2]);
             put_crc(&mut octets);
-            assert_eq!(answers(&octets), (Some(19), Some(19))); // before 11
+            assert_eq!(answers(&octets), [Some(Refusal::ReservedBit); 2]); // before 11
             octets[5] = 0;
             put_crc(&mut octets);
-            assert_eq!(answers(&octets), (Some(6), Some(6)));
+            assert_eq!(answers(&octets), [Some(Refusal::Protocol); 2]);
             put_header(&mut octets, &header(at, 2));
-            let unknown = (at != AT).then_some(11);
-            assert_eq!(answers(&octets), (None, unknown));
+            let unknown = (at != AT).then_some(Refusal::NotOpen);
+            assert_eq!(answers(&octets), [None, unknown]);
         }
     }
 }
@@ -330,19 +336,19 @@ fn where_19_comes_in_the_order_of_refusals() {
 #[test]
 fn every_parameter_at_and_past_its_ends() {
     type Set = fn(&mut abr_params, u32);
-    let ranges: [(Set, u32, u32, u32); 8] = [
-        (|p, v| p.n = v, 1, 8, 7),
-        (|p, v| p.r = v, 0, 15, 7),
-        (|p, v| p.d = v, 0, 15, 7),
-        (|p, v| p.c = v, 0, 7, 7),
-        (|p, v| p.tbe = v, 1, 16_777_215, 29),
-        (|p, v| p.frtt = v, 0, 16_700_000, 30),
-        (|p, v| p.adtf = v, 1, 1_023, 7),
-        (|p, v| p.trm = v, 0, 7, 7),
+    let ranges: [(Set, u32, u32, Refusal); 8] = [
+        (|p, v| p.n = v, 1, 8, Refusal::Range),
+        (|p, v| p.r = v, 0, 15, Refusal::Range),
+        (|p, v| p.d = v, 0, 15, Refusal::Range),
+        (|p, v| p.c = v, 0, 7, Refusal::Range),
+        (|p, v| p.tbe = v, 1, 16_777_215, Refusal::Tbe),
+        (|p, v| p.frtt = v, 0, 16_700_000, Refusal::Frtt),
+        (|p, v| p.adtf = v, 1, 1_023, Refusal::Range),
+        (|p, v| p.trm = v, 0, 7, Refusal::Range),
     ];
-    for (set, low, high, number) in ranges {
+    for (set, low, high, refusal) in ranges {
         for value in [0, 1, low, high, high + 1, high + 256, 1 << 31, u32::MAX] {
-            let house = reference::Params::house(0x7FFF, 0x4000, 0x53E8);
+            let house = abr_reference::Params::house(0x7FFF, 0x4000, 0x53E8);
             let mut params = library_params(&house);
             set(&mut params, value);
             let open = Call::Open {
@@ -352,7 +358,7 @@ fn every_parameter_at_and_past_its_ends() {
             };
             let outcome = agree(&mut Both::default(), &open).map(|_| ());
             let inside = (low..=high).contains(&value);
-            let expected = if inside { Ok(()) } else { Err(number) };
+            let expected = if inside { Ok(()) } else { Err(refusal) };
             assert_eq!(outcome, expected, "{params:?}");
         }
     }
@@ -365,14 +371,14 @@ fn every_vpi_and_every_vci() {
     let vpis = (0..=256).map(|vpi| Address::new(vpi, 0x1234));
     let vcis = (0..=65_536).map(|vci| Address::new(0xA5, vci));
     let mut both = Both::default();
-    let params = library_params(&reference::Params::house(0x7FFF, 0x4000, 0x53E8));
+    let params = library_params(&abr_reference::Params::house(0x7FFF, 0x4000, 0x53E8));
     for at in vpis.chain(vcis) {
         let (time, len) = (0, CELL_OCTETS);
         let opened = agree(&mut both, &Call::Open { at, time, params });
         let expected = match at {
-            Address { vci: 0..=31, .. } => Err(10),
+            Address { vci: 0..=31, .. } => Err(Refusal::LowVci),
             _ if at.fits() => Ok(Answer::Comparisons(1)),
-            _ => Err(7),
+            _ => Err(Refusal::Range),
         };
         assert_eq!(opened, expected, "{at:?}");
         let outside = agree(&mut both, &Call::OutOfRate { at, time, len });
@@ -408,7 +414,7 @@ const OUT_OF_RANGE: [(u32, u32); 9] = [
 #[test]
 fn a_pair_out_of_range_is_never_another_pair() {
     let mut both = Both::default();
-    let params = library_params(&reference::Params::house(0x7FFF, 0x4000, 0x53E8));
+    let params = library_params(&abr_reference::Params::house(0x7FFF, 0x4000, 0x53E8));
     let (time, len, cells) = (0, CELL_OCTETS, 1);
     for (vpi, vci) in [(0, 32), (1, 32), (255, 65_535)] {
         let at = Address::new(vpi, vci);
@@ -418,7 +424,11 @@ fn a_pair_out_of_range_is_never_another_pair() {
     for (vpi, vci) in OUT_OF_RANGE {
         let at = Address::new(vpi, vci);
         let opened = agree(&mut both, &Call::Open { at, time, params });
-        assert_eq!(opened, Err(if vci < 32 { 10 } else { 7 }), "{at:?}");
+        let expected = match vci {
+            0..32 => Refusal::LowVci,
+            _ => Refusal::Range,
+        };
+        assert_eq!(opened, Err(expected), "{at:?}");
         let calls = [
             Call::Close { at },
             Call::Offer { at, cells },
@@ -428,7 +438,7 @@ fn a_pair_out_of_range_is_never_another_pair() {
             Call::Export { at },
         ];
         for call in calls {
-            assert_eq!(agree(&mut both, &call), Err(11), "{call:?}");
+            assert_eq!(agree(&mut both, &call), Err(Refusal::NotOpen), "{call:?}");
         }
         let rm = abr_rm {
             vpi,
@@ -437,7 +447,7 @@ fn a_pair_out_of_range_is_never_another_pair() {
         };
         assert_eq!(
             agree(&mut both, &Call::WriteRm { rm, len }),
-            Err(7),
+            Err(Refusal::Range),
             "{at:?}"
         );
     }

@@ -12,16 +12,13 @@ mod own_port;
 #[path = "delivered/sets.rs"]
 mod sets;
 
-use differential::{lists, parallel};
+use abr_differential::{lists, parallel};
 use sets::Tally;
 
 /// Runs so many sets.
 fn run_sets(count: u64, with_lag: bool) -> Tally {
     let jobs = (0..count).map(|set| lists::seed() + set).collect();
-    let run = |seed| sets::run(seed, with_lag);
-    let tallies = parallel::run(jobs, run).unwrap_or_else(|why| panic!("{why}"));
-    let mut total = Tally::default();
-    tallies.iter().for_each(|tally| total.add(tally));
+    let total = parallel::total(jobs, |seed| sets::run(seed, with_lag));
     println!("{count} sets, lag {with_lag}: {total:?}");
     total
 }
@@ -122,10 +119,7 @@ fn ends(numbers: &[u64]) -> (u64, u64) {
 /// Runs so many lines whose transmitter is their port, or is not.
 fn run_own(count: u64, limited: bool) -> own_port::Tally {
     let jobs = (0..count).map(|line| lists::seed() + line).collect();
-    let run = |seed| own_port::run(seed, limited);
-    let tallies = parallel::run(jobs, run).unwrap_or_else(|why| panic!("{why}"));
-    let mut total = own_port::Tally::default();
-    tallies.iter().for_each(|tally| total.add(tally));
+    let total = parallel::total(jobs, |seed| own_port::run(seed, limited));
     println!("{count} lines, limited {limited}: {total:?}");
     total
 }

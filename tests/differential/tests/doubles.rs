@@ -2,12 +2,12 @@
 //! what is imported, and random doubles, on both sides, and checked in whole numbers.
 
 use abr::RATE_MAX;
-use convert::library_params;
-use differential::both::Both;
-use differential::call::{Answer, Call, Outcome};
-use differential::lists;
-use differential::rng::Rng;
-use reference::{code_of, rate_of, Address, Params};
+use abr_convert::library_params;
+use abr_differential::both::Both;
+use abr_differential::call::{Answer, Call, Outcome};
+use abr_differential::lists;
+use abr_differential::rng::Rng;
+use abr_reference::{code_of, rate_of, Address, Params, Refusal};
 
 /// The connection whose contract is exported.
 const AT: Address = Address::new(0xA5, 32);
@@ -135,7 +135,7 @@ fn the_ends_of_what_is_imported() {
     for bits in [ONE - 1, TWO_TO_32, TWO_TO_32 + 1] {
         assert_eq!(
             agree(&mut both, &Call::Import { bits }),
-            Err(20),
+            Err(Refusal::Double),
             "{bits:x}"
         );
     }
@@ -156,7 +156,7 @@ fn every_exponent_with_both_signs() {
             }
             for (bits, accepted) in [(bits, rate || bits == 0), (SIGN | bits, bits == 0)] {
                 let outcome = agree(&mut both, &Call::Import { bits });
-                let expected = if accepted { None } else { Some(20) };
+                let expected = (!accepted).then_some(Refusal::Double);
                 assert_eq!(outcome.err(), expected, "{bits:x}");
             }
         }

@@ -4,13 +4,14 @@
 
 use abr::ffi::abr_verdict;
 use abr::RATE_MAX;
-use differential::call::{Answer, Outcome};
-use differential::coverage::Coverage;
-use differential::drawn::{Drawn, Verdict};
-use differential::profile::{Profile, PROFILES};
-use differential::rng::Rng;
-use differential::trace::{Trace, CELL, HEAD};
-use differential::{library, lists, parallel};
+use abr_differential::call::{Answer, Outcome};
+use abr_differential::coverage::Coverage;
+use abr_differential::drawn::{Drawn, Verdict};
+use abr_differential::profile::{Profile, PROFILES};
+use abr_differential::rng::Rng;
+use abr_differential::trace::{Trace, CELL, HEAD};
+use abr_differential::{library, lists, parallel};
+use abr_reference::Refusal;
 
 /// The verdict of an outcome, by its numbers.
 fn numbers(outcome: Outcome) -> Verdict {
@@ -24,7 +25,7 @@ fn numbers(outcome: Outcome) -> Verdict {
 /// The verdict of the library and of the reference, which must agree.
 fn judged(trace: &[u8]) -> Verdict {
     let ours = numbers(library::judge(trace).unwrap_or_else(|why| panic!("{why}: {trace:x?}")));
-    let breach = reference::judge::judge(trace);
+    let breach = abr_reference::judge::judge(trace);
     let theirs = breach.map(|breach| breach.map_or((0, 0), |breach| (breach.cell, breach.rule)));
     assert_eq!(ours, theirs, "{trace:x?}");
     ours
@@ -40,7 +41,7 @@ impl Tally {
     fn count(&mut self, verdict: Verdict) {
         let place = match verdict {
             Ok((_, rule)) => rule,
-            Err(refusal) => refusal - 19,
+            Err(refusal) => refusal.number() - 19,
         };
         self.counts[place as usize] += 1;
     }
@@ -105,7 +106,11 @@ fn every_length() {
             let whole = len > 0 && drawn.octets[len - 1] < 0x80;
             numbers += usize::from(whole);
             let record = whole && numbers >= HEAD && (numbers - HEAD).is_multiple_of(CELL);
-            let expected = if record { Ok((0, 0)) } else { Err(24) };
+            let expected = if record {
+                Ok((0, 0))
+            } else {
+                Err(Refusal::TraceEnd)
+            };
             assert_eq!(judged(&drawn.octets[..len]), expected);
         }
     }
@@ -144,7 +149,7 @@ fn long_numbers() {
                 let verdict = judged(&octets);
                 let form = groups > 10 || (groups == 10 && last != 1) || (groups > 1 && last == 0);
                 if form {
-                    assert_eq!(verdict, Err(23), "{octets:x?}");
+                    assert_eq!(verdict, Err(Refusal::TraceNumber), "{octets:x?}");
                 }
             }
         }
@@ -203,7 +208,7 @@ fn moved(trace: &mut Trace, place: usize) -> u64 {
         return 0;
     }
     breaks([time, kind, 0], 2);
-    let exact = reference::gap(rate) == Some(time);
+    let exact = abr_reference::gap(rate) == Some(time);
     if exact {
         breaks([time - 1, kind, rate], 2);
     }
@@ -221,10 +226,10 @@ fn a_long_trace() {
     }
     let mut octets = trace.octets();
     assert_eq!(judged(&octets), Ok((0, 0)));
-    assert_eq!(judged(&octets[..octets.len() - 1]), Err(24));
+    assert_eq!(judged(&octets[..octets.len() - 1]), Err(Refusal::TraceEnd));
     trace.cell(CELLS as usize - 1)[0] = 0;
     assert_eq!(judged(&trace.octets()), Ok((CELLS, 2)));
     octets.push(0x80);
     octets.push(0);
-    assert_eq!(judged(&octets), Err(23));
+    assert_eq!(judged(&octets), Err(Refusal::TraceNumber));
 }

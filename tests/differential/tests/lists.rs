@@ -1,9 +1,9 @@
 //! Random lists of calls, both sides compared. ABR_SEED gives other lists.
 
-use differential::coverage::Coverage;
-use differential::library::Difference;
-use differential::profile::PROFILES;
-use differential::{lists, parallel};
+use abr_differential::coverage::Coverage;
+use abr_differential::library::Difference;
+use abr_differential::profile::PROFILES;
+use abr_differential::{lists, parallel};
 
 /// How many lists of each profile, fewer of those with a full table, and how many
 /// of them in one job.
@@ -48,14 +48,9 @@ fn jobs(place: usize) -> impl Iterator<Item = (usize, u64)> {
 fn library_and_reference_agree_on_lists_that_reach_every_edge() {
     println!("seed {}", lists::seed());
     let jobs = (0..PROFILES.len()).flat_map(jobs).collect();
-    let mut total = Coverage::default();
-    for coverage in parallel::run(jobs, run_job).unwrap_or_else(|why| panic!("{why}")) {
-        total.add(&coverage);
-    }
+    let total = parallel::total(jobs, run_job);
     println!("all: {}", total.summary());
     assert_eq!(total.missing(LEAST), Vec::<String>::new());
-    let withdrawn: u64 = total.outcomes.iter().map(|counts| counts[3]).sum();
-    assert_eq!(withdrawn, 0, "refusal 3");
     let calls = PROFILES.map(|profile| profile.share(LISTS) * lists::length(profile));
     assert_eq!(total.calls, calls.iter().sum());
     assert!(total.rates >= RATES, "{} rates", total.rates);

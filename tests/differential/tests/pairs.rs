@@ -1,10 +1,11 @@
 //! Random pairs of lists, the second at least as congested. ABR_SEED gives
 //! other lists.
 
-use differential::library::Difference;
-use differential::pairs::{self, Tally};
-use differential::profile::{Profile, NO_MINIMUM, PROFILES, SPACED};
-use differential::{lists, parallel};
+use abr_differential::library::Difference;
+use abr_differential::lists;
+use abr_differential::pairs::{self, Tally};
+use abr_differential::parallel::{self, Counts};
+use abr_differential::profile::{Profile, NO_MINIMUM, PROFILES, SPACED};
 
 /// The pairs of one job.
 const JOB: u64 = 10;
@@ -21,9 +22,7 @@ fn run_job((profile, first): (Profile, u64)) -> Result<Tally, Difference> {
 /// Runs so many pairs of a profile from a seed on.
 fn run_pairs(profile: Profile, first: u64, count: u64) -> Tally {
     let jobs = (0..count / JOB).map(|job| (profile, first + job * JOB));
-    let tallies = parallel::run(jobs.collect(), run_job).unwrap_or_else(|why| panic!("{why}"));
-    let mut total = Tally::default();
-    tallies.iter().for_each(|tally| total.add(tally));
+    let total = parallel::total(jobs.collect(), run_job);
     println!("{}, pairs from {first}: {total:?}", profile.name);
     total
 }

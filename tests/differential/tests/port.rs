@@ -1,20 +1,22 @@
 //! The explicit-rate port (document 02, L10): the share held against its definition, on
 //! small lists all of them and on random ones up to 1,024 demands; the limit on every ER.
 
-use abr::{Share, CELL_OCTETS, DEMANDS_MAX, RATE_MAX};
-use differential::lists;
-use differential::octets::{put_crc, put_header, Header};
-use differential::rng::Rng;
-use reference::{code_of, rate_of};
+use abr::{Refusal, Share, CELL_OCTETS, DEMANDS_MAX, RATE_MAX};
+use abr_differential::lists;
+use abr_differential::octets::{put_crc, put_header, Header};
+use abr_differential::rng::Rng;
+use abr_reference::{code_of, rate_of};
 
 type Cell = [u8; CELL_OCTETS];
 
 /// The share of the library and of the reference, which must agree.
-fn share(capacity: u64, demands: &[u64]) -> Result<Share, u32> {
-    let ours = abr::fair_share(capacity, demands).map_err(u32::from);
-    let theirs = reference::fair_share(capacity, demands);
+fn share(capacity: u64, demands: &[u64]) -> Result<Share, Refusal> {
+    let ours = abr::fair_share(capacity, demands);
+    let theirs = abr_reference::fair_share(capacity, demands);
     let same = theirs.map(|share| share.map_or(Share::NoLimit, Share::Rate));
-    assert_eq!(ours, same, "{capacity} among {demands:?}");
+    let same = same.map_err(|refusal| refusal.number());
+    let numbered = ours.map_err(|refusal| refusal.number());
+    assert_eq!(numbered, same, "{capacity} among {demands:?}");
     ours
 }
 
@@ -139,25 +141,25 @@ fn the_most_and_the_largest_demands() {
 
 #[test]
 fn demands_that_are_refused_before_any_cell() {
-    let refused = |number, demands: &[u64]| {
+    let refused = |refusal, demands: &[u64]| {
         for capacity in [0, 1, u64::MAX] {
-            assert_eq!(share(capacity, demands), Err(number));
+            assert_eq!(share(capacity, demands), Err(refusal));
             for len in [0, 52, CELL_OCTETS] {
                 let mut cell = [0xA5; CELL_OCTETS];
                 let outcome = abr::port(capacity, demands, &mut cell[..len]);
-                assert_eq!(outcome.map_err(u32::from), Err(number));
+                assert_eq!(outcome, Err(refusal));
                 assert_eq!(cell, [0xA5; CELL_OCTETS]);
             }
         }
     };
     let mut demands = vec![0; DEMANDS_MAX + 1];
-    refused(21, &demands);
+    refused(Refusal::Demands, &demands);
     for place in [0, 1, 511, 1_023] {
         for above in [RATE_MAX + 1, 1 << 41, 1 << 63, u64::MAX] {
             demands[place] = above;
-            refused(22, &demands[..DEMANDS_MAX]);
-            refused(22, &demands[..=place]);
-            refused(21, &demands);
+            refused(Refusal::Demand, &demands[..DEMANDS_MAX]);
+            refused(Refusal::Demand, &demands[..=place]);
+            refused(Refusal::Demands, &demands);
         }
         demands[place] = RATE_MAX;
         checked(0, &demands[..DEMANDS_MAX]);
@@ -195,7 +197,7 @@ fn with_er(mut cell: Cell, er: u32) -> Cell {
 fn limited(rate: u64, cell: &Cell) -> Cell {
     let [mut after, mut passed, mut theirs] = [*cell; 3];
     assert_eq!(abr::limit(rate, &mut after), Ok(()));
-    assert_eq!(reference::limit(rate, &mut theirs), Ok(()));
+    assert_eq!(abr_reference::limit(rate, &mut theirs), Ok(()));
     assert_eq!(after, theirs, "{rate}: {cell:02x?}");
     if rate < RATE_MAX {
         assert_eq!(abr::port(rate, &[RATE_MAX], &mut passed), Ok(()));
@@ -271,14 +273,17 @@ fn damaged_cells_are_refused_and_left() {
     for bit in 0..8 * CELL_OCTETS {
         let mut cell = passing(&mut rng, 0x7FFF);
         cell[bit / 8] ^= 0x80 >> (bit % 8);
-        let expected = Err(if bit < 40 { 2 } else { 5 });
+        let expected = Err(match bit {
+            0..40 => Refusal::HeaderCheck,
+            _ => Refusal::Crc,
+        });
         for capacity in [0, 1] {
             let mut after = cell;
-            let outcome = abr::port(capacity, &[1], &mut after).map_err(u32::from);
+            let outcome = abr::port(capacity, &[1], &mut after);
             assert_eq!((outcome, after), (expected, cell), "bit {bit}");
         }
         let mut after = cell;
-        let outcome = abr::limit(0, &mut after).map_err(u32::from);
+        let outcome = abr::limit(0, &mut after);
         assert_eq!((outcome, after), (expected, cell), "bit {bit}");
     }
 }

@@ -3,10 +3,10 @@
 //! cell breaks some trace here, since they have cells on every edge of the rules.
 
 use abr::ffi::abr_verdict;
-use differential::call::{Answer, SORTS};
-use differential::coverage::{Coverage, Event};
-use differential::profile::{Profile, PROFILES};
-use differential::{edges, library, lists, parallel};
+use abr_differential::call::{Answer, SORTS};
+use abr_differential::coverage::{Coverage, Event};
+use abr_differential::profile::{Profile, PROFILES};
+use abr_differential::{edges, library, lists, parallel};
 
 /// Cells on each edge.
 const LEAST: u64 = 200;
@@ -42,11 +42,7 @@ fn recorded(mut profile: Profile) -> Result<Coverage, String> {
 
 #[test]
 fn recorded_traces_pass_and_are_on_every_edge() {
-    let mut total = Coverage::default();
-    for reached in parallel::run(PROFILES.to_vec(), recorded).unwrap_or_else(|why| panic!("{why}"))
-    {
-        total.add(&reached);
-    }
+    let total = parallel::total(PROFILES.to_vec(), recorded);
     for event in EDGES {
         let count = total.reached(event);
         println!("{event:?}: {count}");

@@ -4,16 +4,16 @@
 //! are paths, each with a member (document 02, L13). ABR_SEED gives other lists.
 
 use abr::{CELL_OCTETS, CONNECTIONS_MAX, MAKE_INTERVAL, PATH_VCI, VCI_MAX, VCI_MIN, VPI_MAX};
-use differential::call::Call;
-use differential::coverage::{Coverage, Event};
-use differential::generate::Generator;
-use differential::library::Difference;
-use differential::lists::{self, List};
-use differential::octets::{put_header, Header, Octets};
-use differential::parallel;
-use differential::profile::{weights, Profile, NO_OTHERS, PROFILES};
-use differential::rng::Rng;
-use reference::Address;
+use abr_differential::call::Call;
+use abr_differential::coverage::{Coverage, Event};
+use abr_differential::generate::Generator;
+use abr_differential::library::Difference;
+use abr_differential::lists::{self, List};
+use abr_differential::octets::{put_header, Header, Octets};
+use abr_differential::parallel;
+use abr_differential::profile::{weights, Profile, NO_OTHERS, PROFILES};
+use abr_differential::rng::Rng;
+use abr_reference::Address;
 
 /// The number of addresses of a list, more than can be open.
 const ADDRESSES: u32 = 1_040;
@@ -417,10 +417,7 @@ fn every_number_of_comparisons(total: &Coverage) {
 
 #[test]
 fn up_to_1_024_connections_and_down_again() {
-    let mut total = Coverage::default();
-    for coverage in parallel::run(jobs(), run).unwrap_or_else(|why| panic!("{why}")) {
-        total.add(&coverage);
-    }
+    let total = parallel::total(jobs(), run);
     println!("all: {}", total.summary());
     println!("comparisons: {:?}", &total.comparisons[..12]);
     let [open, close, receive, offer, _, _, make, out_of_rate, open_path, add, ..] = total.outcomes;

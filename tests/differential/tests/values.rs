@@ -3,16 +3,22 @@
 //! 02, L5), full addresses (L6) and the ends of a member's (L13).
 
 use abr::{
-    Cell, Closed, Kind, Params, Refusal, Rm, Table, CELL_OCTETS, OUT_OF_RATE_INTERVAL, TIME_MAX,
+    Address, Cell, Closed, Kind, Params, Refusal, Rm, Table, CELL_OCTETS, OUT_OF_RATE_INTERVAL,
+    TIME_MAX,
 };
 
-/// The path of the connections.
+/// The VPI of the connections, and the connection of most tests.
 const VPI: u32 = 0xA5;
+const AT: Address = channel(32);
 
 const MS: u64 = 1_000_000;
 /// The code of 1,000 cells per second, and its rate.
 const THOUSAND: u32 = 0x53E8;
 const RATE: u64 = 512_000;
+
+const fn channel(vci: u32) -> Address {
+    Address::new(VPI, vci)
+}
 
 fn slot(table: &mut Table, time: u64) -> Option<(Kind, u64)> {
     let mut cell = [0; CELL_OCTETS];
@@ -27,8 +33,8 @@ fn kind(table: &mut Table, time: u64) -> Option<Kind> {
 fn backward(table: &mut Table, rm: Rm) {
     let mut cell = [0; CELL_OCTETS];
     let rm = Rm {
-        vpi: VPI,
-        vci: 32,
+        vpi: AT.vpi,
+        vci: AT.vci,
         backward: true,
         ..rm
     };
@@ -39,7 +45,7 @@ fn backward(table: &mut Table, rm: Rm) {
 /// VCI 32, opened at time 0.
 fn opened(params: &Params) -> Table {
     let mut table = Table::new();
-    table.open(VPI, 32, 0, params).expect("parameters in range");
+    table.open(AT, 0, params).expect("parameters in range");
     table
 }
 
@@ -69,36 +75,36 @@ fn feedback_values() {
     // ACR 1,000 units, d 4, CI 1, MCR 512: 937.
     let thousand_units = abr::code(1_000).unwrap();
     let mut table = opened(&Params::house(0x7FFF, 0x4000, thousand_units));
-    assert_eq!(table.acr(VPI, 32), Ok(1_000));
+    assert_eq!(table.acr(AT), Ok(1_000));
     let ci = Rm {
         ci: true,
         er: 0x7FFF,
         ..Rm::default()
     };
     backward(&mut table, ci);
-    assert_eq!(table.acr(VPI, 32), Ok(937));
+    assert_eq!(table.acr(AT), Ok(937));
     // PCR 512,000, r 4, ACR 500,000, no marks: 512,000.
     let below = abr::code(500_000).unwrap();
     let mut table = opened(&Params::house(THOUSAND, 0x4000, below));
-    assert_eq!(table.acr(VPI, 32), Ok(499_712)); // the code rate below 500,000
+    assert_eq!(table.acr(AT), Ok(499_712)); // the code rate below 500,000
     let free = Rm {
         er: 0x7FFF,
         ..Rm::default()
     };
     backward(&mut table, free);
-    assert_eq!(table.acr(VPI, 32), Ok(RATE));
+    assert_eq!(table.acr(AT), Ok(RATE));
     // ACR 512,000, d 4, CI 1, ER 204,800, MCR 512: 204,800.
     let mut table = opened(&Params::house(THOUSAND, 0x4000, THOUSAND));
     let er = abr::code(204_800).unwrap();
     backward(&mut table, Rm { er, ..ci });
-    assert_eq!(table.acr(VPI, 32), Ok(204_800));
+    assert_eq!(table.acr(AT), Ok(204_800));
 }
 
 #[test]
 fn the_gap_to_the_nanosecond() {
     for (code, gap) in [(THOUSAND, MS), (abr::code(1_536).unwrap(), 333_333_334)] {
         let mut table = opened(&Params::house(code, 0x4000, code));
-        table.offer(VPI, 32, 2).unwrap();
+        table.offer(AT, 2).unwrap();
         assert_eq!(kind(&mut table, 0), Some(Kind::Forward));
         assert_eq!(kind(&mut table, gap - 1), None);
         assert_eq!(kind(&mut table, gap), Some(Kind::Data));
@@ -110,7 +116,7 @@ fn nrm_32_within_trm() {
     // A million cells per second: 32 cells are well within Trm.
     let fast = abr::code(512_000_000).unwrap();
     let mut table = opened(&Params::house(fast, 0x4000, fast));
-    table.offer(VPI, 32, 100).unwrap();
+    table.offer(AT, 100).unwrap();
     let kinds: Vec<_> = (0..33).map(|i| kind(&mut table, i * 10_000)).collect();
     assert_eq!(kinds[0], Some(Kind::Forward));
     assert!(kinds[1..32].iter().all(|kind| *kind == Some(Kind::Data)));
@@ -122,7 +128,7 @@ fn trm_to_the_nanosecond() {
     let fast = abr::code(512_000_000).unwrap();
     for (time, expected) in [(100 * MS - 1, Kind::Data), (100 * MS, Kind::Forward)] {
         let mut table = opened(&Params::house(fast, 0x4000, fast));
-        table.offer(VPI, 32, 100).unwrap();
+        table.offer(AT, 100).unwrap();
         assert_eq!(kind(&mut table, 0), Some(Kind::Forward));
         assert_eq!(kind(&mut table, 10_000), Some(Kind::Data));
         assert_eq!(kind(&mut table, 20_000), Some(Kind::Data));
@@ -136,14 +142,14 @@ fn adtf_to_the_nanosecond() {
     let raised = RATE + abr::rate(fast).unwrap() / 16;
     for (late, expected) in [(0, raised), (1, RATE)] {
         let mut table = opened(&Params::house(fast, 0x4000, slow));
-        table.offer(VPI, 32, 3).unwrap();
+        table.offer(AT, 3).unwrap();
         assert_eq!(slot(&mut table, 0), Some((Kind::Forward, RATE)));
         let free = Rm {
             er: 0x7FFF,
             ..Rm::default()
         };
         backward(&mut table, free);
-        assert_eq!(table.acr(VPI, 32), Ok(raised));
+        assert_eq!(table.acr(AT), Ok(raised));
         assert_eq!(kind(&mut table, MS), Some(Kind::Data));
         assert_eq!(kind(&mut table, 2 * MS), Some(Kind::Data));
         let adtf = 500 * MS;
@@ -160,16 +166,22 @@ fn ends_of_time_and_of_the_addresses() {
     let mut table = Table::new();
     let mut cell = [0; CELL_OCTETS];
     assert_eq!(table.slot(TIME_MAX + 1, &mut cell), Err(Refusal::Time));
-    assert_eq!(table.open(VPI, 31, 0, &params), Err(Refusal::LowVci));
-    assert_eq!(table.open(VPI, 32, TIME_MAX, &params), Ok(1));
-    assert_eq!(table.open(VPI, 65_535, TIME_MAX, &params), Ok(1));
+    assert_eq!(table.open(channel(31), 0, &params), Err(Refusal::LowVci));
+    assert_eq!(table.open(AT, TIME_MAX, &params), Ok(1));
+    assert_eq!(table.open(channel(65_535), TIME_MAX, &params), Ok(1));
     assert_eq!(
-        table.open(VPI, 65_536, TIME_MAX, &params),
+        table.open(channel(65_536), TIME_MAX, &params),
         Err(Refusal::Range)
     );
-    assert_eq!(table.open(255, 32, TIME_MAX, &params), Ok(1));
-    assert_eq!(table.open(256, 32, TIME_MAX, &params), Err(Refusal::Range));
-    assert_eq!(table.open(256, 31, TIME_MAX, &params), Err(Refusal::LowVci));
+    assert_eq!(table.open(Address::new(255, 32), TIME_MAX, &params), Ok(1));
+    assert_eq!(
+        table.open(Address::new(256, 32), TIME_MAX, &params),
+        Err(Refusal::Range)
+    );
+    assert_eq!(
+        table.open(Address::new(256, 31), TIME_MAX, &params),
+        Err(Refusal::LowVci)
+    );
     assert_eq!(table.slot(TIME_MAX, &mut cell), Ok(None));
     assert_eq!(
         table.slot(TIME_MAX - 1, &mut cell),
@@ -183,13 +195,14 @@ fn a_member_past_the_last_vci() {
     let params = Params::house(THOUSAND, 0x4000, THOUSAND);
     let mut table = Table::new();
     assert_eq!(table.open_path(VPI, 0, &params), Ok(1));
-    assert_eq!(table.add(VPI, 65_535), Ok(()));
+    assert_eq!(table.add(channel(65_535)), Ok(()));
     for vci in [65_536, 70_000, 131_071, u32::MAX] {
-        assert_eq!(table.add(VPI, vci), Err(Refusal::NotOpen));
+        assert_eq!(table.add(channel(vci)), Err(Refusal::NotOpen));
         let expected = [(VPI, Refusal::NotAMember), (VPI + 256, Refusal::NotOpen)];
         for (vpi, refusal) in expected.into_iter().chain([(0, Refusal::NotOpen)]) {
-            assert_eq!(table.offer_member(vpi, vci, 0), Err(refusal), "{vpi} {vci}");
-            assert_eq!(table.remove(vpi, vci), Err(refusal), "{vpi} {vci}");
+            let at = Address::new(vpi, vci);
+            assert_eq!(table.offer_member(at, 0), Err(refusal), "{at}");
+            assert_eq!(table.remove(at), Err(refusal), "{at}");
         }
     }
 }
@@ -200,19 +213,19 @@ fn a_thousand_and_24_open_and_no_more_in_any_order() {
     let mut table = Table::new();
     for i in 0..1_024 {
         let vci = 32 + (i * 37) % 1_024;
-        assert_eq!(table.open(VPI, vci, 0, &params), Ok(1), "{vci}");
+        assert_eq!(table.open(channel(vci), 0, &params), Ok(1), "{vci}");
     }
-    assert_eq!(table.open(VPI, 1_056, 0, &params), Err(Refusal::Full));
+    assert_eq!(table.open(channel(1_056), 0, &params), Err(Refusal::Full));
     let closed = Closed {
         cells: 0,
         comparisons: 1,
     };
-    assert_eq!(table.close(VPI, 50), Ok(closed));
-    assert_eq!(table.open(VPI, 1_056, 0, &params), Ok(1));
-    assert_eq!(table.open(VPI, 50, 0, &params), Err(Refusal::Full));
+    assert_eq!(table.close(channel(50)), Ok(closed));
+    assert_eq!(table.open(channel(1_056), 0, &params), Ok(1));
+    assert_eq!(table.open(channel(50), 0, &params), Err(Refusal::Full));
     let open = || (32..=1_056).filter(|vci| *vci != 50);
     for vci in open() {
-        table.offer(VPI, vci, 1).unwrap();
+        table.offer(channel(vci), 1).unwrap();
     }
     let mut cell = [0; CELL_OCTETS];
     for vci in open() {
@@ -231,18 +244,19 @@ fn a_thousand_and_24_open_and_no_more_in_any_order() {
 fn ties_go_to_the_lower_name() {
     let params = Params::house(THOUSAND, 0x4000, THOUSAND);
     let rising = [(0, 40), (0, 65_535), (1, 32), (1, 40), (2, 32), (255, 32)];
+    let rising = rising.map(|(vpi, vci)| Address::new(vpi, vci));
     let mut table = Table::new();
-    for (vpi, vci) in rising.into_iter().rev() {
-        table.open(vpi, vci, 0, &params).unwrap();
-        table.offer(vpi, vci, 1).unwrap();
+    for at in rising.into_iter().rev() {
+        table.open(at, 0, &params).unwrap();
+        table.offer(at, 1).unwrap();
     }
     let mut cell = [0; CELL_OCTETS];
-    for (vpi, vci) in rising {
+    for at in rising {
         let sent = table.slot(0, &mut cell).unwrap().unwrap();
-        assert_eq!((sent.vpi, sent.vci), (vpi, vci));
+        assert_eq!(sent.address(), at);
         let forward = Rm {
-            vpi,
-            vci,
+            vpi: at.vpi,
+            vci: at.vci,
             er: THOUSAND,
             ccr: THOUSAND,
             mcr: 0x4000,
@@ -266,7 +280,7 @@ fn the_octets_of_an_out_of_rate_cell() {
     for mcr in [0, 1, 0x01FF, 0x3FFF] {
         let mut table = opened(&Params::house(THOUSAND, mcr, 0));
         let mut cell = [0xA5; CELL_OCTETS];
-        assert_eq!(table.out_of_rate(VPI, 32, 0, &mut cell), Ok(()));
+        assert_eq!(table.out_of_rate(AT, 0, &mut cell), Ok(()));
         assert_eq!(cell, expected, "{mcr:x}");
     }
 }
@@ -275,7 +289,7 @@ fn the_octets_of_an_out_of_rate_cell() {
 fn one_out_of_rate_cell_in_100_ms() {
     let mut table = opened(&Params::house(THOUSAND, 0, 0));
     let mut cell = [0; CELL_OCTETS];
-    let mut at = |time| table.out_of_rate(VPI, 32, time, &mut cell);
+    let mut at = |time| table.out_of_rate(AT, time, &mut cell);
     assert_eq!(at(5), Ok(()));
     assert_eq!(at(5), Err(Refusal::TooOften));
     assert_eq!(at(OUT_OF_RATE_INTERVAL + 4), Err(Refusal::TooOften));
@@ -291,7 +305,7 @@ fn the_least_rate_above_0() {
     let mut params = Params::house(0x4000, 0, 0x4000);
     (params.r, params.d) = (9, 1);
     let mut table = opened(&params);
-    table.offer(VPI, 32, 9).unwrap();
+    table.offer(AT, 9).unwrap();
     assert_eq!(slot(&mut table, 0), Some((Kind::Forward, 512)));
     let er = |er| Rm {
         er,
@@ -299,21 +313,18 @@ fn the_least_rate_above_0() {
     };
     backward(&mut table, er(0));
     assert_eq!(
-        (table.acr(VPI, 32), slot(&mut table, 900_000 * MS)),
+        (table.acr(AT), slot(&mut table, 900_000 * MS)),
         (Ok(0), None)
     );
     backward(&mut table, er(0x4000)); // 512 / 2^9
-    assert_eq!(table.acr(VPI, 32), Ok(1));
+    assert_eq!(table.acr(AT), Ok(1));
     assert_eq!(slot(&mut table, 900_000 * MS), Some((Kind::Data, 1)));
     let due = 900_000 * MS + 512_000 * MS;
     assert_eq!(slot(&mut table, due - 1), None);
     assert_eq!(slot(&mut table, due), Some((Kind::Data, 1)));
     let ci = true;
     backward(&mut table, Rm { ci, ..er(0x7FFF) }); // half of one unit
-    assert_eq!(
-        (table.acr(VPI, 32), slot(&mut table, TIME_MAX)),
-        (Ok(0), None)
-    );
+    assert_eq!((table.acr(AT), slot(&mut table, TIME_MAX)), (Ok(0), None));
 }
 
 /// Y counts up to the largest CRM. That it stops there cannot be observed: Y is
@@ -327,7 +338,7 @@ fn the_unanswered_count_reaches_the_largest_crm() {
     (params.n, params.c, params.tbe) = (1, 1, 16_777_215);
     let mut table = opened(&params);
     let full = abr::rate(fast).unwrap();
-    table.offer(VPI, 32, 1).unwrap();
+    table.offer(AT, 1).unwrap();
     let (mut time, mut forward) = (0, 0);
     let mut next_forward = |table: &mut Table| loop {
         time += 1_000_000_000;
@@ -335,10 +346,10 @@ fn the_unanswered_count_reaches_the_largest_crm() {
             forward += 1;
             return (forward, acr);
         }
-        table.offer(VPI, 32, 1).unwrap();
+        table.offer(AT, 1).unwrap();
     };
     while next_forward(&mut table) != (CRM, full) {
-        assert_eq!(table.acr(VPI, 32), Ok(full));
+        assert_eq!(table.acr(AT), Ok(full));
     }
     assert_eq!(next_forward(&mut table), (CRM + 1, full / 2));
     assert_eq!(next_forward(&mut table), (CRM + 2, full / 4));

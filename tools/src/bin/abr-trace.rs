@@ -4,10 +4,11 @@ use std::ffi::OsString;
 use std::io::{self, IsTerminal};
 use std::process::ExitCode;
 
+use abr::Address;
 use abr_tools::arguments::{self, STANDARD};
 use abr_tools::console::Console;
 use abr_tools::record::Recorder;
-use abr_tools::scenario::{Address, Scenario};
+use abr_tools::scenario::Scenario;
 
 const CONSOLE: Console = Console {
     program: "abr-trace",
@@ -70,7 +71,7 @@ fn options(arguments: Vec<OsString>) -> Result<Options, String> {
                 let seed = value()?.parse().map_err(|_| "a seed is a number")?;
                 options.seed = Some(seed);
             }
-            "--connection" => options.connection = Some(value()?.parse()?),
+            "--connection" => options.connection = Some(arguments::address(&value()?)?),
             _ => return Ok(false),
         }
         Ok(true)

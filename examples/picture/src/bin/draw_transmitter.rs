@@ -6,10 +6,10 @@
 use std::ffi::OsString;
 use std::process::ExitCode;
 
-use picture::console::Console;
-use picture::plot::{Plot, MS};
-use picture::svg::{self, text};
-use picture::track::Track;
+use abr_picture::track::Track;
+use abr_support::console::Console;
+use abr_support::plot::{Plot, MS};
+use abr_support::svg::{self, text};
 
 const CONSOLE: Console = Console {
     program: "draw_transmitter",

@@ -1,13 +1,14 @@
 //! The picture of the closed loop: a plot for each source, and below them the sum of what the
 //! sources may send.
 
+use abr_support::plot::{Plot, MS};
+use abr_support::svg::{self, dashed, text, thousands};
+
 use super::feedbacks::Feedbacks;
 use super::network::round_trip;
 use super::sources::{changes, Source, END, SOURCES};
 use super::station::History;
 use super::{total, CAPACITY};
-use crate::plot::{Plot, MS};
-use crate::svg::{self, dashed, text, thousands};
 
 const WIDTH: f64 = 1_060.0;
 const HEIGHT: f64 = 1_090.0;

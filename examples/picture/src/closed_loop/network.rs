@@ -1,18 +1,20 @@
 //! The network between ten sources and the far end, with the port in it.
 
-use abr::{Params, Refusal, Share, Table, CELL_OCTETS, RATE_ONE};
+use abr::{Address, Params, Refusal, Share, Table, CELL_OCTETS, RATE_ONE};
+use abr_support::delay::DelayLine;
+use abr_support::plot::MS;
+use abr_support::refusals::accepted_too;
 
 use super::port::Port;
 use super::sources::{changes, Source, END, SOURCES};
-use super::station::{History, Station, VPI};
-use crate::delay::DelayLine;
-use crate::plot::MS;
-use crate::refusals::accepted_too;
+use super::station::{History, Station};
 
 /// Every link has 200,000 slots a second.
 const SLOT: u64 = 5_000;
 /// From the port to the far end, in milliseconds.
 const FAR: u64 = 2;
+/// The VPI of every connection.
+const VPI: u32 = 1;
 /// The VCI of the first source; the others follow.
 const FIRST: u32 = 32;
 
@@ -59,19 +61,24 @@ pub fn shares() -> Result<Vec<(u64, Option<f64>)>, Refusal> {
     changes().into_iter().map(share).collect()
 }
 
+/// The connections of the sources, in their order.
+fn addresses() -> impl Iterator<Item = Address> {
+    (FIRST..).map(|vci| Address::new(VPI, vci))
+}
+
 impl Network {
     fn new() -> Result<Self, Refusal> {
-        let branch = |(source, vci): (&'static Source, u32)| {
+        let branch = |(source, at): (&'static Source, Address)| {
             let (near, far) = (source.distance * MS, FAR * MS);
             Ok(Branch {
-                station: Station::new(source, vci)?,
+                station: Station::new(source, at)?,
                 lifetime: source.lifetime(),
                 there: DelayLine::new(near + far),
                 to_port: DelayLine::new(far),
                 back: DelayLine::new(near),
             })
         };
-        let branches = SOURCES.iter().zip(FIRST..).map(branch);
+        let branches = SOURCES.iter().zip(addresses()).map(branch);
         Ok(Network {
             branches: branches.collect::<Result<_, _>>()?,
             far: Table::new(),
@@ -80,8 +87,8 @@ impl Network {
 
     /// What happens at the time of a slot.
     fn slot(&mut self, time: u64) -> Result<(), Refusal> {
-        for (branch, vci) in self.branches.iter_mut().zip(FIRST..) {
-            branch.open_or_close(&mut self.far, vci, time)?;
+        for (branch, at) in self.branches.iter_mut().zip(addresses()) {
+            branch.open_or_close(&mut self.far, at, time)?;
             branch.carry(&mut self.far, time)?;
         }
         let mut cell = [0; CELL_OCTETS];
@@ -96,15 +103,15 @@ impl Network {
 impl Branch {
     /// Opens and closes the connection at both ends when it is time. The far end has no data, and
     /// a rate that is enough for every turned cell.
-    fn open_or_close(&mut self, far: &mut Table, vci: u32, time: u64) -> Result<(), Refusal> {
+    fn open_or_close(&mut self, far: &mut Table, at: Address, time: u64) -> Result<(), Refusal> {
         let (from, to) = self.lifetime;
         if time == from {
             let peak = abr::code(10_000 * RATE_ONE)?;
-            far.open(VPI, vci, time, &Params::house(peak, 0, peak))?;
+            far.open(at, time, &Params::house(peak, 0, peak))?;
             self.station.open(time)?;
         }
         if time == to {
-            far.close(VPI, vci)?;
+            far.close(at)?;
             self.station.close(time)?;
         }
         Ok(())

@@ -1,9 +1,9 @@
 //! The port that the sources share.
 
 use abr::{Refusal, Share, RATE_ONE};
+use abr_support::delay::Octets;
 
 use super::sources::SOURCES;
-use crate::delay::Octets;
 
 /// The cells per second that the port can carry.
 pub const CAPACITY: u64 = 24_000;

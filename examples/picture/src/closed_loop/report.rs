@@ -1,10 +1,11 @@
 //! The feedbacks of every source in words.
 
+use abr_support::plot::MS;
+use abr_support::svg::{put, thousands};
+
 use super::feedbacks::Run;
 use super::sources::{changes, Source, SOURCES};
 use super::station::History;
-use crate::plot::MS;
-use crate::svg::{put, thousands};
 
 /// A line for each source: its contract, the bound, and the feedbacks after each change of the
 /// share.

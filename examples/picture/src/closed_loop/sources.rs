@@ -1,8 +1,7 @@
 //! The ten sources: what they are sold, how far they are, and what they demand when.
 
 use abr::{Params, Refusal, RATE_ONE};
-
-use crate::plot::MS;
+use abr_support::plot::MS;
 
 /// How long the scene lasts.
 pub const END: u64 = 3_000 * MS;

@@ -1,14 +1,11 @@
 //! A source with its engine.
 
-use abr::{Cell, Kind, Refusal, Table, CELL_OCTETS};
+use abr::{Address, Cell, Kind, Refusal, Table, CELL_OCTETS};
+use abr_support::delay::Octets;
 
 use super::feedbacks::Feedbacks;
 use super::sources::Source;
-use crate::delay::Octets;
 use crate::track::Track;
-
-/// The VPI of every connection.
-pub const VPI: u32 = 1;
 
 /// What is seen of a source.
 pub struct History {
@@ -20,7 +17,7 @@ pub struct History {
 /// A source, with an engine of its own.
 pub struct Station {
     source: &'static Source,
-    vci: u32,
+    at: Address,
     table: Table,
     /// The data cells that wait.
     waiting: u64,
@@ -31,10 +28,10 @@ pub struct Station {
 
 impl Station {
     /// A source whose connection is not open yet.
-    pub fn new(source: &'static Source, vci: u32) -> Result<Self, Refusal> {
+    pub fn new(source: &'static Source, at: Address) -> Result<Self, Refusal> {
         Ok(Station {
             source,
-            vci,
+            at,
             table: Table::new(),
             waiting: 0,
             next: 0,
@@ -48,14 +45,14 @@ impl Station {
     /// Opens the connection.
     pub fn open(&mut self, time: u64) -> Result<(), Refusal> {
         let params = self.source.params()?;
-        self.table.open(VPI, self.vci, time, &params).map(drop)
+        self.table.open(self.at, time, &params).map(drop)
     }
 
     /// Closes the connection.
     pub fn close(&mut self, time: u64) -> Result<(), Refusal> {
         self.history.track.end(time);
         self.waiting = 0;
-        self.table.close(VPI, self.vci).map(drop)
+        self.table.close(self.at).map(drop)
     }
 
     /// Offers a data cell as often as the application has one. It makes none while two wait, and
@@ -68,7 +65,7 @@ impl Station {
         let pause = 32 * 1_000_000_000 / (30 * demand);
         self.next = time.max(self.next + pause);
         self.waiting += 1;
-        self.table.offer(VPI, self.vci, 1).map(drop)
+        self.table.offer(self.at, 1).map(drop)
     }
 
     /// A slot of its link: an RM cell, if it sends one. Of data cells nothing is seen but that
@@ -89,9 +86,9 @@ impl Station {
 
     /// A cell that arrives.
     pub fn receive(&mut self, time: u64, cell: &Octets) -> Result<(), Refusal> {
-        let before = self.table.acr(VPI, self.vci)?;
+        let before = self.table.acr(self.at)?;
         self.table.receive(cell)?;
-        let after = self.table.acr(VPI, self.vci)?;
+        let after = self.table.acr(self.at)?;
         self.history.track.add(time, after);
         match abr::read(cell)? {
             Cell::Rm(rm) if rm.backward => self.history.feedbacks.count(time, &rm, before, after),

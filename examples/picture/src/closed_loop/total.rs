@@ -1,11 +1,12 @@
 //! What the sources may send, one above the other: of each the lower of the rate that it is
 //! allowed and the rate that it demands.
 
+use abr_support::plot::{Plot, MS};
+use abr_support::svg::put;
+
 use super::draw::COLOURS;
 use super::sources::{END, SOURCES};
 use super::station::History;
-use crate::plot::{Plot, MS};
-use crate::svg::put;
 
 /// From one instant that is looked at to the next.
 const EVERY: u64 = 10 * MS;

@@ -5,7 +5,7 @@
 
 use std::collections::BTreeMap;
 
-use reference::Address;
+use abr_reference::Address;
 
 use crate::library::Difference;
 

@@ -10,13 +10,13 @@ use std::io::{BufWriter, ErrorKind, Write};
 use std::process::ExitCode;
 
 use abr::ffi::{abr_params, abr_rm};
-use differential::call::{Call, SORTS};
-use differential::coverage::Coverage;
-use differential::drawn::Drawn;
-use differential::generate::Generator;
-use differential::lists::{self, List};
-use differential::trace::put;
-use reference::Address;
+use abr_differential::call::{Call, SORTS};
+use abr_differential::coverage::Coverage;
+use abr_differential::drawn::Drawn;
+use abr_differential::generate::Generator;
+use abr_differential::lists::{self, List};
+use abr_differential::trace::put;
+use abr_reference::Address;
 
 fn main() -> ExitCode {
     let Some(Ok(count)) = std::env::args().nth(1).map(|text| text.parse()) else {
@@ -76,7 +76,7 @@ fn encode(call: &Call, out: &mut Vec<u8>) {
         }
         Call::Close { at } | Call::Add { at } | Call::Remove { at } => numbers(&pair(at), out),
         Call::Acr { at } | Call::Export { at } => numbers(&pair(at), out),
-        Call::Receive { cell } | Call::Read { cell } => octets(cell.as_slice(), out),
+        Call::Receive { cell } => octets(cell.as_slice(), out),
         Call::Offer { at, cells: number } | Call::OfferMember { at, cells: number } => {
             numbers(&pair(at), out);
             put(out, number);
@@ -91,6 +91,14 @@ fn encode(call: &Call, out: &mut Vec<u8>) {
             numbers(&pair(at), out);
             numbers(&[time, len as u64], out);
         }
+        _ => encode_without_table(call, out),
+    }
+}
+
+/// Appends the arguments of a call that is given no table.
+fn encode_without_table(call: &Call, out: &mut Vec<u8>) {
+    match *call {
+        Call::Read { cell } => octets(cell.as_slice(), out),
         Call::WriteRm { rm, len } => {
             numbers(&of_rm(rm), out);
             put(out, len as u64);
@@ -117,6 +125,7 @@ fn encode(call: &Call, out: &mut Vec<u8>) {
         }
         Call::Judge { trace } => octets(&Drawn::new(trace).octets, out),
         Call::House { pcr, mcr, icr } => numbers(&[pcr.into(), mcr.into(), icr.into()], out),
+        _ => unreachable!("{call:?} is given a table"),
     }
 }
 

@@ -5,10 +5,10 @@ use std::io::Write;
 use std::process::ExitCode;
 use std::time::{Duration, Instant};
 
-use differential::coverage::Coverage;
-use differential::lists;
-use differential::pairs::{self, Tally};
-use differential::profile::{NO_MINIMUM, SPACED};
+use abr_differential::coverage::Coverage;
+use abr_differential::lists;
+use abr_differential::pairs::{self, Tally};
+use abr_differential::profile::{NO_MINIMUM, SPACED};
 
 /// How often a progress line comes.
 const PROGRESS: Duration = Duration::from_secs(10);

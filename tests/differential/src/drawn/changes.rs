@@ -1,6 +1,7 @@
 //! What is changed in a trace that passes, and the verdict that follows.
 
 use abr::{RATE_MAX, TIME_MAX};
+use abr_reference::Refusal;
 
 use super::{Draft, Verdict};
 use crate::coverage::Event;
@@ -39,9 +40,9 @@ pub const CHANGES: [(Event, Change); 24] = [
 ];
 
 /// The refusals.
-const FORM: Verdict = Err(23);
-const END: Verdict = Err(24);
-const RANGE: Verdict = Err(25);
+const FORM: Verdict = Err(Refusal::TraceNumber);
+const END: Verdict = Err(Refusal::TraceEnd);
+const RANGE: Verdict = Err(Refusal::TraceRange);
 
 /// The verdict that a cell, counted from 0, breaks a rule.
 fn breaks(place: usize, rule: u32) -> Verdict {
@@ -84,7 +85,7 @@ fn first_kind(draft: &mut Draft, rng: &mut Rng) -> Verdict {
 fn gap_less_one(draft: &mut Draft, rng: &mut Rng) -> Verdict {
     let place = later(draft, 0, rng);
     let cell = draft.trace.cell(place);
-    cell[0] = reference::gap(cell[2]).expect("a rate above 0") - 1;
+    cell[0] = abr_reference::gap(cell[2]).expect("a rate above 0") - 1;
     breaks(place, 2)
 }
 

@@ -68,7 +68,7 @@ impl Transmitter {
 
     /// The time of a later cell, since the one before: mostly on an edge.
     fn passed(&mut self, rate: u64, forward: u64, rng: &mut Rng) -> u64 {
-        let gap = reference::gap(rate).expect("a rate above 0");
+        let gap = abr_reference::gap(rate).expect("a rate above 0");
         let left = TIME_MAX - self.time;
         if self.last {
             self.events.push(Event::TraceTimeMax);
@@ -89,6 +89,6 @@ impl Transmitter {
 fn any_rate(rng: &mut Rng) -> u64 {
     let most = RATE_MAX >> rng.below(41);
     let any = 1 + rng.below(most);
-    let coded = reference::rate_of(rng.within(0x4000, 0x7FFF));
+    let coded = abr_reference::rate_of(rng.within(0x4000, 0x7FFF));
     rng.pick(&[any, coded, coded, 512_000, 1_536, RATE_MAX, 1])
 }

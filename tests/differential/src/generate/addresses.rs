@@ -3,7 +3,7 @@
 use std::collections::BTreeSet;
 
 use abr::{VCI_MAX, VCI_MIN, VPI_MAX};
-use reference::Address;
+use abr_reference::Address;
 
 use super::Generator;
 use crate::observation::Observation;

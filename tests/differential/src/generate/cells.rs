@@ -2,7 +2,7 @@
 
 use abr::ffi::abr_rm;
 use abr::{CELL_OCTETS, VCI_MAX, VPI_MAX};
-use reference::Address;
+use abr_reference::Address;
 
 use super::Generator;
 use crate::call::Call;
@@ -65,7 +65,7 @@ impl Generator {
         let Some(connection) = seen.connections.get(&at) else {
             return any;
         };
-        let acr = reference::code_of(connection.acr).unwrap_or(any);
+        let acr = abr_reference::code_of(connection.acr).unwrap_or(any);
         let below = acr.saturating_sub(self.rng.within(0, 400));
         self.rng.pick(&[
             0x7FFF,

@@ -4,7 +4,7 @@
 use std::collections::BTreeSet;
 
 use abr::{PATH_VCI, VCI_MAX, VCI_MIN, VPI_MAX};
-use reference::Address;
+use abr_reference::Address;
 
 use super::Generator;
 use crate::call::Call;

@@ -30,7 +30,7 @@ impl Generator {
     /// An FRTT: none, any, or one at which TBE lowers the initial rate of this code by
     /// about nothing or by half.
     pub(super) fn frtt(&mut self, tbe: u32, icr: u32) -> u32 {
-        let rate = reference::rate_of(icr).max(1);
+        let rate = abr_reference::rate_of(icr).max(1);
         let even = (CELL_PER_MICROSECOND * u64::from(tbe) / rate).min(FRTT_MAX.into()) as u32;
         let any = self.rng.within(0, FRTT_MAX);
         let edges = [

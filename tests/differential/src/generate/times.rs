@@ -75,7 +75,8 @@ impl Generator {
             .filter_map(Connection::ready)
             .min();
         let earliest = earliest.unwrap_or(last);
-        let (Some(sends), Some(gap)) = (connection.sends, reference::gap(connection.acr)) else {
+        let (Some(sends), Some(gap)) = (connection.sends, abr_reference::gap(connection.acr))
+        else {
             return self.rng.pick(&[last, last + step, earliest]);
         };
         let (due, trm, adtf) = (sends.last + gap, connection.trm(), connection.adtf());

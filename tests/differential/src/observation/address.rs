@@ -3,8 +3,8 @@
 
 use abr::ffi::abr_rm;
 use abr::{CELL_OCTETS, VCI_MAX, VPI_MAX};
-use convert::reference_rm;
-use reference::Address;
+use abr_convert::reference_rm;
+use abr_reference::{Address, Refusal};
 
 use super::Observation;
 use crate::call::Call;
@@ -20,18 +20,20 @@ impl Observation {
     /// A call was refused: it may have named a pair that is not open, but would be if
     /// its path were not looked at, or if a number out of its range were cut or added
     /// to the other.
-    pub(super) fn refused_address(&self, call: &Call, number: u32, coverage: &mut Coverage) {
-        if let (Call::WriteRm { rm, .. }, 7) = (call, number) {
+    pub(super) fn refused_address(&self, call: &Call, refusal: Refusal, coverage: &mut Coverage) {
+        if let (Call::WriteRm { rm, .. }, Refusal::Range) = (call, refusal) {
             let on_path_0 = reference_rm(&abr_rm { vpi: 0, ..*rm });
-            let written = reference::write_rm(&on_path_0, &mut [0; CELL_OCTETS]);
+            let written = abr_reference::write_rm(&on_path_0, &mut [0; CELL_OCTETS]);
             coverage.reach(Event::WritePath, written.is_ok());
         }
-        let (Some(at), 7 | 11 | 28) = (call.address(), number) else {
+        let (Some(at), Refusal::Range | Refusal::NotOpen | Refusal::NotAMember) =
+            (call.address(), refusal)
+        else {
             return;
         };
-        self.past_vci(call, at, number, coverage);
+        self.past_vci(call, at, refusal, coverage);
         if at.fits() {
-            let unknown = number == 11 && self.elsewhere(at);
+            let unknown = refusal == Refusal::NotOpen && self.elsewhere(at);
             coverage.reach(Event::OtherPath, unknown);
             let received = matches!(call, Call::Receive { .. });
             coverage.reach(Event::ReceivedOtherPath, unknown && received);
@@ -46,13 +48,13 @@ impl Observation {
 
     /// A call on a member was refused: it may have named a VCI out of its range, which is no
     /// member of a path that is open, and unknown where none is (document 02, L13).
-    fn past_vci(&self, call: &Call, at: Address, number: u32, coverage: &mut Coverage) {
+    fn past_vci(&self, call: &Call, at: Address, refusal: Refusal, coverage: &mut Coverage) {
         if at.vci <= VCI_MAX {
             return;
         }
         let cut = self.path_is_open(at.vpi & VPI_MAX);
         let (open, fits) = (self.path_is_open(at.vpi), at.vpi <= VPI_MAX);
-        coverage.count_past_vci(call, number, [open, fits && !open, !fits && cut]);
+        coverage.count_past_vci(call, refusal, [open, fits && !open, !fits && cut]);
     }
 
     /// Whether a call would find at another pair what it names: a member, the path of one,

@@ -1,7 +1,7 @@
 //! What the last feedback did (document 02, L9): the change, computed from the allowed
 //! rates that were read, and its edges.
 
-use reference::{Address, Allowed};
+use abr_reference::{Address, Allowed};
 
 use super::{Connection, Observation};
 use crate::call::Call;

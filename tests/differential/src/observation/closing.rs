@@ -1,7 +1,7 @@
 //! Closes (document 02, L12): what waited, and what is not counted.
 
 use abr::WAITING_MAX;
-use reference::Address;
+use abr_reference::{Address, Refusal};
 
 use super::{Connection, Observation};
 use crate::call::Call;
@@ -30,8 +30,8 @@ impl Observation {
     }
 
     /// A call was refused: it may be an offer of too much.
-    pub(super) fn refused_offer(&mut self, call: &Call, number: u32) {
-        if let (Call::Offer { at, .. }, 15) = (call, number) {
+    pub(super) fn refused_offer(&mut self, call: &Call, refusal: Refusal) {
+        if let (Call::Offer { at, .. }, Refusal::TooMuchData) = (call, refusal) {
             if let Some(connection) = self.connections.get_mut(at) {
                 connection.refused_offer = true;
             }

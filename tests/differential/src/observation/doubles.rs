@@ -1,7 +1,7 @@
 //! Contracts exported and doubles imported (document 02, L8): the edges that were reached.
 
 use abr::RATE_MAX;
-use reference::Address;
+use abr_reference::Address;
 
 use super::Observation;
 use crate::call::Call;
@@ -24,7 +24,7 @@ impl Observation {
         coverage.reach(Event::ExportedMoved, connection.acr != connection.icr);
         coverage.reach(Event::ExportedNoMinimum, connection.mcr == 0);
         coverage.reach(Event::ExportedReopened, self.closed.contains(&at));
-        let given = reference::rate_of(connection.params.icr);
+        let given = abr_reference::rate_of(connection.params.icr);
         coverage.reach(Event::ExportedGiven, connection.icr < given);
     }
 }

@@ -1,7 +1,7 @@
 //! Made cells (document 02, L1): what is known of them, and their edges.
 
 use abr::MAKE_INTERVAL;
-use reference::Address;
+use abr_reference::{Address, Refusal};
 
 use super::{Connection, Observation};
 use crate::call::Call;
@@ -34,19 +34,19 @@ impl Observation {
     }
 
     /// A call was refused: it may be at an edge of a made cell.
-    pub(super) fn refused(&self, call: &Call, number: u32, coverage: &mut Coverage) {
-        match (*call, number) {
-            (Call::Make { at, time }, 17) => {
+    pub(super) fn refused(&self, call: &Call, refusal: Refusal, coverage: &mut Coverage) {
+        match (*call, refusal) {
+            (Call::Make { at, time }, Refusal::TooSoon) => {
                 let last = self.connections.get(&at).and_then(|c| c.last_made);
                 let end = last.map(|last| last + MAKE_INTERVAL);
                 coverage.reach(Event::MadeLessOne, end == Some(time + 1));
             }
-            (Call::Make { at, .. }, 11) => {
+            (Call::Make { at, .. }, Refusal::NotOpen) => {
                 coverage.reach(Event::MadeClosed, self.closed.contains(&at));
             }
             (
                 Call::Open { time, .. } | Call::OpenPath { time, .. } | Call::Slot { time, .. },
-                14,
+                Refusal::TimeBackward,
             ) => {
                 let others = self.last_sent.max(self.last_outside);
                 coverage.reach(Event::MadeTimeCounts, time >= others);

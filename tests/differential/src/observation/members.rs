@@ -1,7 +1,7 @@
 //! Paths and their members (document 02, L13): what is known of them, and their edges.
 
 use abr::{MEMBERS_MAX, PATH_VCI, WAITING_MAX};
-use reference::Address;
+use abr_reference::{Address, Refusal};
 
 use super::Observation;
 use crate::call::Call;
@@ -142,18 +142,18 @@ impl Observation {
     }
 
     /// A call was refused: it may have named a member or a path where that is none.
-    pub(super) fn refused_member(&self, call: &Call, number: u32, coverage: &mut Coverage) {
+    pub(super) fn refused_member(&self, call: &Call, refusal: Refusal, coverage: &mut Coverage) {
         let Some(at) = call.address() else {
             return;
         };
         let full = self.members.len() == MEMBERS_MAX;
-        match (call, number) {
-            (Call::Receive { .. }, 11) if at.vci == PATH_VCI => {
+        match (call, refusal) {
+            (Call::Receive { .. }, Refusal::NotOpen) if at.vci == PATH_VCI => {
                 coverage.reach(Event::PathData, self.connections.contains_key(&at));
             }
-            (Call::Add { .. }, 12) => coverage.reach(Event::ChannelFirst, full),
-            (Call::Add { .. }, 27) => coverage.reach(Event::MemberFirst, full),
-            (_, 11) if self.members.contains_key(&at) => coverage.count_member(call),
+            (Call::Add { .. }, Refusal::AlreadyOpen) => coverage.reach(Event::ChannelFirst, full),
+            (Call::Add { .. }, Refusal::AlreadyMember) => coverage.reach(Event::MemberFirst, full),
+            (_, Refusal::NotOpen) if self.members.contains_key(&at) => coverage.count_member(call),
             _ => {}
         }
     }

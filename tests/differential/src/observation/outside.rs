@@ -1,7 +1,7 @@
 //! Out-of-rate cells (document 02, L5): what is known of them, and their edges.
 
 use abr::{OUT_OF_RATE_INTERVAL, RATE_ONE};
-use reference::Address;
+use abr_reference::{Address, Refusal};
 
 use super::Observation;
 use crate::call::Call;
@@ -34,14 +34,14 @@ impl Observation {
     }
 
     /// A call was refused: it may be at an edge of an out-of-rate cell.
-    pub(super) fn refused_outside(&self, call: &Call, number: u32, coverage: &mut Coverage) {
-        match (*call, number) {
-            (Call::OutOfRate { at, time, .. }, 18) => {
+    pub(super) fn refused_outside(&self, call: &Call, refusal: Refusal, coverage: &mut Coverage) {
+        match (*call, refusal) {
+            (Call::OutOfRate { at, time, .. }, Refusal::TooOften) => {
                 let last = self.connections.get(&at).and_then(|c| c.last_outside);
                 let end = last.map(|last| last + OUT_OF_RATE_INTERVAL);
                 coverage.reach(Event::OutsideLessOne, end == Some(time + 1));
             }
-            (Call::OutOfRate { at, .. }, 11) => {
+            (Call::OutOfRate { at, .. }, Refusal::NotOpen) => {
                 coverage.reach(Event::OutsideClosed, self.closed.contains(&at));
             }
             (
@@ -49,7 +49,7 @@ impl Observation {
                 | Call::OpenPath { time, .. }
                 | Call::Slot { time, .. }
                 | Call::Make { time, .. },
-                14,
+                Refusal::TimeBackward,
             ) => {
                 let others = self.last_sent.max(self.last_making);
                 coverage.reach(Event::OutsideTimeCounts, time >= others);

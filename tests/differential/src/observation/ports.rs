@@ -2,7 +2,7 @@
 //! were reached.
 
 use abr::{DEMANDS_MAX, RATE_MAX};
-use reference::{fair_share, rate_of, read, Cell};
+use abr_reference::{fair_share, rate_of, read, Cell, Refusal};
 
 use crate::call::Call;
 use crate::coverage::{Coverage, Event};
@@ -63,7 +63,7 @@ fn passed(share: Option<u64>, cell: &Octets, coverage: &mut Coverage) {
         return coverage.reach(Event::PassedNoLimitCoded, zero_coded);
     };
     coverage.reach(Event::PassedLowered, share < er);
-    let code = reference::code_of(share.min(RATE_MAX)).unwrap_or(0);
+    let code = abr_reference::code_of(share.min(RATE_MAX)).unwrap_or(0);
     coverage.reach(Event::PassedRounded, share < er && rate_of(code) < share);
     coverage.reach(Event::PassedEqual, share == er);
     coverage.reach(Event::PassedKept, share > er);
@@ -76,25 +76,31 @@ fn passed(share: Option<u64>, cell: &Octets, coverage: &mut Coverage) {
 
 /// A call was refused: the demands may have been looked at before the cell, and their
 /// number before each of them.
-pub(super) fn refused(call: &Call, number: u32, coverage: &mut Coverage) {
+pub(super) fn refused(call: &Call, refusal: Refusal, coverage: &mut Coverage) {
     let (Call::FairShare { demands, .. } | Call::Port { demands, .. }) = *call else {
         return;
     };
     let above = demands.above.is_some();
-    coverage.reach(Event::DemandsFirst, number == 21 && above);
+    coverage.reach(Event::DemandsFirst, refusal == Refusal::Demands && above);
     coverage.reach(
         Event::DemandsPastMost,
-        number == 21 && demands.count == DEMANDS_MAX + 1,
+        refusal == Refusal::Demands && demands.count == DEMANDS_MAX + 1,
     );
     let by_one = demands.above.is_some_and(|(_, by)| by == 1);
-    coverage.reach(Event::DemandPastLargest, number == 22 && by_one);
+    coverage.reach(
+        Event::DemandPastLargest,
+        refusal == Refusal::Demand && by_one,
+    );
     let last = demands
         .above
         .is_some_and(|(place, _)| place > 0 && place + 1 == demands.count);
-    coverage.reach(Event::DemandLast, number == 22 && last);
+    coverage.reach(Event::DemandLast, refusal == Refusal::Demand && last);
     if let Call::Port { cell, .. } = call {
         let wrong = read(cell.as_slice()).is_err();
-        coverage.reach(Event::DemandsBeforeCell, number == 21 && wrong);
-        coverage.reach(Event::DemandBeforeCell, number == 22 && wrong);
+        coverage.reach(
+            Event::DemandsBeforeCell,
+            refusal == Refusal::Demands && wrong,
+        );
+        coverage.reach(Event::DemandBeforeCell, refusal == Refusal::Demand && wrong);
     }
 }

@@ -2,24 +2,26 @@
 //! what is not.
 
 use abr::ffi::abr_params;
-use convert::reference_params;
-use reference::rate::is_reserved;
+use abr_convert::reference_params;
+use abr_reference::rate::is_reserved;
+use abr_reference::Refusal;
 
 use super::Observation;
 use crate::call::Call;
 use crate::coverage::{Coverage, Event};
+use crate::octets::code_at;
 
 /// The code of bit 14 alone, one cell per second.
 const NZ_ALONE: u32 = 0x4000;
 
 impl Observation {
     /// A call was refused: it may have the reserved bit in a rate code.
-    pub(super) fn refused_reserved(&self, call: &Call, number: u32, coverage: &mut Coverage) {
+    pub(super) fn refused_reserved(&self, call: &Call, refusal: Refusal, coverage: &mut Coverage) {
         let Some(codes) = codes(call) else {
             return;
         };
         let has = codes.map(is_reserved);
-        if number == 19 {
+        if refusal == Refusal::ReservedBit {
             coverage.count_reserved(call, has);
         }
         let any = has.contains(&true);
@@ -28,19 +30,28 @@ impl Observation {
                 let open = call
                     .address()
                     .is_some_and(|at| self.connections.contains_key(&at));
-                coverage.reach(Event::ReservedUnknown, number == 19 && !open);
-                coverage.reach(Event::ReservedCrc, number == 5 && any);
-                coverage.reach(Event::ReservedProtocol, number == 6 && any);
+                coverage.reach(
+                    Event::ReservedUnknown,
+                    refusal == Refusal::ReservedBit && !open,
+                );
+                coverage.reach(Event::ReservedCrc, refusal == Refusal::Crc && any);
+                coverage.reach(Event::ReservedProtocol, refusal == Refusal::Protocol && any);
             }
             Call::Open { at, params, .. } => {
                 let wide = |code: &u32| *code > 0xFFFF;
                 let out_of_range = !at.fits() || cleared(params).check().is_err();
-                let beside_wide = number == 19 && codes.iter().any(wide);
+                let beside_wide = refusal == Refusal::ReservedBit && codes.iter().any(wide);
                 let bit_15 = |code: &u32| wide(code) && code & 0x8000 != 0;
-                coverage.reach(Event::ReservedLowVci, number == 10 && any);
-                coverage.reach(Event::ReservedBesideRange, number == 19 && out_of_range);
+                coverage.reach(Event::ReservedLowVci, refusal == Refusal::LowVci && any);
+                coverage.reach(
+                    Event::ReservedBesideRange,
+                    refusal == Refusal::ReservedBit && out_of_range,
+                );
                 coverage.reach(Event::ReservedBesideWide, beside_wide);
-                coverage.reach(Event::WideReserved, number == 7 && codes.iter().any(bit_15));
+                coverage.reach(
+                    Event::WideReserved,
+                    refusal == Refusal::Range && codes.iter().any(bit_15),
+                );
             }
             _ => {}
         }
@@ -75,8 +86,7 @@ fn codes(call: &Call) -> Option<[u32; 3]> {
         | Call::Limit { cell, .. }
         | Call::Port { cell, .. } => {
             let octets = cell.as_slice().get(7..13)?;
-            let code = |place: usize| u32::from(octets[place]) << 8 | u32::from(octets[place + 1]);
-            Some([code(0), code(2), code(4)])
+            Some([0, 2, 4].map(|place| code_at(octets, place)))
         }
         _ => None,
     }
@@ -88,7 +98,7 @@ fn is_rm(cell: &[u8]) -> bool {
 }
 
 /// The parameters, for the reference, without the bit in any code of 16 bits.
-fn cleared(params: abr_params) -> reference::Params {
+fn cleared(params: abr_params) -> abr_reference::Params {
     let clear = |code: u32| {
         if is_reserved(code) {
             code & 0x7FFF
@@ -97,7 +107,7 @@ fn cleared(params: abr_params) -> reference::Params {
         }
     };
     let given = reference_params(&params);
-    reference::Params {
+    abr_reference::Params {
         pcr: clear(given.pcr),
         mcr: clear(given.mcr),
         icr: clear(given.icr),

@@ -2,6 +2,7 @@
 
 use abr::ffi::abr_params;
 use abr::{FRTT_MAX, TBE_MAX, TIME_MAX};
+use abr_reference::Refusal;
 
 use crate::call::Call;
 use crate::coverage::{Coverage, Event};
@@ -14,7 +15,7 @@ fn limit(params: &abr_params) -> Option<u64> {
 
 /// The initial rate that is used.
 pub(super) fn icr_used(params: &abr_params) -> u64 {
-    let [icr, mcr] = [params.icr, params.mcr].map(reference::rate_of);
+    let [icr, mcr] = [params.icr, params.mcr].map(abr_reference::rate_of);
     match limit(params) {
         Some(limit) if limit < icr => limit.max(mcr),
         _ => icr,
@@ -23,7 +24,7 @@ pub(super) fn icr_used(params: &abr_params) -> u64 {
 
 /// A connection was opened with these parameters.
 pub(super) fn opened(params: &abr_params, coverage: &mut Coverage) {
-    let [icr, mcr] = [params.icr, params.mcr].map(reference::rate_of);
+    let [icr, mcr] = [params.icr, params.mcr].map(abr_reference::rate_of);
     let (limit, used) = (limit(params), icr_used(params));
     let nrm = 1 << params.n;
     coverage.reach(Event::CrmWhole, params.tbe.is_multiple_of(nrm));
@@ -38,13 +39,16 @@ pub(super) fn opened(params: &abr_params, coverage: &mut Coverage) {
 }
 
 /// A call was refused: it may be an open with a TBE or an FRTT out of range.
-pub(super) fn refused(call: &Call, number: u32, coverage: &mut Coverage) {
+pub(super) fn refused(call: &Call, refusal: Refusal, coverage: &mut Coverage) {
     let (Call::Open { params, time, .. } | Call::OpenPath { params, time, .. }) = call else {
         return;
     };
     let tbe = params.tbe == 0 || params.tbe > TBE_MAX;
     let frtt = params.frtt > FRTT_MAX;
-    coverage.reach(Event::RangeBeforeTbe, number == 7 && tbe);
-    coverage.reach(Event::TbeBeforeFrtt, number == 29 && frtt);
-    coverage.reach(Event::FrttBeforeTime, number == 30 && *time > TIME_MAX);
+    coverage.reach(Event::RangeBeforeTbe, refusal == Refusal::Range && tbe);
+    coverage.reach(Event::TbeBeforeFrtt, refusal == Refusal::Tbe && frtt);
+    coverage.reach(
+        Event::FrttBeforeTime,
+        refusal == Refusal::Frtt && *time > TIME_MAX,
+    );
 }

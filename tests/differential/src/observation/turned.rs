@@ -1,7 +1,7 @@
 //! Turned cells: their marks, and those of a replaced one (document 01, "Turning
 //! cells round"; document 02, L2).
 
-use reference::Address;
+use abr_reference::Address;
 
 use super::{Connection, Observation};
 use crate::coverage::{Coverage, Event};

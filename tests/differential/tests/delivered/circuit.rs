@@ -1,10 +1,10 @@
 //! A connection of a line: what waits on it, what it sent, and the policers behind the line.
 
 use abr::ffi::abr_params;
-use differential::call::Call;
-use differential::library::Difference;
-use differential::policer::Policer;
-use reference::Address;
+use abr_differential::call::Call;
+use abr_differential::library::Difference;
+use abr_differential::policer::Policer;
+use abr_reference::Address;
 
 use super::line::{gap, Cell, Line};
 
@@ -64,8 +64,8 @@ impl Circuit {
             at,
             members,
             params,
-            pcr: reference::rate_of(params.pcr),
-            mcr: reference::rate_of(params.mcr),
+            pcr: abr_reference::rate_of(params.pcr),
+            mcr: abr_reference::rate_of(params.mcr),
             busy: true,
             acr: 0,
             steady: true,

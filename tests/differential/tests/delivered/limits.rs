@@ -1,9 +1,9 @@
 //! What a lag of a slot for each connection does not cover, shown by lines that fall ever
 //! further behind; and what connections at constant rates get, by the lag.
 
-use differential::call::Call;
-use differential::library::Difference;
-use reference::Address;
+use abr_differential::call::Call;
+use abr_differential::library::Difference;
+use abr_reference::Address;
 
 use super::circuit::{Circuit, Sums};
 use super::line::{code, gap, params, Line, ENDLESS, SECOND};
@@ -13,7 +13,7 @@ const SLOT: u64 = 2_831;
 
 /// The code rate next below the line's.
 fn full() -> u64 {
-    reference::rate_of(code(SECOND / SLOT))
+    abr_reference::rate_of(code(SECOND / SLOT))
 }
 
 fn channel(vpi: u32) -> Address {

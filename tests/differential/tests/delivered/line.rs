@@ -2,10 +2,10 @@
 
 use abr::ffi::{abr_params, abr_rm, abr_sent};
 use abr::CELL_OCTETS;
-use differential::call::{Answer, Call};
-use differential::library::{Difference, Library};
-use differential::octets::{Buffer, Octets};
-use reference::Address;
+use abr_differential::call::{Answer, Call};
+use abr_differential::library::{Difference, Library};
+use abr_differential::octets::{Buffer, Octets};
+use abr_reference::Address;
 
 /// A cell per second times a second, in units by nanoseconds: rates fit a line with a slot every
 /// S if their sum times S is at most this.
@@ -21,14 +21,14 @@ pub fn gap(rate: u64) -> u64 {
 
 /// The code of a rate, rounded down.
 pub fn code(rate: u64) -> u32 {
-    reference::code_of(rate).expect("a rate in range")
+    abr_reference::code_of(rate).expect("a rate in range")
 }
 
 /// The house set with these rates, whose source doesn't fall for want of feedback.
 pub fn params(pcr: u64, mcr: u64, icr: u64) -> abr_params {
     let [pcr, mcr, icr] = [pcr, mcr, icr].map(code);
-    let house = reference::Params::house(pcr, mcr, icr);
-    convert::library_params(&reference::Params { c: 7, ..house })
+    let house = abr_reference::Params::house(pcr, mcr, icr);
+    abr_convert::library_params(&abr_reference::Params { c: 7, ..house })
 }
 
 /// A cell that was sent.
@@ -69,7 +69,7 @@ impl Line {
     /// A call that is accepted.
     pub fn call(&mut self, call: &Call) -> Result<Answer, Difference> {
         let outcome = self.library.call(call, &mut Buffer::new(0))?;
-        outcome.map_err(|number| format!("{call:x?}: refused {number}"))
+        outcome.map_err(|refusal| format!("{call:x?}: {refusal:?}"))
     }
 
     /// Opens a channel, or a path by its own name, at the time that was passed last.
@@ -164,6 +164,6 @@ pub fn backward(at: Address, rm: abr_rm) -> [u8; CELL_OCTETS] {
         dir: 1,
         ..rm
     };
-    reference::write_rm(&convert::reference_rm(&rm), &mut octets).expect("fields in range");
+    abr_reference::write_rm(&abr_convert::reference_rm(&rm), &mut octets).expect("fields in range");
     octets
 }

@@ -7,8 +7,10 @@
 
 use abr::ffi::abr_rm;
 use abr::{Share, CELL_OCTETS};
-use differential::library::Difference;
-use differential::rng::Rng;
+use abr_differential::library::Difference;
+use abr_differential::octets::{code_at, ER};
+use abr_differential::parallel::Counts;
+use abr_differential::rng::Rng;
 
 use super::circuit::{Circuit, Sums};
 use super::line::{backward, code, params, Line, ENDLESS, SECOND};
@@ -37,9 +39,8 @@ pub struct Tally {
     pub least: Option<u64>,
 }
 
-impl Tally {
-    /// Adds the counts of another run.
-    pub fn add(&mut self, other: &Tally) {
+impl Counts for Tally {
+    fn add(&mut self, other: &Tally) {
         self.sums.add(&other.sums);
         self.slots += other.slots;
         self.falls += other.falls;
@@ -97,7 +98,7 @@ impl Own {
         let mut rng = Rng::new(seed);
         let slot = 1_000 + rng.below(2_000);
         let spaced = slot * 105 / 100;
-        let peak = reference::rate_of(code(SECOND / slot));
+        let peak = abr_reference::rate_of(code(SECOND / slot));
         let count = 2 + rng.below(9);
         let leased = 1 + rng.below(count - 1);
         let parts: Vec<u64> = (0..leased).map(|_| 1 + rng.below(100)).collect();
@@ -252,7 +253,7 @@ impl Own {
 
     /// What a cell allows its connection at most.
     fn cap(&self, place: usize, cell: &[u8; CELL_OCTETS]) -> u64 {
-        let er = reference::rate_of(u32::from(cell[7]) << 8 | u32::from(cell[8]));
+        let er = abr_reference::rate_of(code_at(cell, ER));
         let circuit = &self.circuits[place];
         er.min(circuit.pcr).max(circuit.mcr)
     }

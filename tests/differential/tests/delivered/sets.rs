@@ -5,9 +5,10 @@
 
 use abr::ffi::abr_rm;
 use abr::CELL_OCTETS;
-use differential::call::Call;
-use differential::library::Difference;
-use differential::rng::Rng;
+use abr_differential::call::Call;
+use abr_differential::library::Difference;
+use abr_differential::parallel::Counts;
+use abr_differential::rng::Rng;
 
 use super::circuit::{Circuit, Sums};
 use super::line::{backward, code, Line, ENDLESS, SECOND};
@@ -36,9 +37,8 @@ pub struct Tally {
     pub late: u64,
 }
 
-impl Tally {
-    /// Adds the counts of another set.
-    pub fn add(&mut self, other: &Tally) {
+impl Counts for Tally {
+    fn add(&mut self, other: &Tally) {
         self.sums.add(&other.sums);
         self.slots += other.slots;
         self.slept += other.slept;
@@ -165,7 +165,7 @@ impl Set {
             2 => {
                 let mut forward = backward(at, abr_rm::default());
                 forward[6] = 0;
-                differential::octets::put_crc(&mut forward);
+                abr_differential::octets::put_crc(&mut forward);
                 self.line.receive(&forward)?;
             }
             _ => self.line.receive(&feedback(&mut self.rng, circuit))?,
@@ -228,7 +228,12 @@ fn circuits(rng: &mut Rng, full: u64) -> Vec<Circuit> {
     let sum: u64 = parts.iter().sum();
     let peaks = parts.iter().map(|part| full * used / 1_000 * part / sum);
     let mut codes: Vec<u32> = peaks.map(code).collect();
-    let total = |codes: &[u32]| codes.iter().map(|c| reference::rate_of(*c)).sum::<u64>();
+    let total = |codes: &[u32]| {
+        codes
+            .iter()
+            .map(|c| abr_reference::rate_of(*c))
+            .sum::<u64>()
+    };
     for place in 0..codes.len() {
         codes[place] += 1;
         if total(&codes) > full {
@@ -246,7 +251,7 @@ fn circuit(rng: &mut Rng, vpi: u32, pcr: u32) -> Circuit {
         true => (0..1 + rng.below(3) as u32).map(|i| 40 + i).collect(),
         false => Vec::new(),
     };
-    let mut params = super::line::params(reference::rate_of(pcr), 0, 0);
+    let mut params = super::line::params(abr_reference::rate_of(pcr), 0, 0);
     (params.mcr, params.icr) = match rng.once_in(2) {
         true => (pcr, pcr),
         false => {

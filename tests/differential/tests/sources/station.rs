@@ -1,10 +1,10 @@
 //! One end system with one connection, on the library and on the reference.
 //! Each call is made on both, and they must agree on every answer and octet.
 
-use abr::{Allowed, Cell, Kind, Params, Rm, Table, CELL_OCTETS};
-use convert::{library_sent, reference_params, reference_rm};
-use differential::octets::{put_header, Header};
-use reference::{Address, Engine};
+use abr::{Address, Allowed, Cell, Kind, Params, Rm, Table, CELL_OCTETS};
+use abr_convert::{library_sent, reference_params, reference_rm};
+use abr_differential::octets::{put_header, Header};
+use abr_reference::Engine;
 
 /// A cell's octets.
 pub type Octets = [u8; CELL_OCTETS];
@@ -12,10 +12,11 @@ pub type Octets = [u8; CELL_OCTETS];
 /// A millisecond.
 pub const MS: u64 = 1_000_000;
 
-/// The connection of every station, and its address.
+/// The connection of every station, and its address for both.
 pub const VPI: u32 = 1;
 pub const VCI: u32 = 32;
 const AT: Address = Address::new(VPI, VCI);
+const THEIR_AT: abr_reference::Address = abr_reference::Address::new(VPI, VCI);
 
 /// Rates in units of 1/512 cell per second: the papers' peak, minimum and
 /// initial rates of 1,000, 100 and 200 cells per second, and 300.
@@ -84,15 +85,15 @@ pub struct Station {
 impl Station {
     pub fn open(params: &Params) -> Self {
         let (mut library, mut reference) = (Table::new(), Engine::new());
-        library.open(VPI, VCI, 0, params).expect("library");
+        library.open(AT, 0, params).expect("library");
         let same = reference_params(params);
-        reference.open(AT, 0, &same).expect("reference");
+        reference.open(THEIR_AT, 0, &same).expect("reference");
         Station { library, reference }
     }
 
     pub fn offer(&mut self, cells: u64) {
-        let ours = self.library.offer(VPI, VCI, cells).expect("library");
-        let theirs = self.reference.offer(AT, cells).expect("reference");
+        let ours = self.library.offer(AT, cells).expect("library");
+        let theirs = self.reference.offer(THEIR_AT, cells).expect("reference");
         assert_eq!(ours, theirs, "comparisons of an offer");
     }
 
@@ -103,16 +104,16 @@ impl Station {
 
     /// Makes a backward cell.
     pub fn make(&mut self, time: u64) {
-        let ours = self.library.make(VPI, VCI, time).expect("library");
-        let theirs = self.reference.make(AT, time).expect("reference");
+        let ours = self.library.make(AT, time).expect("library");
+        let theirs = self.reference.make(THEIR_AT, time).expect("reference");
         assert_eq!(ours, theirs, "comparisons of a made cell");
     }
 
     /// The octets of an out-of-rate cell.
     pub fn out_of_rate(&mut self, time: u64) -> Octets {
         let (mut cell, mut other) = ([0; CELL_OCTETS], [0; CELL_OCTETS]);
-        let ours = self.library.out_of_rate(VPI, VCI, time, &mut cell);
-        let theirs = self.reference.out_of_rate(AT, time, &mut other);
+        let ours = self.library.out_of_rate(AT, time, &mut cell);
+        let theirs = self.reference.out_of_rate(THEIR_AT, time, &mut other);
         assert_eq!((ours, theirs), (Ok(()), Ok(())), "at {time}");
         assert_eq!(cell, other, "library and reference at {time}");
         cell
@@ -199,10 +200,10 @@ impl Station {
 
     /// The allowed rate; what the last backward cell made of it is compared too.
     pub fn acr(&self) -> u64 {
-        let Allowed { acr, change } = self.library.allowed(VPI, VCI).expect("library");
-        let ours = reference::Allowed { acr, change };
+        let Allowed { acr, change } = self.library.allowed(AT).expect("library");
+        let ours = abr_reference::Allowed { acr, change };
         assert_eq!(
-            self.reference.allowed(AT),
+            self.reference.allowed(THEIR_AT),
             Ok(ours),
             "library and reference"
         );
@@ -216,7 +217,7 @@ pub fn read(cell: &Octets) -> Rm {
         panic!("not an RM cell: {cell:02x?}");
     };
     let same = reference_rm(&rm.into());
-    assert_eq!(reference::read(cell), Ok(reference::Cell::Rm(same)));
+    assert_eq!(abr_reference::read(cell), Ok(abr_reference::Cell::Rm(same)));
     rm
 }
 
@@ -229,7 +230,7 @@ pub fn written(rm: &Rm) -> Octets {
     };
     let (mut cell, mut other) = ([0; CELL_OCTETS], [0; CELL_OCTETS]);
     abr::write_rm(&rm, &mut cell).expect("library");
-    reference::write_rm(&reference_rm(&rm.into()), &mut other).expect("reference");
+    abr_reference::write_rm(&reference_rm(&rm.into()), &mut other).expect("reference");
     assert_eq!(cell, other, "library and reference: {rm:?}");
     cell
 }
@@ -246,11 +247,11 @@ fn the_rates_of_the_papers_have_codes_of_their_own() {
     ];
     for (code, rate) in rates {
         assert_eq!(
-            (abr::rate(code), reference::rate(code)),
+            (abr::rate(code), abr_reference::rate(code)),
             (Ok(rate), Ok(rate))
         );
         assert_eq!(
-            (abr::code(rate), reference::code_of(rate)),
+            (abr::code(rate), abr_reference::code_of(rate)),
             (Ok(code), Ok(code))
         );
     }

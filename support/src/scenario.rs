@@ -1,11 +1,10 @@
 //! Two connections on one link, and a network that answers their RM cells.
 
-use abr::{Cell, Kind, Params, Refusal, Rm, Sent, Table, CELL_OCTETS, RATE_ONE};
+use abr::{Address, Cell, Kind, Params, Refusal, Rm, Sent, Table, CELL_OCTETS, RATE_ONE};
 
 use crate::delay::{DelayLine, Octets};
 use crate::plot::MS;
 use crate::refusals::accepted_too;
-use crate::track::Track;
 
 /// How long the scenario lasts.
 pub const END: u64 = 1_600 * MS;
@@ -14,11 +13,8 @@ const SLOT: u64 = 50_000;
 /// From a forward cell to its answer.
 const ROUND_TRIP: u64 = 20 * MS;
 
-/// The path of both connections.
-pub const VPI: u32 = 1;
-
 /// The two connections.
-pub const VCIS: [u32; 2] = [32, 33];
+pub const CONNECTIONS: [Address; 2] = [Address::new(1, 32), Address::new(1, 33)];
 
 /// A span of time in which the network marks backward cells.
 pub struct Phase {
@@ -27,7 +23,7 @@ pub struct Phase {
     /// Its name, in two lines.
     pub name: [&'static str; 2],
     /// The connections concerned.
-    vcis: &'static [u32],
+    connections: &'static [Address],
     ci: bool,
     ni: bool,
     /// The explicit rate, in cells per second.
@@ -39,7 +35,7 @@ pub const PHASES: [Phase; 3] = [
     Phase {
         span: (300 * MS, 420 * MS),
         name: ["congestion (CI)", "on both paths"],
-        vcis: &VCIS,
+        connections: &CONNECTIONS,
         ci: true,
         ni: false,
         cells: 1_000_000,
@@ -47,7 +43,7 @@ pub const PHASES: [Phase; 3] = [
     Phase {
         span: (800 * MS, 1_050 * MS),
         name: ["explicit rate (ER)", "1,500 for VCI 33"],
-        vcis: &[33],
+        connections: &[CONNECTIONS[1]],
         ci: false,
         ni: false,
         cells: 1_500,
@@ -55,24 +51,12 @@ pub const PHASES: [Phase; 3] = [
     Phase {
         span: (1_200 * MS, 1_350 * MS),
         name: ["congestion (CI)", "for VCI 32"],
-        vcis: &[32],
+        connections: &[CONNECTIONS[0]],
         ci: true,
         ni: false,
         cells: 1_000_000,
     },
 ];
-
-/// The allowed rates of both connections, over the scenario.
-pub fn tracks() -> Result<[Track; 2], Refusal> {
-    let mut tracks = [Track::default(), Track::default()];
-    run(|slot| {
-        for (track, acr) in tracks.iter_mut().zip(slot.after) {
-            track.add(slot.time, acr);
-        }
-    })?;
-    tracks.iter_mut().for_each(|track| track.end(END));
-    Ok(tracks)
-}
 
 /// A slot of the scenario.
 pub struct Slot {
@@ -94,16 +78,16 @@ pub fn params() -> Result<[Params; 2], Refusal> {
 /// Runs the scenario and shows each slot.
 pub fn run(mut see: impl FnMut(&Slot)) -> Result<(), Refusal> {
     let mut table = Table::new();
-    for (vci, params) in VCIS.into_iter().zip(params()?) {
-        table.open(VPI, vci, 0, &params)?;
+    for (at, params) in CONNECTIONS.into_iter().zip(params()?) {
+        table.open(at, 0, &params)?;
     }
     let mut answers = DelayLine::new(ROUND_TRIP);
     for time in (0..=END).step_by(SLOT as usize) {
         while let Some(cell) = answers.arrived(time) {
             table.receive(&cell)?;
         }
-        for vci in VCIS {
-            let offered = table.offer(VPI, vci, 1).map(drop);
+        for at in CONNECTIONS {
+            let offered = table.offer(at, 1).map(drop);
             // A connection with no room for more data needs none.
             offered.or_else(accepted_too(Refusal::TooMuchData))?;
         }
@@ -127,7 +111,7 @@ pub fn run(mut see: impl FnMut(&Slot)) -> Result<(), Refusal> {
 
 /// The allowed rates of both connections.
 fn rates(table: &Table) -> Result<[u64; 2], Refusal> {
-    let [first, second] = VCIS.map(|vci| table.acr(VPI, vci));
+    let [first, second] = CONNECTIONS.map(|at| table.acr(at));
     Ok([first?, second?])
 }
 
@@ -148,7 +132,7 @@ fn answer(forward: &[u8], time: u64) -> Result<Octets, Refusal> {
     rm.backward = true;
     for phase in &PHASES {
         let (from, to) = phase.span;
-        if (from..to).contains(&time) && phase.vcis.contains(&rm.vci) {
+        if (from..to).contains(&time) && phase.connections.contains(&rm.address()) {
             mark(&mut rm, phase)?;
         }
     }
