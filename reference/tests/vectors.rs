@@ -11,7 +11,7 @@ use abr_reference::params::{Contract, FRTT_MAX, TBE_MAX, TRM_TIMES};
 use abr_reference::{code_of, gap, rate_of, read, write_rm, Address, Params, Refusal};
 
 /// What the proved program must write.
-const EXPECTED: &str = include_str!("../../crates/vectors/stdout");
+const EXPECTED: &str = include_str!("../../crates/check_vectors/stdout");
 
 type Lines = Vec<String>;
 

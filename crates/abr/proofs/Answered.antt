@@ -2,26 +2,26 @@
 use Prim.Native.Nat.{ℕ}
 use mathlib.Core.Path.{_≡_, refl, ap, subst, _∙_}
 use mathlib.Core.List.{List}
-use Rattle.cell.specs.Name.{pairName}
+use Rattle.cell.specs.Name.{addressName}
 use Rattle.connection.specs.Invariant.{ValidAt}
 use Rattle.connection.proofs.Differences.{rates-kept}
 use Rattle.model.specs.Call.{Call, levelling, outOfRate, Outcome}
-use Rattle.model.specs.Step.{refuse, accept, levelStep, sendOutside, outOfRateStep, step}
+use Rattle.model.specs.Step.{refuse, accept, levelStep, sendOutOfRate, outOfRateStep, step}
 use Rattle.model.specs.Invariant.{OnEntry, WellFormed}
 use Rattle.model.specs.Queries.{entryAcr, acrOf}
 use Rattle.model.proofs.Entries.{find-each}
-use Rattle.model.proofs.Effects.{Effect, refuses, levels, leaves, effect}
+use Rattle.model.proofs.Effects.{Effect, refuses, setsLevel, sendsOutOfRate, effect}
 use Rattle.model.specs.State.{State, Entry, free, taken, find}
 use Rattle.model.specs.declared.acr.Acr.{Acr}
 use Rattle.model.specs.declared.acr.Acr.the-variants.{Rate}
 use Rattle.model.specs.declared.answer.Answer.{Answer}
 use Rattle.engine.specs.Contract.{Meets, MeetsWriting, MeetsAcr}
-use Rattle.answers.specs.declared.calls.SlotAnswer.{SlotAnswer}
-use Rattle.answers.specs.declared.calls.AcrAnswer.{AcrAnswer}
-use Rattle.answers.specs.declared.calls.CallAnswer.{CallAnswer}
-use Rattle.answers.specs.declared.calls.ClosedAnswer.{ClosedAnswer}
-use Rattle.answers.specs.Calls.{callAnswer, closedAnswer, slotAnswer, acrAnswer, ofRates}
-use Rattle.abr.specs.Contract.{Answers, AnswersClosed, Numbered, NumberedWriting, AnswersSlot, AnswersAcr}
+use Rattle.abr_answers.specs.declared.calls.AbrSent.{AbrSent}
+use Rattle.abr_answers.specs.declared.calls.AbrAllowed.{AbrAllowed}
+use Rattle.abr_answers.specs.declared.calls.AbrAnswer.{AbrAnswer}
+use Rattle.abr_answers.specs.declared.calls.AbrClosed.{AbrClosed}
+use Rattle.abr_answers.specs.Calls.{answerOf, closedOf, sentOf, allowedOf, ofRates}
+use Rattle.abr.specs.Contract.{ReturnsAnswer, ReturnsClosed, ReturnsRefusal, ReturnsRefusalWriting, ReturnsSent, ReturnsAllowed}
 
 -- a call on the name that was made of a pair
 pub named : (f : ℕ → State → Outcome) {n m : ℕ} {before after : List ℕ} {a : Answer} → n ≡ m → Meets (f n) before after a → Meets (f m) before after a
@@ -33,54 +33,54 @@ pub named-writing :
 named-writing f {before = before} {after = after} {a = a} {old = old} {new = new} e h = subst (λ (v : ℕ). MeetsWriting (f v) before after a old new) e h
 
 -- a call that returns its refusal and the comparisons it made
-pub answers : {f : State → Outcome} {before after : List ℕ} {a : Answer} {r : CallAnswer} → r ≡ callAnswer a → Meets f before after a → Answers f before after r
-answers e m = record { meets = λ s w b. let k = m .meets s w b in (k .0, e ∙ ap callAnswer (k .1)) }
+pub answers : {f : State → Outcome} {before after : List ℕ} {a : Answer} {r : AbrAnswer} → r ≡ answerOf a → Meets f before after a → ReturnsAnswer f before after r
+answers e m = record { meets = λ s w b. let k = m .meets s w b in (k .0, e ∙ ap answerOf (k .1)) }
 
 -- a close
-pub closes : {f : State → Outcome} {before after : List ℕ} {a : Answer} {r : ClosedAnswer} → r ≡ closedAnswer a → Meets f before after a → AnswersClosed f before after r
-closes e m = record { meets = λ s w b. let k = m .meets s w b in (k .0, e ∙ ap closedAnswer (k .1)) }
+pub closed-by : {f : State → Outcome} {before after : List ℕ} {a : Answer} {r : AbrClosed} → r ≡ closedOf a → Meets f before after a → ReturnsClosed f before after r
+closed-by e m = record { meets = λ s w b. let k = m .meets s w b in (k .0, e ∙ ap closedOf (k .1)) }
 
 -- a call that returns its refusal alone, of a definition that makes no comparisons
-alone : {a r c : CallAnswer} → r ≡ a → a ≡ c → c .comparisons ≡ 0 → record { refusal = r .refusal; comparisons = 0 } ≡ c
+alone : {a r c : AbrAnswer} → r ≡ a → a ≡ c → c .comparisons ≡ 0 → record { refusal = r .refusal; comparisons = 0 } ≡ c
 alone e h z = rw (e, h, ← z)
 
 abbrev ComparesNone : (State → Outcome) → Type 0
-ComparesNone f = (s : State) → WellFormed s → callAnswer (f s .answer) .comparisons ≡ 0
+ComparesNone f = (s : State) → WellFormed s → answerOf (f s .answer) .comparisons ≡ 0
 
-pub numbers : {f : State → Outcome} {before after : List ℕ} {a : Answer} {r : CallAnswer} → r ≡ callAnswer a → ComparesNone f → Meets f before after a → Numbered f before after (r .refusal)
-numbers e z m = record { meets = λ s w b. let k = m .meets s w b in (k .0, alone e (ap callAnswer (k .1)) (z s w)) }
+pub numbers : {f : State → Outcome} {before after : List ℕ} {a : Answer} {r : AbrAnswer} → r ≡ answerOf a → ComparesNone f → Meets f before after a → ReturnsRefusal f before after (r .refusal)
+numbers e z m = record { meets = λ s w b. let k = m .meets s w b in (k .0, alone e (ap answerOf (k .1)) (z s w)) }
 
 -- the same of a call that may write its buffer
 pub numbers-writing :
-    {f : State → Outcome} {before after : List ℕ} {a : Answer} {r : CallAnswer} {old new : List ℕ} → r ≡ callAnswer a → ComparesNone f → MeetsWriting f before after a old new
-    → NumberedWriting f before after (r .refusal) old new
-numbers-writing e z m = record { meets = λ s w b. let k = m .meets s w b in (k .0, alone e (ap callAnswer (k .1)) (z s w), k .2) }
+    {f : State → Outcome} {before after : List ℕ} {a : Answer} {r : AbrAnswer} {old new : List ℕ} → r ≡ answerOf a → ComparesNone f → MeetsWriting f before after a old new
+    → ReturnsRefusalWriting f before after (r .refusal) old new
+numbers-writing e z m = record { meets = λ s w b. let k = m .meets s w b in (k .0, alone e (ap answerOf (k .1)) (z s w), k .2) }
 
--- setting the level and sending outside the rate are such calls
+-- setting the level and sending out of rate are such calls
 data Uncompared : Call → Type 0 where
   level : (l : ℕ) → Uncompared (levelling l)
-  outside : (vpi vci t room : ℕ) → Uncompared (outOfRate vpi vci t room)
+  outOfRateAlone : (vpi vci t room : ℕ) → Uncompared (outOfRate vpi vci t room)
 
-effect-alone : {s : State} {c : Call} {o : Outcome} → Uncompared c → Effect s c o → callAnswer (o .answer) .comparisons ≡ 0
-unfolding refuse accept sendOutside
+effect-alone : {s : State} {c : Call} {o : Outcome} → Uncompared c → Effect s c o → answerOf (o .answer) .comparisons ≡ 0
+unfolding refuse accept sendOutOfRate
 effect-alone (level l) (refuses _ n h) = refl
-effect-alone (level l) (levels _ h) = refl
-effect-alone (outside a b t room) (refuses _ n h) = refl
-effect-alone (outside a b t room) (leaves _ _ _ _ d f g h) = refl
+effect-alone (level l) (setsLevel _ h) = refl
+effect-alone (outOfRateAlone a b t room) (refuses _ n h) = refl
+effect-alone (outOfRateAlone a b t room) (sendsOutOfRate _ _ _ _ d f g h) = refl
 
 pub level-alone : (l : ℕ) → ComparesNone (λ s. levelStep s l)
 unfolding step
 level-alone l s w = effect-alone (level l) (effect s (w .unique) (levelling l))
 
-pub out-of-rate-alone : (vpi vci t room : ℕ) → ComparesNone (λ s. outOfRateStep s (pairName vpi vci) t room)
+pub out-of-rate-alone : (vpi vci t room : ℕ) → ComparesNone (λ s. outOfRateStep s (addressName vpi vci) t room)
 unfolding step
-out-of-rate-alone a b t room s w = effect-alone (outside a b t room) (effect s (w .unique) (outOfRate a b t room))
+out-of-rate-alone a b t room s w = effect-alone (outOfRateAlone a b t room) (effect s (w .unique) (outOfRate a b t room))
 
 -- a slot
 pub slots :
-    {f : State → Outcome} {before after : List ℕ} {a : Answer} {r : SlotAnswer} {old new : List ℕ} → r ≡ slotAnswer a → MeetsWriting f before after a old new
-    → AnswersSlot f before after r old new
-slots e m = record { meets = λ s w b. let k = m .meets s w b in (k .0, e ∙ ap slotAnswer (k .1), k .2) }
+    {f : State → Outcome} {before after : List ℕ} {a : Answer} {r : AbrSent} {old new : List ℕ} → r ≡ sentOf a → MeetsWriting f before after a old new
+    → ReturnsSent f before after r old new
+slots e m = record { meets = λ s w b. let k = m .meets s w b in (k .0, e ∙ ap sentOf (k .1), k .2) }
 
 -- reading an ACR: the rates of a well-formed state are below 2^42
 entry-rates : (last : ℕ) (x : Entry) → OnEntry (ValidAt last) x → ofRates (entryAcr x) ≡ entryAcr x
@@ -92,7 +92,7 @@ acr-rates : (s : State) → WellFormed s → (v : ℕ) → ofRates (acrOf s v) �
 unfolding acrOf
 acr-rates s w v = entry-rates (s .last) (find v (s .entries)) (find-each (ValidAt (s .last)) v (s .entries) (w .each))
 
-pub acrs : {n v : ℕ} {l : List ℕ} {a : Acr} {r : AcrAnswer} → n ≡ v → r ≡ acrAnswer (ofRates a) → MeetsAcr n l a → AnswersAcr v l r
+pub acrs : {n v : ℕ} {l : List ℕ} {a : Acr} {r : AbrAllowed} → n ≡ v → r ≡ allowedOf (ofRates a) → MeetsAcr n l a → ReturnsAllowed v l r
 acrs {n} {l = l} {r = r} i e m =
-    subst (λ (u : ℕ). AnswersAcr u l r) i
-    (record { meets = λ s w b. e ∙ ap (λ (a : Acr). acrAnswer (ofRates a)) (m .answers s w b) ∙ ap acrAnswer (acr-rates s w n) })
+    subst (λ (u : ℕ). ReturnsAllowed u l r) i
+    (record { meets = λ s w b. e ∙ ap (λ (a : Acr). allowedOf (ofRates a)) (m .answers s w b) ∙ ap allowedOf (acr-rates s w n) })

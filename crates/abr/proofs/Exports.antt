@@ -7,18 +7,18 @@ use Rattle.connection.specs.Sending.{Buffer, untouched}
 use Rattle.model.specs.State.{State, empty}
 use Rattle.model.specs.Invariant.{WellFormed}
 use Rattle.model.specs.Call.{Call, opening, closing, receiving, offering, levelling, slot, making, outOfRate, openingPath, adding, offeringMember, removing, Outcome, closedCells}
-use Rattle.model.specs.Step.{refuse, accept, replay, discard, idleStep, sendStep, sendFrom, sendOutside, step}
+use Rattle.model.specs.Step.{refuse, accept, replay, discard, idleStep, sendStep, sendFrom, sendOutOfRate, step}
 use Rattle.model.specs.Run.{run, final}
 use Rattle.model.proofs.Preserved.{empty-well-formed}
-use Rattle.model.proofs.Effects.{Effect, refuses, begins, ends, offers as offersTo, marks, works, levels as levelsTo, idles, sends, makes as makesAt, leaves as leavesAt, beginsPath, adds as addsTo, offersMember as offersToMember, removes as removesAt, effect}
+use Rattle.model.proofs.Effects.{Effect, refuses, opens, closes, offers, receivesData, receivesRm, setsLevel, idles, sends, makes, sendsOutOfRate, opensPath, adds, offersMember, removes, effect}
 use Rattle.model.proofs.Reached.{step-well-formed, reached-well-formed}
 use Rattle.table.specs.Layout.{words}
 use Rattle.table.proofs.Words.{empty-words}
 use Rattle.engine.specs.Contract.{bufferContent}
-use Rattle.answers.specs.declared.calls.CallAnswer.{CallAnswer}
-use Rattle.answers.specs.declared.calls.ClosedAnswer.{ClosedAnswer}
-use Rattle.answers.specs.Calls.{refusalAlone, callAnswer, closedAnswer, noCell, slotAnswer}
-use Rattle.abr.specs.Exports.{Observation, noSlot, afterClose, Performs, opens, closes, receives, offers, levels, makes, leaves, slots, opensPath, adds, offersMember, removes, Trace, ended, then, finalWords, zeros, Matches, AllMatch, neither, both, ExportsAreRun}
+use Rattle.abr_answers.specs.declared.calls.AbrAnswer.{AbrAnswer}
+use Rattle.abr_answers.specs.declared.calls.AbrClosed.{AbrClosed}
+use Rattle.abr_answers.specs.Calls.{refusalAlone, answerOf, closedOf, noCell, sentOf}
+use Rattle.abr.specs.Exports.{Observation, noSlot, afterClose, Performs, abrOpen, abrClose, abrReceive, abrOffer, abrSetLevel, abrMake, abrOutOfRate, abrSlot, abrOpenPath, abrAdd, abrOfferMember, abrRemove, Transcript, ended, then, finalWords, zeros, Matches, AllMatch, neither, both, ExportsAreRun}
 
 -- a call that is no slot
 abbrev NoSlot : Call → Type 0
@@ -66,22 +66,22 @@ NoClose (offeringMember a b n) = Unit
 NoClose (removing a b) = ⊥
 
 effect-no-cells : {s : State} {c : Call} {o : Outcome} → Effect s c o → NoClose c → 0 ≡ closedCells (o .answer)
-unfolding refuse accept replay idleStep sendStep sendFrom sendOutside closedCells
+unfolding refuse accept replay idleStep sendStep sendFrom sendOutOfRate closedCells
 effect-no-cells (refuses c n h) u = refl
-effect-no-cells (begins a b t p g) u = refl
-effect-no-cells (ends a b d f) u = absurd u
-effect-no-cells (offersTo a b n d f i h) u = refl
-effect-no-cells (marks o a b e v d r i z f) u = refl
-effect-no-cells (works o q d r f) u = refl
-effect-no-cells (levelsTo l h) u = refl
+effect-no-cells (opens a b t p g) u = refl
+effect-no-cells (closes a b d f) u = absurd u
+effect-no-cells (offers a b n d f i h) u = refl
+effect-no-cells (receivesData o a b e v d r i z f) u = refl
+effect-no-cells (receivesRm o q d r f) u = refl
+effect-no-cells (setsLevel l h) u = refl
 effect-no-cells (idles t room g b) u = refl
 effect-no-cells (sends t room i v g b) u = refl
-effect-no-cells (makesAt a b t d f g h m) u = refl
-effect-no-cells (leavesAt a b t room d f g h) u = refl
-effect-no-cells (beginsPath a t p g) u = refl
-effect-no-cells (addsTo a b d f j) u = refl
-effect-no-cells (offersToMember a b n d f i h) u = refl
-effect-no-cells (removesAt a b d f i) u = absurd u
+effect-no-cells (makes a b t d f g h m) u = refl
+effect-no-cells (sendsOutOfRate a b t room d f g h) u = refl
+effect-no-cells (opensPath a t p g) u = refl
+effect-no-cells (adds a b d f j) u = refl
+effect-no-cells (offersMember a b n d f i h) u = refl
+effect-no-cells (removes a b d f i) u = absurd u
 
 no-cells : {s : State} → WellFormed s → (c : Call) → NoClose c → 0 ≡ closedCells (step s c .answer)
 no-cells {s} w c u = effect-no-cells (effect s (w .unique) c) u
@@ -89,69 +89,69 @@ no-cells {s} w c u = effect-no-cells (effect s (w .unique) c) u
 -- it writes none that it is not lent, and its answer is a refusal and comparisons alone
 pub record Plain (c : Call) (o : Outcome) : Type 0 where
   pub buffer : WithoutBuffer c → o .buffer ≡ untouched
-  pub answer : noCell (callAnswer (o .answer) .refusal) (callAnswer (o .answer) .comparisons) ≡ slotAnswer (o .answer)
+  pub answer : noCell (answerOf (o .answer) .refusal) (answerOf (o .answer) .comparisons) ≡ sentOf (o .answer)
 
 effect-plain : {s : State} {c : Call} {o : Outcome} → Effect s c o → NoSlot c → Plain c o
-unfolding refuse accept replay discard sendOutside
+unfolding refuse accept replay discard sendOutOfRate
 effect-plain (refuses c n h) u = record { buffer = λ _. refl; answer = refl }
-effect-plain (begins a b t p g) u = record { buffer = λ _. refl; answer = refl }
-effect-plain (ends a b d f) u = record { buffer = λ _. refl; answer = refl }
-effect-plain (offersTo a b n d f i h) u = record { buffer = λ _. refl; answer = refl }
-effect-plain (marks o a b e v d r i z f) u = record { buffer = λ _. refl; answer = refl }
-effect-plain (works o q d r f) u = record { buffer = λ _. refl; answer = refl }
-effect-plain (levelsTo l h) u = record { buffer = λ _. refl; answer = refl }
+effect-plain (opens a b t p g) u = record { buffer = λ _. refl; answer = refl }
+effect-plain (closes a b d f) u = record { buffer = λ _. refl; answer = refl }
+effect-plain (offers a b n d f i h) u = record { buffer = λ _. refl; answer = refl }
+effect-plain (receivesData o a b e v d r i z f) u = record { buffer = λ _. refl; answer = refl }
+effect-plain (receivesRm o q d r f) u = record { buffer = λ _. refl; answer = refl }
+effect-plain (setsLevel l h) u = record { buffer = λ _. refl; answer = refl }
 effect-plain (idles t room g b) u = absurd u
 effect-plain (sends t room i v g b) u = absurd u
-effect-plain (makesAt a b t d f g h m) u = record { buffer = λ _. refl; answer = refl }
-effect-plain (leavesAt a b t room d f g h) u = record { buffer = λ l. absurd l; answer = refl }
-effect-plain (beginsPath a t p g) u = record { buffer = λ _. refl; answer = refl }
-effect-plain (addsTo a b d f j) u = record { buffer = λ _. refl; answer = refl }
-effect-plain (offersToMember a b n d f i h) u = record { buffer = λ _. refl; answer = refl }
-effect-plain (removesAt a b d f i) u = record { buffer = λ _. refl; answer = refl }
+effect-plain (makes a b t d f g h m) u = record { buffer = λ _. refl; answer = refl }
+effect-plain (sendsOutOfRate a b t room d f g h) u = record { buffer = λ l. absurd l; answer = refl }
+effect-plain (opensPath a t p g) u = record { buffer = λ _. refl; answer = refl }
+effect-plain (adds a b d f j) u = record { buffer = λ _. refl; answer = refl }
+effect-plain (offersMember a b n d f i h) u = record { buffer = λ _. refl; answer = refl }
+effect-plain (removes a b d f i) u = record { buffer = λ _. refl; answer = refl }
 
 nothing-written : (b : Buffer) → b ≡ untouched → [] ≡ bufferContent b []
 nothing-written b e = rw e refl
 
 -- what such a call returned is all of its answer
-returned-plain : {s : State} → WellFormed s → (c : Call) → NoSlot c → (r : CallAnswer) → r ≡ callAnswer (step s c .answer) → noCell (r .refusal) (r .comparisons) ≡ slotAnswer (step s c .answer)
-returned-plain {s} w c u r h = ap (λ (a : CallAnswer). noCell (a .refusal) (a .comparisons)) h ∙ effect-plain (effect s (w .unique) c) u .answer
+returned-plain : {s : State} → WellFormed s → (c : Call) → NoSlot c → (r : AbrAnswer) → r ≡ answerOf (step s c .answer) → noCell (r .refusal) (r .comparisons) ≡ sentOf (step s c .answer)
+returned-plain {s} w c u r h = ap (λ (a : AbrAnswer). noCell (a .refusal) (a .comparisons)) h ∙ effect-plain (effect s (w .unique) c) u .answer
 
 plain-matches :
-    {s : State} → WellFormed s → (c : Call) → NoSlot c → WithoutBuffer c → NoClose c → (m : List ℕ) (r : CallAnswer) → (m ≡ words (step s c .state)) × (r ≡ callAnswer (step s c .answer))
+    {s : State} → WellFormed s → (c : Call) → NoSlot c → WithoutBuffer c → NoClose c → (m : List ℕ) (r : AbrAnswer) → (m ≡ words (step s c .state)) × (r ≡ answerOf (step s c .answer))
     → Matches (step s c) (noSlot m r)
 plain-matches {s} w c u b k m r h =
     record { table = h .0; returned = returned-plain w c u r (h .1); cells = no-cells w c k; buffer = nothing-written (step s c .buffer) (effect-plain (effect s (w .unique) c) u .buffer b) }
 
 discards-matches :
-    {s : State} → WellFormed s → (c : Call) → NoSlot c → WithoutBuffer c → (m : List ℕ) (r : ClosedAnswer) → (m ≡ words (step s c .state)) × (r ≡ closedAnswer (step s c .answer))
+    {s : State} → WellFormed s → (c : Call) → NoSlot c → WithoutBuffer c → (m : List ℕ) (r : AbrClosed) → (m ≡ words (step s c .state)) × (r ≡ closedOf (step s c .answer))
     → Matches (step s c) (afterClose m r)
 discards-matches {s} w c u b m r h = record {
   table = h .0;
-  returned = returned-plain w c u (record { refusal = r .refusal; comparisons = r .comparisons }) (ap (λ (x : ClosedAnswer). record { refusal = x .refusal; comparisons = x .comparisons }) (h .1));
-  cells = ap (λ (x : ClosedAnswer). x .cells) (h .1);
+  returned = returned-plain w c u (record { refusal = r .refusal; comparisons = r .comparisons }) (ap (λ (x : AbrClosed). record { refusal = x .refusal; comparisons = x .comparisons }) (h .1));
+  cells = ap (λ (x : AbrClosed). x .cells) (h .1);
   buffer = nothing-written (step s c .buffer) (effect-plain (effect s (w .unique) c) u .buffer b);
 }
 
 -- one call, on the words of any well-formed table
 pub performs-matches : {s : State} → WellFormed s → {c : Call} {l : List ℕ} {o : Observation} → Performs c l o → l ≡ words s → Matches (step s c) o
 unfolding step
-performs-matches {s} w (opens {vpi} {vci} {t} {p} {l} {m} {r} h) e = plain-matches w (opening vpi vci t p) tt tt tt m r (h .meets s w e)
-performs-matches {s} w (closes {vpi} {vci} {l} {m} {r} h) e = discards-matches w (closing vpi vci) tt tt m r (h .meets s w e)
-performs-matches {s} w (receives {o} {l} {m} {r} q h) e = plain-matches w (receiving o) tt tt tt m r (h .meets s w e)
-performs-matches {s} w (offers {vpi} {vci} {n} {l} {m} {r} h) e = plain-matches w (offering vpi vci n) tt tt tt m r (h .meets s w e)
-performs-matches {s} w (levels {k} {l} {m} {r} h) e = plain-matches w (levelling k) tt tt tt m (refusalAlone r) (h .meets s w e)
-performs-matches {s} w (makes {vpi} {vci} {t} {l} {m} {r} h) e = plain-matches w (making vpi vci t) tt tt tt m r (h .meets s w e)
-performs-matches {s} w (leaves {vpi} {vci} {t} {l} {m} {old} {new} {r} h) e =
+performs-matches {s} w (abrOpen {vpi} {vci} {t} {p} {l} {m} {r} h) e = plain-matches w (opening vpi vci t p) tt tt tt m r (h .meets s w e)
+performs-matches {s} w (abrClose {vpi} {vci} {l} {m} {r} h) e = discards-matches w (closing vpi vci) tt tt m r (h .meets s w e)
+performs-matches {s} w (abrReceive {o} {l} {m} {r} q h) e = plain-matches w (receiving o) tt tt tt m r (h .meets s w e)
+performs-matches {s} w (abrOffer {vpi} {vci} {n} {l} {m} {r} h) e = plain-matches w (offering vpi vci n) tt tt tt m r (h .meets s w e)
+performs-matches {s} w (abrSetLevel {k} {l} {m} {r} h) e = plain-matches w (levelling k) tt tt tt m (refusalAlone r) (h .meets s w e)
+performs-matches {s} w (abrMake {vpi} {vci} {t} {l} {m} {r} h) e = plain-matches w (making vpi vci t) tt tt tt m r (h .meets s w e)
+performs-matches {s} w (abrOutOfRate {vpi} {vci} {t} {l} {m} {old} {new} {r} h) e =
     let g = h .meets s w e in record { table = g .0; returned = returned-plain w (outOfRate vpi vci t (length old)) tt (refusalAlone r) (g .1); cells = no-cells w (outOfRate vpi vci t (length old)) tt; buffer = g .2 }
-performs-matches {s} w (slots {t} {l} {m} {old} h) e =
+performs-matches {s} w (abrSlot {t} {l} {m} {old} h) e =
     let g = h .meets s w e in record { table = g .0; returned = g .1; cells = no-cells w (slot t (length old)) tt; buffer = g .2 }
-performs-matches {s} w (opensPath {vpi} {t} {p} {l} {m} {r} h) e = plain-matches w (openingPath vpi t p) tt tt tt m r (h .meets s w e)
-performs-matches {s} w (adds {vpi} {vci} {l} {m} {r} h) e = plain-matches w (adding vpi vci) tt tt tt m r (h .meets s w e)
-performs-matches {s} w (offersMember {vpi} {vci} {n} {l} {m} {r} h) e = plain-matches w (offeringMember vpi vci n) tt tt tt m r (h .meets s w e)
-performs-matches {s} w (removes {vpi} {vci} {l} {m} {r} h) e = discards-matches w (removing vpi vci) tt tt m r (h .meets s w e)
+performs-matches {s} w (abrOpenPath {vpi} {t} {p} {l} {m} {r} h) e = plain-matches w (openingPath vpi t p) tt tt tt m r (h .meets s w e)
+performs-matches {s} w (abrAdd {vpi} {vci} {l} {m} {r} h) e = plain-matches w (adding vpi vci) tt tt tt m r (h .meets s w e)
+performs-matches {s} w (abrOfferMember {vpi} {vci} {n} {l} {m} {r} h) e = plain-matches w (offeringMember vpi vci n) tt tt tt m r (h .meets s w e)
+performs-matches {s} w (abrRemove {vpi} {vci} {l} {m} {r} h) e = discards-matches w (removing vpi vci) tt tt m r (h .meets s w e)
 
 onward :
-    (s : State) → WellFormed s → (cs : List Call) (l : List ℕ) (os : List Observation) → Trace cs l os → l ≡ words s
+    (s : State) → WellFormed s → (cs : List Call) (l : List ℕ) (os : List Observation) → Transcript cs l os → l ≡ words s
     → AllMatch (run s cs) os × (finalWords l os ≡ words (final s cs))
 onward s w [] l [] ended e = (neither, e)
 onward s w (c ∷ cs) l (o ∷ os) (then h t) e =
@@ -162,7 +162,7 @@ onward s w (c ∷ cs) l (o ∷ os) (then h t) e =
 pub zeros-words : zeros ≡ words empty
 zeros-words = rw empty-words refl
 
-last : (cs : List Call) (os : List Observation) → Trace cs zeros os → finalWords zeros os ≡ words (final empty cs)
+last : (cs : List Call) (os : List Observation) → Transcript cs zeros os → finalWords zeros os ≡ words (final empty cs)
 last cs os t = onward empty empty-well-formed cs zeros os t zeros-words .1
 
 pub exports-are-run : ExportsAreRun

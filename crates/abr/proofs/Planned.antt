@@ -7,22 +7,22 @@ use lib.Dec.{T, lit<}
 use lib.Ieee.{Float, binary64, fits}
 use lib.Ieee.Digits.{Equals}
 use Rattle.rate.specs.Code.{rateOf}
-use Rattle.doubles.specs.declared.export.Exported.{Exported}
-use Rattle.doubles.specs.declared.import.Imported.{Imported}
-use Rattle.doubles.specs.declared.import.Imported.the-variants.{Refused, Exact, Below}
-use Rattle.doubles.specs.Import.{importOf}
-use Rattle.doubles.specs.Exact.{IsSum, CodeUnder, Exactly}
-use Rattle.doubles.proofs.Exactness.{imports-exactly}
+use Rattle.rate_doubles.specs.declared.export.Exported.{Exported}
+use Rattle.rate_doubles.specs.declared.import.Imported.{Imported}
+use Rattle.rate_doubles.specs.declared.import.Imported.the-variants.{Refused, Exact, Below}
+use Rattle.rate_doubles.specs.Import.{importOf}
+use Rattle.rate_doubles.specs.Exact.{IsSum, CodeUnder, ImportedExactly}
+use Rattle.rate_doubles.proofs.Exactness.{imports-exactly}
 use Rattle.model.specs.declared.contract.Contract.{Contract}
 use Rattle.engine.specs.Contract.{MeetsContract}
-use Rattle.answers.specs.declared.planning.ImportAnswer.{ImportAnswer}
-use Rattle.answers.specs.Planning.{nil, ExportedAs, importAnswer, Imports}
-use Rattle.abr.specs.Contract.{AnswersExport}
+use Rattle.abr_answers.specs.declared.planning.AbrImported.{AbrImported}
+use Rattle.abr_answers.specs.Planning.{nil, ExportedAs, importedOf, Imports}
+use Rattle.abr.specs.Contract.{ReturnsContract}
 
 pub exports :
-    {n v : ℕ} {l : List ℕ} {c : Contract} {k : ℕ} {r : Exported} → n ≡ v → ExportedAs c k r → MeetsContract n l c → AnswersExport v l k r
+    {n v : ℕ} {l : List ℕ} {c : Contract} {k : ℕ} {r : Exported} → n ≡ v → ExportedAs c k r → MeetsContract n l c → ReturnsContract v l k r
 exports {l = l} {k = k} {r = r} i e m =
-    subst (λ (u : ℕ). AnswersExport u l k r) i (record { meets = λ s w b. subst (λ (c : Contract). ExportedAs c k r) (m .answers s w b) e })
+    subst (λ (u : ℕ). ReturnsContract u l k r) i (record { meets = λ s w b. subst (λ (c : Contract). ExportedAs c k r) (m .answers s w b) e })
 
 -- what is said of the enum, of the struct that is returned
 plus-nil : (x : Float) (rate : ℕ) → Equals x rate 512 → IsSum x rate nil
@@ -34,18 +34,18 @@ plus-nil x rate h = record {
   input = subst (λ (a : ℕ). Equals x a 512) (omega arith) h;
 }
 
-answer-sum : (x : Float) (i : Imported) → Exactly x i → importAnswer i .refusal ≡ 0 → IsSum x (rateOf (importAnswer i .code)) (importAnswer i .remainder)
+answer-sum : (x : Float) (i : Imported) → ImportedExactly x i → importedOf i .refusal ≡ 0 → IsSum x (rateOf (importedOf i .code)) (importedOf i .remainder)
 answer-sum x (Refused n) h z = absurd (omega (arith, h .0))
 answer-sum x (Exact c) h z = plus-nil x (rateOf c) (h .1)
 answer-sum x (Below c y) h z = h .1
 
-answer-greatest : (x : Float) (i : Imported) → Exactly x i → importAnswer i .refusal ≡ 0 → CodeUnder x (importAnswer i .code)
+answer-greatest : (x : Float) (i : Imported) → ImportedExactly x i → importedOf i .refusal ≡ 0 → CodeUnder x (importedOf i .code)
 answer-greatest x (Refused n) h z = absurd (omega (arith, h .0))
 answer-greatest x (Exact c) h z = h .0
 answer-greatest x (Below c y) h z = h .0
 
-pub imports : (x : Float) → T (fits binary64 x) → {i : Imported} {r : ImportAnswer} → i ≡ importOf x → r ≡ importAnswer i → Imports x r
+pub imports : (x : Float) → T (fits binary64 x) → {i : Imported} {r : AbrImported} → i ≡ importOf x → r ≡ importedOf i → Imports x r
 imports x f {i} {r} e q =
-    let is : r ≡ importAnswer (importOf x) = q ∙ ap importAnswer e in
+    let is : r ≡ importedOf (importOf x) = q ∙ ap importedOf e in
     let h = imports-exactly x f in
     rw is (record { is = refl; sum = answer-sum x (importOf x) h; greatest = answer-greatest x (importOf x) h })

@@ -8,42 +8,42 @@ use Rattle.model.specs.Call.{Outcome}
 use Rattle.model.specs.Queries.{acrOf, contractOf}
 use Rattle.table.specs.Layout.{words}
 use Rattle.engine.specs.Contract.{bufferContent}
-use Rattle.answers.specs.declared.calls.SlotAnswer.{SlotAnswer}
-use Rattle.answers.specs.declared.calls.AcrAnswer.{AcrAnswer}
-use Rattle.answers.specs.declared.calls.CallAnswer.{CallAnswer}
-use Rattle.answers.specs.declared.calls.ClosedAnswer.{ClosedAnswer}
-use Rattle.answers.specs.Calls.{refusalAlone, callAnswer, closedAnswer, slotAnswer, acrAnswer}
-use Rattle.doubles.specs.declared.export.Exported.{Exported}
-use Rattle.answers.specs.Planning.{ExportedAs}
+use Rattle.abr_answers.specs.declared.calls.AbrSent.{AbrSent}
+use Rattle.abr_answers.specs.declared.calls.AbrAllowed.{AbrAllowed}
+use Rattle.abr_answers.specs.declared.calls.AbrAnswer.{AbrAnswer}
+use Rattle.abr_answers.specs.declared.calls.AbrClosed.{AbrClosed}
+use Rattle.abr_answers.specs.Calls.{refusalAlone, answerOf, closedOf, sentOf, allowedOf}
+use Rattle.rate_doubles.specs.declared.export.Exported.{Exported}
+use Rattle.abr_answers.specs.Planning.{ExportedAs}
 
 -- a call that returns its refusal and the comparisons it made
-pub record Answers (f : State → Outcome) (before after : List ℕ) (r : CallAnswer) : Type 0 where
-  pub meets : (s : State) → WellFormed s → before ≡ words s → (after ≡ words (f s .state)) × (r ≡ callAnswer (f s .answer))
+pub record ReturnsAnswer (f : State → Outcome) (before after : List ℕ) (r : AbrAnswer) : Type 0 where
+  pub meets : (s : State) → WellFormed s → before ≡ words s → (after ≡ words (f s .state)) × (r ≡ answerOf (f s .answer))
 
 -- a close or the removal of a member, which returns the data cells that waited besides (document 02, L12 and L13)
-pub record AnswersClosed (f : State → Outcome) (before after : List ℕ) (r : ClosedAnswer) : Type 0 where
-  pub meets : (s : State) → WellFormed s → before ≡ words s → (after ≡ words (f s .state)) × (r ≡ closedAnswer (f s .answer))
+pub record ReturnsClosed (f : State → Outcome) (before after : List ℕ) (r : AbrClosed) : Type 0 where
+  pub meets : (s : State) → WellFormed s → before ≡ words s → (after ≡ words (f s .state)) × (r ≡ closedOf (f s .answer))
 
 -- a call that returns its refusal alone: it makes no comparisons
-pub record Numbered (f : State → Outcome) (before after : List ℕ) (r : ℕ) : Type 0 where
-  pub meets : (s : State) → WellFormed s → before ≡ words s → (after ≡ words (f s .state)) × (refusalAlone r ≡ callAnswer (f s .answer))
+pub record ReturnsRefusal (f : State → Outcome) (before after : List ℕ) (r : ℕ) : Type 0 where
+  pub meets : (s : State) → WellFormed s → before ≡ words s → (after ≡ words (f s .state)) × (refusalAlone r ≡ answerOf (f s .answer))
 
 -- the same of a call that may write its buffer
-pub record NumberedWriting (f : State → Outcome) (before after : List ℕ) (r : ℕ) (old new : List ℕ) : Type 0 where
+pub record ReturnsRefusalWriting (f : State → Outcome) (before after : List ℕ) (r : ℕ) (old new : List ℕ) : Type 0 where
   pub meets :
       (s : State) → WellFormed s → before ≡ words s
-      → (after ≡ words (f s .state)) × (refusalAlone r ≡ callAnswer (f s .answer)) × (new ≡ bufferContent (f s .buffer) old)
+      → (after ≡ words (f s .state)) × (refusalAlone r ≡ answerOf (f s .answer)) × (new ≡ bufferContent (f s .buffer) old)
 
 -- a slot, with its buffer before and after
-pub record AnswersSlot (f : State → Outcome) (before after : List ℕ) (r : SlotAnswer) (old new : List ℕ) : Type 0 where
+pub record ReturnsSent (f : State → Outcome) (before after : List ℕ) (r : AbrSent) (old new : List ℕ) : Type 0 where
   pub meets :
       (s : State) → WellFormed s → before ≡ words s
-      → (after ≡ words (f s .state)) × (r ≡ slotAnswer (f s .answer)) × (new ≡ bufferContent (f s .buffer) old)
+      → (after ≡ words (f s .state)) × (r ≡ sentOf (f s .answer)) × (new ≡ bufferContent (f s .buffer) old)
 
 -- reading an ACR, which leaves the table
-pub record AnswersAcr (v : ℕ) (l : List ℕ) (r : AcrAnswer) : Type 0 where
-  pub meets : (s : State) → WellFormed s → l ≡ words s → r ≡ acrAnswer (acrOf s v)
+pub record ReturnsAllowed (v : ℕ) (l : List ℕ) (r : AbrAllowed) : Type 0 where
+  pub meets : (s : State) → WellFormed s → l ≡ words s → r ≡ allowedOf (acrOf s v)
 
 -- exporting a contract, which leaves the table and writes its refusal (document 02, L8)
-pub record AnswersExport (v : ℕ) (l : List ℕ) (refusal : ℕ) (r : Exported) : Type 0 where
+pub record ReturnsContract (v : ℕ) (l : List ℕ) (refusal : ℕ) (r : Exported) : Type 0 where
   pub meets : (s : State) → WellFormed s → l ≡ words s → ExportedAs (contractOf s v) refusal r

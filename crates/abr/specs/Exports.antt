@@ -4,9 +4,9 @@ use Prim.Native.Nat.{ℕ}
 use mathlib.Core.Path.{_≡_}
 use mathlib.Core.List.{List, [], _∷_}
 use lib.ListN.{length, replicate}
-use Rattle.params.specs.declared.params.Params.{Params}
+use Rattle.rate_params.specs.declared.params.Params.{Params}
 use Rattle.cell.specs.Octets.{AreOctets}
-use Rattle.cell.specs.Name.{pairName}
+use Rattle.cell.specs.Name.{addressName}
 use Rattle.model.specs.State.{State, empty}
 use Rattle.model.specs.Invariant.{WellFormed}
 use Rattle.model.specs.Call.{Call, opening, closing, receiving, offering, levelling, slot, making, outOfRate, openingPath, adding, offeringMember, removing, Outcome, closedCells}
@@ -14,58 +14,58 @@ use Rattle.model.specs.Step.{openStep, closeStep, receiveStep, offerStep, level
 use Rattle.model.specs.Queries.{acrOf, contractOf, nextReady, slotTime}
 use Rattle.model.specs.Run.{run, final}
 use Rattle.table.specs.Layout.{words, size}
-use Rattle.tournament.specs.Next.{GivesNext, GivesSlotTime}
+use Rattle.table_tournament.specs.Next.{GivesNext, GivesSlotTime}
 use Rattle.engine.specs.Contract.{bufferContent}
-use Rattle.answers.specs.declared.calls.SlotAnswer.{SlotAnswer}
-use Rattle.answers.specs.declared.calls.AcrAnswer.{AcrAnswer}
-use Rattle.answers.specs.declared.calls.CallAnswer.{CallAnswer}
-use Rattle.answers.specs.declared.calls.ClosedAnswer.{ClosedAnswer}
-use Rattle.answers.specs.Calls.{refusalAlone, noCell, slotAnswer, acrAnswer}
-use Rattle.doubles.specs.declared.export.Exported.{Exported}
-use Rattle.answers.specs.Planning.{ExportedAs}
-use Rattle.abr.specs.Contract.{Answers, AnswersClosed, Numbered, NumberedWriting, AnswersSlot, AnswersAcr, AnswersExport}
+use Rattle.abr_answers.specs.declared.calls.AbrSent.{AbrSent}
+use Rattle.abr_answers.specs.declared.calls.AbrAllowed.{AbrAllowed}
+use Rattle.abr_answers.specs.declared.calls.AbrAnswer.{AbrAnswer}
+use Rattle.abr_answers.specs.declared.calls.AbrClosed.{AbrClosed}
+use Rattle.abr_answers.specs.Calls.{refusalAlone, noCell, sentOf, allowedOf}
+use Rattle.rate_doubles.specs.declared.export.Exported.{Exported}
+use Rattle.abr_answers.specs.Planning.{ExportedAs}
+use Rattle.abr.specs.Contract.{ReturnsAnswer, ReturnsClosed, ReturnsRefusal, ReturnsRefusalWriting, ReturnsSent, ReturnsAllowed, ReturnsContract}
 
 -- what a caller sees of one call: the words of the table after it, what it returned, with the data cells of a close or a removal, and the lent buffer before and after it
 pub record Observation : Type 0 where
   pub table : List ℕ
-  pub returned : SlotAnswer
+  pub returned : AbrSent
   pub cells : ℕ
   pub old : List ℕ
   pub new : List ℕ
 
 -- a call that is lent no buffer to write
-abbrev pub noSlot : (table : List ℕ) → CallAnswer → Observation
+abbrev pub noSlot : (table : List ℕ) → AbrAnswer → Observation
 noSlot l r = record { table = l; returned = noCell (r .refusal) (r .comparisons); cells = 0; old = []; new = [] }
 
-abbrev pub afterClose : (table : List ℕ) → ClosedAnswer → Observation
+abbrev pub afterClose : (table : List ℕ) → AbrClosed → Observation
 afterClose l r = record { table = l; returned = noCell (r .refusal) (r .comparisons); cells = r .cells; old = []; new = [] }
 
 -- One exported call on these words. What each case holds is the ensures of abr_open, abr_close, abr_receive, abr_offer, abr_set_level, abr_make, abr_out_of_rate, abr_slot, abr_open_path,
 -- abr_add, abr_offer_member or abr_remove, so that every such call makes one of these.
 pub data Performs : Call → (before : List ℕ) → Observation → Type 0 where
-  opens : {vpi vci t : ℕ} {p : Params} {l m : List ℕ} {r : CallAnswer} → Answers (λ s. openStep s vpi vci t p) l m r → Performs (opening vpi vci t p) l (noSlot m r)
-  closes : {vpi vci : ℕ} {l m : List ℕ} {r : ClosedAnswer} → AnswersClosed (λ s. closeStep s (pairName vpi vci)) l m r → Performs (closing vpi vci) l (afterClose m r)
+  abrOpen : {vpi vci t : ℕ} {p : Params} {l m : List ℕ} {r : AbrAnswer} → ReturnsAnswer (λ s. openStep s vpi vci t p) l m r → Performs (opening vpi vci t p) l (noSlot m r)
+  abrClose : {vpi vci : ℕ} {l m : List ℕ} {r : AbrClosed} → ReturnsClosed (λ s. closeStep s (addressName vpi vci)) l m r → Performs (closing vpi vci) l (afterClose m r)
   -- the octets of a received cell are below 256, by C's type
-  receives : {o : List ℕ} {l m : List ℕ} {r : CallAnswer} → AreOctets o → Answers (λ s. receiveStep s o) l m r → Performs (receiving o) l (noSlot m r)
-  offers : {vpi vci n : ℕ} {l m : List ℕ} {r : CallAnswer} → Answers (λ s. offerStep s (pairName vpi vci) n) l m r → Performs (offering vpi vci n) l (noSlot m r)
-  levels : {k : ℕ} {l m : List ℕ} {r : ℕ} → Numbered (λ s. levelStep s k) l m r → Performs (levelling k) l (noSlot m (refusalAlone r))
-  makes : {vpi vci t : ℕ} {l m : List ℕ} {r : CallAnswer} → Answers (λ s. makeStep s (pairName vpi vci) t) l m r → Performs (making vpi vci t) l (noSlot m r)
-  leaves :
-      {vpi vci t : ℕ} {l m old new : List ℕ} {r : ℕ} → NumberedWriting (λ s. outOfRateStep s (pairName vpi vci) t (length old)) l m r old new
+  abrReceive : {o : List ℕ} {l m : List ℕ} {r : AbrAnswer} → AreOctets o → ReturnsAnswer (λ s. receiveStep s o) l m r → Performs (receiving o) l (noSlot m r)
+  abrOffer : {vpi vci n : ℕ} {l m : List ℕ} {r : AbrAnswer} → ReturnsAnswer (λ s. offerStep s (addressName vpi vci) n) l m r → Performs (offering vpi vci n) l (noSlot m r)
+  abrSetLevel : {k : ℕ} {l m : List ℕ} {r : ℕ} → ReturnsRefusal (λ s. levelStep s k) l m r → Performs (levelling k) l (noSlot m (refusalAlone r))
+  abrMake : {vpi vci t : ℕ} {l m : List ℕ} {r : AbrAnswer} → ReturnsAnswer (λ s. makeStep s (addressName vpi vci) t) l m r → Performs (making vpi vci t) l (noSlot m r)
+  abrOutOfRate :
+      {vpi vci t : ℕ} {l m old new : List ℕ} {r : ℕ} → ReturnsRefusalWriting (λ s. outOfRateStep s (addressName vpi vci) t (length old)) l m r old new
       → Performs (outOfRate vpi vci t (length old)) l (record { table = m; returned = noCell r 0; cells = 0; old = old; new = new })
-  slots :
-      {t : ℕ} {l m old new : List ℕ} {r : SlotAnswer} → AnswersSlot (λ s. slotStep s t (length old)) l m r old new
+  abrSlot :
+      {t : ℕ} {l m old new : List ℕ} {r : AbrSent} → ReturnsSent (λ s. slotStep s t (length old)) l m r old new
       → Performs (slot t (length old)) l (record { table = m; returned = r; cells = 0; old = old; new = new })
-  opensPath : {vpi t : ℕ} {p : Params} {l m : List ℕ} {r : CallAnswer} → Answers (λ s. openPathStep s vpi t p) l m r → Performs (openingPath vpi t p) l (noSlot m r)
-  adds : {vpi vci : ℕ} {l m : List ℕ} {r : CallAnswer} → Answers (λ s. addStep s vpi vci) l m r → Performs (adding vpi vci) l (noSlot m r)
-  offersMember :
-      {vpi vci n : ℕ} {l m : List ℕ} {r : CallAnswer} → Answers (λ s. offerMemberStep s vpi vci n) l m r → Performs (offeringMember vpi vci n) l (noSlot m r)
-  removes : {vpi vci : ℕ} {l m : List ℕ} {r : ClosedAnswer} → AnswersClosed (λ s. removeStep s vpi vci) l m r → Performs (removing vpi vci) l (afterClose m r)
+  abrOpenPath : {vpi t : ℕ} {p : Params} {l m : List ℕ} {r : AbrAnswer} → ReturnsAnswer (λ s. openPathStep s vpi t p) l m r → Performs (openingPath vpi t p) l (noSlot m r)
+  abrAdd : {vpi vci : ℕ} {l m : List ℕ} {r : AbrAnswer} → ReturnsAnswer (λ s. addStep s vpi vci) l m r → Performs (adding vpi vci) l (noSlot m r)
+  abrOfferMember :
+      {vpi vci n : ℕ} {l m : List ℕ} {r : AbrAnswer} → ReturnsAnswer (λ s. offerMemberStep s vpi vci n) l m r → Performs (offeringMember vpi vci n) l (noSlot m r)
+  abrRemove : {vpi vci : ℕ} {l m : List ℕ} {r : AbrClosed} → ReturnsClosed (λ s. removeStep s vpi vci) l m r → Performs (removing vpi vci) l (afterClose m r)
 
 -- calls in a row, each on the words that the call before it left
-pub data Trace : List Call → (first : List ℕ) → List Observation → Type 0 where
-  ended : {l : List ℕ} → Trace [] l []
-  then : {c : Call} {cs : List Call} {l : List ℕ} {o : Observation} {os : List Observation} → Performs c l o → Trace cs (o .table) os → Trace (c ∷ cs) l (o ∷ os)
+pub data Transcript : List Call → (first : List ℕ) → List Observation → Type 0 where
+  ended : {l : List ℕ} → Transcript [] l []
+  then : {c : Call} {cs : List Call} {l : List ℕ} {o : Observation} {os : List Observation} → Performs c l o → Transcript cs (o .table) os → Transcript (c ∷ cs) l (o ∷ os)
 
 -- the words after all of them
 abbrev pub finalWords : (first : List ℕ) → List Observation → List ℕ
@@ -79,7 +79,7 @@ zeros = replicate size 0
 -- a call did what the definitions say: table, answer and buffer
 pub record Matches (p : Outcome) (o : Observation) : Type 0 where
   pub table : o .table ≡ words (p .state)
-  pub returned : o .returned ≡ slotAnswer (p .answer)
+  pub returned : o .returned ≡ sentOf (p .answer)
   pub cells : o .cells ≡ closedCells (p .answer)
   pub buffer : o .new ≡ bufferContent (p .buffer) (o .old)
 
@@ -92,22 +92,22 @@ pub data AllMatch : List Outcome → List Observation → Type 0 where
 pub record ExportsAreRun : Type 0 where
   -- from the words of any well-formed table
   pub onward :
-      (s : State) → WellFormed s → (cs : List Call) (l : List ℕ) (os : List Observation) → Trace cs l os → l ≡ words s
+      (s : State) → WellFormed s → (cs : List Call) (l : List ℕ) (os : List Observation) → Transcript cs l os → l ≡ words s
       → AllMatch (run s cs) os × (finalWords l os ≡ words (final s cs))
   -- from the zero table: every call of the list, and the words that are left
-  pub each : (cs : List Call) (os : List Observation) → Trace cs zeros os → AllMatch (run empty cs) os
-  pub last : (cs : List Call) (os : List Observation) → Trace cs zeros os → finalWords zeros os ≡ words (final empty cs)
+  pub each : (cs : List Call) (os : List Observation) → Transcript cs zeros os → AllMatch (run empty cs) os
+  pub last : (cs : List Call) (os : List Observation) → Transcript cs zeros os → finalWords zeros os ≡ words (final empty cs)
   -- and reading an ACR after them
   pub acr :
-      (cs : List Call) (os : List Observation) → Trace cs zeros os → (v : ℕ) (r : AcrAnswer) → AnswersAcr v (finalWords zeros os) r
-      → r ≡ acrAnswer (acrOf (final empty cs) v)
+      (cs : List Call) (os : List Observation) → Transcript cs zeros os → (v : ℕ) (r : AbrAllowed) → ReturnsAllowed v (finalWords zeros os) r
+      → r ≡ allowedOf (acrOf (final empty cs) v)
   -- or exporting a contract
   pub contract :
-      (cs : List Call) (os : List Observation) → Trace cs zeros os → (v n : ℕ) (r : Exported) → AnswersExport v (finalWords zeros os) n r
+      (cs : List Call) (os : List Observation) → Transcript cs zeros os → (v n : ℕ) (r : Exported) → ReturnsContract v (finalWords zeros os) n r
       → ExportedAs (contractOf (final empty cs) v) n r
   -- or asking for the next ready instant, which is the ensures of abr_next
-  pub next : (cs : List Call) (os : List Observation) → Trace cs zeros os → (r : ℕ) → GivesNext (finalWords zeros os) r → r ≡ nextReady (final empty cs)
+  pub next : (cs : List Call) (os : List Observation) → Transcript cs zeros os → (r : ℕ) → GivesNext (finalWords zeros os) r → r ≡ nextReady (final empty cs)
   -- or for the time to pass to a slot, which is the ensures of abr_slot_time
   pub slotTimed :
-      (cs : List Call) (os : List Observation) → Trace cs zeros os → (now lag r : ℕ) → GivesSlotTime (finalWords zeros os) now lag r
+      (cs : List Call) (os : List Observation) → Transcript cs zeros os → (now lag r : ℕ) → GivesSlotTime (finalWords zeros os) now lag r
       → r ≡ slotTime (final empty cs) now lag

@@ -1,42 +1,42 @@
 // Rate codes and the house set, without a table (document 01, "Units and the 16-bit rate code" and "Opening"; document 02, L7).
 ghost use mathlib.Core.Path.{_≡_};
 ghost use Rattle.rate.specs.Code.{coded};
-ghost use Rattle.params.specs.Params.{houseSet};
-ghost use Rattle.answers.specs.Codes.{codeAnswer, rateAnswer};
-use answers::codes::CodeAnswer;
-use answers::codes::RateAnswer;
-use answers::codes::code_answer;
-use params::params::Params;
+ghost use Rattle.rate_params.specs.Params.{houseSet};
+ghost use Rattle.abr_answers.specs.Codes.{codedOf, ratedOf};
+use abr_answers::codes::AbrCoded;
+use abr_answers::codes::AbrRated;
+use abr_answers::codes::coded_of;
 use rate::code::code_of;
 use rate::code::rate_of;
 use rate::code::reserved_clear;
+use rate_params::params::Params;
 
 // Refusal 9.
 #[no_mangle]
-pub extern "C" fn abr_code(rate: u64) -> CodeAnswer
-    ensures { λ r. ⌜ r ≡ codeAnswer (coded rate) ⌝ }
+pub extern "C" fn abr_code(rate: u64) -> AbrCoded
+    ensures { λ r. ⌜ r ≡ codedOf (coded rate) ⌝ }
 {
-    code_answer(code_of(rate))
+    coded_of(code_of(rate))
 }
 
 // Refusal 7 over 16 bits, then 19 where bit 15 is set.
 #[no_mangle]
-pub extern "C" fn abr_rate(code: u32) -> RateAnswer
-    ensures { λ r. ⌜ r ≡ rateAnswer code ⌝ }
+pub extern "C" fn abr_rate(code: u32) -> AbrRated
+    ensures { λ r. ⌜ r ≡ ratedOf code ⌝ }
 {
     if 65535 < code {
-        return RateAnswer {
+        return AbrRated {
             refusal: 7,
             rate: 0,
         };
     }
     if !reserved_clear(code) {
-        return RateAnswer {
+        return AbrRated {
             refusal: 19,
             rate: 0,
         };
     }
-    RateAnswer {
+    AbrRated {
         refusal: 0,
         rate: rate_of(code),
     }

@@ -1,22 +1,22 @@
 // The calls that name a connection (document 01, "Opening" and "Slots"; document 02, L1, L5, L6 and L12).
 ghost use lib.ListN.{length};
-ghost use Rattle.cell.specs.Name.{pairName};
+ghost use Rattle.cell.specs.Name.{addressName};
 ghost use Rattle.model.specs.Step.{openStep, closeStep, offerStep, makeStep, outOfRateStep};
-ghost use Rattle.abr.specs.Contract.{Answers, AnswersClosed, NumberedWriting, AnswersAcr};
-use answers::calls::AcrAnswer;
-use answers::calls::CallAnswer;
-use answers::calls::ClosedAnswer;
-use answers::calls::acr_answer;
-use answers::calls::call_answer;
-use answers::calls::closed_answer;
-use cell::name::pair_name;
+ghost use Rattle.abr.specs.Contract.{ReturnsAnswer, ReturnsClosed, ReturnsRefusalWriting, ReturnsAllowed};
+use abr_answers::calls::AbrAllowed;
+use abr_answers::calls::AbrAnswer;
+use abr_answers::calls::AbrClosed;
+use abr_answers::calls::allowed_of;
+use abr_answers::calls::answer_of;
+use abr_answers::calls::closed_of;
+use cell::name::address_name;
 use engine::acr::read_acr;
 use engine::close::close;
 use engine::make::make;
 use engine::offer::offer;
 use engine::open::open;
-use params::params::Params;
-use slots::out_of_rate::out_of_rate;
+use engine_slots::out_of_rate::out_of_rate;
+use rate_params::params::Params;
 use table::layout::WORDS;
 
 // Refusals 10, 19, 7, 29, 30, 8, 12, 27, 13, 14.
@@ -27,37 +27,37 @@ pub extern "C" fn abr_open(
     vci: u32,
     time: u64,
     params: Params,
-) -> CallAnswer
-    ensures { λ r. ⌜ Answers (λ s. openStep s vpi vci time params) (now (table .entry)) (now (table .exit)) r ⌝ }
+) -> AbrAnswer
+    ensures { λ r. ⌜ ReturnsAnswer (λ s. openStep s vpi vci time params) (now (table .entry)) (now (table .exit)) r ⌝ }
 {
-    call_answer(open(table, vpi, vci, time, params))
+    answer_of(open(table, vpi, vci, time, params))
 }
 
 // Refusal 11.
 #[no_mangle]
-pub extern "C" fn abr_close(table: &mut [u64; WORDS], vpi: u32, vci: u32) -> ClosedAnswer
-    ensures { λ r. ⌜ AnswersClosed (λ s. closeStep s (pairName vpi vci)) (now (table .entry)) (now (table .exit)) r ⌝ }
+pub extern "C" fn abr_close(table: &mut [u64; WORDS], vpi: u32, vci: u32) -> AbrClosed
+    ensures { λ r. ⌜ ReturnsClosed (λ s. closeStep s (addressName vpi vci)) (now (table .entry)) (now (table .exit)) r ⌝ }
 {
-    let name = pair_name(vpi, vci);
-    closed_answer(close(table, name))
+    let name = address_name(vpi, vci);
+    closed_of(close(table, name))
 }
 
 // Refusals 11, 28, 15.
 #[no_mangle]
-pub extern "C" fn abr_offer(table: &mut [u64; WORDS], vpi: u32, vci: u32, cells: u64) -> CallAnswer
-    ensures { λ r. ⌜ Answers (λ s. offerStep s (pairName vpi vci) cells) (now (table .entry)) (now (table .exit)) r ⌝ }
+pub extern "C" fn abr_offer(table: &mut [u64; WORDS], vpi: u32, vci: u32, cells: u64) -> AbrAnswer
+    ensures { λ r. ⌜ ReturnsAnswer (λ s. offerStep s (addressName vpi vci) cells) (now (table .entry)) (now (table .exit)) r ⌝ }
 {
-    let name = pair_name(vpi, vci);
-    call_answer(offer(table, name, cells))
+    let name = address_name(vpi, vci);
+    answer_of(offer(table, name, cells))
 }
 
 // Refusals 8, 11, 14, 16, 17.
 #[no_mangle]
-pub extern "C" fn abr_make(table: &mut [u64; WORDS], vpi: u32, vci: u32, time: u64) -> CallAnswer
-    ensures { λ r. ⌜ Answers (λ s. makeStep s (pairName vpi vci) time) (now (table .entry)) (now (table .exit)) r ⌝ }
+pub extern "C" fn abr_make(table: &mut [u64; WORDS], vpi: u32, vci: u32, time: u64) -> AbrAnswer
+    ensures { λ r. ⌜ ReturnsAnswer (λ s. makeStep s (addressName vpi vci) time) (now (table .entry)) (now (table .exit)) r ⌝ }
 {
-    let name = pair_name(vpi, vci);
-    call_answer(make(table, name, time))
+    let name = address_name(vpi, vci);
+    answer_of(make(table, name, time))
 }
 
 // Refusals 1, 8, 11, 14, 18. It makes no comparisons.
@@ -69,18 +69,18 @@ pub extern "C" fn abr_out_of_rate(
     time: u64,
     cell: &mut [u8],
 ) -> u32
-    ensures { λ r. ⌜ NumberedWriting (λ s. outOfRateStep s (pairName vpi vci) time (length (now (cell .entry)))) (now (table .entry)) (now (table .exit)) r (now (cell .entry)) (now (cell .exit)) ⌝ }
+    ensures { λ r. ⌜ ReturnsRefusalWriting (λ s. outOfRateStep s (addressName vpi vci) time (length (now (cell .entry)))) (now (table .entry)) (now (table .exit)) r (now (cell .entry)) (now (cell .exit)) ⌝ }
 {
-    let name = pair_name(vpi, vci);
-    let answer = call_answer(out_of_rate(table, name, time, cell));
+    let name = address_name(vpi, vci);
+    let answer = answer_of(out_of_rate(table, name, time, cell));
     answer.refusal
 }
 
 // Refusal 11.
 #[no_mangle]
-pub extern "C" fn abr_acr(table: &[u64; WORDS], vpi: u32, vci: u32) -> AcrAnswer
-    ensures { λ r. ⌜ AnswersAcr (pairName vpi vci) (now (table .entry)) r ⌝ }
+pub extern "C" fn abr_acr(table: &[u64; WORDS], vpi: u32, vci: u32) -> AbrAllowed
+    ensures { λ r. ⌜ ReturnsAllowed (addressName vpi vci) (now (table .entry)) r ⌝ }
 {
-    let name = pair_name(vpi, vci);
-    acr_answer(read_acr(table, name))
+    let name = address_name(vpi, vci);
+    allowed_of(read_acr(table, name))
 }

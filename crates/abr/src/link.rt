@@ -2,42 +2,42 @@
 // document 02, L6).
 ghost use lib.ListN.{length};
 ghost use Rattle.model.specs.Step.{receiveStep, levelStep, slotStep};
-ghost use Rattle.tournament.specs.Next.{GivesNext, GivesSlotTime};
-ghost use Rattle.abr.specs.Contract.{Answers, Numbered, AnswersSlot};
-use answers::calls::CallAnswer;
-use answers::calls::SlotAnswer;
-use answers::calls::call_answer;
-use answers::calls::slot_answer;
-use arrivals::receive::receive;
+ghost use Rattle.table_tournament.specs.Next.{GivesNext, GivesSlotTime};
+ghost use Rattle.abr.specs.Contract.{ReturnsAnswer, ReturnsRefusal, ReturnsSent};
+use abr_answers::calls::AbrAnswer;
+use abr_answers::calls::AbrSent;
+use abr_answers::calls::answer_of;
+use abr_answers::calls::sent_of;
 use engine::level::set_level;
-use slots::slot::slot;
+use engine_arrivals::receive::receive;
+use engine_slots::slot::slot;
 use table::layout::WORDS;
-use tournament::next::next_ready;
-use tournament::slot_time::slot_time;
+use table_tournament::next::next_ready;
+use table_tournament::slot_time::slot_time;
 
 // Refusals 1, 2, 4, then 5, 6 and 19 for RM cells, 11.
 #[no_mangle]
-pub extern "C" fn abr_receive(table: &mut [u64; WORDS], cell: &[u8]) -> CallAnswer
-    ensures { λ r. ⌜ Answers (λ s. receiveStep s (now (cell .entry))) (now (table .entry)) (now (table .exit)) r ⌝ }
+pub extern "C" fn abr_receive(table: &mut [u64; WORDS], cell: &[u8]) -> AbrAnswer
+    ensures { λ r. ⌜ ReturnsAnswer (λ s. receiveStep s (now (cell .entry))) (now (table .entry)) (now (table .exit)) r ⌝ }
 {
-    call_answer(receive(table, cell))
+    answer_of(receive(table, cell))
 }
 
 // Refusal 9.
 #[no_mangle]
 pub extern "C" fn abr_set_level(table: &mut [u64; WORDS], level: u32) -> u32
-    ensures { λ r. ⌜ Numbered (λ s. levelStep s level) (now (table .entry)) (now (table .exit)) r ⌝ }
+    ensures { λ r. ⌜ ReturnsRefusal (λ s. levelStep s level) (now (table .entry)) (now (table .exit)) r ⌝ }
 {
-    let answer = call_answer(set_level(table, level));
+    let answer = answer_of(set_level(table, level));
     answer.refusal
 }
 
 // Refusals 1, 8, 14.
 #[no_mangle]
-pub extern "C" fn abr_slot(table: &mut [u64; WORDS], time: u64, cell: &mut [u8]) -> SlotAnswer
-    ensures { λ r. ⌜ AnswersSlot (λ s. slotStep s time (length (now (cell .entry)))) (now (table .entry)) (now (table .exit)) r (now (cell .entry)) (now (cell .exit)) ⌝ }
+pub extern "C" fn abr_slot(table: &mut [u64; WORDS], time: u64, cell: &mut [u8]) -> AbrSent
+    ensures { λ r. ⌜ ReturnsSent (λ s. slotStep s time (length (now (cell .entry)))) (now (table .entry)) (now (table .exit)) r (now (cell .entry)) (now (cell .exit)) ⌝ }
 {
-    slot_answer(slot(table, time, cell))
+    sent_of(slot(table, time, cell))
 }
 
 // No refusal: 2^64 - 1 if no connection is ever ready as things stand.

@@ -1,15 +1,15 @@
 // The calls on paths and their members (document 02, L13).
 ghost use Rattle.model.specs.Step.{openPathStep, addStep, offerMemberStep, removeStep};
-ghost use Rattle.abr.specs.Contract.{Answers, AnswersClosed};
-use answers::calls::CallAnswer;
-use answers::calls::ClosedAnswer;
-use answers::calls::call_answer;
-use answers::calls::closed_answer;
+ghost use Rattle.abr.specs.Contract.{ReturnsAnswer, ReturnsClosed};
+use abr_answers::calls::AbrAnswer;
+use abr_answers::calls::AbrClosed;
+use abr_answers::calls::answer_of;
+use abr_answers::calls::closed_of;
 use engine::open::open_path;
-use params::params::Params;
-use paths::add::add;
-use paths::offer::offer_member;
-use paths::remove::remove;
+use engine_paths::add::add;
+use engine_paths::offer::offer_member;
+use engine_paths::remove::remove;
+use rate_params::params::Params;
 use table::layout::WORDS;
 
 // Refusals 19, 7, 29, 30, 8, 12, 13, 14.
@@ -19,18 +19,18 @@ pub extern "C" fn abr_open_path(
     vpi: u32,
     time: u64,
     params: Params,
-) -> CallAnswer
-    ensures { λ r. ⌜ Answers (λ s. openPathStep s vpi time params) (now (table .entry)) (now (table .exit)) r ⌝ }
+) -> AbrAnswer
+    ensures { λ r. ⌜ ReturnsAnswer (λ s. openPathStep s vpi time params) (now (table .entry)) (now (table .exit)) r ⌝ }
 {
-    call_answer(open_path(table, vpi, time, params))
+    answer_of(open_path(table, vpi, time, params))
 }
 
 // Refusals 10, 11, 12, 27, 26. It makes no comparisons.
 #[no_mangle]
-pub extern "C" fn abr_add(table: &mut [u64; WORDS], vpi: u32, vci: u32) -> CallAnswer
-    ensures { λ r. ⌜ Answers (λ s. addStep s vpi vci) (now (table .entry)) (now (table .exit)) r ⌝ }
+pub extern "C" fn abr_add(table: &mut [u64; WORDS], vpi: u32, vci: u32) -> AbrAnswer
+    ensures { λ r. ⌜ ReturnsAnswer (λ s. addStep s vpi vci) (now (table .entry)) (now (table .exit)) r ⌝ }
 {
-    call_answer(add(table, vpi, vci))
+    answer_of(add(table, vpi, vci))
 }
 
 // Refusals 11, 28, which a VCI over 65,535 meets too, 15.
@@ -40,16 +40,16 @@ pub extern "C" fn abr_offer_member(
     vpi: u32,
     vci: u32,
     cells: u64,
-) -> CallAnswer
-    ensures { λ r. ⌜ Answers (λ s. offerMemberStep s vpi vci cells) (now (table .entry)) (now (table .exit)) r ⌝ }
+) -> AbrAnswer
+    ensures { λ r. ⌜ ReturnsAnswer (λ s. offerMemberStep s vpi vci cells) (now (table .entry)) (now (table .exit)) r ⌝ }
 {
-    call_answer(offer_member(table, vpi, vci, cells))
+    answer_of(offer_member(table, vpi, vci, cells))
 }
 
 // Refusals 11, 28, which a VCI over 65,535 meets too.
 #[no_mangle]
-pub extern "C" fn abr_remove(table: &mut [u64; WORDS], vpi: u32, vci: u32) -> ClosedAnswer
-    ensures { λ r. ⌜ AnswersClosed (λ s. removeStep s vpi vci) (now (table .entry)) (now (table .exit)) r ⌝ }
+pub extern "C" fn abr_remove(table: &mut [u64; WORDS], vpi: u32, vci: u32) -> AbrClosed
+    ensures { λ r. ⌜ ReturnsClosed (λ s. removeStep s vpi vci) (now (table .entry)) (now (table .exit)) r ⌝ }
 {
-    closed_answer(remove(table, vpi, vci))
+    closed_of(remove(table, vpi, vci))
 }

@@ -1,14 +1,14 @@
 // Rates as doubles for planning tools, in cells per second (document 02, L8).
-ghost use Rattle.cell.specs.Name.{pairName};
-ghost use Rattle.abr.specs.Contract.{AnswersExport};
-ghost use Rattle.answers.specs.Planning.{Imports};
-use answers::planning::ImportAnswer;
-use answers::planning::export_answer;
-use answers::planning::import_answer;
-use cell::name::pair_name;
-use doubles::export::Exported;
-use doubles::import::import;
+ghost use Rattle.cell.specs.Name.{addressName};
+ghost use Rattle.abr.specs.Contract.{ReturnsContract};
+ghost use Rattle.abr_answers.specs.Planning.{Imports};
+use abr_answers::planning::AbrImported;
+use abr_answers::planning::exported_of;
+use abr_answers::planning::imported_of;
+use cell::name::address_name;
 use engine::contract::read_contract;
+use rate_doubles::export::Exported;
+use rate_doubles::import::import;
 use table::layout::WORDS;
 
 // Refusal 11. The refusal, or 0, is always written.
@@ -19,18 +19,18 @@ pub extern "C" fn abr_export(
     vci: u32,
     refusal: &mut u32,
 ) -> Exported
-    ensures { λ r. ⌜ AnswersExport (pairName vpi vci) (now (table .entry)) (now (refusal .exit)) r ⌝ }
+    ensures { λ r. ⌜ ReturnsContract (addressName vpi vci) (now (table .entry)) (now (refusal .exit)) r ⌝ }
 {
-    let name = pair_name(vpi, vci);
-    let answer = export_answer(read_contract(table, name));
+    let name = address_name(vpi, vci);
+    let answer = exported_of(read_contract(table, name));
     *refusal = answer.refusal;
     answer.rates
 }
 
 // Refusal 20.
 #[no_mangle]
-pub extern "C" fn abr_import(rate: f64) -> ImportAnswer
+pub extern "C" fn abr_import(rate: f64) -> AbrImported
     ensures { λ r. ⌜ Imports rate r ⌝ }
 {
-    import_answer(import(rate))
+    imported_of(import(rate))
 }

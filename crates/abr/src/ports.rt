@@ -1,21 +1,21 @@
 // An explicit-rate port, without a table (document 02, L10).
 ghost use mathlib.Core.Path.{_≡_};
-ghost use Rattle.share.specs.Share.{fairShare};
+ghost use Rattle.port_share.specs.Share.{fairShare};
 ghost use Rattle.port.specs.Limit.{passed, limit};
 ghost use Rattle.port.specs.Port.{port};
-ghost use Rattle.answers.specs.Shares.{shareAnswer};
-use answers::shares::ShareAnswer;
-use answers::shares::share_answer;
+ghost use Rattle.abr_answers.specs.Shares.{shareOf};
+use abr_answers::shares::AbrShare;
+use abr_answers::shares::share_of;
 use port::limit::limit;
 use port::port::port;
-use share::share::fair_share;
+use port_share::share::fair_share;
 
 // Refusals 21, 22.
 #[no_mangle]
-pub extern "C" fn abr_fair_share(capacity: u64, demands: &[u64]) -> ShareAnswer
-    ensures { λ r. ⌜ r ≡ shareAnswer (fairShare capacity (now (demands .entry))) ⌝ }
+pub extern "C" fn abr_fair_share(capacity: u64, demands: &[u64]) -> AbrShare
+    ensures { λ r. ⌜ r ≡ shareOf (fairShare capacity (now (demands .entry))) ⌝ }
 {
-    share_answer(fair_share(capacity, demands))
+    share_of(fair_share(capacity, demands))
 }
 
 // Refusals as for abr_read.

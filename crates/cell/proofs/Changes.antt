@@ -7,13 +7,13 @@ use native.Mathlib.Omega.{arith}
 use lib.Bits.{bitXor, xor-block, xor-lt, xor-mod, xor-self, xor-zero-l, xor-zero-r}
 use lib.Dec.{lit<}
 use lib.Pow.{pow-pos, split}
-use Rattle.crc.specs.Checks.{payloadCheck}
-use Rattle.crc.specs.Payload.{octetsOf, payloadOf}
-use Rattle.crc.specs.declared.payload.Payload.{Payload}
-use Rattle.crc.proofs.Xor.{xor-assoc}
-use Rattle.crc.proofs.Check.{both, payload-both}
-use Rattle.crc.proofs.Limbs.{Six}
-use Rattle.cell.specs.Fields.{Checked}
+use Rattle.cell_crc.specs.Checks.{payloadCheck}
+use Rattle.cell_crc.specs.Payload.{octetsOf, payloadOf}
+use Rattle.cell_crc.specs.declared.payload.Payload.{Payload}
+use Rattle.cell_crc.proofs.Xor.{xor-assoc}
+use Rattle.cell_crc.proofs.Check.{both, payload-both}
+use Rattle.cell_crc.proofs.Limbs.{Six}
+use Rattle.cell.specs.Fields.{CrcMatches}
 use Rattle.cell.specs.Turning.{turnedMarks, marksAlone, turnedPayload}
 use Rattle.cell.proofs.Turned.{marks-low}
 use Rattle.cell.proofs.PayloadWords.{crc-words, remarked, turn-words}
@@ -55,7 +55,7 @@ last-changed w k h =
     ∙ xor-block 10 (w / 1024) 0 (w % 1024) k (mod-lt w (pow-pos 10)) h
     ∙ ap (λ (z : ℕ). z * 1024 + bitXor (w % 1024) k) (xor-zero-r (w / 1024))
 
-pub turn-changes : (p : Payload) (level : ℕ) (mark : Bool) {m k : ℕ} → Six (p .a) (p .b) (p .c) (p .d) (p .e) (p .f) → Checked p
+pub turn-changes : (p : Payload) (level : ℕ) (mark : Bool) {m k : ℕ} → Six (p .a) (p .b) (p .c) (p .d) (p .e) (p .f) → CrcMatches p
     → m ≡ turnedMarks level mark (p .a / 0x1000000000000 % 256) → m < 256
     → k ≡ payloadCheck (octetsOf (marksAlone (bitXor (p .a / 0x1000000000000 % 256) m / 16))) → k < 1024
     → _≡_ {A = Payload}

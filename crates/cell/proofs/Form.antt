@@ -6,7 +6,7 @@ use native.Mathlib.Omega.{arith}
 use lib.ListN.{length, getD, replicate, List·getD-append, getD-replicate}
 use Rattle.cell.specs.Octets.{pair, payload}
 use Rattle.cell.specs.Header.{header}
-use Rattle.cell.specs.Fields.{Fields, withCrc, resourceCell}
+use Rattle.cell.specs.Fields.{Fields, withCrc, rmCell}
 use Rattle.cell.specs.Form.{Framed, WrittenForm}
 use Rattle.cell.proofs.WithCrc.{carried-size, withCrc-at, withCrc-six, withCrc-right}
 use Rattle.cell.proofs.Written.{unchecked}
@@ -25,18 +25,18 @@ carried-framed p n clp vpi vci h e = record {
 }
 
 -- the reserved octets stand behind 21 others
-filled : (clp : ℕ) (f : Fields) (j : ℕ) → j < 30 → getD (resourceCell clp f) (suc (suc (suc (suc (suc (suc (suc (suc (suc (suc (suc (suc (suc (suc (suc (suc (suc (suc (suc (suc (suc j))))))))))))))))))))) 0 ≡ 0x6A
-unfolding resourceCell header
+filled : (clp : ℕ) (f : Fields) (j : ℕ) → j < 30 → getD (rmCell clp f) (suc (suc (suc (suc (suc (suc (suc (suc (suc (suc (suc (suc (suc (suc (suc (suc (suc (suc (suc (suc (suc j))))))))))))))))))))) 0 ≡ 0x6A
+unfolding rmCell header
 filled clp f j h =
     withCrc-at (unchecked f) refl (suc (suc (suc (suc (suc (suc (suc (suc (suc (suc (suc (suc (suc (suc (suc (suc j)))))))))))))))) (omega (arith, h)) ∙ List·getD-append (replicate 30 0x6A) (0 ∷ 0 ∷ []) 0 j h ∙ getD-replicate 30 j 0x6A 0 h
 
 pub written-form : WrittenForm
-unfolding resourceCell header
+unfolding rmCell header
 written-form clp f h = (
   carried-framed (unchecked f) refl clp (f .vpi) (f .vci) h refl,
   record {
     low = ap (λ (x : ℕ). x % 8) (withCrc-at (unchecked f) refl 1 (omega arith)) ∙ omega arith;
-    reserved = λ i l g. ap (λ (k : ℕ). getD (resourceCell clp f) k 0) (behind i l) ∙ filled clp f (i - 22) (omega (arith, g));
+    reserved = λ i l g. ap (λ (k : ℕ). getD (rmCell clp f) k 0) (behind i l) ∙ filled clp f (i - 22) (omega (arith, g));
     six = withCrc-six (unchecked f) refl;
   },
 )

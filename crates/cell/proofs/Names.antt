@@ -5,24 +5,24 @@ use Prim.Native.Nat.{ℕ, _≤_, _<_}
 use native.Mathlib.Omega.{arith}
 use borrow.Author.Tests.{le-leb, lt-leb, leb-true}
 use lib.Dec.{leb}
-use Rattle.cell.specs.Name.{nameOf, vpiIn, vciIn, noName, pairFits, pairName}
+use Rattle.cell.specs.Name.{nameFrom, vpiIn, vciIn, noName, addressFits, addressName}
 
 module _ (vpi vci : ℕ) where
   -- within the ranges
-  pub name-in : vpi ≤ 255 → vci ≤ 65535 → nameOf vpi vci ≡ pairName vpi vci
-  unfolding pairName
+  pub name-in : vpi ≤ 255 → vci ≤ 65535 → nameFrom vpi vci ≡ addressName vpi vci
+  unfolding addressName
   name-in a b = simp (le-leb _ _ a, le-leb _ _ b)
 
-  pub name-lt : vpi ≤ 255 → vci ≤ 65535 → pairName vpi vci < noName
+  pub name-lt : vpi ≤ 255 → vci ≤ 65535 → addressName vpi vci < noName
   name-lt a b = rw (sym (name-in a b)) (omega (arith, a, b))
 
   -- outside one or the other
-  pub vpi-out : 255 < vpi → noName ≡ pairName vpi vci
-  unfolding pairName
+  pub vpi-out : 255 < vpi → noName ≡ addressName vpi vci
+  unfolding addressName
   vpi-out a = simp (lt-leb _ _ a)
 
-  pub vci-out : vpi ≤ 255 → 65535 < vci → noName ≡ pairName vpi vci
-  unfolding pairName
+  pub vci-out : vpi ≤ 255 → 65535 < vci → noName ≡ addressName vpi vci
+  unfolding addressName
   vci-out a b = simp (le-leb _ _ a, lt-leb _ _ b)
 
   -- a pair that makes a name is within the ranges, and the name gives it back
@@ -32,12 +32,12 @@ module _ (vpi vci : ℕ) where
     pub vpiBack : vpiIn n ≡ vpi
     pub vciBack : vciIn n ≡ vci
 
-  pub pair-named : pairName vpi vci < noName → Named (pairName vpi vci)
-  unfolding pairName
-  pair-named h = go (leb vpi 255) (leb vci 65535) refl refl h
+  pub address-named : addressName vpi vci < noName → Named (addressName vpi vci)
+  unfolding addressName
+  address-named h = go (leb vpi 255) (leb vci 65535) refl refl h
     where
-      go : (a b : Bool) → leb vpi 255 ≡ a → leb vci 65535 ≡ b → cond (a && b) (nameOf vpi vci) noName < noName
-          → Named (cond (a && b) (nameOf vpi vci) noName)
+      go : (a b : Bool) → leb vpi 255 ≡ a → leb vci 65535 ≡ b → cond (a && b) (nameFrom vpi vci) noName < noName
+          → Named (cond (a && b) (nameFrom vpi vci) noName)
       go true true p q h =
           let v : vpi ≤ 255 = leb-true _ _ p in
           let c : vci ≤ 65535 = leb-true _ _ q in
@@ -46,21 +46,21 @@ module _ (vpi vci : ℕ) where
       go false b p q h = absurd (omega (arith, h))
 
 -- out of the ranges a pair makes no name
-pub pair-out : (vpi vci : ℕ) → pairFits vpi vci ≡ false → pairName vpi vci ≡ noName
-unfolding pairName
+pub pair-out : (vpi vci : ℕ) → addressFits vpi vci ≡ false → addressName vpi vci ≡ noName
+unfolding addressName
 pair-out vpi vci e = rw e
 
 -- and within them one
-pub pair-lt : (vpi vci : ℕ) → pairFits vpi vci ≡ true → pairName vpi vci < noName
-pair-lt vpi vci e = let h = and-eq-true-iff (leb vpi 255) (leb vci 65535) .0 e in name-lt vpi vci (leb-true _ _ (h .0)) (leb-true _ _ (h .1))
+pub address-lt : (vpi vci : ℕ) → addressFits vpi vci ≡ true → addressName vpi vci < noName
+address-lt vpi vci e = let h = and-eq-true-iff (leb vpi 255) (leb vci 65535) .0 e in name-lt vpi vci (leb-true _ _ (h .0)) (leb-true _ _ (h .1))
 
 -- two pairs of one name are one pair
-pub names-apart : (a b c d : ℕ) → pairName a b < noName → pairName a b ≡ pairName c d → (a ≡ c) × (b ≡ d)
+pub names-apart : (a b c d : ℕ) → addressName a b < noName → addressName a b ≡ addressName c d → (a ≡ c) × (b ≡ d)
 names-apart a b c d h e =
-    let m : Named a b (pairName a b) = pair-named a b h in
-    let n : Named c d (pairName c d) = pair-named c d (omega (arith, h, e)) in
+    let m : Named a b (addressName a b) = address-named a b h in
+    let n : Named c d (addressName c d) = address-named c d (omega (arith, h, e)) in
     (sym (m .vpiBack) ∙ omega (arith, e) ∙ n .vpiBack, sym (m .vciBack) ∙ omega (arith, e) ∙ n .vciBack)
 
 -- a name of 24 bits is that of its own pair
-pub pair-back : (n : ℕ) → n < noName → pairName (vpiIn n) (vciIn n) ≡ n
-pair-back n h = sym (name-in (vpiIn n) (vciIn n) (omega (arith, h)) (omega arith)) ∙ omega arith
+pub address-back : (n : ℕ) → n < noName → addressName (vpiIn n) (vciIn n) ≡ n
+address-back n h = sym (name-in (vpiIn n) (vciIn n) (omega (arith, h)) (omega arith)) ∙ omega arith

@@ -9,15 +9,15 @@ use lib.Dec.{leb, eqb, lit<}
 use lib.ListN.{length, getD, take, length-drop}
 use lib.Seq.{getD-drop}
 use Rattle.rate.specs.Code.{codesClear}
-use Rattle.crc.specs.Checks.{headerCheck, payloadCheck}
-use Rattle.crc.specs.Payload.{octetsOf, payloadOf}
-use Rattle.crc.specs.declared.payload.Payload.{Payload}
-use Rattle.crc.proofs.Words.{octets-of-payload}
+use Rattle.cell_crc.specs.Checks.{headerCheck, payloadCheck}
+use Rattle.cell_crc.specs.Payload.{octetsOf, payloadOf}
+use Rattle.cell_crc.specs.declared.payload.Payload.{Payload}
+use Rattle.cell_crc.proofs.Words.{octets-of-payload}
 use Rattle.cell.specs.Octets.{octet, pair, payload, AreOctets}
 use Rattle.cell.proofs.OctetLists.{octets-drop}
 use Rattle.cell.specs.Header.{vpiOf, vciOf, typeOf, headerRight}
-use Rattle.cell.specs.Fields.{Fields, fieldsOf, ratesClear, crcRight, Checked}
-use Rattle.cell.specs.Reading.{Reading, reading, Refused, User, Resource}
+use Rattle.cell.specs.Fields.{Fields, fieldsOf, ratesClear, crcRight, CrcMatches}
+use Rattle.cell.specs.Reading.{Reading, reading, Refused, DataCell, RmCell}
 use Rattle.cell.specs.Refusals.{headerRefusal, restRefusal}
 use Rattle.laws.specs.Require.{require}
 
@@ -49,8 +49,8 @@ unfolding ratesClear
 codes-are o he hc hm = rw (he, hc, hm)
 
 -- a data cell's reading, from its parts
-pub user-same : {p p' v v' : ℕ} {e e' : Bool} → p ≡ p' → v ≡ v' → e ≡ e' → User p v e ≡ User p' v' e'
-user-same hp hv he = λ i. User (hp i) (hv i) (he i)
+pub data-same : {p p' v v' : ℕ} {e e' : Bool} → p ≡ p' → v ≡ v' → e ≡ e' → DataCell p v e ≡ DataCell p' v' e'
+data-same hp hv he = λ i. DataCell (hp i) (hv i) (he i)
 
 first-four : (o : List ℕ) → length o ≡ 53 → take 4 o ≡ octet 1 o ∷ octet 2 o ∷ octet 3 o ∷ octet 4 o ∷ []
 first-four [] n = absurd (omega arith)
@@ -70,7 +70,7 @@ last-ten : (l : List ℕ) → payloadOf l .f % 1024 ≡ (getD l 46 0 * 256 + get
 last-ten l = omega arith
 
 -- where these are right, the words have the right CRC-10
-pub words-checked : (l : List ℕ) → length l ≡ 48 → AreOctets l → (getD l 46 0 * 256 + getD l 47 0) % 1024 ≡ payloadCheck l → Checked (payloadOf l)
+pub words-checked : (l : List ℕ) → length l ≡ 48 → AreOctets l → (getD l 46 0 * 256 + getD l 47 0) % 1024 ≡ payloadCheck l → CrcMatches (payloadOf l)
 words-checked l n a e = record { crc = last-ten l ∙ e ∙ ap payloadCheck (sym (octets-of-payload l n (a .each))) }
 
 -- the low ten bits of a payload's last word beside the check of its words
@@ -87,7 +87,7 @@ crc-test o p r n a e k =
 
 -- what is left to test of an RM cell
 abbrev pub rest : List ℕ → Reading
-rest o = require (Refused 5) (crcRight o) (require (Refused 6) (eqb (octet 6 o) 1) (require (Refused 19) (ratesClear o) (Resource (fieldsOf o))))
+rest o = require (Refused 5) (crcRight o) (require (Refused 6) (eqb (octet 6 o) 1) (require (Refused 19) (ratesClear o) (RmCell (fieldsOf o))))
 
 module _ (o : List ℕ) where
   refused-5 : crcRight o ≡ false → Refused 5 ≡ rest o
@@ -104,7 +104,7 @@ module _ (o : List ℕ) where
       unfolding require
       refused-19 r = simp (w, eq-eqb _ _ p, r)
 
-      pub takes-fields : ratesClear o ≡ true → Resource (fieldsOf o) ≡ rest o
+      pub takes-fields : ratesClear o ≡ true → RmCell (fieldsOf o) ≡ rest o
       unfolding require
       takes-fields r = simp (w, eq-eqb _ _ p, r)
 
@@ -118,9 +118,9 @@ module _ (o : List ℕ) where
     refused-2 h = simp (eq-eqb _ _ n, h)
 
     module _ (h : headerRight o ≡ true) where
-      pub takes-user : typeOf o ≤ 3 → User (vpiOf o) (vciOf o) (eqb (typeOf o / 2 % 2) 1) ≡ reading o
+      pub takes-data : typeOf o ≤ 3 → DataCell (vpiOf o) (vciOf o) (eqb (typeOf o / 2 % 2) 1) ≡ reading o
       unfolding reading require
-      takes-user t = simp (eq-eqb _ _ n, h, le-leb _ _ t)
+      takes-data t = simp (eq-eqb _ _ n, h, le-leb _ _ t)
 
       refused-4 : 3 < typeOf o → (typeOf o ≡ 6 → ⊥) → Refused 4 ≡ reading o
       unfolding reading require
@@ -136,15 +136,15 @@ module _ (o : List ℕ) where
 pub record HeaderMeets (o : List ℕ) (n : ℕ) : Type 0 where
   pub refused : (n ≡ 0 → ⊥) → reading o ≡ Refused n
   pub size : n ≡ 0 → length o ≡ 53
-  pub user : n ≡ 0 → leb (typeOf o) 3 ≡ true → reading o ≡ User (vpiOf o) (vciOf o) (eqb (typeOf o / 2 % 2) 1)
-  pub resource : n ≡ 0 → leb (typeOf o) 3 ≡ false → reading o ≡ rest o
+  pub dataCell : n ≡ 0 → leb (typeOf o) 3 ≡ true → reading o ≡ DataCell (vpiOf o) (vciOf o) (eqb (typeOf o / 2 % 2) 1)
+  pub rm : n ≡ 0 → leb (typeOf o) 3 ≡ false → reading o ≡ rest o
 
 header-refused : (o : List ℕ) (k : ℕ) {n : ℕ} → n ≡ suc k → Refused (suc k) ≡ reading o → HeaderMeets o n
 header-refused o k e q = record {
   refused = λ _. sym (ap Refused e ∙ q);
   size = λ z. absurd (omega (arith, e, z));
-  user = λ z. absurd (omega (arith, e, z));
-  resource = λ z. absurd (omega (arith, e, z));
+  dataCell = λ z. absurd (omega (arith, e, z));
+  rm = λ z. absurd (omega (arith, e, z));
 }
 
 pub header-meets : (o : List ℕ) (n : ℕ) → n ≡ headerRefusal o → HeaderMeets o n
@@ -160,23 +160,23 @@ header-meets o n e = go (eqb (length o) 53) (headerRight o) (leb (typeOf o) 3) (
         record {
           refused = λ z. absurd (z e);
           size = λ _. m;
-          user = λ _ _. sym (takes-user o m q (leb-true _ _ s));
-          resource = λ _ x. absurd (true≢false (sym s ∙ x));
+          dataCell = λ _ _. sym (takes-data o m q (leb-true _ _ s));
+          rm = λ _ x. absurd (true≢false (sym s ∙ x));
         }
     go true true false true p q s t e =
         let m = eqb-true _ _ p in
         record {
           refused = λ z. absurd (z e);
           size = λ _. m;
-          user = λ _ x. absurd (true≢false (sym x ∙ s));
-          resource = λ _ _. sym (takes-rest o m q (eqb-true _ _ t));
+          dataCell = λ _ x. absurd (true≢false (sym x ∙ s));
+          rm = λ _ _. sym (takes-rest o m q (eqb-true _ _ t));
         }
     go true true false false p q s t e = header-refused o 3 e (refused-4 o (eqb-true _ _ p) q (leb-false _ _ s) (eqb-false _ _ t))
 
 -- The same of the rest of an RM cell.
 pub record RestMeets (o : List ℕ) (n : ℕ) : Type 0 where
   pub refused : (n ≡ 0 → ⊥) → rest o ≡ Refused n
-  pub taken : n ≡ 0 → rest o ≡ Resource (fieldsOf o)
+  pub taken : n ≡ 0 → rest o ≡ RmCell (fieldsOf o)
 
 rest-refused : (o : List ℕ) (k : ℕ) {n : ℕ} → n ≡ suc k → Refused (suc k) ≡ rest o → RestMeets o n
 rest-refused o k e q = record { refused = λ _. sym (ap Refused e ∙ q); taken = λ z. absurd (omega (arith, e, z)) }
@@ -198,17 +198,17 @@ unfolding require
 require-number n p true r h m e = h m e
 require-number n p false r h m e = let q : n ≡ m = cc in subst (λ (k : ℕ). 0 < k) q p
 
-user-number : (t : Bool) (a v : ℕ) (e : Bool) (r : Reading) → ((m : ℕ) → r ≡ Refused m → 0 < m) → (m : ℕ) → cond t (User a v e) r ≡ Refused m → 0 < m
-user-number true a v e r h m q = let z : _≡_ {A = ℕ} 0 1 = cc in absurd (omega arith)
-user-number false a v e r h m q = h m q
+data-number : (t : Bool) (a v : ℕ) (e : Bool) (r : Reading) → ((m : ℕ) → r ≡ Refused m → 0 < m) → (m : ℕ) → cond t (DataCell a v e) r ≡ Refused m → 0 < m
+data-number true a v e r h m q = let z : _≡_ {A = ℕ} 0 1 = cc in absurd (omega arith)
+data-number false a v e r h m q = h m q
 
 pub refusal-number : (o : List ℕ) (n : ℕ) → reading o ≡ Refused n → 0 < n
 unfolding reading
 refusal-number o =
     require-number 1 (lit< tt) (eqb (length o) 53) _ (require-number 2 (lit< tt) (headerRight o) _
-    (user-number (leb (typeOf o) 3) (vpiOf o) (vciOf o) (eqb (typeOf o / 2 % 2) 1) _ (require-number 4 (lit< tt) (eqb (typeOf o) 6) _
+    (data-number (leb (typeOf o) 3) (vpiOf o) (vciOf o) (eqb (typeOf o / 2 % 2) 1) _ (require-number 4 (lit< tt) (eqb (typeOf o) 6) _
     (require-number 5 (lit< tt) (crcRight o) _ (require-number 6 (lit< tt) (eqb (octet 6 o) 1) _
     (require-number 19 (lit< tt) (ratesClear o) _ taken))))))
   where
-    taken : (m : ℕ) → Resource (fieldsOf o) ≡ Refused m → 0 < m
+    taken : (m : ℕ) → RmCell (fieldsOf o) ≡ Refused m → 0 < m
     taken m q = let z : _≡_ {A = ℕ} 0 1 = cc in absurd (omega arith)

@@ -7,17 +7,17 @@ use native.Mathlib.Omega.{arith}
 use lib.Dec.{eqb, lit≤}
 use lib.ListN.{length, getD, drop, length-drop}
 use lib.Seq.{getD-drop}
-use Rattle.crc.specs.Payload.{payloadOf}
-use Rattle.crc.proofs.Words.{octets-of-payload}
+use Rattle.cell_crc.specs.Payload.{payloadOf}
+use Rattle.cell_crc.proofs.Words.{octets-of-payload}
 use Rattle.cell.specs.Octets.{octet, pair, payload, AreOctets}
 use Rattle.cell.specs.Header.{vpiOf, vciOf, header}
 use Rattle.cell.specs.Fields.{Fields, fieldsOf, ratesClear, withCrc}
-use Rattle.cell.specs.Reading.{reading, Resource}
+use Rattle.cell.specs.Reading.{reading, RmCell}
 use Rattle.cell.specs.Turning.{turnedMarks, turnedPayload, turnedCell}
 use Rattle.cell.specs.Returned.{returned, Kept}
 use Rattle.cell.specs.Form.{Framed}
 use Rattle.cell.proofs.OctetLists.{octets-cons, octets-drop}
-use Rattle.cell.proofs.Admits.{resource-received}
+use Rattle.cell.proofs.Admits.{rm-received}
 use Rattle.cell.proofs.Form.{carried-framed}
 use Rattle.cell.proofs.WithCrc.{withCrc-size, withCrc-octets, withCrc-at, withCrc-six, carried-size, carried-octets, carried-vpi, carried-vci, carried-read}
 
@@ -159,11 +159,11 @@ module _ (level : ℕ) (mark : Bool) (vpi vci : ℕ) (o : List ℕ) (n : length 
           cc
 
   -- the turned cell reads as the received one, but for the VPI, VCI, DIR, BN and the marks set here
-  pub turned-read : (f : Fields) → reading o ≡ Resource f → vpi ≤ 255 → vci ≤ 65535 → reading turned ≡ Resource (returned level mark vpi vci f)
+  pub turned-read : (f : Fields) → reading o ≡ RmCell f → vpi ≤ 255 → vci ≤ 65535 → reading turned ≡ RmCell (returned level mark vpi vci f)
   unfolding turnedPayload
   turned-read f e g l =
-      carried-read marked marked-size 0 vpi vci (lit≤ tt) (getD-drop 5 o 0 0 ∙ resource-received o f e .protocol) (turned-clear ∙ resource-received o f e .clear)
-      ∙ ap Resource (turned-fields g l ∙ ap (returned level mark vpi vci) (sym (resource-received o f e .fields)))
+      carried-read marked marked-size 0 vpi vci (lit≤ tt) (getD-drop 5 o 0 0 ∙ rm-received o f e .protocol) (turned-clear ∙ rm-received o f e .clear)
+      ∙ ap RmCell (turned-fields g l ∙ ap (returned level mark vpi vci) (sym (rm-received o f e .fields)))
 
   -- its form is that of every RM cell, and DIR and BN tell it from the others
   pub turned-framed : octet 6 o ≡ 1 → Framed 0 turned

@@ -7,14 +7,14 @@ use native.Mathlib.Omega.{arith}
 use borrow.Author.Tests.{eq-eqb}
 use lib.ListN.{length, getD, take, length-append, List·getD-append}
 use lib.Seq.{length-take-le, getD-take, getD-at, getD-append-add}
-use Rattle.crc.specs.Checks.{headerCheck, payloadCheck}
-use Rattle.crc.specs.Payload.{payloadOf}
-use Rattle.crc.proofs.Octets.{header-lt}
-use Rattle.crc.proofs.Check.{payload-lt, payload-own}
+use Rattle.cell_crc.specs.Checks.{headerCheck, payloadCheck}
+use Rattle.cell_crc.specs.Payload.{payloadOf}
+use Rattle.cell_crc.proofs.Octets.{header-lt}
+use Rattle.cell_crc.proofs.Check.{payload-lt, payload-own}
 use Rattle.cell.specs.Octets.{octet, AreOctets}
 use Rattle.cell.specs.Header.{header, firstFour, vpiOf, vciOf, headerRight}
-use Rattle.cell.specs.Fields.{fieldsOf, ratesClear, withCrc, crcRight, Checked}
-use Rattle.cell.specs.Reading.{reading, Resource}
+use Rattle.cell.specs.Fields.{fieldsOf, ratesClear, withCrc, crcRight, CrcMatches}
+use Rattle.cell.specs.Reading.{reading, RmCell}
 use Rattle.cell.proofs.OctetLists.{octets-nil, octets-cons, octets-append, octets-take}
 use Rattle.cell.proofs.Readings.{words-checked, takes-rest, takes-fields}
 
@@ -60,7 +60,7 @@ module _ (p : List ℕ) (n : length p ≡ 48) where
       let low : payloadCheck p % 256 < 256 = omega arith in
       octets-append (take 46 p) _ (octets-take 46 p a) (octets-cons high (octets-cons low octets-nil))
 
-  pub withCrc-checked : AreOctets p → Checked (payloadOf (withCrc p))
+  pub withCrc-checked : AreOctets p → CrcMatches (payloadOf (withCrc p))
   withCrc-checked a = words-checked (withCrc p) withCrc-size (withCrc-octets a) withCrc-right
 
   module _ (clp vpi vci : ℕ) where
@@ -89,7 +89,7 @@ module _ (p : List ℕ) (n : length p ≡ 48) where
     carried-vci h l = omega arith
 
     -- an RM cell of protocol 1 whose rate codes have bit 15 clear is read as one
-    pub carried-read : clp ≤ 1 → getD p 0 0 ≡ 1 → ratesClear carried ≡ true → reading carried ≡ Resource (fieldsOf carried)
+    pub carried-read : clp ≤ 1 → getD p 0 0 ≡ 1 → ratesClear carried ≡ true → reading carried ≡ RmCell (fieldsOf carried)
     unfolding header headerRight crcRight
     carried-read h one clear =
         sym (takes-fields carried (eq-eqb _ _ withCrc-right) (withCrc-at 0 (omega arith) ∙ one) clear

@@ -9,8 +9,8 @@ use lib.ListN.{length, replicate}
 use Rattle.rate.proofs.Codes.{codes-clear}
 use Rattle.cell.specs.Octets.{octet, pair, AreOctets}
 use Rattle.cell.specs.Header.{vpiOf, vciOf, header}
-use Rattle.cell.specs.Fields.{Fields, fieldsFit, fieldsOf, ratesClear, body, withCrc, resourceCell}
-use Rattle.cell.specs.Reading.{reading, Resource}
+use Rattle.cell.specs.Fields.{Fields, fieldsFit, fieldsOf, ratesClear, body, withCrc, rmCell}
+use Rattle.cell.specs.Reading.{reading, RmCell}
 use Rattle.cell.proofs.OctetLists.{octets-nil, octets-cons, octets-append, octets-replicate}
 use Rattle.cell.proofs.WithCrc.{carried-size, carried-octets, carried-vpi, carried-vci, carried-read}
 use Rattle.cell.proofs.Fits.{Fit, fit}
@@ -35,16 +35,16 @@ without-crc-octets f b =
         let low : x % 256 < 256 = omega arith in octets-cons high (octets-cons low a)
 
 module _ (clp : ℕ) (f : Fields) where
-  pub written-size : length (resourceCell clp f) ≡ 53
-  unfolding resourceCell
+  pub written-size : length (rmCell clp f) ≡ 53
+  unfolding rmCell
   written-size = carried-size (unchecked f) refl clp (f .vpi) (f .vci)
 
-  pub written-octets : clp ≤ 1 → fieldsFit f ≡ true → AreOctets (resourceCell clp f)
-  unfolding resourceCell
+  pub written-octets : clp ≤ 1 → fieldsFit f ≡ true → AreOctets (rmCell clp f)
+  unfolding rmCell
   written-octets h e = carried-octets (unchecked f) refl clp (f .vpi) (f .vci) h (without-crc-octets f (fit f e))
 
-  fields-back : clp ≤ 1 → Fit f → fieldsOf (resourceCell clp f) ≡ f
-  unfolding fieldsOf header withCrc resourceCell
+  fields-back : clp ≤ 1 → Fit f → fieldsOf (rmCell clp f) ≡ f
+  unfolding fieldsOf header withCrc rmCell
   fields-back h b = λ i. record {
     vpi = p-vpi i;
     vci = p-vci i;
@@ -60,52 +60,52 @@ module _ (clp : ℕ) (f : Fields) where
     sn = p-sn i;
   }
     where
-      p-vpi : vpiOf (resourceCell clp f) ≡ f .vpi
+      p-vpi : vpiOf (rmCell clp f) ≡ f .vpi
       p-vpi = carried-vpi (unchecked f) refl clp (f .vpi) (f .vci) (b .vpi)
 
-      p-vci : vciOf (resourceCell clp f) ≡ f .vci
+      p-vci : vciOf (rmCell clp f) ≡ f .vci
       p-vci = carried-vci (unchecked f) refl clp (f .vpi) (f .vci) h (b .vci)
 
-      p-dir : octet 7 (resourceCell clp f) / 128 % 2 ≡ f .dir
+      p-dir : octet 7 (rmCell clp f) / 128 % 2 ≡ f .dir
       p-dir = omega arith
 
-      p-bn : octet 7 (resourceCell clp f) / 64 % 2 ≡ f .bn
+      p-bn : octet 7 (rmCell clp f) / 64 % 2 ≡ f .bn
       p-bn = omega arith
 
-      p-ci : octet 7 (resourceCell clp f) / 32 % 2 ≡ f .ci
+      p-ci : octet 7 (rmCell clp f) / 32 % 2 ≡ f .ci
       p-ci = omega arith
 
-      p-ni : octet 7 (resourceCell clp f) / 16 % 2 ≡ f .ni
+      p-ni : octet 7 (rmCell clp f) / 16 % 2 ≡ f .ni
       p-ni = omega arith
 
-      p-ra : octet 7 (resourceCell clp f) / 8 % 2 ≡ f .ra
+      p-ra : octet 7 (rmCell clp f) / 8 % 2 ≡ f .ra
       p-ra = omega arith
 
-      p-er : pair 8 (resourceCell clp f) ≡ f .er
+      p-er : pair 8 (rmCell clp f) ≡ f .er
       p-er = omega arith
 
-      p-ccr : pair 10 (resourceCell clp f) ≡ f .ccr
+      p-ccr : pair 10 (rmCell clp f) ≡ f .ccr
       p-ccr = omega arith
 
-      p-mcr : pair 12 (resourceCell clp f) ≡ f .mcr
+      p-mcr : pair 12 (rmCell clp f) ≡ f .mcr
       p-mcr = omega arith
 
-      p-ql : pair 14 (resourceCell clp f) * 65536 + pair 16 (resourceCell clp f) ≡ f .ql
+      p-ql : pair 14 (rmCell clp f) * 65536 + pair 16 (rmCell clp f) ≡ f .ql
       p-ql = omega arith
 
-      p-sn : pair 18 (resourceCell clp f) * 65536 + pair 20 (resourceCell clp f) ≡ f .sn
+      p-sn : pair 18 (rmCell clp f) * 65536 + pair 20 (rmCell clp f) ≡ f .sn
       p-sn = omega arith
 
   -- fields that fit have bit 15 clear in their rate codes
-  pub written-clear : clp ≤ 1 → fieldsFit f ≡ true → ratesClear (resourceCell clp f) ≡ true
+  pub written-clear : clp ≤ 1 → fieldsFit f ≡ true → ratesClear (rmCell clp f) ≡ true
   unfolding ratesClear fieldsOf
   written-clear h e =
       let b : Fit f = fit f e in
-      let s : fieldsOf (resourceCell clp f) ≡ f = fields-back h b in
+      let s : fieldsOf (rmCell clp f) ≡ f = fields-back h b in
       rw (ap (λ (g : Fields). g .er) s, ap (λ (g : Fields). g .ccr) s, ap (λ (g : Fields). g .mcr) s)
       (codes-clear (f .er) (f .ccr) (f .mcr) (b .er) (b .ccr) (b .mcr))
 
-  pub read-written : clp ≤ 1 → fieldsFit f ≡ true → reading (resourceCell clp f) ≡ Resource f
-  unfolding resourceCell
+  pub read-written : clp ≤ 1 → fieldsFit f ≡ true → reading (rmCell clp f) ≡ RmCell f
+  unfolding rmCell
   read-written h e =
-      carried-read (unchecked f) refl clp (f .vpi) (f .vci) h refl (written-clear h e) ∙ ap Resource (fields-back h (fit f e))
+      carried-read (unchecked f) refl clp (f .vpi) (f .vci) h refl (written-clear h e) ∙ ap RmCell (fields-back h (fit f e))

@@ -4,7 +4,7 @@ use mathlib.Core.Path.{_≡_}
 use mathlib.Core.Bool.{true}
 use mathlib.Core.List.{List}
 use lib.ListN.{length, take}
-use Rattle.crc.specs.Checks.{headerCheck, payloadCheck}
+use Rattle.cell_crc.specs.Checks.{headerCheck, payloadCheck}
 use Rattle.cell.specs.Octets.{octet, pair, payload}
 use Rattle.cell.specs.Header.{typeOf}
 use Rattle.cell.specs.Fields.{ratesClear}
@@ -12,7 +12,7 @@ use Rattle.cell.specs.Reading.{Reading, Refused}
 
 -- a data cell, or an RM cell whose CRC-10 is right, whose protocol is 1 and whose rate codes have bit 15 clear
 pub data Admissible (o : List ℕ) : Type 0 where
-  userCell : typeOf o ≤ 3 → Admissible o
+  dataCell : typeOf o ≤ 3 → Admissible o
   rmCell : typeOf o ≡ 6 → pair 52 o % 1024 ≡ payloadCheck (payload o) → octet 6 o ≡ 1 → ratesClear o ≡ true → Admissible o
 
 -- of 53 octets, with octet 5 right

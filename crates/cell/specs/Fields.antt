@@ -6,12 +6,12 @@ use mathlib.Core.List.{List, [], _∷_, _++_}
 use lib.Dec.{leb, eqb}
 use lib.ListN.{getD, take, replicate}
 use Rattle.rate.specs.Code.{codesClear}
-use Rattle.crc.specs.Checks.{payloadCheck}
-use Rattle.crc.specs.Payload.{octetsOf}
-use Rattle.crc.specs.declared.payload.Payload.{Payload}
+use Rattle.cell_crc.specs.Checks.{payloadCheck}
+use Rattle.cell_crc.specs.Payload.{octetsOf}
+use Rattle.cell_crc.specs.declared.payload.Payload.{Payload}
 use Rattle.cell.specs.Octets.{octet, pair, two, payload}
 use Rattle.cell.specs.Header.{vpiOf, vciOf, header}
-use Rattle.cell.specs.Name.{pairName}
+use Rattle.cell.specs.Name.{addressName}
 pub use Rattle.cell.specs.declared.fields.Fields.{Fields}
 
 -- octet 7 from the top: DIR, BN, CI, NI, RA; ER, CCR and MCR; QL; SN
@@ -37,7 +37,7 @@ ratesClear o = codesClear (pair 8 o) (pair 10 o) (pair 12 o)
 
 -- the name of the connection whose cell it is
 abbrev pub cellName : Fields → ℕ
-cellName f = pairName (f .vpi) (f .vci)
+cellName f = addressName (f .vpi) (f .vci)
 
 -- each field fits the bits that a cell has for it; a rate code has 15, since bit 15 is reserved
 unfoldable pub fieldsFit : Fields → Bool
@@ -57,13 +57,13 @@ unfoldable pub withCrc : List ℕ → List ℕ
 withCrc p = take 46 p ++ ((getD p 46 0 / 4 * 4 + payloadCheck p / 256) ∷ (payloadCheck p % 256) ∷ [])
 
 -- an RM cell of 53 octets, its six reserved bits 0
-unfoldable pub resourceCell : (clp : ℕ) → Fields → List ℕ
-resourceCell clp f = header clp (f .vpi) (f .vci) ++ withCrc (body f ++ (0 ∷ 0 ∷ []))
+unfoldable pub rmCell : (clp : ℕ) → Fields → List ℕ
+rmCell clp f = header clp (f .vpi) (f .vci) ++ withCrc (body f ++ (0 ∷ 0 ∷ []))
 
 -- whether the ten bits of the CRC-10 are right
 unfoldable pub crcRight : List ℕ → Bool
 crcRight o = eqb (pair 52 o % 1024) (payloadCheck (payload o))
 
 -- the same of a payload's words: the low ten bits of the last are its CRC-10
-pub record Checked (p : Payload) : Type 0 where
+pub record CrcMatches (p : Payload) : Type 0 where
   pub crc : p .f % 1024 ≡ payloadCheck (octetsOf p)

@@ -3,9 +3,9 @@ use Prim.Native.Nat.{ℕ, _/_, _%_, _≤_}
 use mathlib.Core.Path.{_≡_}
 use mathlib.Core.List.{List}
 use lib.ListN.{length, take}
-use Rattle.crc.specs.Checks.{headerCheck, payloadCheck}
+use Rattle.cell_crc.specs.Checks.{headerCheck, payloadCheck}
 use Rattle.cell.specs.Octets.{octet, pair, payload}
-use Rattle.cell.specs.Fields.{Fields, resourceCell}
+use Rattle.cell.specs.Fields.{Fields, rmCell}
 
 -- 53 octets, GFC 0, payload type 6, the CLP, octet 5, protocol 1, and the CRC-10
 pub record Framed (clp : ℕ) (o : List ℕ) : Type 0 where
@@ -25,4 +25,4 @@ pub record Blank (o : List ℕ) : Type 0 where
 
 -- every cell that is written from fields
 abbrev pub WrittenForm : Type 0
-WrittenForm = (clp : ℕ) (f : Fields) → clp ≤ 1 → Framed clp (resourceCell clp f) × Blank (resourceCell clp f)
+WrittenForm = (clp : ℕ) (f : Fields) → clp ≤ 1 → Framed clp (rmCell clp f) × Blank (rmCell clp f)

@@ -4,7 +4,7 @@ use mathlib.Core.Bool.{Bool}
 use mathlib.Core.List.{List, [], _∷_, _++_}
 use lib.Dec.{eqb}
 use lib.ListN.{take}
-use Rattle.crc.specs.Checks.{headerCheck}
+use Rattle.cell_crc.specs.Checks.{headerCheck}
 use Rattle.cell.specs.Octets.{octet}
 
 -- GFC, the four bits before the VPI, is not read

@@ -4,8 +4,8 @@ use mathlib.Core.Bool.{Bool, cond, _&&_}
 use lib.Dec.{leb}
 
 -- VPI × 65,536 + VCI
-abbrev pub nameOf : (vpi vci : ℕ) → ℕ
-nameOf vpi vci = vpi * 65536 + vci
+abbrev pub nameFrom : (vpi vci : ℕ) → ℕ
+nameFrom vpi vci = vpi * 65536 + vci
 
 -- the VPI and the VCI of a name
 abbrev pub vpiIn : ℕ → ℕ
@@ -19,9 +19,9 @@ abbrev pub noName : ℕ
 noName = 16_777_216
 
 -- a VPI has eight bits, a VCI sixteen
-abbrev pub pairFits : (vpi vci : ℕ) → Bool
-pairFits vpi vci = leb vpi 255 && leb vci 65535
+abbrev pub addressFits : (vpi vci : ℕ) → Bool
+addressFits vpi vci = leb vpi 255 && leb vci 65535
 
 -- the name that a caller's two numbers make: outside their ranges they make none, so that no pair folds onto another
-unfoldable pub pairName : (vpi vci : ℕ) → ℕ
-pairName vpi vci = cond (pairFits vpi vci) (nameOf vpi vci) noName
+unfoldable pub addressName : (vpi vci : ℕ) → ℕ
+addressName vpi vci = cond (addressFits vpi vci) (nameFrom vpi vci) noName

@@ -9,7 +9,7 @@ use Rattle.cell.specs.Header.{vpiOf, vciOf, typeOf, headerRight}
 use Rattle.cell.specs.Fields.{fieldsOf, ratesClear, crcRight}
 use Rattle.laws.specs.Require.{require}
 pub use Rattle.cell.specs.declared.read.Reading.{Reading}
-pub use Rattle.cell.specs.declared.read.Reading.the-variants.{Refused, User, Resource}
+pub use Rattle.cell.specs.declared.read.Reading.the-variants.{Refused, DataCell, RmCell}
 
 -- size, header check and payload type are judged first, the CRC-10, the protocol and the rate codes of RM cells (type 6) alone; a data cell (types 0 to 3) has its EFCI in the middle bit of its type
 unfoldable pub reading : List ℕ → Reading
@@ -17,9 +17,9 @@ reading o =
     require (Refused 1) (eqb (length o) 53)
     (require (Refused 2) (headerRight o)
     (cond (leb (typeOf o) 3)
-    (User (vpiOf o) (vciOf o) (eqb (typeOf o / 2 % 2) 1))
+    (DataCell (vpiOf o) (vciOf o) (eqb (typeOf o / 2 % 2) 1))
     (require (Refused 4) (eqb (typeOf o) 6)
     (require (Refused 5) (crcRight o)
     (require (Refused 6) (eqb (octet 6 o) 1)
     (require (Refused 19) (ratesClear o)
-    (Resource (fieldsOf o))))))))
+    (RmCell (fieldsOf o))))))))

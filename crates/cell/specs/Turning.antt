@@ -4,8 +4,8 @@ use mathlib.Core.Bool.{Bool, cond, _||_}
 use mathlib.Core.List.{List, _∷_, _++_}
 use lib.Dec.{eqb}
 use lib.ListN.{getD, drop}
-use Rattle.crc.specs.Payload.{octetsOf}
-use Rattle.crc.specs.declared.payload.Payload.{Payload}
+use Rattle.cell_crc.specs.Payload.{octetsOf}
+use Rattle.cell_crc.specs.declared.payload.Payload.{Payload}
 use Rattle.cell.specs.Header.{header}
 use Rattle.cell.specs.Fields.{withCrc}
 

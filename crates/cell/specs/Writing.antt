@@ -12,6 +12,6 @@ unfoldable pub writing : ℕ → Fields → Written
 writing size f = cond (eqb size 53) (cond (fieldsFit f) Done (Refused 7)) (Refused 1)
 
 -- the buffer afterwards: the new cell, or what stood there if it was refused
-unfoldable pub bufferAfter : Written → (new old : List ℕ) → List ℕ
-bufferAfter Done new old = new
-bufferAfter (Refused n) new old = old
+unfoldable pub bufferWritten : Written → (new old : List ℕ) → List ℕ
+bufferWritten Done new old = new
+bufferWritten (Refused n) new old = old

@@ -4,6 +4,6 @@ use crate::fields::Fields;
 // The refusal that a cell meets, a data cell's VPI, VCI and EFCI, or an RM cell's fields.
 pub enum Reading {
     Refused(u32),
-    User { vpi: u32, vci: u32, efci: bool },
-    Resource(Fields),
+    DataCell { vpi: u32, vci: u32, efci: bool },
+    RmCell(Fields),
 }

@@ -8,9 +8,9 @@ use lib.Dec.{T, ltb, leb, le→leb, ltb→lt, nltb→le}
 use lib.Signed.{leZ, _≤ℤ_, leZ-yes}
 use lib.IntN.{ℤ, pos, negsuc, _-ℤ_}
 use borrow.Author.Tests.{le-ltb}
-use Rattle.params.specs.declared.params.Params.{Params}
-use Rattle.params.specs.Params.{peak, least}
-use Rattle.moves.specs.Bounds.{Between}
+use Rattle.rate_params.specs.declared.params.Params.{Params}
+use Rattle.rate_params.specs.Params.{peak, least}
+use Rattle.rate_moves.specs.Bounds.{Between}
 use Rattle.rate.proofs.Codes.{rate-le}
 use Rattle.connection.specs.Parts.{Change, changed}
 use Rattle.connection.specs.Change.{difference, asRates}

@@ -11,21 +11,21 @@ use native.Mathlib.Omega.{arith}
 use lib.Dec.{eqb}
 use lib.Pow.{pow-pos}
 use borrow.Author.Tests.{eqb-false}
-use Rattle.params.specs.declared.params.Params.{Params}
-use Rattle.moves.specs.declared.moves.Rate.{Rate}
+use Rattle.rate_params.specs.declared.params.Params.{Params}
+use Rattle.rate_moves.specs.declared.moves.Rate.{Rate}
 use Rattle.rate.specs.Code.{rateOf}
-use Rattle.params.specs.Params.{nrm, paramsFit, tbeFits, frttFits}
-use Rattle.moves.specs.Moves.{moved, opened, firstCell, idle, unanswered, feedback}
-use Rattle.moves.specs.Bounds.{RateInBounds}
-use Rattle.moves.proofs.FourMoves.{opened-in-bounds, firstCell-in-bounds, firstCell-mono, idle-in-bounds, idle-mono, unanswered-in-bounds, unanswered-mono, feedback-in-bounds}
+use Rattle.rate_params.specs.Params.{nrm, paramsFit, tbeFits, frttFits}
+use Rattle.rate_moves.specs.Moves.{moved, opened, firstCell, idle, unanswered, feedback}
+use Rattle.rate_moves.specs.Bounds.{RateInBounds}
+use Rattle.rate_moves.proofs.FourMoves.{opened-in-bounds, firstCell-in-bounds, firstCell-mono, idle-in-bounds, idle-mono, unanswered-in-bounds, unanswered-mono, feedback-in-bounds}
 use Rattle.cell.specs.declared.fields.Fields.{Fields}
 use Rattle.cell.specs.Name.{vciIn, noName}
-use Rattle.members.specs.Path.{isPath, firstVci}
-use Rattle.members.specs.Members.{memberCapacity}
-use Rattle.members.specs.Turn.{lastAfter}
+use Rattle.connection_members.specs.Path.{isPath, firstVci}
+use Rattle.connection_members.specs.Members.{memberCapacity}
+use Rattle.connection_members.specs.Turn.{lastAfter}
 use Rattle.connection.specs.Parts.{Connection, Pace, Unsent, Running, Queue, waiting, dequeued, withQueue, fresh, Instant, Never, At, Waiting, Nothing, Cell, Made}
 use Rattle.connection.specs.Making.{withMade}
-use Rattle.connection.specs.Receiving.{offered, afterDataCell, afterBackwardCell, afterForwardCell, afterResourceCell}
+use Rattle.connection.specs.Receiving.{offered, afterDataCell, afterBackwardCell, afterForwardCell, afterRmCell}
 use Rattle.connection.specs.Ready.{lastBefore}
 use Rattle.connection.specs.Kind.{Kind, Forward, Turned, Data, isForward, isTurned, kindAt}
 use Rattle.connection.specs.Sending.{movedBy, paced, sentForward, sentTurned, sentData, after, withServed, madeLeft}
@@ -56,23 +56,23 @@ movedBy-params t y Unsent q = refl
 movedBy-params t y (Running sent forward k turned) q = refl
 
 -- What stays.
-pub record Same (c d : Connection) : Type 0 where
+pub record KeepsIdentity (c d : Connection) : Type 0 where
   pub name : d .name ≡ c .name
   pub opened : d .opened ≡ c .opened
   pub trm : d .trm ≡ c .trm
   pub params : d .rate .params ≡ c .rate .params
 
-pub work-same : (level : ℕ) (o : List ℕ) (f : Fields) (c : Connection) → Same c (afterResourceCell level o f c)
-unfolding afterResourceCell afterBackwardCell afterForwardCell feedback
+pub work-same : (level : ℕ) (o : List ℕ) (f : Fields) (c : Connection) → KeepsIdentity c (afterRmCell level o f c)
+unfolding afterRmCell afterBackwardCell afterForwardCell feedback
 work-same level o f c = go (eqb (f .dir) 1)
   where
-    go : (t : Bool) → Same c (cond t (afterBackwardCell f c) (afterForwardCell level o c))
+    go : (t : Bool) → KeepsIdentity c (cond t (afterBackwardCell f c) (afterForwardCell level o c))
     go true = record { name = refl; opened = refl; trm = refl; params = refl }
     go false = record { name = refl; opened = refl; trm = refl; params = refl }
 
-pub after-same : (k : Kind) (t : ℕ) (c : Connection) → Same c (after k t c)
+pub after-same : (k : Kind) (t : ℕ) (c : Connection) → KeepsIdentity c (after k t c)
 unfolding after sentForward sentTurned sentData
-after-same Forward t c = record { name = refl; opened = refl; trm = refl; params = movedBy-params t (c .unacked) (c .pace) (c .rate) }
+after-same Forward t c = record { name = refl; opened = refl; trm = refl; params = movedBy-params t (c .unanswered) (c .pace) (c .rate) }
 after-same Turned t c = record { name = refl; opened = refl; trm = refl; params = refl }
 after-same Data t c = record { name = refl; opened = refl; trm = refl; params = refl }
 
@@ -95,8 +95,8 @@ after-backward-cell-in-bounds f c s =
       counted = cleared (eqb (f .bn) 0) (s .counted);
     }
 
-work-in-bounds : (level : ℕ) (o : List ℕ) (f : Fields) (c : Connection) → InBounds c → InBounds (afterResourceCell level o f c)
-unfolding afterResourceCell afterForwardCell
+work-in-bounds : (level : ℕ) (o : List ℕ) (f : Fields) (c : Connection) → InBounds c → InBounds (afterRmCell level o f c)
+unfolding afterRmCell afterForwardCell
 work-in-bounds level o f c s = go (eqb (f .dir) 1)
   where
     go : (t : Bool) → InBounds (cond t (afterBackwardCell f c) (afterForwardCell level o c))
@@ -106,8 +106,8 @@ work-in-bounds level o f c s = go (eqb (f .dir) 1)
 pub after-in-bounds : (k : Kind) (t : ℕ) (c : Connection) → InBounds c → InBounds (after k t c)
 unfolding after sentForward sentTurned sentData
 after-in-bounds Forward t c s =
-    let p = movedBy-params t (c .unacked) (c .pace) (c .rate) in record {
-      rates = movedBy-in-bounds t (c .unacked) (c .pace) (c .rate) (s .rates);
+    let p = movedBy-params t (c .unanswered) (c .pace) (c .rate) in record {
+      rates = movedBy-in-bounds t (c .unanswered) (c .pace) (c .rate) (s .rates);
       before = rw p (s .before);
       after = rw p (s .after);
       counted = omega arith;
@@ -138,7 +138,7 @@ valid-later now later h c p = (
   },
   p .1,
   record { level = p .2 .level; past = not-after-later now later h (c .destination .made .last) (p .2 .past) },
-  not-after-later now later h (c .outside) (p .3),
+  not-after-later now later h (c .«out_of_rate») (p .3),
   p .4,
 )
 
@@ -154,8 +154,8 @@ fresh-valid v t p l u e f g = (
 
 -- the same fixed parts, with this pace
 same-parts-valid :
-    {now : ℕ} (c d : Connection) → Same c d → ValidAt now c → PaceFits now (nrm (c .rate .params)) (d .pace) → InBounds d → MadeValidAt now (d .destination .made)
-    → d .outside ≡ c .outside → QueueFits (c .name) (d .queue) → ValidAt now d
+    {now : ℕ} (c d : Connection) → KeepsIdentity c d → ValidAt now c → PaceFits now (nrm (c .rate .params)) (d .pace) → InBounds d → MadeValidAt now (d .destination .made)
+    → d .«out_of_rate» ≡ c .«out_of_rate» → QueueFits (c .name) (d .queue) → ValidAt now d
 same-parts-valid {now} c d s p h g m o q = (
   record {
     assigned = rw (s .name) (p .0 .assigned);
@@ -188,7 +188,7 @@ pub less-valid : {now : ℕ} (n : ℕ) (c : Connection) → ValidAt now c → Va
 less-valid n c p = (p .0, p .1, p .2, p .3, less-fits n (c .name) (c .queue) (p .4))
 
 -- another member was served last
-pub served-same : (x : Option ℕ) (c : Connection) → Same c (withServed x c)
+pub served-same : (x : Option ℕ) (c : Connection) → KeepsIdentity c (withServed x c)
 unfolding withServed
 served-same x c = record { name = refl; opened = refl; trm = refl; params = refl }
 
@@ -205,32 +205,32 @@ pub after-data-cell-valid : {now : ℕ} (e : Bool) (c : Connection) → ValidAt 
 unfolding afterDataCell
 after-data-cell-valid e c p = p
 
-work-pace : (level : ℕ) (o : List ℕ) (f : Fields) (c : Connection) → afterResourceCell level o f c .pace ≡ c .pace
-unfolding afterResourceCell afterBackwardCell afterForwardCell
+work-pace : (level : ℕ) (o : List ℕ) (f : Fields) (c : Connection) → afterRmCell level o f c .pace ≡ c .pace
+unfolding afterRmCell afterBackwardCell afterForwardCell
 work-pace level o f c = go (eqb (f .dir) 1)
   where
     go : (t : Bool) → cond t (afterBackwardCell f c) (afterForwardCell level o c) .pace ≡ c .pace
     go true = refl
     go false = refl
 
-work-made : (level : ℕ) (o : List ℕ) (f : Fields) (c : Connection) → afterResourceCell level o f c .destination .made ≡ c .destination .made
-unfolding afterResourceCell afterBackwardCell afterForwardCell
+work-made : (level : ℕ) (o : List ℕ) (f : Fields) (c : Connection) → afterRmCell level o f c .destination .made ≡ c .destination .made
+unfolding afterRmCell afterBackwardCell afterForwardCell
 work-made level o f c = go (eqb (f .dir) 1)
   where
     go : (t : Bool) → cond t (afterBackwardCell f c) (afterForwardCell level o c) .destination .made ≡ c .destination .made
     go true = refl
     go false = refl
 
-pub work-out-of-rate : (level : ℕ) (o : List ℕ) (f : Fields) (c : Connection) → afterResourceCell level o f c .outside ≡ c .outside
-unfolding afterResourceCell afterBackwardCell afterForwardCell
+pub work-out-of-rate : (level : ℕ) (o : List ℕ) (f : Fields) (c : Connection) → afterRmCell level o f c .«out_of_rate» ≡ c .«out_of_rate»
+unfolding afterRmCell afterBackwardCell afterForwardCell
 work-out-of-rate level o f c = go (eqb (f .dir) 1)
   where
-    go : (t : Bool) → cond t (afterBackwardCell f c) (afterForwardCell level o c) .outside ≡ c .outside
+    go : (t : Bool) → cond t (afterBackwardCell f c) (afterForwardCell level o c) .«out_of_rate» ≡ c .«out_of_rate»
     go true = refl
     go false = refl
 
 -- a cell made now, at a level of the engine
-pub made-same : (t level : ℕ) (c : Connection) → Same c (withMade t level c)
+pub made-same : (t level : ℕ) (c : Connection) → KeepsIdentity c (withMade t level c)
 unfolding withMade
 made-same t level c = record { name = refl; opened = refl; trm = refl; params = refl }
 
@@ -238,8 +238,8 @@ pub made-valid : (t level : ℕ) (c : Connection) → level ≤ 2 → ValidAt t 
 unfolding withMade
 made-valid t level c h p = (p .0, p .1, record { level = h; past = le-refl t }, p .3, p .4)
 
--- a cell outside the rate now
-pub out-of-rate-same : (t : ℕ) (c : Connection) → Same c (afterOutOfRate t c)
+-- an out-of-rate cell now
+pub out-of-rate-same : (t : ℕ) (c : Connection) → KeepsIdentity c (afterOutOfRate t c)
 unfolding afterOutOfRate
 out-of-rate-same t c = record { name = refl; opened = refl; trm = refl; params = refl }
 
@@ -247,17 +247,17 @@ pub out-of-rate-valid : (t : ℕ) (c : Connection) → ValidAt t c → ValidAt t
 unfolding afterOutOfRate
 out-of-rate-valid t c p = (p .0, p .1, p .2, le-refl t, p .4)
 
-pub work-queue : (level : ℕ) (o : List ℕ) (f : Fields) (c : Connection) → afterResourceCell level o f c .queue ≡ c .queue
-unfolding afterResourceCell afterBackwardCell afterForwardCell
+pub work-queue : (level : ℕ) (o : List ℕ) (f : Fields) (c : Connection) → afterRmCell level o f c .queue ≡ c .queue
+unfolding afterRmCell afterBackwardCell afterForwardCell
 work-queue level o f c = go (eqb (f .dir) 1)
   where
     go : (t : Bool) → cond t (afterBackwardCell f c) (afterForwardCell level o c) .queue ≡ c .queue
     go true = refl
     go false = refl
 
-pub work-valid : {now : ℕ} (level : ℕ) (o : List ℕ) (f : Fields) (c : Connection) → ValidAt now c → ValidAt now (afterResourceCell level o f c)
+pub work-valid : {now : ℕ} (level : ℕ) (o : List ℕ) (f : Fields) (c : Connection) → ValidAt now c → ValidAt now (afterRmCell level o f c)
 work-valid level o f c p =
-    same-parts-valid c (afterResourceCell level o f c) (work-same level o f c) p (rw (work-pace level o f c) (p .0 .paced)) (work-in-bounds level o f c (p .1)) (rw (work-made level o f c) (p .2)) (work-out-of-rate level o f c) (rw (work-queue level o f c) (p .4))
+    same-parts-valid c (afterRmCell level o f c) (work-same level o f c) p (rw (work-pace level o f c) (p .0 .paced)) (work-in-bounds level o f c (p .1)) (rw (work-made level o f c) (p .2)) (work-out-of-rate level o f c) (rw (work-queue level o f c) (p .4))
 
 -- A cell that is no forward cell leaves k below Nrm.
 pub not-forward : (k : Kind) (t : ℕ) (c : Connection) → kindAt t c ≡ k → k ≢ Forward → isForward t c (c .pace) ≡ false
@@ -304,7 +304,7 @@ after-made Forward t c h = h
 after-made Turned t c h = left-made (c .destination .turned) (c .destination .made) h
 after-made Data t c h = h
 
-pub after-out-of-rate : (k : Kind) (t : ℕ) (c : Connection) → after k t c .outside ≡ c .outside
+pub after-out-of-rate : (k : Kind) (t : ℕ) (c : Connection) → after k t c .«out_of_rate» ≡ c .«out_of_rate»
 unfolding after sentForward sentTurned sentData
 after-out-of-rate Forward t c = refl
 after-out-of-rate Turned t c = refl

@@ -5,13 +5,13 @@ use native.Mathlib.Nat.{le-trans}
 use native.Mathlib.Omega.{arith}
 use lib.Dec.{leb, eqb}
 use lib.Pow.{pow-mono}
-use Rattle.moves.specs.declared.moves.Rate.{Rate}
+use Rattle.rate_moves.specs.declared.moves.Rate.{Rate}
 use Rattle.rate.specs.Units.{largestRate, latestTime}
-use Rattle.moves.specs.Bounds.{RateInBounds}
+use Rattle.rate_moves.specs.Bounds.{RateInBounds}
 use Rattle.rate.specs.Gap.{gap}
 use Rattle.rate.proofs.Codes.{rate-le}
 use Rattle.rate.proofs.Gaps.{gap-le}
-use Rattle.params.proofs.Ranges.{fits, trm-le}
+use Rattle.rate_params.proofs.Ranges.{fits, trm-le}
 use Rattle.connection.specs.Parts.{Connection, Pace, Unsent, Running, Instant, Never, At}
 use Rattle.connection.specs.Invariant.{PaceFits, ValidAt, NotAfter}
 use Rattle.connection.specs.Range.{PaceInRange, InRange, InstantInRange, InstantBelow}
@@ -31,7 +31,7 @@ in-range now c l h = record {
   trm = omega (arith, h .0 .trmTime, trm-le (c .rate .params .trm));
   pace = pace-in-range now (2 ^ c .rate .params .n) (c .pace) l (pow-mono (fits (c .rate .params) (h .0 .fits) .nMost)) (h .0 .paced);
   made = instant-in-range now (c .destination .made .last) l (h .2 .past);
-  outside = instant-in-range now (c .outside) l (h .3);
+  «out_of_rate» = instant-in-range now (c .«out_of_rate») l (h .3);
 }
 
 pub acr-is-rate : (q : Rate) → RateInBounds q → q .acr ≤ largestRate

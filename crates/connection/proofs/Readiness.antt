@@ -7,7 +7,7 @@ use mathlib.Core.Option.{Option}
 use native.Mathlib.Omega.{arith}
 use lib.Dec.{eqb}
 use borrow.Author.Tests.{eq-eqb, ne-eqb, eqb-false}
-use Rattle.moves.specs.declared.moves.Rate.{Rate}
+use Rattle.rate_moves.specs.declared.moves.Rate.{Rate}
 use Rattle.connection.specs.Parts.{Connection, Pace, Unsent, Running, waiting}
 use Rattle.connection.specs.Sending.{withServed}
 use Rattle.connection.specs.OutOfRate.{afterOutOfRate}
@@ -50,10 +50,10 @@ ready-same c d o t q p l u m =
     ap₂ (λ (b : Bool) (i : Instant). cond b Never i) (ap (λ (x : Rate). eqb (x .acr) 0) q)
     (from-same c d o t q (waits-same c d l u m) (d .pace) ∙ ap (readyFrom c) p)
 
--- a cell outside the rate moves none of these
-pub ready-outside : (t : ℕ) (c : Connection) → readyInstant (afterOutOfRate t c) ≡ readyInstant c
+-- an out-of-rate cell moves none of these
+pub ready-out-of-rate : (t : ℕ) (c : Connection) → readyInstant (afterOutOfRate t c) ≡ readyInstant c
 unfolding afterOutOfRate
-ready-outside t c = ready-same c (afterOutOfRate t c) refl refl refl refl refl refl refl
+ready-out-of-rate t c = ready-same c (afterOutOfRate t c) refl refl refl refl refl refl refl
 
 -- nor does the member that was served last
 pub ready-served : (x : Option ℕ) (c : Connection) → readyInstant (withServed x c) ≡ readyInstant c

@@ -5,20 +5,20 @@ use Prim.Native.Nat.{ℕ, _/_, _%_}
 use native.Mathlib.Omega.{arith}
 use lib.Dec.{eqb}
 use borrow.Author.Tests.{eq-eqb, ne-eqb}
-use Rattle.moves.specs.declared.moves.Rate.{Rate}
+use Rattle.rate_moves.specs.declared.moves.Rate.{Rate}
 use Rattle.rate.specs.Code.{rateOf}
-use Rattle.moves.specs.Moves.{feedback}
-use Rattle.crc.specs.declared.payload.Payload.{Payload}
-use Rattle.crc.specs.Payload.{octetsOf, payloadOf}
+use Rattle.rate_moves.specs.Moves.{feedback}
+use Rattle.cell_crc.specs.declared.payload.Payload.{Payload}
+use Rattle.cell_crc.specs.Payload.{octetsOf, payloadOf}
 use Rattle.cell.specs.declared.fields.Fields.{Fields}
 use Rattle.cell.specs.Turning.{turnedPayload}
-use Rattle.connection.specs.Parts.{Connection, Cell, withRate, withUnacked, withChange, changed, withDestination, Destination, Waiting, Nothing}
+use Rattle.connection.specs.Parts.{Connection, Cell, withRate, withUnanswered, withChange, changed, withDestination, Destination, Waiting, Nothing}
 use Rattle.connection.specs.Receiving.{afterBackwardCell, afterForwardPayload, waitingCi, markKept}
 
 module _ (f : Fields) (c : Connection) {e : ℕ} {q : Rate} {a b : Connection}
     (er : e ≡ rateOf (f .er)) (move : q ≡ feedback (eqb (f .ci) 1) (eqb (f .ni) 1) e (c .rate)) (rate : a ≡ withRate c q)
     (change : b ≡ withChange a (changed (c .rate .acr) (q .acr))) where
-  pub after-backward-cell-own : {r : Connection} → f .bn ≡ 0 → r ≡ withUnacked b 0 → r ≡ afterBackwardCell f c
+  pub after-backward-cell-own : {r : Connection} → f .bn ≡ 0 → r ≡ withUnanswered b 0 → r ≡ afterBackwardCell f c
   unfolding afterBackwardCell
   after-backward-cell-own h r = rw (eq-eqb _ _ h, r, change, rate, move, er)
 

@@ -5,16 +5,16 @@ use Prim.Native.Nat.{ℕ, _+_, _-_, _/_, _%_, _≤_, _<_, min}
 use native.Mathlib.Omega.{arith}
 use lib.Dec.{leb, eqb}
 use borrow.Author.Tests.{leb-true, le-leb, eq-eqb, ne-eqb}
-use Rattle.moves.specs.declared.moves.Rate.{Rate}
-use Rattle.params.specs.declared.params.Params.{Params}
+use Rattle.rate_moves.specs.declared.moves.Rate.{Rate}
+use Rattle.rate_params.specs.declared.params.Params.{Params}
 use Rattle.cell.specs.declared.fields.Fields.{Fields}
 use Rattle.rate.specs.Units.{largestRate}
 use Rattle.rate.specs.Code.{rateOf, codeOf, codeOrZero}
-use Rattle.moves.specs.Moves.{firstCell, idle, unanswered}
+use Rattle.rate_moves.specs.Moves.{firstCell, idle, unanswered}
 use Rattle.rate.proofs.Codes.{code-of-rate, code-greatest, rate-le}
 use Rattle.cell.specs.Name.{vpiIn, vciIn, noName}
 use Rattle.cell.specs.Fields.{fieldsFit}
-use Rattle.connection.specs.Parts.{Connection, Pace, Unsent, Running, Nothing, withRate, withPace, withUnacked, withQueue, withDestination, Made}
+use Rattle.connection.specs.Parts.{Connection, Pace, Unsent, Running, Nothing, withRate, withPace, withUnanswered, withQueue, withDestination, Made}
 use Rattle.connection.specs.Kind.{Kind, Forward, Turned, Data}
 use Rattle.connection.specs.Making.{madeFields}
 use Rattle.connection.specs.Sending.{movedBy, paced, sentForward, sentTurned, sentData, after, forwardFields, madeLeft}
@@ -40,8 +40,8 @@ module _ (x : ℕ) (b : Bool) {p : Pace} where
 
 module _ (x : ℕ) (c : Connection) {a r : Connection} where
   pub forward-is :
-      {b : Connection} {q : Rate} {y : ℕ} → q ≡ movedBy x (c .unacked) (c .pace) (c .rate) → a ≡ withRate c q → b ≡ withPace a (Running x x 0 false)
-      → y ≡ min (c .unacked + 1) 8_388_608 → r ≡ withUnacked b y → r ≡ sentForward x c
+      {b : Connection} {q : Rate} {y : ℕ} → q ≡ movedBy x (c .unanswered) (c .pace) (c .rate) → a ≡ withRate c q → b ≡ withPace a (Running x x 0 false)
+      → y ≡ min (c .unanswered + 1) 8_388_608 → r ≡ withUnanswered b y → r ≡ sentForward x c
   unfolding sentForward
   forward-is q a b y r = rw (r, b, a, q, y)
 

@@ -5,8 +5,8 @@ use Prim.Native.Nat.{ℕ, _<_}
 use native.Mathlib.Omega.{arith}
 use lib.ListN.{length, getD, drop, length-drop}
 use lib.Seq.{getD-drop}
-use Rattle.crc.specs.Payload.{payloadOf}
-use Rattle.crc.proofs.Words.{octets-of-payload}
+use Rattle.cell_crc.specs.Payload.{payloadOf}
+use Rattle.cell_crc.proofs.Words.{octets-of-payload}
 use Rattle.cell.specs.Octets.{payload}
 use Rattle.connection.specs.Parts.{Connection}
 use Rattle.connection.specs.Receiving.{afterForwardCell, afterForwardPayload}

@@ -3,13 +3,13 @@
 use Prim.Native.Nat.{ℕ, _*_, _≤_, _<_}
 use mathlib.Core.Path.{_≡_}
 use mathlib.Core.Bool.{true, false}
-use Rattle.params.specs.declared.params.Params.{Params}
-use Rattle.moves.specs.declared.moves.Rate.{Rate}
-use Rattle.params.specs.Params.{nrm, paramsFit, tbeFits, frttFits, trmTime}
-use Rattle.moves.specs.Bounds.{Between, RateInBounds}
+use Rattle.rate_params.specs.declared.params.Params.{Params}
+use Rattle.rate_moves.specs.declared.moves.Rate.{Rate}
+use Rattle.rate_params.specs.Params.{nrm, paramsFit, tbeFits, frttFits, trmTime}
+use Rattle.rate_moves.specs.Bounds.{Between, RateInBounds}
 use Rattle.cell.specs.Name.{vciIn, noName}
-use Rattle.members.specs.Path.{isPath, firstVci}
-use Rattle.members.specs.Members.{memberCapacity}
+use Rattle.connection_members.specs.Path.{isPath, firstVci}
+use Rattle.connection_members.specs.Members.{memberCapacity}
 use Rattle.connection.specs.Parts.{Connection, Pace, Unsent, Running, Queue, Change, Made, Instant, Never, At, waiting}
 
 -- whatever the time: the rate between its bounds, and so those before and after the last backward cell; Y within its own
@@ -20,7 +20,7 @@ pub record PartsInBounds (q : Rate) (y : ℕ) (x : Change) : Type 0 where
   pub counted : y ≤ 8_388_608
 
 abbrev pub InBounds : Connection → Type 0
-InBounds c = PartsInBounds (c .rate) (c .unacked) (c .change)
+InBounds c = PartsInBounds (c .rate) (c .unanswered) (c .change)
 
 -- the data of a channel is at most 65,535 cells, that of a path at most as much for each of its members (document 02, L13)
 pub record QueueFits (name : ℕ) (l : Queue) : Type 0 where
@@ -33,7 +33,7 @@ abbrev pub PaceFits : (now nrm : ℕ) → Pace → Type 0
 PaceFits now n Unsent = Unit
 PaceFits now n (Running sent forward k turned) = (forward ≤ sent) × (sent ≤ now) × (k < n)
 
--- a connection's name, of 24 bits, with a path's VCI or one from 32 on, parameters and instants, at the time of the last accepted open, slot, making or cell outside the rate
+-- a connection's name, of 24 bits, with a path's VCI or one from 32 on, parameters and instants, at the time of the last accepted open, slot, making or out-of-rate cell
 pub record PartsValidAt (now name opened trm : ℕ) (p : Params) (pace : Pace) : Type 0 where
   pub assigned : isPath name ≡ false → firstVci ≤ vciIn name
   pub coded : name < noName
@@ -56,5 +56,5 @@ pub record MadeValidAt (now : ℕ) (m : Made) : Type 0 where
 
 abbrev pub ValidAt : (now : ℕ) → Connection → Type 0
 ValidAt now c =
-    PartsValidAt now (c .name) (c .opened) (c .trm) (c .rate .params) (c .pace) × InBounds c × MadeValidAt now (c .destination .made) × NotAfter now (c .outside)
+    PartsValidAt now (c .name) (c .opened) (c .trm) (c .rate .params) (c .pace) × InBounds c × MadeValidAt now (c .destination .made) × NotAfter now (c .«out_of_rate»)
     × QueueFits (c .name) (c .queue)

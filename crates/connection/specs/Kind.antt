@@ -2,8 +2,8 @@
 use Prim.Native.Nat.{ℕ}
 use mathlib.Core.Bool.{Bool, true, false, cond, _&&_, _||_, not}
 use lib.Dec.{eqb}
-use Rattle.params.specs.Params.{nrm}
-use Rattle.params.specs.Forward.{forwardDue}
+use Rattle.rate_params.specs.Params.{nrm}
+use Rattle.rate_params.specs.Forward.{forwardDue}
 use Rattle.connection.specs.Parts.{Connection, Pace, Unsent, Running, waiting}
 use Rattle.connection.specs.Ready.{backwardWaits}
 pub use Rattle.connection.specs.declared.kind.Kind.{Kind}

@@ -2,9 +2,9 @@
 use Prim.Native.Nat.{ℕ}
 use mathlib.Core.Bool.{cond}
 use lib.Dec.{eqb}
-use Rattle.params.specs.declared.params.Params.{Params}
+use Rattle.rate_params.specs.declared.params.Params.{Params}
 use Rattle.rate.specs.Code.{codeOf}
-use Rattle.params.specs.Params.{peak}
+use Rattle.rate_params.specs.Params.{peak}
 use Rattle.cell.specs.declared.fields.Fields.{Fields}
 use Rattle.cell.specs.Name.{vpiIn, vciIn}
 use Rattle.connection.specs.Parts.{Connection, At, withDestination}

@@ -1,10 +1,10 @@
 -- A connection, its parts, and the same connection with one part changed. (Document 01, "Opening"; document 02, L9 and L13.)
 use Prim.Native.Nat.{ℕ, _+_, _-_}
 use mathlib.Core.Bool.{false}
-use Rattle.params.specs.declared.params.Params.{Params}
-use Rattle.moves.specs.declared.moves.Rate.{Rate}
-use Rattle.params.specs.Params.{initialUsed, trmTime}
-use Rattle.moves.specs.Moves.{opened}
+use Rattle.rate_params.specs.declared.params.Params.{Params}
+use Rattle.rate_moves.specs.declared.moves.Rate.{Rate}
+use Rattle.rate_params.specs.Params.{initialUsed, trmTime}
+use Rattle.rate_moves.specs.Moves.{opened}
 pub use Rattle.connection.specs.declared.parts.Pace.{Pace}
 pub use Rattle.connection.specs.declared.parts.Pace.the-variants.{Unsent, Running}
 pub use Rattle.connection.specs.declared.parts.Queue.{Queue}
@@ -19,25 +19,25 @@ pub use Rattle.connection.specs.declared.parts.Connection.{Connection}
 
 -- All that the calls do to a connection is made of these seven.
 abbrev pub withRate : Connection → Rate → Connection
-withRate c q = record { name = c .name; opened = c .opened; trm = c .trm; rate = q; pace = c .pace; unacked = c .unacked; queue = c .queue; change = c .change; destination = c .destination; outside = c .outside }
+withRate c q = record { name = c .name; opened = c .opened; trm = c .trm; rate = q; pace = c .pace; unanswered = c .unanswered; queue = c .queue; change = c .change; destination = c .destination; «out_of_rate» = c .«out_of_rate» }
 
 abbrev pub withPace : Connection → Pace → Connection
-withPace c p = record { name = c .name; opened = c .opened; trm = c .trm; rate = c .rate; pace = p; unacked = c .unacked; queue = c .queue; change = c .change; destination = c .destination; outside = c .outside }
+withPace c p = record { name = c .name; opened = c .opened; trm = c .trm; rate = c .rate; pace = p; unanswered = c .unanswered; queue = c .queue; change = c .change; destination = c .destination; «out_of_rate» = c .«out_of_rate» }
 
-abbrev pub withUnacked : Connection → ℕ → Connection
-withUnacked c y = record { name = c .name; opened = c .opened; trm = c .trm; rate = c .rate; pace = c .pace; unacked = y; queue = c .queue; change = c .change; destination = c .destination; outside = c .outside }
+abbrev pub withUnanswered : Connection → ℕ → Connection
+withUnanswered c y = record { name = c .name; opened = c .opened; trm = c .trm; rate = c .rate; pace = c .pace; unanswered = y; queue = c .queue; change = c .change; destination = c .destination; «out_of_rate» = c .«out_of_rate» }
 
 abbrev pub withQueue : Connection → Queue → Connection
-withQueue c l = record { name = c .name; opened = c .opened; trm = c .trm; rate = c .rate; pace = c .pace; unacked = c .unacked; queue = l; change = c .change; destination = c .destination; outside = c .outside }
+withQueue c l = record { name = c .name; opened = c .opened; trm = c .trm; rate = c .rate; pace = c .pace; unanswered = c .unanswered; queue = l; change = c .change; destination = c .destination; «out_of_rate» = c .«out_of_rate» }
 
 abbrev pub withChange : Connection → Change → Connection
-withChange c x = record { name = c .name; opened = c .opened; trm = c .trm; rate = c .rate; pace = c .pace; unacked = c .unacked; queue = c .queue; change = x; destination = c .destination; outside = c .outside }
+withChange c x = record { name = c .name; opened = c .opened; trm = c .trm; rate = c .rate; pace = c .pace; unanswered = c .unanswered; queue = c .queue; change = x; destination = c .destination; «out_of_rate» = c .«out_of_rate» }
 
 abbrev pub withDestination : Connection → Destination → Connection
-withDestination c b = record { name = c .name; opened = c .opened; trm = c .trm; rate = c .rate; pace = c .pace; unacked = c .unacked; queue = c .queue; change = c .change; destination = b; outside = c .outside }
+withDestination c b = record { name = c .name; opened = c .opened; trm = c .trm; rate = c .rate; pace = c .pace; unanswered = c .unanswered; queue = c .queue; change = c .change; destination = b; «out_of_rate» = c .«out_of_rate» }
 
-abbrev pub withOutside : Connection → Instant → Connection
-withOutside c i = record { name = c .name; opened = c .opened; trm = c .trm; rate = c .rate; pace = c .pace; unacked = c .unacked; queue = c .queue; change = c .change; destination = c .destination; outside = i }
+abbrev pub withOutOfRate : Connection → Instant → Connection
+withOutOfRate c i = record { name = c .name; opened = c .opened; trm = c .trm; rate = c .rate; pace = c .pace; unanswered = c .unanswered; queue = c .queue; change = c .change; destination = c .destination; «out_of_rate» = i }
 
 -- the data cells that wait; n more; n less
 abbrev pub waiting : Queue → ℕ
@@ -57,7 +57,7 @@ freshDestination = record { efci = false; turned = Nothing; made = record { leve
 abbrev pub changed : (before after : ℕ) → Change
 changed a b = record { before = a; after = b }
 
--- a connection as it starts: ACR = the ICR used, no cell sent, nothing waiting, Y = 0, no change by a backward cell (document 02, L9), no cell outside the rate
+-- a connection as it starts: ACR = the ICR used, no cell sent, nothing waiting, Y = 0, no change by a backward cell (document 02, L9), no out-of-rate cell
 unfoldable pub fresh : (name time : ℕ) → Params → Connection
 fresh v t p = record {
   name = v;
@@ -65,9 +65,9 @@ fresh v t p = record {
   trm = trmTime (p .trm);
   rate = opened p;
   pace = Unsent;
-  unacked = 0;
+  unanswered = 0;
   queue = record { cells = 0; served = 0 };
   change = changed (initialUsed p) (initialUsed p);
   destination = freshDestination;
-  outside = Never;
+  «out_of_rate» = Never;
 }

@@ -3,7 +3,7 @@
 use Prim.Native.Nat.{ℕ, _+_, _≤_, _<_, _^_}
 use mathlib.Core.Path.{_≡_}
 use mathlib.Core.Bool.{true}
-use Rattle.moves.specs.declared.moves.Rate.{Rate}
+use Rattle.rate_moves.specs.declared.moves.Rate.{Rate}
 use Rattle.rate.specs.Units.{largestRate}
 use Rattle.cell.specs.declared.fields.Fields.{Fields}
 use Rattle.cell.specs.Name.{noName}
@@ -24,12 +24,12 @@ pub record InRange (c : Connection) : Type 0 where
   pub trm : c .trm < 2 ^ 32
   pub pace : PaceInRange (c .pace)
   pub made : InstantInRange (c .destination .made .last)
-  pub outside : InstantInRange (c .outside)
+  pub «out_of_rate» : InstantInRange (c .«out_of_rate»)
 
 -- room for one more cell in the count k, so that the range still holds after a cell that is no forward cell
-abbrev pub HasRoom : Pace → Type 0
-HasRoom Unsent = Unit
-HasRoom (Running sent forward k turned) = k < 65535
+abbrev pub CountHasRoom : Pace → Type 0
+CountHasRoom Unsent = Unit
+CountHasRoom (Running sent forward k turned) = k < 65535
 
 -- an instant that a word of 64 bits holds, with room to spare
 abbrev pub InstantBelow : Instant → Type 0

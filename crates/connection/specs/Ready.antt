@@ -2,7 +2,7 @@
 use Prim.Native.Nat.{ℕ, _+_, _-_, max}
 use mathlib.Core.Bool.{Bool, true, false, cond, _||_}
 use lib.Dec.{leb, ltb, eqb}
-use Rattle.params.specs.Params.{nrm}
+use Rattle.rate_params.specs.Params.{nrm}
 use Rattle.rate.specs.Gap.{gap}
 use Rattle.connection.specs.Parts.{Connection, Pace, Unsent, Running, Waiting, Nothing, Cell, Destination, waiting}
 pub use Rattle.connection.specs.declared.ready.Instant.{Instant}

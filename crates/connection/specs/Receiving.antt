@@ -4,15 +4,15 @@ use mathlib.Core.Bool.{Bool, false, cond, _||_}
 use mathlib.Core.List.{List}
 use lib.Dec.{eqb}
 use lib.ListN.{getD}
-use Rattle.moves.specs.declared.moves.Rate.{Rate}
+use Rattle.rate_moves.specs.declared.moves.Rate.{Rate}
 use Rattle.rate.specs.Code.{rateOf}
-use Rattle.moves.specs.Moves.{feedback}
-use Rattle.crc.specs.declared.payload.Payload.{Payload}
-use Rattle.crc.specs.Payload.{octetsOf, payloadOf}
+use Rattle.rate_moves.specs.Moves.{feedback}
+use Rattle.cell_crc.specs.declared.payload.Payload.{Payload}
+use Rattle.cell_crc.specs.Payload.{octetsOf, payloadOf}
 use Rattle.cell.specs.declared.fields.Fields.{Fields}
 use Rattle.cell.specs.Octets.{payload}
 use Rattle.cell.specs.Turning.{turnedPayload}
-use Rattle.connection.specs.Parts.{Connection, Destination, Waiting, Nothing, Cell, withRate, withUnacked, withQueue, withChange, withDestination, enqueued, changed}
+use Rattle.connection.specs.Parts.{Connection, Destination, Waiting, Nothing, Cell, withRate, withUnanswered, withQueue, withChange, withDestination, enqueued, changed}
 
 -- an offer adds to the waiting data
 unfoldable pub offered : ℕ → Connection → Connection
@@ -29,7 +29,7 @@ fedBack f q = feedback (eqb (f .ci) 1) (eqb (f .ni) 1) (rateOf (f .er)) q
 -- feedback, and what it changed (document 02, L9); the answer of a destination, BN 0, clears Y as well
 unfoldable pub afterBackwardCell : Fields → Connection → Connection
 afterBackwardCell f c =
-    withUnacked (withChange (withRate c (fedBack f (c .rate))) (changed (c .rate .acr) (fedBack f (c .rate) .acr))) (cond (eqb (f .bn) 0) 0 (c .unacked))
+    withUnanswered (withChange (withRate c (fedBack f (c .rate))) (changed (c .rate .acr) (fedBack f (c .rate) .acr))) (cond (eqb (f .bn) 0) 0 (c .unanswered))
 
 -- the CI of a turned cell that waits: bit 5 of octet 7, which is the second of its payload
 unfoldable pub waitingCi : Waiting → Bool
@@ -51,5 +51,5 @@ afterForwardPayload level p c =
     withDestination c (record { efci = false; turned = Cell (payloadOf (turnedPayload level (markKept (c .destination)) (octetsOf p))); made = c .destination .made })
 
 -- a backward RM cell moves the rate, a forward one is turned round
-unfoldable pub afterResourceCell : (level : ℕ) → List ℕ → Fields → Connection → Connection
-afterResourceCell level o f c = cond (eqb (f .dir) 1) (afterBackwardCell f c) (afterForwardCell level o c)
+unfoldable pub afterRmCell : (level : ℕ) → List ℕ → Fields → Connection → Connection
+afterRmCell level o f c = cond (eqb (f .dir) 1) (afterBackwardCell f c) (afterForwardCell level o c)

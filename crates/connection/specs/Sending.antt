@@ -3,18 +3,18 @@ use Prim.Native.Nat.{ℕ, _+_, _-_, min}
 use mathlib.Core.Bool.{Bool, true, false, _||_}
 use mathlib.Core.List.{List}
 use mathlib.Core.Option.{Option, none}
-use Rattle.moves.specs.declared.moves.Rate.{Rate}
-use Rattle.params.specs.declared.params.Params.{Params}
+use Rattle.rate_moves.specs.declared.moves.Rate.{Rate}
+use Rattle.rate_params.specs.declared.params.Params.{Params}
 use Rattle.rate.specs.Code.{codeOf}
-use Rattle.params.specs.Params.{peak, least}
-use Rattle.moves.specs.Moves.{firstCell, idle, unanswered}
+use Rattle.rate_params.specs.Params.{peak, least}
+use Rattle.rate_moves.specs.Moves.{firstCell, idle, unanswered}
 use Rattle.cell.specs.declared.fields.Fields.{Fields}
 use Rattle.cell.specs.Name.{vpiIn, vciIn}
-use Rattle.cell.specs.Fields.{resourceCell}
+use Rattle.cell.specs.Fields.{rmCell}
 use Rattle.cell.specs.Turning.{turnedCell}
-use Rattle.members.specs.Members.{Member}
-use Rattle.members.specs.Turn.{turn, lastAfter}
-use Rattle.connection.specs.Parts.{Connection, Pace, Unsent, Running, Waiting, Nothing, Cell, Made, withRate, withPace, withUnacked, withQueue, withDestination, dequeued}
+use Rattle.connection_members.specs.Members.{Member}
+use Rattle.connection_members.specs.Turn.{turn, lastAfter}
+use Rattle.connection.specs.Parts.{Connection, Pace, Unsent, Running, Waiting, Nothing, Cell, Made, withRate, withPace, withUnanswered, withQueue, withDestination, dequeued}
 use Rattle.connection.specs.Kind.{Kind, Forward, Turned, Data}
 use Rattle.connection.specs.Making.{madeFields}
 
@@ -31,7 +31,7 @@ paced t isTurned (Running sent forward k turned) = Running t forward (k + 1) (tu
 -- Y stops at 2^23
 unfoldable pub sentForward : ℕ → Connection → Connection
 sentForward t c =
-    withUnacked (withPace (withRate c (movedBy t (c .unacked) (c .pace) (c .rate))) (Running t t 0 false)) (min (c .unacked + 1) 8_388_608)
+    withUnanswered (withPace (withRate c (movedBy t (c .unanswered) (c .pace) (c .rate))) (Running t t 0 false)) (min (c .unanswered + 1) 8_388_608)
 
 -- the turned cell goes before the made one
 unfoldable pub madeLeft : Waiting → Made → Made
@@ -80,7 +80,7 @@ forwardFields v q = record {
 
 -- the backward cell that goes: the turned one that waits, else the made one
 unfoldable pub backwardCell : (name : ℕ) → Params → Waiting → (level : ℕ) → List ℕ
-backwardCell v p Nothing level = resourceCell 0 (madeFields v p level)
+backwardCell v p Nothing level = rmCell 0 (madeFields v p level)
 backwardCell v p (Cell w) level = turnedCell (vpiIn v) (vciIn v) w
 
 -- what the lent buffer holds after a call: what it held, or these octets
@@ -89,7 +89,7 @@ pub data Buffer : Type 0 where
   written : List ℕ → Buffer
 
 -- a forward cell carries the rate after the moves, a turned or made cell is the one that waited, and data is the caller's own
-unfoldable pub bufferAfter : Kind → (before now : Connection) → Buffer
-bufferAfter Forward before now = written (resourceCell 0 (forwardFields (now .name) (now .rate)))
-bufferAfter Turned before now = written (backwardCell (before .name) (before .rate .params) (before .destination .turned) (before .destination .made .level))
-bufferAfter Data before now = untouched
+unfoldable pub bufferSent : Kind → (before now : Connection) → Buffer
+bufferSent Forward before now = written (rmCell 0 (forwardFields (now .name) (now .rate)))
+bufferSent Turned before now = written (backwardCell (before .name) (before .rate .params) (before .destination .turned) (before .destination .made .level))
+bufferSent Data before now = untouched

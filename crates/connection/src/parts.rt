@@ -1,11 +1,11 @@
 // The parts of a connection (document 01, "Opening", "Turning cells round" and "Slots"; document 02, L9 and L13).
 ghost use mathlib.Core.Path.{_≡_};
-ghost use Rattle.connection.specs.Parts.{fresh, withRate, withPace, withUnacked, withQueue, withChange, withDestination, withOutside};
+ghost use Rattle.connection.specs.Parts.{fresh, withRate, withPace, withUnanswered, withQueue, withChange, withDestination, withOutOfRate};
 use crate::ready::Instant;
-use crc::payload::Payload;
-use moves::moves::Rate;
-use params::params::Params;
-use params::params::trm_time;
+use cell_crc::payload::Payload;
+use rate_moves::moves::Rate;
+use rate_params::params::Params;
+use rate_params::params::trm_time;
 
 // The cells sent: none yet; or the instants of the last cell and of the last forward cell, the cells k since then, and whether a turned
 // or made cell is among them.
@@ -51,7 +51,7 @@ pub struct Destination {
     pub made: Made,
 }
 
-// trm is Trm in nanoseconds, looked up once, at the open; unacked is the count Y; outside is the instant of the last forward cell outside the rate (document 02,
+// trm is Trm in nanoseconds, looked up once, at the open; unanswered is the count Y; out_of_rate is the instant of the last out-of-rate forward cell (document 02,
 // L5).
 pub struct Connection {
     pub name: u32,
@@ -59,11 +59,11 @@ pub struct Connection {
     pub trm: u64,
     pub rate: Rate,
     pub pace: Pace,
-    pub unacked: u32,
+    pub unanswered: u32,
     pub queue: Queue,
     pub change: Change,
     pub destination: Destination,
-    pub outside: Instant,
+    pub out_of_rate: Instant,
 }
 
 impl Connection {
@@ -78,7 +78,7 @@ impl Connection {
             trm: trm_time(params.trm),
             rate,
             pace: Pace::Unsent,
-            unacked: 0,
+            unanswered: 0,
             queue: Queue {
                 cells: 0,
                 served: 0,
@@ -95,7 +95,7 @@ impl Connection {
                     last: Instant::Never,
                 },
             },
-            outside: Instant::Never,
+            out_of_rate: Instant::Never,
         }
     }
 
@@ -114,25 +114,25 @@ impl Connection {
         let queue = self.queue;
         let change = self.change;
         let destination = self.destination;
-        let outside = self.outside;
+        let out_of_rate = self.out_of_rate;
         Connection {
             name: self.name,
             opened: self.opened,
             trm: self.trm,
             rate,
             pace,
-            unacked: self.unacked,
+            unanswered: self.unanswered,
             queue,
             change,
             destination,
-            outside,
+            out_of_rate,
         }
     }
 
-    pub fn with_unacked(mut self, unacked: u32) -> Connection
-        ensures { λ c. ⌜ c ≡ withUnacked self unacked ⌝ }
+    pub fn with_unanswered(mut self, unanswered: u32) -> Connection
+        ensures { λ c. ⌜ c ≡ withUnanswered self unanswered ⌝ }
     {
-        self.unacked = unacked;
+        self.unanswered = unanswered;
         self
     }
 
@@ -157,8 +157,8 @@ impl Connection {
         self
     }
 
-    pub fn with_outside(self, outside: Instant) -> Connection
-        ensures { λ c. ⌜ c ≡ withOutside self outside ⌝ }
+    pub fn with_out_of_rate(self, last: Instant) -> Connection
+        ensures { λ c. ⌜ c ≡ withOutOfRate self last ⌝ }
     {
         let rate = self.rate;
         let pace = self.pace;
@@ -171,11 +171,11 @@ impl Connection {
             trm: self.trm,
             rate,
             pace,
-            unacked: self.unacked,
+            unanswered: self.unanswered,
             queue,
             change,
             destination,
-            outside,
+            out_of_rate: last,
         }
     }
 }

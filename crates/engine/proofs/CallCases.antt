@@ -5,29 +5,29 @@ use mathlib.Core.Bool.{true, false}
 use mathlib.Core.List.{List}
 use borrow.Author.Tests.{le-leb, lt-leb}
 use Rattle.cell.specs.Name.{vpiIn, vciIn, noName}
-use Rattle.members.specs.Path.{isPath}
-use Rattle.members.specs.Members.{withoutPath}
+use Rattle.connection_members.specs.Path.{isPath}
+use Rattle.connection_members.specs.Members.{withoutPath}
 use Rattle.connection.specs.declared.parts.Connection.{Connection}
 use Rattle.connection.specs.Parts.{waiting}
 use Rattle.connection.specs.Receiving.{offered}
-use Rattle.connection.proofs.Keeps.{Same}
-use Rattle.model.specs.State.{State, Entry, free, taken, find, leafOf, put, withLevel, withMembers, capacity}
+use Rattle.connection.proofs.Keeps.{KeepsIdentity}
+use Rattle.model.specs.State.{State, Entry, free, taken, find, leafOf, withEntryOf, withLevel, withMembers, capacity}
 use Rattle.model.specs.Invariant.{WellFormed}
 use Rattle.table.specs.Layout.{words}
 use Rattle.table.specs.Loading.{connectionAt}
-use Rattle.names.specs.declared.find.Found.{Found}
-use Rattle.names.specs.declared.find.Found.the-variants.{At, Nothing}
-use Rattle.names.specs.Finding.{Located, Finds}
-use Rattle.names.proofs.Found.{found-at}
+use Rattle.table_names.specs.declared.find.Found.{Found}
+use Rattle.table_names.specs.declared.find.Found.the-variants.{At, Nothing}
+use Rattle.table_names.specs.Finding.{Located, FindsName}
+use Rattle.table_names.proofs.Found.{found-at}
 use Rattle.model.specs.declared.answer.Answer.the-variants.{Refused, Accepted, Closed}
 use Rattle.model.specs.Call.{offering}
 use Rattle.model.specs.Step.{refuse, accept, replay, discard, ofOpen, closeStep, offerStep, levelStep, step}
-use Rattle.storing.specs.Updates.{Updates, SourceMoved, Leaves}
-use Rattle.tournament.specs.Replaying.{Ordered}
-use Rattle.member_words.specs.Words.{RemovesPath}
+use Rattle.table_store.specs.Updates.{Updates, SourceMoved, ClosesEntry}
+use Rattle.table_tournament.specs.Replaying.{Playable}
+use Rattle.table_members.specs.Words.{RemovesPath}
 use Rattle.engine.specs.Contract.{MeetsReading}
-use Rattle.tournament.proofs.Orders.{ordered}
-use Rattle.engine.proofs.Outcomes.{refused-out, replayed-out, discarded-out, replay-well-formed, put-ordered, below, missing, standing, valid-in, pair-of, loaded-is, put-at, put-becomes, updated-is}
+use Rattle.table_tournament.proofs.Orders.{ordered}
+use Rattle.engine.proofs.Outcomes.{refused-out, replayed-out, discarded-out, replay-well-formed, put-ordered, below, missing, entry-located, valid-in, pair-of, loaded-is, put-at, put-becomes, updated-is}
 use Rattle.engine.proofs.Members.{front, with-members, members-changed}
 use Rattle.laws.specs.Require.{require}
 
@@ -47,7 +47,7 @@ close-missing s v e = rw e
 
 -- the state that a close leaves
 abbrev closed : (name : ℕ) → State → State
-closed v s = withMembers (withoutPath v (s .members)) (put v free s)
+closed v s = withMembers (withoutPath v (s .members)) (withEntryOf v free s)
 
 pub close-done : (s : State) (v : ℕ) (c : Connection) → find v (s .entries) ≡ taken c → closeStep s v ≡ discard (waiting (c .queue)) (leafOf v s) s (closed v s)
 unfolding closeStep ofOpen
@@ -56,26 +56,26 @@ close-done s v c e = rw e
 -- the entry is cleared, then the path's members
 pub close-out :
     (s : State) → WellFormed s → {l m k : List ℕ} {n : ℕ} → l ≡ words s → {v i : ℕ} → i < capacity → Located (s .entries) v i → {d : Connection} → d ≡ connectionAt l i
-    → Leaves l m i v n → RemovesPath v m k → (k ≡ words (closeStep s v .state)) × (Closed n (waiting (d .queue)) ≡ closeStep s v .answer)
-unfolding put withMembers
+    → ClosesEntry l m i v n → RemovesPath v m k → (k ≡ words (closeStep s v .state)) × (Closed n (waiting (d .queue)) ≡ closeStep s v .answer)
+unfolding withEntryOf withMembers
 close-out s w e {v} {i} h p {d} q u r =
     let done = close-done s v (p .holder) (found-at p) ∙ ap (λ (x : Connection). discard (waiting (x .queue)) (leafOf v s) s (closed v s)) (sym (loaded-is s w p e h q)) in
     let z = put-ordered w v free tt tt in
-    let b = put-becomes s v (p .place) free (u .is s (w .size) e (p .holder) (p .here) (p .named) (subst (λ (x : State). Ordered (x .entries)) (put-at s v (p .place) free) z)) in
-    let m = r .is (front (put v free s)) (s .members) (with-members (put v free s) (z .size) (w .members .valid) (b .0)) (subst (λ (x : ℕ). x < noName) (p .named) (valid-in s w p .0 .coded)) in
-    discarded-out (waiting (d .queue)) (leafOf v s) s (closed v s) (members-changed (put v free s) (withoutPath v (s .members)) m, b .1) done
+    let b = put-becomes s v (p .place) free (u .is s (w .size) e (p .holder) (p .here) (p .named) (subst (λ (x : State). Playable (x .entries)) (put-at s v (p .place) free) z)) in
+    let m = r .is (front (withEntryOf v free s)) (s .members) (with-members (withEntryOf v free s) (z .size) (w .members .valid) (b .0)) (subst (λ (x : ℕ). x < noName) (p .named) (valid-in s w p .0 .coded)) in
+    discarded-out (waiting (d .queue)) (leafOf v s) s (closed v s) (members-changed (withEntryOf v free s) (withoutPath v (s .members)) m, b .1) done
 
 -- Reading what f takes out of the entry of a name: an ACR, or a contract's codes.
 pub reads-missing :
-    {A : Type 0} (f : Entry → A) (l : List ℕ) (v : ℕ) {r : Found} → Finds l v r → r ≡ Nothing → MeetsReading (λ s. f (find v (s .entries))) l (f free)
+    {A : Type 0} (f : Entry → A) (l : List ℕ) (v : ℕ) {r : Found} → FindsName l v r → r ≡ Nothing → MeetsReading (λ s. f (find v (s .entries))) l (f free)
 reads-missing f l v h q = record { answers = λ s w e. ap f (sym (missing s w e v h q)) }
 
 pub reads-found :
-    {A : Type 0} (f : Entry → A) (l : List ℕ) (v : ℕ) {r : Found} {i : ℕ} → Finds l v r → r ≡ At i → {d : Connection} → d ≡ connectionAt l i
+    {A : Type 0} (f : Entry → A) (l : List ℕ) (v : ℕ) {r : Found} {i : ℕ} → FindsName l v r → r ≡ At i → {d : Connection} → d ≡ connectionAt l i
     → MeetsReading (λ s. f (find v (s .entries))) l (f (taken d))
 reads-found f l v h q k = record {
   answers = λ s w e.
-      let p = standing s w e v h q in
+      let p = entry-located s w e v h q in
       ap (λ (x : Connection). f (taken x)) (loaded-is s w p e (below l v h q) k) ∙ ap f (sym (found-at p));
 }
 
@@ -94,11 +94,11 @@ over-step s v n c e i g = rw (e, i, lt-leb (waiting (c .queue) + n) 65535 g)
 
 done-step :
     (s : State) (v n : ℕ) (c : Connection) → find v (s .entries) ≡ taken c → isPath v ≡ false → waiting (c .queue) + n ≤ 65535
-    → offerStep s v n ≡ replay (leafOf v s) s (put v (taken (offered n c)) s)
+    → offerStep s v n ≡ replay (leafOf v s) s (withEntryOf v (taken (offered n c)) s)
 unfolding offerStep ofOpen require
 done-step s v n c e i g = rw (e, i, le-leb (waiting (c .queue) + n) 65535 g)
 
-pub offered-same : (n : ℕ) (c : Connection) → Same c (offered n c)
+pub offered-same : (n : ℕ) (c : Connection) → KeepsIdentity c (offered n c)
 unfolding offered
 offered-same n c = record { name = refl; opened = refl; trm = refl; params = refl }
 
@@ -122,6 +122,6 @@ module _ (s : State) (w : WellFormed s) {l : List ℕ} (e : l ≡ words s) (v n 
   offer-done {m} {k} x a u g =
       let c : Connection = offered n (p .holder) in
       let done = done-step s v n (p .holder) (found-at p) b (subst (λ (z : Connection). waiting (z .queue) + n ≤ 65535) is g) in
-      replayed-out (leafOf v s) s (put v (taken c) s)
+      replayed-out (leafOf v s) s (withEntryOf v (taken c) s)
       (updated-is s (w .size) e p c (offered-same n (p .holder)) (subst (λ (z : Connection). Updates SourceMoved l m i z k) (a ∙ ap (offered n) is) u) (offered-moved n (p .holder))
-      (ordered (replay-well-formed w (offering (vpiIn v) (vciIn v) n) (leafOf v s) (put v (taken c) s) (ap (λ (u : ℕ). offerStep s u n) (pair-of s w p) ∙ done)))) done
+      (ordered (replay-well-formed w (offering (vpiIn v) (vciIn v) n) (leafOf v s) (withEntryOf v (taken c) s) (ap (λ (u : ℕ). offerStep s u n) (pair-of s w p) ∙ done)))) done

@@ -12,17 +12,17 @@ use Rattle.connection.specs.declared.parts.Connection.{Connection}
 use Rattle.connection.specs.Interval.{rested}
 use Rattle.connection.specs.Making.{withMade}
 use Rattle.connection.proofs.Keeps.{made-same}
-use Rattle.model.specs.State.{State, free, taken, find, leafOf, put, withTime}
+use Rattle.model.specs.State.{State, free, taken, find, leafOf, withEntryOf, withTime}
 use Rattle.model.specs.Invariant.{WellFormed}
 use Rattle.model.specs.Call.{making}
 use Rattle.model.specs.Step.{refuse, replay, ofOpen, makeStep, step}
 use Rattle.model.specs.declared.answer.Answer.the-variants.{Accepted}
-use Rattle.storing.specs.Updates.{Updates, DestinationMoved}
-use Rattle.tournament.specs.Replaying.{Ordered}
+use Rattle.table_store.specs.Updates.{Updates, DestinationMoved}
+use Rattle.table_tournament.specs.Replaying.{Playable}
 use Rattle.table.specs.Layout.{words, lastAt}
-use Rattle.names.specs.Finding.{Located}
+use Rattle.table_names.specs.Finding.{Located}
 use Rattle.model.specs.State.{capacity}
-use Rattle.tournament.proofs.Orders.{ordered}
+use Rattle.table_tournament.proofs.Orders.{ordered}
 use Rattle.engine.proofs.Outcomes.{pair-of, replayed-out, replay-well-formed, time-word, later-put, put-at, put-becomes, same-fixed}
 
 module _ (s : State) (v t : ℕ) where
@@ -50,7 +50,7 @@ module _ (s : State) (v t : ℕ) where
         make-soon l m = rw (le-leb t latestTime u, e, le-leb (s .last) t h, lt-ltb 0 (s .level) l, m)
 
         pub make-done :
-            0 < s .level → rested t (c .destination .made .last) ≡ true → makeStep s v t ≡ replay (leafOf v s) s (put v (taken (withMade t (s .level) c)) (withTime t s))
+            0 < s .level → rested t (c .destination .made .last) ≡ true → makeStep s v t ≡ replay (leafOf v s) s (withEntryOf v (taken (withMade t (s .level) c)) (withTime t s))
         unfolding makeStep require ofOpen
         make-done l m = rw (le-leb t latestTime u, e, le-leb (s .last) t h, lt-ltb 0 (s .level) l, m)
 
@@ -61,15 +61,15 @@ made-moved t level c = (refl, refl)
 -- the entry stored, then the time
 pub make-out :
     (s : State) (w : WellFormed s) {l m : List ℕ} {n : ℕ} → l ≡ words s → {v i : ℕ} → i < capacity → (p : Located (s .entries) v i) (t : ℕ)
-    → makeStep s v t ≡ replay (leafOf v s) s (put v (taken (withMade t (s .level) (p .holder))) (withTime t s)) → Updates DestinationMoved l m i (withMade t (s .level) (p .holder)) n
+    → makeStep s v t ≡ replay (leafOf v s) s (withEntryOf v (taken (withMade t (s .level) (p .holder))) (withTime t s)) → Updates DestinationMoved l m i (withMade t (s .level) (p .holder)) n
     → (set m lastAt t ≡ words (makeStep s v t .state)) × (Accepted n ≡ makeStep s v t .answer)
-unfolding step put withTime
+unfolding step withEntryOf withTime
 make-out s w e {v} {i} h p t done u =
     let d : Connection = withMade t (s .level) (p .holder) in
-    let z = replay-well-formed w (making (vpiIn v) (vciIn v) t) (leafOf v s) (put v (taken d) (withTime t s)) (ap (λ (u : ℕ). makeStep s u t) (pair-of s w p) ∙ done) in
+    let z = replay-well-formed w (making (vpiIn v) (vciIn v) t) (leafOf v s) (withEntryOf v (taken d) (withTime t s)) (ap (λ (u : ℕ). makeStep s u t) (pair-of s w p) ∙ done) in
     let b =
     put-becomes s v (p .place) (taken d)
     (u .is s (w .size) e (p .holder) (p .here) (made-same t (s .level) (p .holder) .name) (same-fixed (p .holder) d (made-same t (s .level) (p .holder))) (made-moved t (s .level) (p .holder))
-    (subst (λ (r : State). Ordered (r .entries)) (put-at s v (p .place) (taken d)) (ordered z))) in
-    replayed-out (leafOf v s) s (put v (taken d) (withTime t s))
-    (ap (λ (x : List ℕ). set x lastAt t) (b .0) ∙ time-word (put v (taken d) s) t ∙ ap words (later-put s v t d), b .1) done
+    (subst (λ (r : State). Playable (r .entries)) (put-at s v (p .place) (taken d)) (ordered z))) in
+    replayed-out (leafOf v s) s (withEntryOf v (taken d) (withTime t s))
+    (ap (λ (x : List ℕ). set x lastAt t) (b .0) ∙ time-word (withEntryOf v (taken d) s) t ∙ ap words (later-put s v t d), b .1) done

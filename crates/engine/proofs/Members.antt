@@ -8,23 +8,23 @@ use lib.ListN.{length, length-append}
 use borrow.Author.Tests.{eq-eqb, ne-eqb}
 use Rattle.laws.specs.Blocks.{flat}
 use Rattle.laws.proofs.Blocks.{length-flat}
-use Rattle.members.specs.Path.{isPath}
-use Rattle.members.specs.Members.{Member, memberCapacity, isMember}
-use Rattle.members.specs.Invariant.{ValidMembers}
+use Rattle.connection_members.specs.Path.{isPath}
+use Rattle.connection_members.specs.Members.{Member, memberCapacity, isMember}
+use Rattle.connection_members.specs.Invariant.{ValidMembers}
 use Rattle.model.specs.State.{State, Entry, withMembers}
 use Rattle.model.specs.Invariant.{WellFormed}
-use Rattle.table.specs.Layout.{keyOf, nameOf, liveOf, fixedOf, liveWidth, fixedWidth, memberWords, membersFrom, words}
+use Rattle.table.specs.Layout.{keyOf, nameWords, liveOf, fixedOf, liveWidth, fixedWidth, memberWords, membersFrom, words}
 use Rattle.table.proofs.Columns.{key-wide, name-wide, live-wide, fixed-wide}
 use Rattle.table.proofs.Splits.{header, length-header, header-split}
-use Rattle.storing.specs.Updates.{Sized}
-use Rattle.names.specs.declared.find.Found.{Found}
-use Rattle.names.specs.declared.find.Found.the-variants.{At, Nothing}
-use Rattle.member_words.specs.Place.{MemberAt}
-use Rattle.member_words.specs.Words.{WithMembers, FoundInRange, Named, Finds}
+use Rattle.table_store.specs.Updates.{Sized}
+use Rattle.table_names.specs.declared.find.Found.{Found}
+use Rattle.table_names.specs.declared.find.Found.the-variants.{At, Nothing}
+use Rattle.table_members.specs.Place.{MemberAt}
+use Rattle.table_members.specs.Words.{WithMembers, MemberInRange, Named, FindsMember}
 
 -- what stands before the members
 abbrev pub front : State → List ℕ
-front s = header s ++ (flat keyOf (s .entries) ++ (flat nameOf (s .entries) ++ (flat liveOf (s .entries) ++ flat fixedOf (s .entries))))
+front s = header s ++ (flat keyOf (s .entries) ++ (flat nameWords (s .entries) ++ (flat liveOf (s .entries) ++ flat fixedOf (s .entries))))
 
 front-split : (s : State) → words s ≡ front s ++ memberWords (s .members)
 front-split s = header-split s ∙ simp append-assoc
@@ -34,13 +34,13 @@ length-front s g =
     let ss : List Entry = s .entries in
     omega (
       arith,
-      length-append (header s) (flat keyOf ss ++ (flat nameOf ss ++ (flat liveOf ss ++ flat fixedOf ss))),
-      length-append (flat keyOf ss) (flat nameOf ss ++ (flat liveOf ss ++ flat fixedOf ss)),
-      length-append (flat nameOf ss) (flat liveOf ss ++ flat fixedOf ss),
+      length-append (header s) (flat keyOf ss ++ (flat nameWords ss ++ (flat liveOf ss ++ flat fixedOf ss))),
+      length-append (flat keyOf ss) (flat nameWords ss ++ (flat liveOf ss ++ flat fixedOf ss)),
+      length-append (flat nameWords ss) (flat liveOf ss ++ flat fixedOf ss),
       length-append (flat liveOf ss) (flat fixedOf ss),
       length-header s g,
       length-flat keyOf 1 key-wide ss,
-      length-flat nameOf 1 name-wide ss,
+      length-flat nameWords 1 name-wide ss,
       length-flat liveOf liveWidth live-wide ss,
       length-flat fixedOf fixedWidth fixed-wide ss,
       g,
@@ -64,10 +64,10 @@ unfolding isPath
 no-path v h = ne-eqb (v % 65536) 6 h
 
 -- What was found.
-pub member-below : {l : List ℕ} {x : ℕ} {r : Found} {i : ℕ} → Finds l x r → r ≡ At i → i < memberCapacity
-member-below h q = subst FoundInRange q (h .inside)
+pub member-below : {l : List ℕ} {x : ℕ} {r : Found} {i : ℕ} → FindsMember l x r → r ≡ At i → i < memberCapacity
+member-below h q = subst MemberInRange q (h .inside)
 
-module _ (s : State) (w : WellFormed s) {l : List ℕ} (e : l ≡ words s) {x : ℕ} {r : Found} (h : Finds l x r) where
+module _ (s : State) (w : WellFormed s) {l : List ℕ} (e : l ≡ words s) {x : ℕ} {r : Found} (h : FindsMember l x r) where
   named : Named x (s .members) r
   named = h .is (front s) (s .members) (with-members s (w .size) (w .members .valid) e)
 

@@ -8,32 +8,32 @@ use native.Mathlib.Omega.{arith}
 use lib.Dec.{leb}
 use lib.ListN.{getD, set, length-set}
 use borrow.Author.Tests.{le-leb, lt-leb}
-use Rattle.params.specs.declared.params.Params.{Params}
+use Rattle.rate_params.specs.declared.params.Params.{Params}
 use Rattle.rate.specs.Units.{latestTime}
 use Rattle.rate.specs.Code.{codesClear}
-use Rattle.params.specs.Params.{paramsFit, tbeFits, frttFits}
-use Rattle.cell.specs.Name.{pairFits, pairName}
-use Rattle.members.specs.Path.{firstVci}
-use Rattle.members.specs.Members.{isMember}
+use Rattle.rate_params.specs.Params.{paramsFit, tbeFits, frttFits}
+use Rattle.cell.specs.Name.{addressFits, addressName}
+use Rattle.connection_members.specs.Path.{firstVci}
+use Rattle.connection_members.specs.Members.{isMember}
 use Rattle.connection.specs.declared.parts.Connection.{Connection}
 use Rattle.connection.specs.Parts.{fresh}
 use Rattle.connection.specs.Range.{InstantBelow}
 use Rattle.connection.specs.Ready.{readyInstant}
 use Rattle.connection.proofs.Ranged.{fresh-ranged}
 use Rattle.connection.proofs.Reached.{ready-below}
-use Rattle.model.specs.State.{State, Entry, free, taken, find, inserted, roomLeft, withTime, isFree, position, capacity}
+use Rattle.model.specs.State.{State, Entry, free, taken, find, withOpened, roomLeft, withTime, isFree, position, capacity}
 use Rattle.model.specs.Invariant.{WellFormed}
 use Rattle.table.specs.Layout.{words, lastAt}
-use Rattle.names.specs.Finding.{FoundInRange, Vacant, FindsFree}
-use Rattle.names.specs.declared.find.Found.{Found}
-use Rattle.names.specs.declared.find.Found.the-variants.{At, Nothing}
+use Rattle.table_names.specs.Finding.{FoundInRange, Vacant, FindsFree}
+use Rattle.table_names.specs.declared.find.Found.{Found}
+use Rattle.table_names.specs.declared.find.Found.the-variants.{At, Nothing}
 use Rattle.model.proofs.Entries.{lowest-free, each-set, unique-set, find-absent}
-use Rattle.model.specs.Step.{refuse, replay, admit, openStep}
+use Rattle.model.specs.Step.{refuse, replay, openAddress, openStep}
 use Rattle.model.specs.Tournament.{replayed}
 use Rattle.model.specs.declared.answer.Answer.the-variants.{Accepted}
-use Rattle.storing.specs.Updates.{withEntry, Takes}
-use Rattle.tournament.specs.Replaying.{Ordered}
-use Rattle.tournament.proofs.Orders.{ordered}
+use Rattle.table_store.specs.Updates.{withEntry, OpensEntry}
+use Rattle.table_tournament.specs.Replaying.{Playable}
+use Rattle.table_tournament.proofs.Orders.{ordered}
 use Rattle.engine.proofs.Outcomes.{replayed-out, time-word}
 use Rattle.laws.specs.Require.{require}
 
@@ -42,67 +42,67 @@ module _ (s : State) (a b t : ℕ) (p : Params) where
   unfolding openStep require
   open-low h = rw (lt-leb firstVci b h)
 
-  pub open-high : firstVci ≤ b → openStep s a b t p ≡ admit s a b t p
+  pub open-high : firstVci ≤ b → openStep s a b t p ≡ openAddress s a b t p
   unfolding openStep require
   open-high h = rw (le-leb firstVci b h)
 
-  pub open-reserved : codesClear (p .pcr) (p .mcr) (p .icr) ≡ false → admit s a b t p ≡ refuse s 19
-  unfolding admit require
+  pub open-reserved : codesClear (p .pcr) (p .mcr) (p .icr) ≡ false → openAddress s a b t p ≡ refuse s 19
+  unfolding openAddress require
   open-reserved k = rw k
 
   module _ (k : codesClear (p .pcr) (p .mcr) (p .icr) ≡ true) where
-    pub open-unfit : (pairFits a b && paramsFit p) ≡ false → admit s a b t p ≡ refuse s 7
-    unfolding admit require
+    pub open-unfit : (addressFits a b && paramsFit p) ≡ false → openAddress s a b t p ≡ refuse s 7
+    unfolding openAddress require
     open-unfit f = rw (k, f)
 
-    module _ (f : (pairFits a b && paramsFit p) ≡ true) where
-      pub open-tbe : tbeFits p ≡ false → admit s a b t p ≡ refuse s 29
-      unfolding admit require
+    module _ (f : (addressFits a b && paramsFit p) ≡ true) where
+      pub open-tbe : tbeFits p ≡ false → openAddress s a b t p ≡ refuse s 29
+      unfolding openAddress require
       open-tbe x = rw (k, f, x)
 
-      pub open-frtt : tbeFits p ≡ true → frttFits p ≡ false → admit s a b t p ≡ refuse s 30
-      unfolding admit require
+      pub open-frtt : tbeFits p ≡ true → frttFits p ≡ false → openAddress s a b t p ≡ refuse s 30
+      unfolding openAddress require
       open-frtt x y = rw (k, f, x, y)
 
-      pub open-late : tbeFits p ≡ true → frttFits p ≡ true → latestTime < t → admit s a b t p ≡ refuse s 8
-      unfolding admit require
+      pub open-late : tbeFits p ≡ true → frttFits p ≡ true → latestTime < t → openAddress s a b t p ≡ refuse s 8
+      unfolding openAddress require
       open-late x y z = rw (k, f, x, y, lt-leb t latestTime z)
 
 -- the tests of the input that an open has passed
-pub record Passed (a b t : ℕ) (p : Params) : Type 0 where
+pub record InputPassed (a b t : ℕ) (p : Params) : Type 0 where
   pub clear : codesClear (p .pcr) (p .mcr) (p .icr) ≡ true
-  pub fits : (pairFits a b && paramsFit p) ≡ true
+  pub fits : (addressFits a b && paramsFit p) ≡ true
   pub tbe : tbeFits p ≡ true
   pub frtt : frttFits p ≡ true
   pub timely : t ≤ latestTime
 
-module _ (s : State) {a b t : ℕ} {p : Params} (i : Passed a b t p) where
+module _ (s : State) {a b t : ℕ} {p : Params} (i : InputPassed a b t p) where
   rest :
-      admit s a b t p
-      ≡ require (refuse s 12) (isFree (find (pairName a b) (s .entries)))
-      (require (refuse s 27) (not (isMember (pairName a b) (s .members)))
-      (require (refuse s 13) (roomLeft s) (require (refuse s 14) (leb (s .last) t) (replay (position isFree (s .entries)) s (withTime t (inserted (fresh (pairName a b) t p) s))))))
-  unfolding admit require
+      openAddress s a b t p
+      ≡ require (refuse s 12) (isFree (find (addressName a b) (s .entries)))
+      (require (refuse s 27) (not (isMember (addressName a b) (s .members)))
+      (require (refuse s 13) (roomLeft s) (require (refuse s 14) (leb (s .last) t) (replay (position isFree (s .entries)) s (withTime t (withOpened (fresh (addressName a b) t p) s))))))
+  unfolding openAddress require
   rest = rw (i .clear, i .fits, i .tbe, i .frtt, le-leb t latestTime (i .timely))
 
-  pub open-taken : (c : Connection) → find (pairName a b) (s .entries) ≡ taken c → admit s a b t p ≡ refuse s 12
+  pub open-taken : (c : Connection) → find (addressName a b) (s .entries) ≡ taken c → openAddress s a b t p ≡ refuse s 12
   unfolding require isFree
   open-taken c e = rest ∙ rw e
 
-  pub open-member : find (pairName a b) (s .entries) ≡ free → isMember (pairName a b) (s .members) ≡ true → admit s a b t p ≡ refuse s 27
+  pub open-member : find (addressName a b) (s .entries) ≡ free → isMember (addressName a b) (s .members) ≡ true → openAddress s a b t p ≡ refuse s 27
   unfolding require isFree
   open-member new e = rest ∙ rw (new, e)
 
-  module _ (new : find (pairName a b) (s .entries) ≡ free) (apart : isMember (pairName a b) (s .members) ≡ false) where
-    pub open-full : roomLeft s ≡ false → admit s a b t p ≡ refuse s 13
+  module _ (new : find (addressName a b) (s .entries) ≡ free) (apart : isMember (addressName a b) (s .members) ≡ false) where
+    pub open-full : roomLeft s ≡ false → openAddress s a b t p ≡ refuse s 13
     unfolding require isFree
     open-full e = rest ∙ rw (new, apart, e)
 
-    pub open-early : roomLeft s ≡ true → t < s .last → admit s a b t p ≡ refuse s 14
+    pub open-early : roomLeft s ≡ true → t < s .last → openAddress s a b t p ≡ refuse s 14
     unfolding require isFree
     open-early e h = rest ∙ rw (new, apart, e, lt-leb (s .last) t h)
 
-    pub open-done : roomLeft s ≡ true → s .last ≤ t → admit s a b t p ≡ replay (position isFree (s .entries)) s (withTime t (inserted (fresh (pairName a b) t p) s))
+    pub open-done : roomLeft s ≡ true → s .last ≤ t → openAddress s a b t p ≡ replay (position isFree (s .entries)) s (withTime t (withOpened (fresh (addressName a b) t p) s))
     unfolding require isFree
     open-done e h = rest ∙ rw (new, apart, e, le-leb (s .last) t h)
 
@@ -118,14 +118,14 @@ module _ {l : List ℕ} {r : Found} (h : FindsFree l r) where
     pub no-room : r ≡ Nothing → roomLeft s ≡ false
     no-room q = subst (Vacant s) q (h .is s w e)
 
-inserted-at : (s : State) (c : Connection) {i : ℕ} → position isFree (s .entries) ≡ i → inserted c s ≡ withEntry s i (taken c)
-unfolding inserted
-inserted-at s c q = rw q
+with-opened-at : (s : State) (c : Connection) {i : ℕ} → position isFree (s .entries) ≡ i → withOpened c s ≡ withEntry s i (taken c)
+unfolding withOpened
+with-opened-at s c q = rw q
 
 -- with a new connection the entries are again those that a tournament orders
-inserted-ordered : (s : State) → WellFormed s → (v t : ℕ) (p : Params) → t < 2 ^ 63 → find v (s .entries) ≡ free → Ordered (inserted (fresh v t p) s .entries)
-unfolding inserted fresh
-inserted-ordered s w v t p h e =
+with-opened-ordered : (s : State) → WellFormed s → (v t : ℕ) (p : Params) → t < 2 ^ 63 → find v (s .entries) ≡ free → Playable (withOpened (fresh v t p) s .entries)
+unfolding withOpened fresh
+with-opened-ordered s w v t p h e =
     let c : Connection = fresh v t p in
     let at : ℕ = position isFree (s .entries) in
     record {
@@ -141,17 +141,17 @@ later t s r q = rw q
 -- the entry stored, then the time
 pub open-out :
     (s : State) → WellFormed s → {l m : List ℕ} {n : ℕ} → l ≡ words s → (a b t : ℕ) (p : Params) (i : ℕ) → position isFree (s .entries) ≡ i
-    → t ≤ latestTime → find (pairName a b) (s .entries) ≡ free
-    → admit s a b t p ≡ replay (position isFree (s .entries)) s (withTime t (inserted (fresh (pairName a b) t p) s)) → Takes l m i (fresh (pairName a b) t p) n
-    → (set m lastAt t ≡ words (admit s a b t p .state)) × (Accepted n ≡ admit s a b t p .answer)
+    → t ≤ latestTime → find (addressName a b) (s .entries) ≡ free
+    → openAddress s a b t p ≡ replay (position isFree (s .entries)) s (withTime t (withOpened (fresh (addressName a b) t p) s)) → OpensEntry l m i (fresh (addressName a b) t p) n
+    → (set m lastAt t ≡ words (openAddress s a b t p .state)) × (Accepted n ≡ openAddress s a b t p .answer)
 open-out s w e a b t p i q h new done u =
-    let c : Connection = fresh (pairName a b) t p in
-    let at : inserted c s ≡ withEntry s i (taken c) = inserted-at s c q in
+    let c : Connection = fresh (addressName a b) t p in
+    let at : withOpened c s ≡ withEntry s i (taken c) = with-opened-at s c q in
     let y =
     u .is s (w .size) e (ap (λ (k : ℕ). getD (s .entries) k free) (sym q) ∙ lowest-free (s .entries))
-    (subst (λ (r : State). Ordered (r .entries)) at (inserted-ordered s w (pairName a b) t p (omega (arith, h)) new)) in
-    replayed-out (position isFree (s .entries)) s (withTime t (inserted c s)) (
-      ap (λ (x : List ℕ). set x lastAt t) (y .0 ∙ ap words (sym at)) ∙ time-word (inserted c s) t,
+    (subst (λ (r : State). Playable (r .entries)) at (with-opened-ordered s w (addressName a b) t p (omega (arith, h)) new)) in
+    replayed-out (position isFree (s .entries)) s (withTime t (withOpened c s)) (
+      ap (λ (x : List ℕ). set x lastAt t) (y .0 ∙ ap words (sym at)) ∙ time-word (withOpened c s) t,
       y .1 ∙ ap (λ (k : ℕ). replayed k (s .entries) (set (s .entries) i (taken c))) (sym q)
-          ∙ ap (λ (x : List Entry). replayed (position isFree (s .entries)) (s .entries) x) (sym (later t (inserted c s) (withEntry s i (taken c)) at)),
+          ∙ ap (λ (x : List Entry). replayed (position isFree (s .entries)) (s .entries) x) (sym (later t (withOpened c s) (withEntry s i (taken c)) at)),
     ) done

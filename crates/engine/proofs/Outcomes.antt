@@ -4,35 +4,35 @@ use mathlib.Core.Path.{_≡_, refl, sym, ap, subst, _∙_}
 use mathlib.Core.List.{List}
 use native.Mathlib.Omega.{arith}
 use lib.ListN.{getD, set, length-set}
-use Rattle.cell.specs.Name.{vpiIn, vciIn, noName, pairName}
-use Rattle.cell.proofs.Names.{pair-back}
+use Rattle.cell.specs.Name.{vpiIn, vciIn, noName, addressName}
+use Rattle.cell.proofs.Names.{address-back}
 use Rattle.connection.specs.declared.parts.Connection.{Connection}
 use Rattle.connection.specs.Invariant.{ValidAt}
-use Rattle.connection.specs.Range.{InRange, HasRoom}
+use Rattle.connection.specs.Range.{InRange, CountHasRoom}
 use Rattle.connection.specs.Ready.{readyInstant}
-use Rattle.connection.proofs.Keeps.{Same}
-use Rattle.names.specs.declared.find.Found.{Found}
-use Rattle.names.specs.declared.find.Found.the-variants.{At, Nothing}
-use Rattle.model.specs.State.{State, Entry, free, taken, find, leafOf, put, position, holds, withTime, withLevel, capacity}
+use Rattle.connection.proofs.Keeps.{KeepsIdentity}
+use Rattle.table_names.specs.declared.find.Found.{Found}
+use Rattle.table_names.specs.declared.find.Found.the-variants.{At, Nothing}
+use Rattle.model.specs.State.{State, Entry, free, taken, find, leafOf, withEntryOf, position, holds, withTime, withLevel, capacity}
 use Rattle.model.specs.Invariant.{WellFormed, OnEntry}
 use Rattle.table.specs.Layout.{words, sourceWords, fixedWords, levelAt, lastAt}
 use Rattle.table.specs.Loading.{connectionAt}
-use Rattle.table.specs.Storing.{efciUpdated, outsideUpdated}
-use Rattle.names.specs.Finding.{FoundInRange, Located, Names, Finds}
+use Rattle.table.specs.Storing.{efciUpdated, outOfRateUpdated}
+use Rattle.table_names.specs.Finding.{FoundInRange, Located, Names, FindsName}
 use Rattle.model.proofs.Entries.{each-get, each-set, entry-map, unique-set, freed-absent}
 use Rattle.table.proofs.Loaded.{load-ranged, load-room}
-use Rattle.table.proofs.Words.{lead-same, load-at, efci-at, outside-at}
+use Rattle.table.proofs.Words.{winner-same, load-at, efci-at, out-of-rate-at}
 use Rattle.model.specs.declared.answer.Answer.{Answer}
 use Rattle.model.specs.declared.answer.Answer.the-variants.{Refused, Accepted, Closed}
 use Rattle.model.specs.Call.{Call, Outcome}
 use Rattle.model.specs.Step.{refuse, accept, replay, discard, step}
-use Rattle.model.specs.Tournament.{leafLead, replayed}
+use Rattle.model.specs.Tournament.{leafWinner, replayed}
 use Rattle.model.proofs.Replays.{replayed-same}
 use Rattle.model.proofs.Reached.{step-well-formed}
 use Rattle.engine.specs.Contract.{Meets}
-use Rattle.storing.specs.Updates.{Sized, Becomes, Updates}
-use Rattle.tournament.specs.Replaying.{Ordered, Leads}
-use Rattle.tournament.proofs.Orders.{entries-ordered}
+use Rattle.table_store.specs.Updates.{Sized, EntryBecomes, Updates}
+use Rattle.table_tournament.specs.Replaying.{Playable, CountsWon}
+use Rattle.table_tournament.proofs.Orders.{entries-ordered}
 
 -- a call whose step is another's on every state
 pub same-meets : {f g : State → Outcome} {l m : List ℕ} {r : Answer} → ((s : State) → g s ≡ f s) → Meets f l m r → Meets g l m r
@@ -67,8 +67,8 @@ unfolding replay accept
 replay-well-formed w c x r q = subst (λ (o : Outcome). WellFormed (o .state)) q (step-well-formed w c)
 
 -- with a valid connection in the entry of its name, or with none there, the entries are still those that a tournament orders
-pub put-ordered : {s : State} → WellFormed s → (v : ℕ) (x : Entry) → OnEntry (ValidAt (s .last)) x → OnEntry (λ c. c .name ≡ v) x → Ordered (put v x s .entries)
-unfolding put
+pub put-ordered : {s : State} → WellFormed s → (v : ℕ) (x : Entry) → OnEntry (ValidAt (s .last)) x → OnEntry (λ c. c .name ≡ v) x → Playable (withEntryOf v x s .entries)
+unfolding withEntryOf
 put-ordered {s} w v x p q =
     entries-ordered (s .last) _ (w .timely) (length-set (s .entries) (position (holds v) (s .entries)) x ∙ w .size)
     (unique-set (s .entries) (position (holds v) (s .entries)) x (w .unique) (entry-map (λ c. c .name ≡ v) _ (λ c e. rw e (freed-absent v (s .entries) (w .unique))) x q))
@@ -84,8 +84,8 @@ unfolding words withTime
 time-word s t = refl
 
 -- the time and the entry are stored one after the other
-pub later-put : (s : State) (v t : ℕ) (d : Connection) → withTime t (put v (taken d) s) ≡ put v (taken d) (withTime t s)
-unfolding withTime put
+pub later-put : (s : State) (v t : ℕ) (d : Connection) → withTime t (withEntryOf v (taken d) s) ≡ withEntryOf v (taken d) (withTime t s)
+unfolding withTime withEntryOf
 later-put s v t d = refl
 
 pub level-at : (s : State) → getD (words s) levelAt 0 ≡ s .level
@@ -97,76 +97,76 @@ pub level-of : (s : State) → WellFormed s → {l : List ℕ} → l ≡ words s
 level-of s w e = ap (λ (x : List ℕ). getD x levelAt 0 % 4294967296) e ∙ ap (λ (x : ℕ). x % 4294967296) (level-at s) ∙ omega (arith, w .levels)
 
 -- What was found.
-pub below : (l : List ℕ) (v : ℕ) {r : Found} {i : ℕ} → Finds l v r → r ≡ At i → i < capacity
+pub below : (l : List ℕ) (v : ℕ) {r : Found} {i : ℕ} → FindsName l v r → r ≡ At i → i < capacity
 below l v h q = subst FoundInRange q (h .inside)
 
-module _ (s : State) (w : WellFormed s) {l : List ℕ} (e : l ≡ words s) (v : ℕ) {r : Found} (h : Finds l v r) where
+module _ (s : State) (w : WellFormed s) {l : List ℕ} (e : l ≡ words s) (v : ℕ) {r : Found} (h : FindsName l v r) where
   pub missing : r ≡ Nothing → find v (s .entries) ≡ free
   missing q = subst (Names v (s .entries)) q (h .is s w e)
 
-  pub standing : {i : ℕ} → r ≡ At i → Located (s .entries) v i
-  standing q = subst (Names v (s .entries)) q (h .is s w e)
+  pub entry-located : {i : ℕ} → r ≡ At i → Located (s .entries) v i
+  entry-located q = subst (Names v (s .entries)) q (h .is s w e)
 
 -- The connection that was loaded is the one that stands in the entry; whatever the words, it lies in range.
 pub ranged : (l : List ℕ) (i : ℕ) {d : Connection} → d ≡ connectionAt l i → InRange d
 ranged l i q = subst InRange (sym q) (load-ranged l i)
 
-pub roomy : (l : List ℕ) (i : ℕ) {d : Connection} → d ≡ connectionAt l i → HasRoom (d .pace)
-roomy l i q = subst (λ (x : Connection). HasRoom (x .pace)) (sym q) (load-room l i)
+pub roomy : (l : List ℕ) (i : ℕ) {d : Connection} → d ≡ connectionAt l i → CountHasRoom (d .pace)
+roomy l i q = subst (λ (x : Connection). CountHasRoom (x .pace)) (sym q) (load-room l i)
 
 module _ (s : State) (w : WellFormed s) {v i : ℕ} (p : Located (s .entries) v i) where
   pub valid-in : ValidAt (s .last) (p .holder)
   valid-in = subst (OnEntry (ValidAt (s .last))) (p .here) (each-get (ValidAt (s .last)) (s .entries) (w .each) i)
 
   -- its name is that of a pair
-  pub pair-of : pairName (vpiIn v) (vciIn v) ≡ v
-  pair-of = pair-back v (subst (λ (n : ℕ). n < noName) (p .named) (valid-in .0 .coded))
+  pub pair-of : addressName (vpiIn v) (vciIn v) ≡ v
+  pair-of = address-back v (subst (λ (n : ℕ). n < noName) (p .named) (valid-in .0 .coded))
 
   pub loaded-is : {l : List ℕ} {d : Connection} → l ≡ words s → i < capacity → d ≡ connectionAt l i → d ≡ p .holder
   loaded-is e h q =
       q ∙ ap (λ (x : List ℕ). connectionAt x i) e ∙ load-at s (w .size) i h (p .holder) (p .here) (w .timely) valid-in
 
 -- The words with one entry changed are those of the state with the name's entry changed.
-pub put-at : (s : State) (v : ℕ) {i : ℕ} → position (holds v) (s .entries) ≡ i → (x : Entry) → put v x s ≡ record { level = s .level; last = s .last; entries = set (s .entries) i x; members = s .members }
-unfolding put
+pub put-at : (s : State) (v : ℕ) {i : ℕ} → position (holds v) (s .entries) ≡ i → (x : Entry) → withEntryOf v x s ≡ record { level = s .level; last = s .last; entries = set (s .entries) i x; members = s .members }
+unfolding withEntryOf
 put-at s v q x = rw q
 
-pub same-fixed : (c d : Connection) → Same c d → fixedWords d ≡ fixedWords c
+pub same-fixed : (c d : Connection) → KeepsIdentity c d → fixedWords d ≡ fixedWords c
 same-fixed c d h = rw (h .opened, h .trm, h .params)
 
 -- the same of the words and the count that storing an entry gives
 pub put-becomes :
-    (s : State) (v : ℕ) {i : ℕ} → position (holds v) (s .entries) ≡ i → (x : Entry) {m : List ℕ} {n : ℕ} → Becomes s m i x n
-    → (m ≡ words (put v x s)) × (n ≡ replayed (leafOf v s) (s .entries) (put v x s .entries))
+    (s : State) (v : ℕ) {i : ℕ} → position (holds v) (s .entries) ≡ i → (x : Entry) {m : List ℕ} {n : ℕ} → EntryBecomes s m i x n
+    → (m ≡ words (withEntryOf v x s)) × (n ≡ replayed (leafOf v s) (s .entries) (withEntryOf v x s .entries))
 put-becomes s v {i} q x {m} {n} h =
     let e = put-at s v q x in
     (h .0 ∙ ap words (sym e), h .1 ∙ ap (λ (k : ℕ). replayed k (s .entries) (set (s .entries) i x)) (sym q) ∙ ap (λ (r : State). replayed (leafOf v s) (s .entries) (r .entries)) (sym e))
 
 -- a connection that keeps its entry, with what was stored of it
 pub updated-is :
-    (s : State) → Sized s → {l : List ℕ} → l ≡ words s → {v i : ℕ} (p : Located (s .entries) v i) (d : Connection) → Same (p .holder) d
-    → {Moved : Connection → Connection → Type 0} {m : List ℕ} {n : ℕ} → Updates Moved l m i d n → Moved (p .holder) d → Ordered (put v (taken d) s .entries)
-    → (m ≡ words (put v (taken d) s)) × (n ≡ replayed (leafOf v s) (s .entries) (put v (taken d) s .entries))
+    (s : State) → Sized s → {l : List ℕ} → l ≡ words s → {v i : ℕ} (p : Located (s .entries) v i) (d : Connection) → KeepsIdentity (p .holder) d
+    → {Moved : Connection → Connection → Type 0} {m : List ℕ} {n : ℕ} → Updates Moved l m i d n → Moved (p .holder) d → Playable (withEntryOf v (taken d) s .entries)
+    → (m ≡ words (withEntryOf v (taken d) s)) × (n ≡ replayed (leafOf v s) (s .entries) (withEntryOf v (taken d) s .entries))
 updated-is s g e {v} p d k u b z =
     put-becomes s v (p .place) (taken d)
-    (u .is s g e (p .holder) (p .here) (k .name) (same-fixed (p .holder) d k) b (subst (λ (r : State). Ordered (r .entries)) (put-at s v (p .place) (taken d)) z))
+    (u .is s g e (p .holder) (p .here) (k .name) (same-fixed (p .holder) d k) b (subst (λ (r : State). Playable (r .entries)) (put-at s v (p .place) (taken d)) z))
 
-module _ (s : State) (w : WellFormed s) {l : List ℕ} (e : l ≡ words s) {v i : ℕ} (h : i < capacity) (p : Located (s .entries) v i) (d : Connection) (k : Same (p .holder) d) where
+module _ (s : State) (w : WellFormed s) {l : List ℕ} (e : l ≡ words s) {v i : ℕ} (h : i < capacity) (p : Located (s .entries) v i) (d : Connection) (k : KeepsIdentity (p .holder) d) where
   pub efci-is :
       {m : List ℕ} {n : ℕ} → sourceWords d ≡ sourceWords (p .holder) → d .destination .turned ≡ p .holder .destination .turned → d .destination .made ≡ p .holder .destination .made
-      → d .outside ≡ p .holder .outside → readyInstant d ≡ readyInstant (p .holder) → m ≡ efciUpdated l i (d .destination) → Leads l i n
-      → (m ≡ words (put v (taken d) s)) × (n ≡ replayed (leafOf v s) (s .entries) (put v (taken d) s .entries))
+      → d .«out_of_rate» ≡ p .holder .«out_of_rate» → readyInstant d ≡ readyInstant (p .holder) → m ≡ efciUpdated l i (d .destination) → CountsWon l i n
+      → (m ≡ words (withEntryOf v (taken d) s)) × (n ≡ replayed (leafOf v s) (s .entries) (withEntryOf v (taken d) s .entries))
   efci-is f t b o r q g =
       put-becomes s v (p .place) (taken d) (
         q ∙ ap (λ (x : List ℕ). efciUpdated x i (d .destination)) e ∙ efci-at s (w .size) i h (p .holder) d (p .here) (k .name) (same-fixed (p .holder) d k) f t b o r,
         g .is s w e
-            ∙ sym (replayed-same i (s .entries) (taken d) (subst (λ (x : ℕ). i < x) (sym (w .size)) h) (lead-same i (p .holder) d (k .name) r ∙ ap (leafLead i) (sym (p .here)))),
+            ∙ sym (replayed-same i (s .entries) (taken d) (subst (λ (x : ℕ). i < x) (sym (w .size)) h) (winner-same i (p .holder) d (k .name) r ∙ ap (leafWinner i) (sym (p .here)))),
       )
 
-  -- the last cell outside the rate alone has moved
-  pub outside-is :
-      {m : List ℕ} → sourceWords d ≡ sourceWords (p .holder) → d .destination ≡ p .holder .destination → readyInstant d ≡ readyInstant (p .holder) → m ≡ outsideUpdated l i (d .outside)
-      → m ≡ words (put v (taken d) s)
-  outside-is f b r q =
-      q ∙ ap (λ (x : List ℕ). outsideUpdated x i (d .outside)) e ∙ outside-at s (w .size) i h (p .holder) d (p .here) (k .name) (same-fixed (p .holder) d k) f b r
+  -- the last out-of-rate cell alone has moved
+  pub out-of-rate-is :
+      {m : List ℕ} → sourceWords d ≡ sourceWords (p .holder) → d .destination ≡ p .holder .destination → readyInstant d ≡ readyInstant (p .holder) → m ≡ outOfRateUpdated l i (d .«out_of_rate»)
+      → m ≡ words (withEntryOf v (taken d) s)
+  out-of-rate-is f b r q =
+      q ∙ ap (λ (x : List ℕ). outOfRateUpdated x i (d .«out_of_rate»)) e ∙ out-of-rate-at s (w .size) i h (p .holder) d (p .here) (k .name) (same-fixed (p .holder) d k) f b r
       ∙ ap words (sym (put-at s v (p .place) (taken d)))

@@ -1,20 +1,21 @@
 // Closing a connection, with all that waits on it, and with the members of a path (document 01, "Opening"; document 02, L12 and L13).
 ghost use Rattle.model.specs.Step.{closeStep};
 ghost use Rattle.engine.specs.Contract.{Meets};
-use loading::load::load;
-use member_words::change::remove_path;
+use laws::refusals::REFUSED_NOT_OPEN;
 use model::answer::Answer;
-use names::find::Found;
-use names::find::find;
-use storing::store::clear;
 use table::layout::WORDS;
+use table_load::load::load;
+use table_members::change::remove_path;
+use table_names::find::Found;
+use table_names::find::find;
+use table_store::store::clear;
 
 // Refusal 11. The answer counts the data cells that waited.
 pub fn close(t: &mut [u64; WORDS], name: u32) -> Answer
     ensures { λ r. ⌜ Meets (λ s. closeStep s name) (now (t .entry)) (now (t .exit)) r ⌝ }
 {
     let Found::At(i) = find(t, name) else {
-        return Answer::Refused(11);
+        return Answer::Refused(REFUSED_NOT_OPEN);
     };
     let c = load(t, i);
     let cells = c.queue.cells as u64;

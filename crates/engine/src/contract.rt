@@ -1,10 +1,10 @@
 // Reading the rate codes of one connection's contract (document 02, L8).
 ghost use Rattle.engine.specs.Contract.{MeetsContract};
-use loading::load::load;
 use model::contract::Contract;
-use names::find::Found;
-use names::find::find;
 use table::layout::WORDS;
+use table_load::load::load;
+use table_names::find::Found;
+use table_names::find::find;
 
 // 11 is the only refusal.
 pub fn read_contract(t: &[u64; WORDS], name: u32) -> Contract

@@ -7,37 +7,37 @@ use native.Mathlib.Omega.{arith}
 use lib.Dec.{leb, eqb}
 use lib.ListN.{length}
 use borrow.Author.Tests.{ltb-true}
-use Rattle.params.specs.declared.params.Params.{Params}
-use Rattle.cell.specs.Name.{pairName}
-use Rattle.members.specs.Path.{pathVci}
+use Rattle.rate_params.specs.declared.params.Params.{Params}
+use Rattle.cell.specs.Name.{addressName}
+use Rattle.connection_members.specs.Path.{pathVci}
 use Rattle.connection.specs.declared.parts.Connection.{Connection}
 use Rattle.connection.specs.declared.kind.Kind.the-variants.{Forward, Turned, Data}
 use Rattle.connection.specs.Parts.{fresh}
 use Rattle.connection.specs.declared.ready.Instant.the-variants.{Never}
 use Rattle.connection.specs.Ready.{waits, backwardWaits, anyWaits, readyFrom, readyInstant}
-use Rattle.model.specs.State.{State, Entry, taken, empty, position, isFree, holds, find, inserted, roomLeft, withTime}
+use Rattle.model.specs.State.{State, Entry, taken, empty, position, isFree, holds, find, withOpened, roomLeft, withTime}
 use Rattle.model.specs.Invariant.{WellFormed, NamesUnique}
-use Rattle.model.specs.Choice.{Winner, noneReady, wins, candidateFrom, winner, Ahead, Chosen, Best}
-use Rattle.model.specs.Tournament.{levels, Lead, noLead, leads, instantLead, leafLead, winnerAt, inTime, leadWord, replayed}
+use Rattle.model.specs.Winner.{Winner, noneReady, wins, candidateFrom, winner, Ahead, Chosen, Best}
+use Rattle.model.specs.Tournament.{levels, MatchWinner, noWinner, wonBy, instantWinner, leafWinner, winnerAt, inTime, winnerWord, replayed}
 use Rattle.model.specs.declared.answer.Answer.{Answer}
 use Rattle.model.specs.declared.answer.Answer.the-variants.{Refused, Accepted, Closed, Idle, Sent}
 use Rattle.model.specs.Call.{Call, opening, closing, receiving, offering, levelling, slot, making, outOfRate, openingPath, adding, offeringMember, removing, Outcome, comparisons}
-use Rattle.model.specs.Step.{refuse, accept, replay, discard, sendStep, sendFrom, idleStep, sendOutside, step}
+use Rattle.model.specs.Step.{refuse, accept, replay, discard, sendStep, sendFrom, idleStep, sendOutOfRate, step}
 use Rattle.model.specs.Run.{run, final, isAccepted}
 use Rattle.model.proofs.Entries.{each-at, taken-in, lowest-free, entry-place}
 use Rattle.model.proofs.Frames.{name-of}
 use Rattle.model.proofs.Winners.{ahead-anti, ahead-instant, winner-best}
-use Rattle.model.proofs.Places.{OnLead, Comes, root-stands, lead-entry}
+use Rattle.model.proofs.Places.{OnMatchWinner, Comes, root-stands, winner-entry}
 use Rattle.model.proofs.Scanned.{root-winner}
 use Rattle.model.proofs.Replays.{replayed-most, replayed-least, replayed-one, replayed-all}
 use Rattle.model.proofs.Preserved.{empty-well-formed}
-use Rattle.model.proofs.Effects.{Effect, refuses, begins, ends, offers, marks, works, levels as levelsTo, idles, sends, makes, leaves, beginsPath, adds, offersMember, removes, effect}
+use Rattle.model.proofs.Effects.{Effect, refuses, opens, closes, offers, receivesData, receivesRm, setsLevel, idles, sends, makes, sendsOutOfRate, opensPath, adds, offersMember, removes, effect}
 use Rattle.model.proofs.Reached.{step-well-formed, reached-well-formed}
-use Rattle.answers.specs.Calls.{slotAnswer}
+use Rattle.abr_answers.specs.Calls.{sentOf}
 use Rattle.abr.specs.Exports.{Observation, Matches, AllMatch, neither, both}
 use Rattle.abr.proofs.Exports.{exports-are-run}
 use Rattle.exports.specs.Comparisons.{replays, opensOne, Counted, isSent, CountedAnswer, Comparisons, CountedObserved, ExportsComparisons, ScanPicksWinner}
-use Rattle.promises.specs.Demand3.{InPlace}
+use Rattle.promise_lists.specs.Demand3.{InPlace}
 use Rattle.exports.proofs.Exports.{effect-accepted}
 
 false≢true : _≡_ {A = Bool} false true → ⊥
@@ -53,11 +53,11 @@ winner-same {t} {i} {u} s b (wins j w) h =
     let q : w ≡ u = ahead-anti back there in
     rw (p, q)
 
-lead-leaf :
-    (t i u : ℕ) (ss : List Entry) → NamesUnique ss → (a : Lead) → OnLead (Comes ss levels 1) a → inTime t a ≡ wins i u → leadWord a ≡ position (holds u) ss + 1
-unfolding inTime candidateFrom leadWord
-lead-leaf t i u ss n noLead c e = let z : _≡_ {A = ℕ} 0 1 = cc in absurd (omega arith)
-lead-leaf t i u ss n (leads j v x) c e = go (leb j t) e
+winner-leaf :
+    (t i u : ℕ) (ss : List Entry) → NamesUnique ss → (a : MatchWinner) → OnMatchWinner (Comes ss levels 1) a → inTime t a ≡ wins i u → winnerWord a ≡ position (holds u) ss + 1
+unfolding inTime candidateFrom winnerWord
+winner-leaf t i u ss n noWinner c e = let z : _≡_ {A = ℕ} 0 1 = cc in absurd (omega arith)
+winner-leaf t i u ss n (wonBy j v x) c e = go (leb j t) e
   where
     go : (b : Bool) → cond b (wins j v) noneReady ≡ wins i u → x + 1 ≡ position (holds u) ss + 1
     go true e =
@@ -65,10 +65,10 @@ lead-leaf t i u ss n (leads j v x) c e = go (leb j t) e
         ap (λ (y : ℕ). y + 1) (sym (entry-place ss n x (c .holder) (c .here)) ∙ ap (λ (w : ℕ). position (holds w) ss) (c .named ∙ q))
     go false e = let z : _≡_ {A = ℕ} 0 1 = cc in absurd (omega arith)
 
-root-leaf : {t i u : ℕ} {s : State} → WellFormed s → Chosen t i u (s .entries) → leadWord (winnerAt (s .entries) levels 1) ≡ position (holds u) (s .entries) + 1
+root-leaf : {t i u : ℕ} {s : State} → WellFormed s → Chosen t i u (s .entries) → winnerWord (winnerAt (s .entries) levels 1) ≡ position (holds u) (s .entries) + 1
 root-leaf {t} {i} {u} {s} w b =
-    lead-leaf t i u (s .entries) (w .unique) (winnerAt (s .entries) levels 1)
-    (lead-entry (s .entries) levels 1 root-stands)
+    winner-leaf t i u (s .entries) (w .unique) (winnerAt (s .entries) levels 1)
+    (winner-entry (s .entries) levels 1 root-stands)
     (sym (root-winner t (s .entries) (w .size)) ∙ winner-same s b (winner t (s .entries)) (winner-best t (s .entries) (w .unique)))
 
 found-in : (u : ℕ) (ss : List Entry) (c : Connection) → find u ss ≡ taken c → position (holds u) ss < length ss
@@ -95,7 +95,7 @@ none-counted c accepted h = record {
   most = omega arith;
   cell = λ e. absurd (false≢true e);
   least = λ a r. absurd (h a r);
-  begins = λ a r. absurd (h a (opened-replays c false r));
+  opens = λ a r. absurd (h a (opened-replays c false r));
   noReplay = λ _. refl;
   refused = λ _. refl;
 }
@@ -105,7 +105,7 @@ leaf-counted c h x ss rs b = record {
   most = replayed-most x ss rs;
   cell = λ e. absurd (false≢true e);
   least = λ _ _. replayed-least x ss rs;
-  begins = λ _. b;
+  opens = λ _. b;
   noReplay = λ e. absurd (false≢true (sym e ∙ h));
   refused = λ e. absurd (false≢true (sym e));
 }
@@ -115,7 +115,7 @@ cell-counted c h k n e = record {
   most = omega arith;
   cell = λ _. e;
   least = λ _ _. omega arith;
-  begins = λ _ z. absurd (false≢true (sym k ∙ z));
+  opens = λ _ z. absurd (false≢true (sym k ∙ z));
   noReplay = λ z. absurd (false≢true (sym z ∙ h));
   refused = λ z. absurd (false≢true (sym z));
 }
@@ -130,28 +130,28 @@ fresh-never u t p = go (eqb (fresh u t p .rate .acr) 0)
     go false = refl
 
 opened-counted : {s : State} → WellFormed s → (u t : ℕ) (p : Params) → roomLeft s ≡ true
-    → replayed (position isFree (s .entries)) (s .entries) (withTime t (inserted (fresh u t p) s) .entries) ≡ 1
-unfolding inserted withTime roomLeft leafLead instantLead
+    → replayed (position isFree (s .entries)) (s .entries) (withTime t (withOpened (fresh u t p) s) .entries) ≡ 1
+unfolding withOpened withTime roomLeft leafWinner instantWinner
 opened-counted {s} w u t p r =
     replayed-one (position isFree (s .entries)) (s .entries) (taken (fresh u t p)) (w .size) (ltb-true _ _ r)
-    (ap (leafLead (position isFree (s .entries))) (lowest-free (s .entries))) (ap (instantLead (fresh u t p .name) (position isFree (s .entries))) (fresh-never u t p))
+    (ap (leafWinner (position isFree (s .entries))) (lowest-free (s .entries))) (ap (instantWinner (fresh u t p .name) (position isFree (s .entries))) (fresh-never u t p))
 
 effect-counted : {s : State} → WellFormed s → {c : Call} {o : Outcome} → Effect s c o → CountedAnswer c (o .answer)
-unfolding refuse accept replay discard sendStep sendFrom idleStep sendOutside withTime isAccepted comparisons
+unfolding refuse accept replay discard sendStep sendFrom idleStep sendOutOfRate withTime isAccepted comparisons
 effect-counted w (refuses c n h) = none-counted c false (λ e _. false≢true e)
-effect-counted w (begins vpi vci t p g) = leaf-counted _ refl _ _ _ (λ _. opened-counted w (pairName vpi vci) t p (g .room))
-effect-counted w (ends vpi vci d f) = leaf-counted _ refl _ _ _ (λ e. absurd (false≢true e))
+effect-counted w (opens vpi vci t p g) = leaf-counted _ refl _ _ _ (λ _. opened-counted w (addressName vpi vci) t p (g .room))
+effect-counted w (closes vpi vci d f) = leaf-counted _ refl _ _ _ (λ e. absurd (false≢true e))
 effect-counted w (offers vpi vci n d f i h) = leaf-counted _ refl _ _ _ (λ e. absurd (false≢true e))
-effect-counted w (marks o vpi vci e v d r i z f) = leaf-counted _ refl _ _ _ (λ e. absurd (false≢true e))
-effect-counted w (works o q d r f) = leaf-counted _ refl _ _ _ (λ e. absurd (false≢true e))
-effect-counted w (levelsTo l h) = none-counted _ true (λ _ e. false≢true e)
+effect-counted w (receivesData o vpi vci e v d r i z f) = leaf-counted _ refl _ _ _ (λ e. absurd (false≢true e))
+effect-counted w (receivesRm o q d r f) = leaf-counted _ refl _ _ _ (λ e. absurd (false≢true e))
+effect-counted w (setsLevel l h) = none-counted _ true (λ _ e. false≢true e)
 effect-counted w (idles t room g b) = none-counted _ true (λ _ e. false≢true e)
 effect-counted {s} w (sends t room i u g b) =
     cell-counted _ refl refl _
     (replayed-all (position (holds u) (s .entries)) (omega (arith, found-in u (s .entries) (b .holder) (b .found), w .size)) (s .entries) (w .unique) _ (root-leaf w b))
 effect-counted w (makes vpi vci t d f g b m) = leaf-counted _ refl _ _ _ (λ e. absurd (false≢true e))
-effect-counted w (leaves vpi vci t room d f g b) = none-counted _ true (λ _ e. false≢true e)
-effect-counted w (beginsPath vpi t p g) = leaf-counted _ refl _ _ _ (λ _. opened-counted w (pairName vpi pathVci) t p (g .room))
+effect-counted w (sendsOutOfRate vpi vci t room d f g b) = none-counted _ true (λ _ e. false≢true e)
+effect-counted w (opensPath vpi t p g) = leaf-counted _ refl _ _ _ (λ _. opened-counted w (addressName vpi pathVci) t p (g .room))
 effect-counted w (adds vpi vci d f j) = none-counted _ true (λ _ e. false≢true e)
 effect-counted w (offersMember vpi vci n d f i h) = leaf-counted _ refl _ _ _ (λ e. absurd (false≢true e))
 effect-counted w (removes vpi vci d f i) = leaf-counted _ refl _ _ _ (λ e. absurd (false≢true e))
@@ -163,7 +163,7 @@ pub scan-picks-winner : ScanPicksWinner
 scan-picks-winner cs t = root-winner t (final empty cs .entries) (reached-well-formed cs .size)
 
 -- Exported calls.
-sent-number : (a : Answer) → not (eqb (slotAnswer a .kind) 0) ≡ isSent a
+sent-number : (a : Answer) → not (eqb (sentOf a .kind) 0) ≡ isSent a
 sent-number (Refused n) = refl
 sent-number (Accepted n) = refl
 sent-number (Closed n k) = refl
@@ -172,7 +172,7 @@ sent-number (Sent v x Forward a n) = refl
 sent-number (Sent v x Turned a n) = refl
 sent-number (Sent v x Data a n) = refl
 
-comparisons-number : (a : Answer) → slotAnswer a .comparisons ≡ comparisons a
+comparisons-number : (a : Answer) → sentOf a .comparisons ≡ comparisons a
 unfolding comparisons
 comparisons-number (Refused n) = refl
 comparisons-number (Accepted n) = refl

@@ -5,7 +5,7 @@ use mathlib.Core.Bool.{Bool, cond}
 use mathlib.Core.List.{List, [], _∷_}
 use native.Mathlib.Omega.{arith}
 use lib.Dec.{eqb}
-use Rattle.cell.specs.Name.{pairName}
+use Rattle.cell.specs.Name.{addressName}
 use Rattle.connection.specs.declared.parts.Connection.{Connection}
 use Rattle.connection.specs.Parts.{waiting}
 use Rattle.connection.specs.declared.kind.Kind.the-variants.{Forward, Turned, Data}
@@ -16,13 +16,13 @@ use Rattle.model.specs.declared.answer.Answer.the-variants.{Refused, Accepted, 
 use Rattle.model.specs.Call.{Call, Outcome, closedCells}
 use Rattle.model.specs.Step.{refuse, discard, ofOpen, closeStep, step}
 use Rattle.model.specs.Run.{run, final, isAccepted}
-use Rattle.model.specs.Conservation.{offeredTo, closedOn, dataCells, dataSlotOf, sumOver, cellsOffered, dataSlots, cellsClosed, cellsWaiting}
+use Rattle.model.specs.Conservation.{offeredTo, closedOn, dataIn, dataSlotOf, sumOver, cellsOffered, dataSlots, cellsClosed, cellsWaiting}
 use Rattle.model.proofs.Preserved.{empty-well-formed}
 use Rattle.model.proofs.Reached.{step-well-formed, reached-well-formed}
 use Rattle.model.proofs.Conservation.{cond-zero, conservation}
-use Rattle.answers.specs.declared.calls.ClosedAnswer.{ClosedAnswer}
-use Rattle.answers.specs.Calls.{slotAnswer}
-use Rattle.abr.specs.Exports.{Observation, Trace, zeros, Matches, AllMatch, neither, both}
+use Rattle.abr_answers.specs.declared.calls.AbrClosed.{AbrClosed}
+use Rattle.abr_answers.specs.Calls.{sentOf}
+use Rattle.abr.specs.Exports.{Observation, Transcript, zeros, Matches, AllMatch, neither, both}
 use Rattle.abr.proofs.Exports.{exports-are-run}
 use Rattle.exports.specs.Conservation.{dataReturned, sumObserved, slotsFrom, offersObserved, slotsObserved, closesObserved, ExportsConservation}
 use Rattle.exports.specs.Returned.{noMember, memberSeen}
@@ -30,8 +30,8 @@ use Rattle.exports.proofs.Returned.{Knows, none-known, knows-after, Nam
 use Rattle.exports.proofs.Exports.{accepted-seen}
 
 -- what one call returned says what its answer says
-data-number : (v : ℕ) (f : ℕ → Bool) (a : Answer) → NamesConnection f a → dataReturned v f (slotAnswer a) ≡ dataSlotOf v a
-unfolding dataSlotOf dataCells
+data-number : (v : ℕ) (f : ℕ → Bool) (a : Answer) → NamesConnection f a → dataReturned v f (sentOf a) ≡ dataSlotOf v a
+unfolding dataSlotOf dataIn
 data-number v f (Refused n) h = refl
 data-number v f (Accepted n) h = refl
 data-number v f (Closed n k) h = refl
@@ -57,7 +57,7 @@ observed-sum :
 observed-sum f g h s w [] [] neither = refl
 observed-sum f g h s w (c ∷ cs) (o ∷ os) (both m ms) = rw (h s w c o m, observed-sum f g h (step s c .state) (step-well-formed w c) cs os ms) refl
 
-module _ (v : ℕ) (cs : List Call) (os : List Observation) (t : Trace cs zeros os) where
+module _ (v : ℕ) (cs : List Call) (os : List Observation) (t : Transcript cs zeros os) where
   summed : (f : Call → Observation → ℕ) (g : Call → Answer → ℕ) → SameTerm f g → sumObserved f cs os ≡ sumOver g empty cs
   summed f g h = observed-sum f g h empty empty-well-formed cs os (exports-are-run .each cs os t)
 
@@ -93,5 +93,5 @@ exports-conservation = record {
   balance = λ cs os t v. balance v cs os t;
   atMostOffered = λ cs os t v. at-most v cs os t;
   closedNext = λ cs os t vpi vci m r h.
-      ap (λ (x : ClosedAnswer). x .cells) (h .meets (final empty cs) (reached-well-formed cs) (exports-are-run .last cs os t) .1) ∙ closed-next (final empty cs) (pairName vpi vci);
+      ap (λ (x : AbrClosed). x .cells) (h .meets (final empty cs) (reached-well-formed cs) (exports-are-run .last cs os t) .1) ∙ closed-next (final empty cs) (addressName vpi vci);
 }

@@ -8,7 +8,7 @@ use native.Mathlib.Nat.{le-refl}
 use native.Mathlib.Omega.{arith}
 use lib.Dec.{eqb}
 use borrow.Author.Tests.{ne-eqb}
-use Rattle.params.specs.declared.params.Params.{Params}
+use Rattle.rate_params.specs.declared.params.Params.{Params}
 use Rattle.connection.specs.declared.kind.Kind.{Kind}
 use Rattle.connection.specs.declared.kind.Kind.the-variants.{Forward, Turned, Data}
 use Rattle.model.specs.State.{State, Entry, free, taken, empty, find}
@@ -16,42 +16,42 @@ use Rattle.model.specs.Invariant.{WellFormed}
 use Rattle.model.specs.declared.answer.Answer.{Answer}
 use Rattle.model.specs.declared.answer.Answer.the-variants.{Refused, Accepted, Closed, Idle, Sent}
 use Rattle.model.specs.Call.{Call, Outcome, refusal, kindSent}
-use Rattle.model.specs.Step.{refuse, accept, replay, discard, idleStep, sendStep, sendFrom, sendOutside, step}
+use Rattle.model.specs.Step.{refuse, accept, replay, discard, idleStep, sendStep, sendFrom, sendOutOfRate, step}
 use Rattle.model.specs.Queries.{entryAcr, acrOf}
-use Rattle.model.specs.Run.{run, final, isAccepted, given, givenFrom, entryRate, allowed}
+use Rattle.model.specs.Run.{run, final, isAccepted, paramsAfter, givenFrom, entryRate, allowed}
 use Rattle.model.proofs.Preserved.{empty-well-formed}
-use Rattle.model.proofs.Effects.{Effect, refuses, begins, ends, offers, marks, works, levels, idles, sends, makes, leaves, beginsPath, adds, offersMember, removes, effect}
+use Rattle.model.proofs.Effects.{Effect, refuses, opens, closes, offers, receivesData, receivesRm, setsLevel, idles, sends, makes, sendsOutOfRate, opensPath, adds, offersMember, removes, effect}
 use Rattle.model.proofs.Reached.{step-well-formed}
-use Rattle.answers.specs.declared.calls.SlotAnswer.{SlotAnswer}
-use Rattle.answers.specs.declared.calls.AcrAnswer.{AcrAnswer}
-use Rattle.answers.specs.Calls.{slotAnswer, acrAnswer}
-use Rattle.abr.specs.Contract.{AnswersAcr}
-use Rattle.abr.specs.Exports.{Observation, Trace, finalWords, zeros, Matches, AllMatch, neither, both}
+use Rattle.abr_answers.specs.declared.calls.AbrSent.{AbrSent}
+use Rattle.abr_answers.specs.declared.calls.AbrAllowed.{AbrAllowed}
+use Rattle.abr_answers.specs.Calls.{sentOf, allowedOf}
+use Rattle.abr.specs.Contract.{ReturnsAllowed}
+use Rattle.abr.specs.Exports.{Observation, Transcript, finalWords, zeros, Matches, AllMatch, neither, both}
 use Rattle.connection.specs.Sending.{Buffer, untouched}
 use Rattle.table.specs.Layout.{words}
 use Rattle.engine.specs.Contract.{bufferContent}
 use Rattle.abr.proofs.Exports.{zeros-words, exports-are-run}
-use Rattle.promises.specs.Demand3.{Bounded, InPlace, SamePlace, NotAbove, neither as noneOpen, both as bothOpen, Agree}
+use Rattle.promise_lists.specs.Demand3.{Bounded, InPlace, SamePlace, NotAbove, neither as noneOpen, both as bothOpen, Agree}
 use Rattle.exports.specs.Exports.{paramsObserved, rateReturned, SameConnection, RateNotAbove, ObservedAgree, RefusedLeave, ExportsDemand1, ExportsDemand3}
 use Rattle.exports.specs.Returned.{noMember, wentTo, placesSeen}
 use Rattle.exports.proofs.Returned.{Knows, none-known, knows-after, names-connection, went-to}
-use Rattle.promises.proofs.Demand3.{demand3}
+use Rattle.promise_lists.proofs.Demand3.{demand3}
 
 -- What the numbers say of the answers: 0 of an accepted call alone.
-pub effect-accepted : {s : State} {c : Call} {o : Outcome} → Effect s c o → eqb (slotAnswer (o .answer) .refusal) 0 ≡ isAccepted (o .answer)
-unfolding refuse accept replay discard idleStep sendStep sendFrom sendOutside isAccepted
+pub effect-accepted : {s : State} {c : Call} {o : Outcome} → Effect s c o → eqb (sentOf (o .answer) .refusal) 0 ≡ isAccepted (o .answer)
+unfolding refuse accept replay discard idleStep sendStep sendFrom sendOutOfRate isAccepted
 effect-accepted (refuses c n h) = ne-eqb n 0 (λ e. omega (arith, h, e))
-effect-accepted (begins vpi vci t p g) = refl
-effect-accepted (ends vpi vci d f) = refl
+effect-accepted (opens vpi vci t p g) = refl
+effect-accepted (closes vpi vci d f) = refl
 effect-accepted (offers vpi vci n d f i h) = refl
-effect-accepted (marks o vpi vci e v d r i y f) = refl
-effect-accepted (works o q d r f) = refl
-effect-accepted (levels l h) = refl
+effect-accepted (receivesData o vpi vci e v d r i y f) = refl
+effect-accepted (receivesRm o q d r f) = refl
+effect-accepted (setsLevel l h) = refl
 effect-accepted (idles t room g b) = refl
 effect-accepted (sends t room i u g b) = refl
 effect-accepted (makes vpi vci t d f g b m) = refl
-effect-accepted (leaves vpi vci t room d f g b) = refl
-effect-accepted (beginsPath vpi t p g) = refl
+effect-accepted (sendsOutOfRate vpi vci t room d f g b) = refl
+effect-accepted (opensPath vpi t p g) = refl
 effect-accepted (adds vpi vci d f j) = refl
 effect-accepted (offersMember vpi vci n d f i h) = refl
 effect-accepted (removes vpi vci d f i) = refl
@@ -61,7 +61,7 @@ orZero : Option ℕ → ℕ
 orZero none = 0
 orZero (some n) = n
 
-refusal-number : (a : Answer) → slotAnswer a .refusal ≡ orZero (refusal a)
+refusal-number : (a : Answer) → sentOf a .refusal ≡ orZero (refusal a)
 unfolding refusal orZero
 refusal-number (Refused n) = refl
 refusal-number (Accepted n) = refl
@@ -75,7 +75,7 @@ kindOrZero (some Forward) = 1
 kindOrZero (some Turned) = 2
 kindOrZero (some Data) = 3
 
-kind-number : (a : Answer) → slotAnswer a .kind ≡ kindOrZero (kindSent a)
+kind-number : (a : Answer) → sentOf a .kind ≡ kindOrZero (kindSent a)
 unfolding kindSent kindOrZero
 kind-number (Refused n) = refl
 kind-number (Accepted n) = refl
@@ -86,20 +86,20 @@ kind-number (Sent v x Turned a n) = refl
 kind-number (Sent v x Data a n) = refl
 
 -- Refusals.
-effect-leaves : {s : State} {c : Call} {o : Outcome} → Effect s c o → (slotAnswer (o .answer) .refusal ≡ 0 → ⊥) → (o .state ≡ s) × (o .buffer ≡ untouched)
-unfolding refuse accept replay discard idleStep sendStep sendFrom sendOutside
+effect-leaves : {s : State} {c : Call} {o : Outcome} → Effect s c o → (sentOf (o .answer) .refusal ≡ 0 → ⊥) → (o .state ≡ s) × (o .buffer ≡ untouched)
+unfolding refuse accept replay discard idleStep sendStep sendFrom sendOutOfRate
 effect-leaves (refuses c n h) z = (refl, refl)
-effect-leaves (begins vpi vci t p g) z = absurd (z refl)
-effect-leaves (ends vpi vci d f) z = absurd (z refl)
+effect-leaves (opens vpi vci t p g) z = absurd (z refl)
+effect-leaves (closes vpi vci d f) z = absurd (z refl)
 effect-leaves (offers vpi vci n d f i h) z = absurd (z refl)
-effect-leaves (marks o vpi vci e v d r i y f) z = absurd (z refl)
-effect-leaves (works o q d r f) z = absurd (z refl)
-effect-leaves (levels l h) z = absurd (z refl)
+effect-leaves (receivesData o vpi vci e v d r i y f) z = absurd (z refl)
+effect-leaves (receivesRm o q d r f) z = absurd (z refl)
+effect-leaves (setsLevel l h) z = absurd (z refl)
 effect-leaves (idles t room g b) z = absurd (z refl)
 effect-leaves (sends t room i u g b) z = absurd (z refl)
 effect-leaves (makes vpi vci t d f g b m) z = absurd (z refl)
-effect-leaves (leaves vpi vci t room d f g b) z = absurd (z refl)
-effect-leaves (beginsPath vpi t p g) z = absurd (z refl)
+effect-leaves (sendsOutOfRate vpi vci t room d f g b) z = absurd (z refl)
+effect-leaves (opensPath vpi t p g) z = absurd (z refl)
 effect-leaves (adds vpi vci d f j) z = absurd (z refl)
 effect-leaves (offersMember vpi vci n d f i h) z = absurd (z refl)
 effect-leaves (removes vpi vci d f i) z = absurd (z refl)
@@ -122,27 +122,27 @@ pub params-observed :
     → paramsObserved v before cs os ≡ givenFrom v s before cs
 params-observed v s w b [] [] neither = refl
 params-observed v s w b (c ∷ cs) (o ∷ os) (both g gs) =
-    ap (λ (a : Bool). paramsObserved v (given v c a b) cs os) (ap (λ r. eqb (r .refusal) 0) (g .returned) ∙ effect-accepted (effect s (w .unique) c))
-    ∙ params-observed v (step s c .state) (step-well-formed w c) (given v c (isAccepted (step s c .answer)) b) cs os gs
+    ap (λ (a : Bool). paramsObserved v (paramsAfter v c a b) cs os) (ap (λ r. eqb (r .refusal) 0) (g .returned) ∙ effect-accepted (effect s (w .unique) c))
+    ∙ params-observed v (step s c .state) (step-well-formed w c) (paramsAfter v c (isAccepted (step s c .answer)) b) cs os gs
 
-entry-rate : (x : Entry) → rateReturned (acrAnswer (entryAcr x)) ≡ entryRate x
+entry-rate : (x : Entry) → rateReturned (allowedOf (entryAcr x)) ≡ entryRate x
 unfolding entryAcr entryRate
 entry-rate free = refl
 entry-rate (taken c) = refl
 
-pub acr-rate : (s : State) (v : ℕ) → rateReturned (acrAnswer (acrOf s v)) ≡ allowed v s
+pub acr-rate : (s : State) (v : ℕ) → rateReturned (allowedOf (acrOf s v)) ≡ allowed v s
 unfolding acrOf
 acr-rate s v = entry-rate (find v (s .entries))
 
 bounds :
-    (cs : List Call) (os : List Observation) → Trace cs zeros os → (v : ℕ) (a : AcrAnswer) → AnswersAcr v (finalWords zeros os) a
+    (cs : List Call) (os : List Observation) → Transcript cs zeros os → (v : ℕ) (a : AbrAllowed) → ReturnsAllowed v (finalWords zeros os) a
     → Bounded (paramsObserved v none cs os) (rateReturned a)
 bounds cs os t v a h =
     rw (params-observed v empty empty-well-formed none cs os (exports-are-run .each cs os t), exports-are-run .acr cs os t v a h, acr-rate (final empty cs) v) (demand3 .bounds cs v)
 
 -- Pairs.
 pub accepted-seen : {s : State} → WellFormed s → (c : Call) {o : Observation} → Matches (step s c) o → eqb (o .returned .refusal) 0 ≡ isAccepted (step s c .answer)
-accepted-seen {s} w c g = ap (λ (r : SlotAnswer). eqb (r .refusal) 0) (g .returned) ∙ effect-accepted (effect s (w .unique) c)
+accepted-seen {s} w c g = ap (λ (r : AbrSent). eqb (r .refusal) 0) (g .returned) ∙ effect-accepted (effect s (w .unique) c)
 
 place-from :
     {s₁ s₂ : State} → WellFormed s₁ → WellFormed s₂ → (f g : ℕ → Bool) → Knows f s₁ → Knows g s₂ → (xs ys : List Call) {os ps : List Observation} → AllMatch (run s₁ xs) os
@@ -155,12 +155,12 @@ place-from {s₁} {s₂} w z f g k l (x ∷ xs) (y ∷ ys) (both m ms) (both h h
   place-from (step-well-formed w x) (step-well-formed z y) _ _ (knows-after w x f k _ (accepted-seen w x m)) (knows-after z y g l _ (accepted-seen z y h)) xs ys ms hs (e .1),
 )
 
-rate-not-above : (x y : Entry) → NotAbove (entryRate x) (entryRate y) → RateNotAbove (acrAnswer (entryAcr x)) (acrAnswer (entryAcr y))
+rate-not-above : (x y : Entry) → NotAbove (entryRate x) (entryRate y) → RateNotAbove (allowedOf (entryAcr x)) (allowedOf (entryAcr y))
 unfolding entryAcr entryRate
 rate-not-above free free noneOpen = record { refusals = refl; rates = le-refl 0 }
 rate-not-above (taken c) (taken d) (bothOpen l) = record { refusals = refl; rates = l }
 
-acr-not-above : (s₁ s₂ : State) (v : ℕ) → NotAbove (allowed v s₁) (allowed v s₂) → RateNotAbove (acrAnswer (acrOf s₁ v)) (acrAnswer (acrOf s₂ v))
+acr-not-above : (s₁ s₂ : State) (v : ℕ) → NotAbove (allowed v s₁) (allowed v s₂) → RateNotAbove (allowedOf (acrOf s₁ v)) (allowedOf (acrOf s₂ v))
 unfolding acrOf
 acr-not-above s₁ s₂ v h = rate-not-above (find v (s₁ .entries)) (find v (s₂ .entries)) h
 

@@ -5,14 +5,14 @@ use mathlib.Core.Bool.{false}
 use mathlib.Core.List.{List}
 use mathlib.Core.Option.{none, some}
 use native.Mathlib.Omega.{arith}
-use Rattle.params.specs.declared.params.Params.{Params}
+use Rattle.rate_params.specs.declared.params.Params.{Params}
 use Rattle.connection.specs.declared.parts.Connection.{Connection}
 use Rattle.model.specs.State.{State, Entry, free, taken, isFree, empty, find}
 use Rattle.model.specs.Call.{Call}
 use Rattle.model.specs.Run.{final}
 use Rattle.model.proofs.Preserved.{empty-well-formed}
 use Rattle.model.proofs.Given.{entryParams, paramsAt, params-given}
-use Rattle.abr.specs.Exports.{Observation, Trace, zeros}
+use Rattle.abr.specs.Exports.{Observation, Transcript, zeros}
 use Rattle.abr.proofs.Exports.{exports-are-run}
 use Rattle.exports.specs.Exports.{paramsObserved}
 use Rattle.exports.specs.Returned.{noMember, membersSeen}
@@ -26,7 +26,7 @@ pub record Held (v : ℕ) (s : State) : Type 0 where
   pub holder : Connection
   pub found : find v (s .entries) ≡ taken holder
 
-module _ (cs : List Call) (os : List Observation) (t : Trace cs zeros os) where
+module _ (cs : List Call) (os : List Observation) (t : Transcript cs zeros os) where
   pub members-known : Knows (membersSeen noMember cs os) (final empty cs)
   members-known = knows-run empty-well-formed noMember none-known cs os (exports-are-run .each cs os t)
 

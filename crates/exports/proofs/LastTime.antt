@@ -9,7 +9,7 @@ use Rattle.model.specs.Step.{step}
 use Rattle.model.specs.Run.{final, isAccepted}
 use Rattle.model.specs.Times.{timeAfter}
 use Rattle.model.proofs.Times.{times-count}
-use Rattle.abr.specs.Exports.{Observation, Trace, zeros}
+use Rattle.abr.specs.Exports.{Observation, Transcript, zeros}
 use Rattle.exports.specs.LastTime.{timeNoted, lastTime}
 use Rattle.exports.proofs.Transport.{Keeps, stands-first, kept-so}
 
@@ -27,5 +27,5 @@ none-yet : TimeIs 0 empty
 unfolding empty
 none-yet = refl
 
-pub last-time : (cs : List Call) (os : List Observation) → Trace cs zeros os → lastTime cs os ≡ final empty cs .last
+pub last-time : (cs : List Call) (os : List Observation) → Transcript cs zeros os → lastTime cs os ≡ final empty cs .last
 last-time cs os t = kept-so timeNoted TimeIs keeps-time empty zeros stands-first 0 none-yet cs os t

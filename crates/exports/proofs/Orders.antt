@@ -11,14 +11,14 @@ use Rattle.model.specs.Step.{step}
 use Rattle.model.specs.Run.{final, isAccepted}
 use Rattle.model.specs.Orders.{OrderOf}
 use Rattle.model.proofs.Orders.{refused-in-order}
-use Rattle.answers.specs.declared.calls.SlotAnswer.{SlotAnswer}
-use Rattle.answers.specs.Calls.{slotAnswer}
+use Rattle.abr_answers.specs.declared.calls.AbrSent.{AbrSent}
+use Rattle.abr_answers.specs.Calls.{sentOf}
 use Rattle.exports.specs.Orders.{refusalReturned, ExportsInOrder}
 use Rattle.exports.proofs.Transport.{sees, stands}
 
-returned-refusal : (a : Answer) (r : SlotAnswer) → r ≡ slotAnswer a → eqb (r .refusal) 0 ≡ isAccepted a → refusalReturned r ≡ refusal a
+returned-refusal : (a : Answer) (r : AbrSent) → r ≡ sentOf a → eqb (r .refusal) 0 ≡ isAccepted a → refusalReturned r ≡ refusal a
 unfolding isAccepted refusal
-returned-refusal (Refused n) r e h = rw h (ap (λ (x : SlotAnswer). some (x .refusal)) e)
+returned-refusal (Refused n) r e h = rw h (ap (λ (x : AbrSent). some (x .refusal)) e)
 returned-refusal (Accepted n) r e h = rw h refl
 returned-refusal (Closed n k) r e h = rw h refl
 returned-refusal Idle r e h = rw h refl

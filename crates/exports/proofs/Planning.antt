@@ -4,12 +4,12 @@ use mathlib.Core.Path.{_≡_, refl, sym, ap, subst, _∙_}
 use mathlib.Core.List.{List}
 use mathlib.Core.Option.{Option, none, some}
 use lib.Ieee.{Float}
-use Rattle.params.specs.declared.params.Params.{Params}
+use Rattle.rate_params.specs.declared.params.Params.{Params}
 use Rattle.rate.specs.Code.{rateOf}
-use Rattle.doubles.specs.declared.export.Exported.{Exported}
-use Rattle.doubles.specs.Export.{IsRate}
-use Rattle.doubles.specs.RoundTrip.{canonical}
-use Rattle.doubles.proofs.Trips.{round-trip}
+use Rattle.rate_doubles.specs.declared.export.Exported.{Exported}
+use Rattle.rate_doubles.specs.Export.{IsRate}
+use Rattle.rate_doubles.specs.RoundTrip.{canonical}
+use Rattle.rate_doubles.proofs.Trips.{round-trip}
 use Rattle.model.specs.declared.contract.Contract.{Contract}
 use Rattle.model.specs.State.{Entry, free, taken, empty, find}
 use Rattle.model.specs.Call.{Call}
@@ -17,10 +17,10 @@ use Rattle.model.specs.Queries.{entryContract, contractOf}
 use Rattle.model.specs.Run.{final, paramsGiven}
 use Rattle.model.proofs.Preserved.{empty-well-formed}
 use Rattle.model.proofs.Given.{entryParams, params-given}
-use Rattle.answers.specs.declared.planning.ImportAnswer.{ImportAnswer}
-use Rattle.answers.specs.Planning.{ExportedAs, exactAnswer, importAnswer, Imports}
-use Rattle.abr.specs.Contract.{AnswersExport}
-use Rattle.abr.specs.Exports.{Observation, Trace, finalWords, zeros}
+use Rattle.abr_answers.specs.declared.planning.AbrImported.{AbrImported}
+use Rattle.abr_answers.specs.Planning.{ExportedAs, exactAnswer, importedOf, Imports}
+use Rattle.abr.specs.Contract.{ReturnsContract}
+use Rattle.abr.specs.Exports.{Observation, Transcript, finalWords, zeros}
 use Rattle.abr.proofs.Exports.{exports-are-run}
 use Rattle.exports.specs.Exports.{paramsObserved}
 use Rattle.exports.specs.Planning.{codesOf, ComesBack, Planning}
@@ -36,7 +36,7 @@ unfolding contractOf
 given cs v = entry-codes (find v (final empty cs .entries)) ∙ ap codesOf (params-given v cs)
 
 exported :
-    (cs : List Call) (os : List Observation) → Trace cs zeros os → (v n : ℕ) (r : Exported) → AnswersExport v (finalWords zeros os) n r
+    (cs : List Call) (os : List Observation) → Transcript cs zeros os → (v n : ℕ) (r : Exported) → ReturnsContract v (finalWords zeros os) n r
     → ExportedAs (codesOf (paramsObserved v none cs os)) n r
 exported cs os t v n r h =
     subst (λ (c : Contract). ExportedAs c n r)
@@ -44,8 +44,8 @@ exported cs os t v n r h =
     (exports-are-run .contract cs os t v n r h)
 
 -- one double of the three
-back : (code : ℕ) (x : Float) → IsRate x (rateOf code) → (a : ImportAnswer) → Imports x a → a ≡ exactAnswer (canonical code)
-back code x h a i = i .is ∙ ap importAnswer (round-trip code x h)
+back : (code : ℕ) (x : Float) → IsRate x (rateOf code) → (a : AbrImported) → Imports x a → a ≡ exactAnswer (canonical code)
+back code x h a i = i .is ∙ ap importedOf (round-trip code x h)
 
 comes-back : (p : Params) (n : ℕ) (r : Exported) → ExportedAs (codesOf (some p)) n r → ComesBack p r
 comes-back p n r h = record {

@@ -5,11 +5,11 @@ use mathlib.Core.Bool.{Bool, cond}
 use mathlib.Core.List.{List, [], _∷_, _++_}
 use lib.Dec.{eqb}
 use borrow.Author.Tests.{eq-eqb}
-use Rattle.params.specs.declared.params.Params.{Params}
+use Rattle.rate_params.specs.declared.params.Params.{Params}
 use Rattle.connection.specs.declared.kind.Kind.the-variants.{Forward, Turned, Data}
-use Rattle.judge.specs.declared.judge.Verdict.{Verdict}
-use Rattle.judge.specs.declared.judge.Verdict.the-variants.{Passes}
-use Rattle.judge.specs.Octets.{judgedOctets}
+use Rattle.trace_judge.specs.declared.judge.Verdict.{Verdict}
+use Rattle.trace_judge.specs.declared.judge.Verdict.the-variants.{Passes}
+use Rattle.trace_judge.specs.Octets.{judgedOctets}
 use Rattle.model.specs.State.{State, empty}
 use Rattle.model.specs.Invariant.{WellFormed}
 use Rattle.model.specs.declared.acr.Acr.{Acr}
@@ -23,23 +23,23 @@ use Rattle.model.specs.Run.{run, final, isAccepted}
 use Rattle.model.proofs.Preserved.{empty-well-formed}
 use Rattle.model.proofs.Reached.{step-well-formed, reached-well-formed}
 use Rattle.table.specs.Layout.{words}
-use Rattle.answers.specs.declared.calls.AcrAnswer.{AcrAnswer}
-use Rattle.answers.specs.declared.traces.VerdictAnswer.{VerdictAnswer}
-use Rattle.answers.specs.Traces.{verdictAnswer}
-use Rattle.answers.specs.Calls.{slotAnswer, acrAnswer}
+use Rattle.abr_answers.specs.declared.calls.AbrAllowed.{AbrAllowed}
+use Rattle.abr_answers.specs.declared.traces.AbrVerdict.{AbrVerdict}
+use Rattle.abr_answers.specs.Traces.{verdictAnswerOf}
+use Rattle.abr_answers.specs.Calls.{sentOf, allowedOf}
 use Rattle.abr.specs.Exports.{Observation, finalWords, zeros, Matches, AllMatch, neither, both}
 use Rattle.abr.proofs.Exports.{exports-are-run}
-use Rattle.own_traces.specs.InRate.{SentCell, acrIn, cellIn, atSlot, sentBy, closes, sentFrom}
-use Rattle.own_traces.specs.Written.{traceOctets}
-use Rattle.own_traces.specs.Traces.{Opening, cellsOf}
-use Rattle.own_traces.proofs.Fits.{own-trace-passes}
+use Rattle.promise_traces.specs.InRate.{SentCell, acrIn, cellIn, atSlot, sentBy, closesConnection, sentFrom}
+use Rattle.promise_traces.specs.Written.{traceOctets}
+use Rattle.promise_traces.specs.Traces.{Opening, traceCells}
+use Rattle.promise_traces.proofs.Fits.{own-trace-passes}
 use Rattle.exports.specs.Recorded.{cellReturned, recorded, RatesRead, readThen, RecordedPasses}
 use Rattle.exports.specs.Returned.{noMember, memberSeen, membersSeen}
 use Rattle.exports.proofs.Returned.{Knows, none-known, knows-after, NamesConnection, names-connection, connection-back}
 use Rattle.exports.proofs.Exports.{accepted-seen}
 
 -- the cell that a slot returned is the one of its answer
-cell-returned : (v : ℕ) (f : ℕ → Bool) (t rate : ℕ) (a : Answer) → NamesConnection f a → cellReturned v f t rate (slotAnswer a) ≡ cellIn v t rate a
+cell-returned : (v : ℕ) (f : ℕ → Bool) (t rate : ℕ) (a : Answer) → NamesConnection f a → cellReturned v f t rate (sentOf a) ≡ cellIn v t rate a
 unfolding cellIn
 cell-returned v f t rate (Refused n) h = refl
 cell-returned v f t rate (Accepted n) h = refl
@@ -49,7 +49,7 @@ cell-returned v f t rate (Sent u x Forward a n) h = ap (λ (z : ℕ). cond (eqb 
 cell-returned v f t rate (Sent u x Turned a n) h = ap (λ (z : ℕ). cond (eqb z v) (record { time = t; kind = 2; rate = rate } ∷ []) []) (connection-back f u x h)
 cell-returned v f t rate (Sent u x Data a n) h = ap (λ (z : ℕ). cond (eqb z v) (record { time = t; kind = 3; rate = rate } ∷ []) []) (connection-back f u x h)
 
-rate-returned : (x : Acr) → acrAnswer x .acr ≡ acrIn x
+rate-returned : (x : Acr) → allowedOf x .acr ≡ acrIn x
 unfolding acrIn
 rate-returned NotOpen = refl
 rate-returned (Rate a c) = refl
@@ -70,24 +70,24 @@ at-slot (offeringMember vpi vci n) f g h = refl
 at-slot (removing vpi vci) f g h = refl
 
 sent-seen :
-    (v : ℕ) (s : State) (w : WellFormed s) (f : ℕ → Bool) → Knows f s → (c : Call) (o : Observation) → Matches (step s c) o → (a : AcrAnswer) → a ≡ acrAnswer (acrOf s v)
+    (v : ℕ) (s : State) (w : WellFormed s) (f : ℕ → Bool) → Knows f s → (c : Call) (o : Observation) → Matches (step s c) o → (a : AbrAllowed) → a ≡ allowedOf (acrOf s v)
     → atSlot c (λ t. cellReturned v f t (a .acr) (o .returned)) ≡ sentBy v s c (step s c .answer)
 unfolding sentBy
 sent-seen v s w f k c o m a e =
     at-slot c (λ t. cellReturned v f t (a .acr) (o .returned)) (λ t. cellIn v t (acrIn (acrOf s v)) (step s c .answer)) λ t.
     ap (cellReturned v f t (a .acr)) (m .returned)
     ∙ cell-returned v f t (a .acr) (step s c .answer) (names-connection w f k c)
-    ∙ ap (λ (x : ℕ). cellIn v t x (step s c .answer)) (ap (λ (x : AcrAnswer). x .acr) e ∙ rate-returned (acrOf s v))
+    ∙ ap (λ (x : ℕ). cellIn v t x (step s c .answer)) (ap (λ (x : AbrAllowed). x .acr) e ∙ rate-returned (acrOf s v))
 
 pub recorded-sent :
-    (v : ℕ) (cs : List Call) (s : State) → WellFormed s → (f : ℕ → Bool) → Knows f s → (l : List ℕ) → l ≡ words s → (os : List Observation) (rs : List AcrAnswer) → AllMatch (run s cs) os
+    (v : ℕ) (cs : List Call) (s : State) → WellFormed s → (f : ℕ → Bool) → Knows f s → (l : List ℕ) → l ≡ words s → (os : List Observation) (rs : List AbrAllowed) → AllMatch (run s cs) os
     → RatesRead v l os rs → recorded v f cs os rs ≡ sentFrom v s cs
 unfolding sentFrom
 recorded-sent v [] s w f k l e os rs m r = refl
 recorded-sent v (c ∷ cs) s w f k l e (o ∷ os) (a ∷ rs) (both m ms) (readThen h r) =
-    ap (λ (b : Bool). cond (closes v c b) [] (atSlot c (λ t. cellReturned v f t (a .acr) (o .returned)) ++ recorded v (memberSeen c o f) cs os rs)) (accepted-seen w c m)
-    ∙ ap (λ (x : List SentCell). cond (closes v c (isAccepted (step s c .answer))) [] (x ++ recorded v (memberSeen c o f) cs os rs)) (sent-seen v s w f k c o m a (h .meets s w e))
-    ∙ ap (λ (x : List SentCell). cond (closes v c (isAccepted (step s c .answer))) [] (sentBy v s c (step s c .answer) ++ x))
+    ap (λ (b : Bool). cond (closesConnection v c b) [] (atSlot c (λ t. cellReturned v f t (a .acr) (o .returned)) ++ recorded v (memberSeen c o f) cs os rs)) (accepted-seen w c m)
+    ∙ ap (λ (x : List SentCell). cond (closesConnection v c (isAccepted (step s c .answer))) [] (x ++ recorded v (memberSeen c o f) cs os rs)) (sent-seen v s w f k c o m a (h .meets s w e))
+    ∙ ap (λ (x : List SentCell). cond (closesConnection v c (isAccepted (step s c .answer))) [] (sentBy v s c (step s c .answer) ++ x))
     (recorded-sent v cs (step s c .state) (step-well-formed w c) (memberSeen c o f) (knows-after w c f k _ (accepted-seen w c m)) (o .table) (m .table) os rs ms r)
 
 -- what a caller knows of members after calls
@@ -96,18 +96,18 @@ knows-run w f h [] [] neither = h
 knows-run w f h (c ∷ cs) (o ∷ os) (both m ms) = knows-run (step-well-formed w c) (memberSeen c o f) (knows-after w c f h _ (accepted-seen w c m)) cs os ms
 
 recorded-run :
-    (before after : List Call) (c : Call) (v : ℕ) (p : Params) → Opening c v p → (f : ℕ → Bool) → Knows f (final empty before) → (o : Observation) (ps : List Observation) (rs : List AcrAnswer)
+    (before after : List Call) (c : Call) (v : ℕ) (p : Params) → Opening c v p → (f : ℕ → Bool) → Knows f (final empty before) → (o : Observation) (ps : List Observation) (rs : List AbrAllowed)
     → AllMatch (run (final empty before) (c ∷ after)) (o ∷ ps) → o .returned .refusal ≡ 0 → RatesRead v (o .table) ps rs
-    → judgedOctets (traceOctets (p .n) (p .trm) (cellsOf (recorded v (memberSeen c o f) after ps rs))) ≡ Passes
+    → judgedOctets (traceOctets (p .n) (p .trm) (traceCells (recorded v (memberSeen c o f) after ps rs))) ≡ Passes
 recorded-run before after c v p q f k o ps rs (both m ms) z r =
     let s : State = final empty before in
     let w = reached-well-formed before in
-    ap (λ (xs : List SentCell). judgedOctets (traceOctets (p .n) (p .trm) (cellsOf xs)))
+    ap (λ (xs : List SentCell). judgedOctets (traceOctets (p .n) (p .trm) (traceCells xs)))
     (recorded-sent v after (step s c .state) (step-well-formed w c) (memberSeen c o f) (knows-after w c f k _ (accepted-seen w c m)) (o .table) (m .table) ps rs ms r)
     ∙ own-trace-passes before c v p after q (sym (accepted-seen w c m) ∙ eq-eqb (o .returned .refusal) 0 z)
 
-no-rule-broken : (v : Verdict) → v ≡ Passes → (r : VerdictAnswer) → r ≡ verdictAnswer v → (r .refusal ≡ 0) × (r .rule ≡ 0)
-no-rule-broken v e r h = let q = h ∙ ap verdictAnswer e in (ap (λ (x : VerdictAnswer). x .refusal) q, ap (λ (x : VerdictAnswer). x .rule) q)
+no-rule-broken : (v : Verdict) → v ≡ Passes → (r : AbrVerdict) → r ≡ verdictAnswerOf v → (r .refusal ≡ 0) × (r .rule ≡ 0)
+no-rule-broken v e r h = let q = h ∙ ap verdictAnswerOf e in (ap (λ (x : AbrVerdict). x .refusal) q, ap (λ (x : AbrVerdict). x .rule) q)
 
 pub recorded-passes : RecordedPasses
 recorded-passes before after c v p os ps o rs r q x y z h e =

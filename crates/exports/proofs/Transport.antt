@@ -17,14 +17,14 @@ use Rattle.model.specs.Conservation.{sumOver}
 use Rattle.model.proofs.Preserved.{empty-well-formed}
 use Rattle.model.proofs.Reached.{step-well-formed}
 use Rattle.table.specs.Layout.{words}
-use Rattle.answers.specs.declared.calls.AcrAnswer.{AcrAnswer}
-use Rattle.answers.specs.Calls.{acrAnswer}
-use Rattle.abr.specs.Contract.{AnswersAcr}
-use Rattle.abr.specs.Exports.{Observation, Performs, opens, closes, receives, offers, levels, makes, leaves, slots, opensPath, adds, offersMember, removes, Trace, ended, then, finalWords, zeros, Matches}
+use Rattle.abr_answers.specs.declared.calls.AbrAllowed.{AbrAllowed}
+use Rattle.abr_answers.specs.Calls.{allowedOf}
+use Rattle.abr.specs.Contract.{ReturnsAllowed}
+use Rattle.abr.specs.Exports.{Observation, Performs, abrOpen, abrClose, abrReceive, abrOffer, abrSetLevel, abrMake, abrOutOfRate, abrSlot, abrOpenPath, abrAdd, abrOfferMember, abrRemove, Transcript, ended, then, finalWords, zeros, Matches}
 use Rattle.abr.proofs.Exports.{performs-matches, zeros-words}
-use Rattle.promises.specs.All.{All}
-use Rattle.promises.specs.Demand3.{InPlace}
-use Rattle.rm_cells.specs.ReservedBit.{OfOctets}
+use Rattle.laws.specs.All.{All}
+use Rattle.promise_lists.specs.Demand3.{InPlace}
+use Rattle.promise_cells.specs.ReservedBit.{OfOctets}
 use Rattle.exports.specs.Conservation.{sumObserved}
 use Rattle.exports.proofs.Exports.{accepted-seen}
 use Rattle.exports.specs.Along.{kept, Along}
@@ -60,18 +60,18 @@ octets-one [] c q h = (h, tt)
 octets-one (d ∷ cs) c q h = (q .0, octets-one cs c (q .1) h)
 
 performed-octets : {c : Call} {l : List ℕ} {o : Observation} → Performs c l o → OfOctets c
-performed-octets (opens h) = tt
-performed-octets (closes h) = tt
-performed-octets (receives q h) = q
-performed-octets (offers h) = tt
-performed-octets (levels h) = tt
-performed-octets (makes h) = tt
-performed-octets (leaves h) = tt
-performed-octets (slots h) = tt
-performed-octets (opensPath h) = tt
-performed-octets (adds h) = tt
-performed-octets (offersMember h) = tt
-performed-octets (removes h) = tt
+performed-octets (abrOpen h) = tt
+performed-octets (abrClose h) = tt
+performed-octets (abrReceive q h) = q
+performed-octets (abrOffer h) = tt
+performed-octets (abrSetLevel h) = tt
+performed-octets (abrMake h) = tt
+performed-octets (abrOutOfRate h) = tt
+performed-octets (abrSlot h) = tt
+performed-octets (abrOpenPath h) = tt
+performed-octets (abrAdd h) = tt
+performed-octets (abrOfferMember h) = tt
+performed-octets (abrRemove h) = tt
 
 pub sees : {s : State} {l : List ℕ} → Stands s l → {c : Call} {o : Observation} → Performs c l o → Sees s c o
 sees {s} st {c} p =
@@ -100,12 +100,12 @@ was-accepted {o = o} z e = sym (z .accepted) ∙ eq-eqb (o .returned .refusal) 0
 pub returned-zero : {s : State} {c : Call} {o : Observation} → Sees s c o → isAccepted (step s c .answer) ≡ true → o .returned .refusal ≡ 0
 returned-zero {o = o} z e = eqb-true (o .returned .refusal) 0 (z .accepted ∙ e)
 
-pub stands-after : {s : State} {l : List ℕ} → Stands s l → (cs : List Call) (os : List Observation) → Trace cs l os → Stands (final s cs) (finalWords l os)
+pub stands-after : {s : State} {l : List ℕ} → Stands s l → (cs : List Call) (os : List Observation) → Transcript cs l os → Stands (final s cs) (finalWords l os)
 stands-after st [] [] ended = st
 stands-after st (c ∷ cs) (o ∷ os) (then p t) = stands-after (sees st p .next) cs os t
 
 -- after calls from the zero table
-pub stands : (cs : List Call) (os : List Observation) → Trace cs zeros os → Stands (final empty cs) (finalWords zeros os)
+pub stands : (cs : List Call) (os : List Observation) → Transcript cs zeros os → Stands (final empty cs) (finalWords zeros os)
 stands cs os t = stands-after stands-first cs os t
 
 -- What a caller keeps of calls and what they returned means this of the state: each call keeps it so.
@@ -118,20 +118,20 @@ module _ {K : Type 0} (next : Call → Observation → K → K) (Means : K → S
   pub carry :
       (G : State → K → List Call → List Observation → Type 0) → ((s : State) (k : K) → G s k [] [])
       → ((s : State) (c : Call) (o : Observation) (k : K) (cs : List Call) (os : List Observation) → Means k s → Sees s c o → G (step s c .state) (next c o k) cs os → G s k (c ∷ cs) (o ∷ os))
-      → (s : State) (l : List ℕ) → Stands s l → (k : K) → Means k s → (cs : List Call) (os : List Observation) → Trace cs l os → G s k cs os
+      → (s : State) (l : List ℕ) → Stands s l → (k : K) → Means k s → (cs : List Call) (os : List Observation) → Transcript cs l os → G s k cs os
   carry G base more s l st k m [] [] ended = base s k
   carry G base more s l st k m (c ∷ cs) (o ∷ os) (then p t) =
       let z = sees st p in more s c o k cs os m z (carry G base more (step s c .state) (o .table) (z .next) (next c o k) (n .goes s c o k m z) cs os t)
 
   -- what is kept after a trace is so
-  pub kept-so : (s : State) (l : List ℕ) → Stands s l → (k : K) → Means k s → (cs : List Call) (os : List Observation) → Trace cs l os → Means (kept next k cs os) (final s cs)
+  pub kept-so : (s : State) (l : List ℕ) → Stands s l → (k : K) → Means k s → (cs : List Call) (os : List Observation) → Transcript cs l os → Means (kept next k cs os) (final s cs)
   kept-so s l st k m [] [] ended = m
   kept-so s l st k m (c ∷ cs) (o ∷ os) (then p t) = let z = sees st p in kept-so (step s c .state) (o .table) (z .next) (next c o k) (n .goes s c o k m z) cs os t
 
   -- every call of a trace from the zero table is so
   pub each-seen :
       (Q : K → Call → Observation → Type 0) → ((s : State) (c : Call) (o : Observation) (k : K) → Means k s → Sees s c o → Q k c o) → (k : K) → Means k empty
-      → (cs : List Call) (os : List Observation) → Trace cs zeros os → Along next Q k cs os
+      → (cs : List Call) (os : List Observation) → Transcript cs zeros os → Along next Q k cs os
   each-seen Q h k m cs os t = carry (λ s k cs os. Along next Q k cs os) (λ s k. tt) (λ s c o k cs os m z r. (h s c o k m z, r)) empty zeros stands-first k m cs os t
 
 -- A caller that keeps nothing.
@@ -148,7 +148,7 @@ keeps-nothing = record { goes = λ s c o k m z. tt }
 -- of every trace
 pub each-call :
     (P : Call → Outcome → Type 0) (Q : Call → Observation → Type 0) → ((cs : List Call) → All OfOctets cs → (c : Call) → P c (step (final empty cs) c))
-    → ((s : State) (c : Call) (o : Observation) → Sees s c o → P c (step s c) → Q c o) → (cs : List Call) (os : List Observation) → Trace cs zeros os → InPlace Q cs os
+    → ((s : State) (c : Call) (o : Observation) → Sees s c o → P c (step s c) → Q c o) → (cs : List Call) (os : List Observation) → Transcript cs zeros os → InPlace Q cs os
 each-call P Q h read cs os t =
     carry nothing Anything keeps-nothing (λ s k cs os. InPlace Q cs os) (λ s k. tt)
     (λ s c o k cs os m z r. (read s c o z (subst (λ (x : State). P c (step x c)) (z .reached) (h (z .calls) (z .octets) c)), r)) empty zeros stands-first 0 tt cs os t
@@ -156,10 +156,10 @@ each-call P Q h read cs os t =
 -- a sum over the observations of a trace is that over its answers
 pub sum-seen :
     (f : Call → Observation → ℕ) (g : Call → Answer → ℕ) → ((s : State) (c : Call) (o : Observation) → Sees s c o → f c o ≡ g c (step s c .answer))
-    → (s : State) (l : List ℕ) → Stands s l → (cs : List Call) (os : List Observation) → Trace cs l os → sumObserved f cs os ≡ sumOver g s cs
+    → (s : State) (l : List ℕ) → Stands s l → (cs : List Call) (os : List Observation) → Transcript cs l os → sumObserved f cs os ≡ sumOver g s cs
 sum-seen f g h s l st cs os t =
     carry nothing Anything keeps-nothing (λ s k cs os. sumObserved f cs os ≡ sumOver g s cs) (λ s k. refl) (λ s c o k cs os m z r. rw (h s c o z, r) refl) s l st 0 tt cs os t
 
 -- what reading the allowed rate gives
-pub acr-seen : {s : State} {l : List ℕ} → Stands s l → (v : ℕ) (a : AcrAnswer) → AnswersAcr v l a → a ≡ acrAnswer (acrOf s v)
+pub acr-seen : {s : State} {l : List ℕ} → Stands s l → (v : ℕ) (a : AbrAllowed) → ReturnsAllowed v l a → a ≡ allowedOf (acrOf s v)
 acr-seen {s} st v a h = h .meets s (st .wellFormed) (st .table)

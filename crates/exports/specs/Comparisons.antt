@@ -6,15 +6,15 @@ use mathlib.Core.Bool.{Bool, true, false, not}
 use mathlib.Core.List.{List}
 use lib.Dec.{eqb}
 use Rattle.model.specs.State.{empty}
-use Rattle.model.specs.Choice.{winner}
+use Rattle.model.specs.Winner.{winner}
 use Rattle.model.specs.Tournament.{levels, winnerAt, inTime}
 use Rattle.model.specs.declared.answer.Answer.{Answer}
 use Rattle.model.specs.declared.answer.Answer.the-variants.{Refused, Accepted, Closed, Idle, Sent}
 use Rattle.model.specs.Call.{Call, opening, closing, receiving, offering, levelling, slot, making, outOfRate, openingPath, adding, offeringMember, removing, comparisons}
 use Rattle.model.specs.Step.{step}
 use Rattle.model.specs.Run.{final, isAccepted}
-use Rattle.abr.specs.Exports.{Observation, Trace, zeros}
-use Rattle.promises.specs.Demand3.{InPlace}
+use Rattle.abr.specs.Exports.{Observation, Transcript, zeros}
+use Rattle.promise_lists.specs.Demand3.{InPlace}
 
 -- whether a call replays a leaf if it is accepted: a slot does so if it sends a cell
 abbrev pub replays : Call → (sent : Bool) → Bool
@@ -51,8 +51,8 @@ pub record Counted (c : Call) (accepted sent : Bool) (n : ℕ) : Type 0 where
   pub cell : sent ≡ true → n ≡ 10
   pub least : accepted ≡ true → replays c sent ≡ true → 1 ≤ n
   -- a connection is not ready when it is opened: its leaf wins nothing, and no winner changes
-  pub begins : accepted ≡ true → opensOne c ≡ true → n ≡ 1
-  -- an idle slot, a level that is set, a cell outside the rate and a new member make none, nor does a refused call
+  pub opens : accepted ≡ true → opensOne c ≡ true → n ≡ 1
+  -- an idle slot, a level that is set, an out-of-rate cell and a new member make none, nor does a refused call
   pub noReplay : replays c sent ≡ false → n ≡ 0
   pub refused : accepted ≡ false → n ≡ 0
 
@@ -75,7 +75,7 @@ abbrev pub CountedObserved : Call → Observation → Type 0
 CountedObserved c o = Counted c (eqb (o .returned .refusal) 0) (not (eqb (o .returned .kind) 0)) (o .returned .comparisons)
 
 abbrev pub ExportsComparisons : Type 0
-ExportsComparisons = (cs : List Call) (os : List Observation) → Trace cs zeros os → InPlace CountedObserved cs os
+ExportsComparisons = (cs : List Call) (os : List Observation) → Transcript cs zeros os → InPlace CountedObserved cs os
 
 -- the winner of a slot at t, found by a scan of the entries, is the winner at the root of the tournament if it is ready by t
 abbrev pub ScanPicksWinner : Type 0

@@ -4,20 +4,20 @@ use mathlib.Core.Path.{_≡_}
 use mathlib.Core.Bool.{Bool, cond, _&&_}
 use mathlib.Core.List.{List, [], _∷_}
 use lib.Dec.{eqb}
-use Rattle.cell.specs.Name.{pairName}
+use Rattle.cell.specs.Name.{addressName}
 use Rattle.model.specs.State.{empty}
 use Rattle.model.specs.Call.{Call}
 use Rattle.model.specs.Step.{closeStep}
 use Rattle.model.specs.Run.{final}
 use Rattle.model.specs.Conservation.{offeredTo, closedOn, cellsWaiting}
-use Rattle.answers.specs.declared.calls.SlotAnswer.{SlotAnswer}
-use Rattle.answers.specs.declared.calls.ClosedAnswer.{ClosedAnswer}
-use Rattle.abr.specs.Contract.{AnswersClosed}
-use Rattle.abr.specs.Exports.{Observation, Trace, finalWords, zeros}
+use Rattle.abr_answers.specs.declared.calls.AbrSent.{AbrSent}
+use Rattle.abr_answers.specs.declared.calls.AbrClosed.{AbrClosed}
+use Rattle.abr.specs.Contract.{ReturnsClosed}
+use Rattle.abr.specs.Exports.{Observation, Transcript, finalWords, zeros}
 use Rattle.exports.specs.Returned.{noMember, memberSeen, connectionReturned}
 
 -- 1 for a slot that returned kind 3, data, and a pair of the connection v
-abbrev pub dataReturned : (v : ℕ) → (member : ℕ → Bool) → SlotAnswer → ℕ
+abbrev pub dataReturned : (v : ℕ) → (member : ℕ → Bool) → AbrSent → ℕ
 dataReturned v f r = cond (eqb (r .kind) 3 && eqb (connectionReturned f r) v) 1 0
 
 -- a sum over the calls of a list and what was observed of them
@@ -44,10 +44,10 @@ closesObserved v = sumObserved (λ c o. closedOn v c (o .cells))
 -- after every list of exported calls from the zero table, which then holds the words of `final empty cs` (abr/specs/Exports.antt)
 pub record ExportsConservation : Type 0 where
   pub balance :
-      (cs : List Call) (os : List Observation) → Trace cs zeros os → (v : ℕ)
+      (cs : List Call) (os : List Observation) → Transcript cs zeros os → (v : ℕ)
       → offersObserved v cs os ≡ slotsObserved v cs os + cellsWaiting v (final empty cs) + closesObserved v cs os
-  pub atMostOffered : (cs : List Call) (os : List Observation) → Trace cs zeros os → (v : ℕ) → slotsObserved v cs os ≤ offersObserved v cs os
+  pub atMostOffered : (cs : List Call) (os : List Observation) → Transcript cs zeros os → (v : ℕ) → slotsObserved v cs os ≤ offersObserved v cs os
   -- the cells that wait are those that abr_close returns if it is called next: 0 if it refuses
   pub closedNext :
-      (cs : List Call) (os : List Observation) → Trace cs zeros os → (vpi vci : ℕ) (m : List ℕ) (r : ClosedAnswer)
-      → AnswersClosed (λ s. closeStep s (pairName vpi vci)) (finalWords zeros os) m r → r .cells ≡ cellsWaiting (pairName vpi vci) (final empty cs)
+      (cs : List Call) (os : List Observation) → Transcript cs zeros os → (vpi vci : ℕ) (m : List ℕ) (r : AbrClosed)
+      → ReturnsClosed (λ s. closeStep s (addressName vpi vci)) (finalWords zeros os) m r → r .cells ≡ cellsWaiting (addressName vpi vci) (final empty cs)

@@ -4,8 +4,8 @@ use mathlib.Core.Path.{_≡_}
 use mathlib.Core.Bool.{true}
 use mathlib.Core.List.{List}
 use mathlib.Core.Option.{none, some}
-use Rattle.params.specs.declared.params.Params.{Params}
-use Rattle.cell.specs.Name.{pairName}
+use Rattle.rate_params.specs.declared.params.Params.{Params}
+use Rattle.cell.specs.Name.{addressName}
 use Rattle.cell.specs.Header.{vpiOf, vciOf}
 use Rattle.model.specs.Call.{Call}
 use Rattle.abr.specs.Exports.{Observation}
@@ -18,9 +18,9 @@ pub record Opened (cs : List Call) (os : List Observation) (v : ℕ) : Type 0 wh
   pub given : paramsObserved v none cs os ≡ some params
 
 -- a name is a member: an adding of it returned 0, and since then neither a removal of it nor a close of its path
-abbrev pub Member : List Call → List Observation → ℕ → Type 0
-Member cs os x = membersSeen noMember cs os x ≡ true
+abbrev pub KnownMember : List Call → List Observation → ℕ → Type 0
+KnownMember cs os x = membersSeen noMember cs os x ≡ true
 
 -- the name of a cell, by its VPI and VCI
 abbrev pub nameIn : List ℕ → ℕ
-nameIn octets = pairName (vpiOf octets) (vciOf octets)
+nameIn octets = addressName (vpiOf octets) (vciOf octets)

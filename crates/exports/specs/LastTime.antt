@@ -1,4 +1,4 @@
--- The last accepted time as a caller knows it: that of the last open, slot, making or cell outside the rate that returned 0, an idle slot among them, and 0 before the first.
+-- The last accepted time as a caller knows it: that of the last open, slot, making or out-of-rate cell that returned 0, an idle slot among them, and 0 before the first.
 -- (Document 01, "Refused because of the state", 14; document 02, L1, L5 and L13.)
 use Prim.Native.Nat.{ℕ}
 use mathlib.Core.Bool.{cond}

@@ -4,8 +4,8 @@ use mathlib.Core.Path.{_≡_}
 use mathlib.Core.Logic.{_≢_}
 use mathlib.Core.List.{List}
 use Rattle.model.specs.Call.{Call, slot}
-use Rattle.tournament.specs.Next.{GivesNext}
-use Rattle.abr.specs.Exports.{Observation, Performs, Trace, finalWords, zeros}
+use Rattle.table_tournament.specs.Next.{GivesNext}
+use Rattle.abr.specs.Exports.{Observation, Performs, Transcript, finalWords, zeros}
 
 -- a slot at t returned a cell exactly if t is not before the instant: kind 0 is none
 pub record SentFrom (next t : ℕ) (o : Observation) : Type 0 where
@@ -15,5 +15,5 @@ pub record SentFrom (next t : ℕ) (o : Observation) : Type 0 where
 -- After any exported calls from the zero table abr_next returned an instant, and the slot that comes next no refusal.
 abbrev pub ExportsNextReady : Type 0
 ExportsNextReady =
-    (cs : List Call) (os : List Observation) → Trace cs zeros os → (next : ℕ) → GivesNext (finalWords zeros os) next
+    (cs : List Call) (os : List Observation) → Transcript cs zeros os → (next : ℕ) → GivesNext (finalWords zeros os) next
     → (t room : ℕ) (o : Observation) → Performs (slot t room) (finalWords zeros os) o → o .returned .refusal ≡ 0 → SentFrom next t o

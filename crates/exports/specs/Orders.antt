@@ -10,15 +10,15 @@ use Rattle.model.specs.State.{empty}
 use Rattle.model.specs.Call.{Call}
 use Rattle.model.specs.Run.{final}
 use Rattle.model.specs.Orders.{OrderOf}
-use Rattle.answers.specs.declared.calls.SlotAnswer.{SlotAnswer}
-use Rattle.abr.specs.Exports.{Observation, Performs, Trace, finalWords, zeros}
+use Rattle.abr_answers.specs.declared.calls.AbrSent.{AbrSent}
+use Rattle.abr.specs.Exports.{Observation, Performs, Transcript, finalWords, zeros}
 
 -- 0 is no refusal
-abbrev pub refusalReturned : SlotAnswer → Option ℕ
+abbrev pub refusalReturned : AbrSent → Option ℕ
 refusalReturned r = cond (eqb (r .refusal) 0) none (some (r .refusal))
 
 -- after any exported calls from the zero table, and one call more
 abbrev pub ExportsInOrder : Type 0
 ExportsInOrder =
-    (cs : List Call) (os : List Observation) → Trace cs zeros os → (c : Call) (o : Observation) → Performs c (finalWords zeros os) o
+    (cs : List Call) (os : List Observation) → Transcript cs zeros os → (c : Call) (o : Observation) → Performs c (finalWords zeros os) o
     → OrderOf (final empty cs) c (refusalReturned (o .returned))

@@ -4,40 +4,40 @@ use mathlib.Core.Path.{_≡_}
 use mathlib.Core.Bool.{Bool, cond, _&&_, not}
 use mathlib.Core.List.{List, [], _∷_, _++_}
 use lib.Dec.{eqb}
-use Rattle.params.specs.declared.params.Params.{Params}
-use Rattle.judge.specs.Octets.{judgedOctets}
+use Rattle.rate_params.specs.declared.params.Params.{Params}
+use Rattle.trace_judge.specs.Octets.{judgedOctets}
 use Rattle.model.specs.Call.{Call}
-use Rattle.answers.specs.declared.calls.SlotAnswer.{SlotAnswer}
-use Rattle.answers.specs.declared.calls.AcrAnswer.{AcrAnswer}
-use Rattle.answers.specs.declared.traces.VerdictAnswer.{VerdictAnswer}
-use Rattle.answers.specs.Traces.{verdictAnswer}
-use Rattle.abr.specs.Contract.{AnswersAcr}
-use Rattle.abr.specs.Exports.{Observation, Trace, finalWords, zeros}
-use Rattle.own_traces.specs.InRate.{SentCell, atSlot, closes}
-use Rattle.own_traces.specs.Written.{traceOctets}
-use Rattle.own_traces.specs.Traces.{Opening, cellsOf}
+use Rattle.abr_answers.specs.declared.calls.AbrSent.{AbrSent}
+use Rattle.abr_answers.specs.declared.calls.AbrAllowed.{AbrAllowed}
+use Rattle.abr_answers.specs.declared.traces.AbrVerdict.{AbrVerdict}
+use Rattle.abr_answers.specs.Traces.{verdictAnswerOf}
+use Rattle.abr.specs.Contract.{ReturnsAllowed}
+use Rattle.abr.specs.Exports.{Observation, Transcript, finalWords, zeros}
+use Rattle.promise_traces.specs.InRate.{SentCell, atSlot, closesConnection}
+use Rattle.promise_traces.specs.Written.{traceOctets}
+use Rattle.promise_traces.specs.Traces.{Opening, traceCells}
 use Rattle.exports.specs.Returned.{noMember, memberSeen, membersSeen, connectionReturned}
 
 -- the cell that a slot at this time returned, if it is one of v: kind 0 is none
-abbrev pub cellReturned : (v : ℕ) → (member : ℕ → Bool) → (time rate : ℕ) → SlotAnswer → List SentCell
+abbrev pub cellReturned : (v : ℕ) → (member : ℕ → Bool) → (time rate : ℕ) → AbrSent → List SentCell
 cellReturned v f t rate r = cond (not (eqb (r .kind) 0) && eqb (connectionReturned f r) v) (record { time = t; kind = r .kind; rate = rate } ∷ []) []
 
 -- the cells of v, from the calls, what they returned and the rate that was read before each of them, until v is closed: 0 is no refusal
-abbrev pub recorded : (v : ℕ) → (member : ℕ → Bool) → List Call → List Observation → List AcrAnswer → List SentCell
+abbrev pub recorded : (v : ℕ) → (member : ℕ → Bool) → List Call → List Observation → List AbrAllowed → List SentCell
 recorded v f [] os rs = []
 recorded v f (c ∷ cs) [] rs = []
 recorded v f (c ∷ cs) (o ∷ os) [] = []
 recorded v f (c ∷ cs) (o ∷ os) (a ∷ rs) =
-    cond (closes v c (eqb (o .returned .refusal) 0)) [] (atSlot c (λ t. cellReturned v f t (a .acr) (o .returned)) ++ recorded v (memberSeen c o f) cs os rs)
+    cond (closesConnection v c (eqb (o .returned .refusal) 0)) [] (atSlot c (λ t. cellReturned v f t (a .acr) (o .returned)) ++ recorded v (memberSeen c o f) cs os rs)
 
 -- what abr_acr returns for v before each call, the first being on these words
-pub data RatesRead (v : ℕ) : (first : List ℕ) → List Observation → List AcrAnswer → Type 0 where
+pub data RatesRead (v : ℕ) : (first : List ℕ) → List Observation → List AbrAllowed → Type 0 where
   noCall : {l : List ℕ} → RatesRead v l [] []
-  readThen : {l : List ℕ} {a : AcrAnswer} {rs : List AcrAnswer} {o : Observation} {os : List Observation} → AnswersAcr v l a → RatesRead v (o .table) os rs → RatesRead v l (o ∷ os) (a ∷ rs)
+  readThen : {l : List ℕ} {a : AbrAllowed} {rs : List AbrAllowed} {o : Observation} {os : List Observation} → ReturnsAllowed v l a → RatesRead v (o .table) os rs → RatesRead v l (o ∷ os) (a ∷ rs)
 
 -- After any exported calls, an open of a channel or of a path that returned 0, and any further ones: for the octets of the trace abr_judge returns neither a refusal nor a broken rule.
 abbrev pub RecordedPasses : Type 0
 RecordedPasses =
-    (before after : List Call) (c : Call) (v : ℕ) (p : Params) (os ps : List Observation) (o : Observation) (rs : List AcrAnswer) (r : VerdictAnswer) → Opening c v p → Trace before zeros os
-    → Trace (c ∷ after) (finalWords zeros os) (o ∷ ps) → o .returned .refusal ≡ 0 → RatesRead v (o .table) ps rs
-    → r ≡ verdictAnswer (judgedOctets (traceOctets (p .n) (p .trm) (cellsOf (recorded v (memberSeen c o (membersSeen noMember before os)) after ps rs)))) → (r .refusal ≡ 0) × (r .rule ≡ 0)
+    (before after : List Call) (c : Call) (v : ℕ) (p : Params) (os ps : List Observation) (o : Observation) (rs : List AbrAllowed) (r : AbrVerdict) → Opening c v p → Transcript before zeros os
+    → Transcript (c ∷ after) (finalWords zeros os) (o ∷ ps) → o .returned .refusal ≡ 0 → RatesRead v (o .table) ps rs
+    → r ≡ verdictAnswerOf (judgedOctets (traceOctets (p .n) (p .trm) (traceCells (recorded v (memberSeen c o (membersSeen noMember before os)) after ps rs)))) → (r .refusal ≡ 0) × (r .rule ≡ 0)

@@ -1,4 +1,4 @@
--- Two tables that are equal but for the instant of the last cell outside the rate of one connection.
+-- Two tables that are equal but for the instant of the last out-of-rate cell of one connection.
 use Prim.Native.Nat.{ℕ, zero, suc, _+_, _*_, _/_, _≤_}
 use mathlib.Core.Path.{_≡_, refl, ap}
 use mathlib.Core.Bool.{Bool}
@@ -7,14 +7,14 @@ use lib.ListN.{length, getD, set}
 use Rattle.connection.specs.declared.parts.Connection.{Connection}
 use Rattle.connection.specs.declared.ready.Instant.{Instant}
 use Rattle.connection.specs.declared.ready.Instant.the-variants.{Never, At}
-use Rattle.connection.specs.Parts.{withOutside}
+use Rattle.connection.specs.Parts.{withOutOfRate}
 use Rattle.connection.specs.Ready.{readyInstant}
 use Rattle.connection.proofs.Readiness.{ready-same}
 use Rattle.model.specs.State.{Entry, free, taken, position, isFree, holds, find}
-use Rattle.model.specs.Choice.{candidate, candidateFrom, winner}
-use Rattle.model.specs.Tournament.{levels, instantLead, leafLead, winnerAt, replayedFrom, replayed}
+use Rattle.model.specs.Winner.{candidate, candidateFrom, winner}
+use Rattle.model.specs.Tournament.{levels, instantWinner, leafWinner, winnerAt, replayedFrom, replayed}
 use Rattle.model.specs.Queries.{entryAcr, entryReady, earliest}
-use Rattle.promises.specs.Demand3.{InPlace}
+use Rattle.promise_lists.specs.Demand3.{InPlace}
 
 -- such an instant, if there is one, is not after t
 abbrev pub UpTo : ℕ → Instant → Type 0
@@ -23,19 +23,19 @@ UpTo t (At m) = m ≤ t
 
 pub data Like (v t : ℕ) : Entry → Entry → Type 0 where
   alike : {x : Entry} → Like v t x x
-  outside : (c : Connection) (i : Instant) → c .name ≡ v → UpTo t i → UpTo t (c .outside) → Like v t (taken (withOutside c i)) (taken c)
+  lastDiffers : (c : Connection) (i : Instant) → c .name ≡ v → UpTo t i → UpTo t (c .«out_of_rate») → Like v t (taken (withOutOfRate c i)) (taken c)
 
-ready-kept : (c : Connection) (i : Instant) → readyInstant (withOutside c i) ≡ readyInstant c
-ready-kept c i = ready-same c (withOutside c i) refl refl refl refl refl refl refl
+ready-kept : (c : Connection) (i : Instant) → readyInstant (withOutOfRate c i) ≡ readyInstant c
+ready-kept c i = ready-same c (withOutOfRate c i) refl refl refl refl refl refl refl
 
 module _ (v t : ℕ) where
   abbrev pub Alike : List Entry → List Entry → Type 0
   Alike ss rs = InPlace (Like v t) ss rs
 
   -- what does not look at that instant
-  pub read-like : {A : Type 0} (F : Entry → A) → ((c : Connection) (i : Instant) → F (taken (withOutside c i)) ≡ F (taken c)) → (x y : Entry) → Like v t x y → F x ≡ F y
+  pub read-like : {A : Type 0} (F : Entry → A) → ((c : Connection) (i : Instant) → F (taken (withOutOfRate c i)) ≡ F (taken c)) → (x y : Entry) → Like v t x y → F x ≡ F y
   read-like F h x y alike = refl
-  read-like F h _ _ (outside c i n a b) = h c i
+  read-like F h _ _ (lastDiffers c i n a b) = h c i
 
   free-like : (x y : Entry) → Like v t x y → isFree x ≡ isFree y
   unfolding isFree
@@ -53,9 +53,9 @@ module _ (v t : ℕ) where
   unfolding candidate
   candidate-like u = read-like (candidate u) (λ c i. ap (candidateFrom u (c .name)) (ready-kept c i))
 
-  lead-like : (n : ℕ) (x y : Entry) → Like v t x y → leafLead n x ≡ leafLead n y
-  unfolding leafLead
-  lead-like n = read-like (leafLead n) (λ c i. ap (instantLead (c .name) n) (ready-kept c i))
+  winner-like : (n : ℕ) (x y : Entry) → Like v t x y → leafWinner n x ≡ leafWinner n y
+  unfolding leafWinner
+  winner-like n = read-like (leafWinner n) (λ c i. ap (instantWinner (c .name) n) (ready-kept c i))
 
   ready-like : (x y : Entry) → Like v t x y → entryReady x ≡ entryReady y
   unfolding entryReady
@@ -108,8 +108,8 @@ module _ (v t : ℕ) where
     pub put-alike : (u : ℕ) (x y : Entry) → Like v t x y → Alike (set ss (position (holds u) ss) x) (set rs (position (holds u) rs) y)
     put-alike u x y l = rw (holds-same u) (set-like ss rs h (position (holds u) rs) x y l)
 
-    pub inserted-alike : (x : Entry) → Alike (set ss (position isFree ss) x) (set rs (position isFree rs) x)
-    inserted-alike x = rw free-same (set-like ss rs h (position isFree rs) x x alike)
+    pub with-opened-alike : (x : Entry) → Alike (set ss (position isFree ss) x) (set rs (position isFree rs) x)
+    with-opened-alike x = rw free-same (set-like ss rs h (position isFree rs) x x alike)
 
   pub winner-same : (u : ℕ) (ss rs : List Entry) → Alike ss rs → winner u ss ≡ winner u rs
   unfolding winner
@@ -121,16 +121,16 @@ module _ (v t : ℕ) where
   earliest-same [] [] h = refl
   earliest-same (s ∷ ss) (r ∷ rs) h = rw (ready-like s r (h .0), earliest-same ss rs (h .1))
 
-  lead-same : (ss rs : List Entry) → Alike ss rs → (d p : ℕ) → winnerAt ss d p ≡ winnerAt rs d p
+  match-winner-same : (ss rs : List Entry) → Alike ss rs → (d p : ℕ) → winnerAt ss d p ≡ winnerAt rs d p
   unfolding winnerAt
-  lead-same ss rs h zero p = lead-like _ _ _ (get-like ss rs h _)
-  lead-same ss rs h (suc d) p = rw (lead-same ss rs h d (2 * p), lead-same ss rs h d (2 * p + 1))
+  match-winner-same ss rs h zero p = winner-like _ _ _ (get-like ss rs h _)
+  match-winner-same ss rs h (suc d) p = rw (match-winner-same ss rs h d (2 * p), match-winner-same ss rs h d (2 * p + 1))
 
   module _ (x : ℕ) (ss rs ss' rs' : List Entry) (h : Alike ss rs) (k : Alike ss' rs') where
     from-same : (d p left : ℕ) → replayedFrom x ss ss' d p left ≡ replayedFrom x rs rs' d p left
     unfolding replayedFrom
     from-same d p zero = refl
-    from-same d p (suc left) = rw (lead-same ss rs h d p, lead-same ss' rs' k d p, from-same (suc d) (p / 2) left)
+    from-same d p (suc left) = rw (match-winner-same ss rs h d p, match-winner-same ss' rs' k d p, from-same (suc d) (p / 2) left)
 
     pub replayed-same : replayed x ss ss' ≡ replayed x rs rs'
     unfolding replayed

@@ -2,18 +2,18 @@
 use Prim.Native.Nat.{ℕ}
 use mathlib.Core.Path.{_≡_, refl, sym, ap, _∙_}
 use mathlib.Core.List.{List}
-use Rattle.cell.specs.Name.{pairName}
+use Rattle.cell.specs.Name.{addressName}
 use Rattle.connection.specs.declared.kind.Kind.the-variants.{Forward, Turned, Data}
 use Rattle.connection.specs.Sending.{Buffer, untouched, written}
 use Rattle.model.specs.declared.answer.Answer.{Answer}
 use Rattle.model.specs.declared.answer.Answer.the-variants.{Refused, Accepted, Closed, Idle, Sent}
 use Rattle.model.specs.Step.{step}
 use Rattle.model.specs.Call.{Call, opening, closing, receiving, offering, levelling, slot, making, outOfRate, openingPath, adding, offeringMember, removing}
-use Rattle.answers.specs.Calls.{slotAnswer}
-use Rattle.rm_cells.specs.Addresses.{Carries, CarriesName}
-use Rattle.rm_cells.specs.ReservedBit.{TopBitsClear, WrittenClear}
-use Rattle.rm_cells.proofs.Addresses.{cells-carry-names}
-use Rattle.rm_cells.proofs.ReservedBit.{no-reserved-bit}
+use Rattle.abr_answers.specs.Calls.{sentOf}
+use Rattle.promise_cells.specs.Addresses.{Carries, CarriesName}
+use Rattle.promise_cells.specs.ReservedBit.{TopBitsClear, WrittenClear}
+use Rattle.promise_cells.proofs.Addresses.{cells-carry-names}
+use Rattle.promise_cells.proofs.ReservedBit.{no-reserved-bit}
 use Rattle.exports.proofs.Returned.{back}
 use Rattle.exports.specs.Known.{nameIn}
 use Rattle.exports_cells.specs.Carried.{nameDue, CarriesDue, ExportsCarryNames, CarriesNoBit, ExportsNoReservedBit}
@@ -28,7 +28,7 @@ carried v w (written o) e h = h ∙ e
 untouched-writes : (P : List ℕ → Type 0) (b : Buffer) → b ≡ untouched → Writes P b
 untouched-writes P b e = rw e tt
 
-due : (c : Call) (a : Answer) (b : Buffer) → CarriesName c a b → Writes (λ o. nameIn o ≡ nameDue c (slotAnswer a)) b
+due : (c : Call) (a : Answer) (b : Buffer) → CarriesName c a b → Writes (λ o. nameIn o ≡ nameDue c (sentOf a)) b
 due (opening vpi vci t p) a b h = untouched-writes _ b h
 due (closing vpi vci) a b h = untouched-writes _ b h
 due (receiving o) a b h = untouched-writes _ b h
@@ -43,7 +43,7 @@ due (slot t room) (Sent v x Turned acr n) b h = carried v _ b (sym (h .0) ∙ sy
 due (slot t room) (Sent v x Data acr n) b h = untouched-writes _ b h
 due (making vpi vci t) a b h = untouched-writes _ b h
 due (outOfRate vpi vci t room) (Refused n) b h = untouched-writes _ b h
-due (outOfRate vpi vci t room) (Accepted n) b h = carried (pairName vpi vci) _ b refl h
+due (outOfRate vpi vci t room) (Accepted n) b h = carried (addressName vpi vci) _ b refl h
 due (outOfRate vpi vci t room) (Closed n k) b h = absurd h
 due (outOfRate vpi vci t room) Idle b h = absurd h
 due (outOfRate vpi vci t room) (Sent v x k acr n) b h = absurd h

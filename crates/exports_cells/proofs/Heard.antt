@@ -9,21 +9,21 @@ use native.Mathlib.Omega.{arith}
 use lib.Dec.{eqb}
 use lib.ListN.{replicate}
 use borrow.Author.Tests.{eqb-true}
-use Rattle.params.specs.declared.params.Params.{Params}
-use Rattle.crc.specs.declared.payload.Payload.{Payload}
+use Rattle.rate_params.specs.declared.params.Params.{Params}
+use Rattle.cell_crc.specs.declared.payload.Payload.{Payload}
 use Rattle.cell.specs.Octets.{AreOctets}
-use Rattle.cell.specs.Name.{nameOf, vpiIn, vciIn, noName, pairName}
+use Rattle.cell.specs.Name.{nameFrom, vpiIn, vciIn, noName, addressName}
 use Rattle.cell.specs.Header.{header}
 use Rattle.cell.specs.Fields.{fieldsOf, cellName}
 use Rattle.cell.specs.Reading.{reading}
 use Rattle.cell.specs.Turning.{turnedCell}
 use Rattle.cell.specs.Returned.{returned, Kept}
 use Rattle.cell.specs.declared.fields.Fields.{Fields}
-use Rattle.cell.specs.declared.read.Reading.the-variants.{User, Resource}
-use Rattle.cell.proofs.Admits.{resource-received}
+use Rattle.cell.specs.declared.read.Reading.the-variants.{DataCell, RmCell}
+use Rattle.cell.proofs.Admits.{rm-received}
 use Rattle.cell.proofs.Turned.{turned-read, turned-kept, turned-words}
-use Rattle.members.specs.Path.{pathVci, pathOf}
-use Rattle.members.specs.Members.{cellsOf, owner}
+use Rattle.connection_members.specs.Path.{pathVci, pathOf}
+use Rattle.connection_members.specs.Members.{cellsOf, owner}
 use Rattle.connection.specs.declared.parts.Connection.{Connection}
 use Rattle.connection.specs.declared.parts.Destination.{Destination}
 use Rattle.connection.specs.declared.parts.Waiting.{Waiting}
@@ -32,22 +32,22 @@ use Rattle.connection.specs.declared.kind.Kind.{Kind}
 use Rattle.connection.specs.declared.kind.Kind.the-variants.{Forward, Turned, Data}
 use Rattle.connection.specs.Parts.{fresh, freshDestination, withQueue, dequeued}
 use Rattle.connection.specs.Making.{withMade}
-use Rattle.connection.specs.Receiving.{offered, afterDataCell, waitingCi, markKept, afterBackwardCell, afterForwardCell, afterResourceCell}
+use Rattle.connection.specs.Receiving.{offered, afterDataCell, waitingCi, markKept, afterBackwardCell, afterForwardCell, afterRmCell}
 use Rattle.connection.specs.Kind.{kindAt, kindNumber}
 use Rattle.connection.specs.Sending.{after, withServed, memberServed, sentForward, sentTurned, sentData, madeLeft}
 use Rattle.connection.specs.OutOfRate.{afterOutOfRate}
 use Rattle.connection.proofs.Keeps.{work-same}
-use Rattle.model.specs.State.{State, Entry, free, taken, capacity, empty, find, put, inserted, withTime, withLevel, withMembers}
+use Rattle.model.specs.State.{State, Entry, free, taken, capacity, empty, find, withEntryOf, withOpened, withTime, withLevel, withMembers}
 use Rattle.model.specs.Invariant.{NamesUnique, WellFormed}
 use Rattle.model.specs.Call.{Call, Outcome}
-use Rattle.model.specs.Step.{refuse, accept, replay, discard, withOffer, withoutOne, nameAnswered, sendFrom, sendStep, sendOutside, idleStep, step}
+use Rattle.model.specs.Step.{refuse, accept, replay, discard, withOffer, withoutOne, nameAnswered, sendFrom, sendStep, sendOutOfRate, idleStep, step}
 use Rattle.model.specs.Run.{isAccepted}
 use Rattle.model.proofs.Entries.{absent-find, each-free}
-use Rattle.model.proofs.Frames.{name-of, put-read, put-kept, inserted-read, freed-read}
+use Rattle.model.proofs.Frames.{name-of, put-read, put-kept, with-opened-read, freed-read}
 use Rattle.model.proofs.Preserved.{valid-at}
-use Rattle.model.proofs.Effects.{Enters, Effect, refuses, begins, ends, offers, marks, works, levels, idles, sends, makes, leaves, beginsPath, adds, offersMember, removes, effect}
-use Rattle.answers.specs.Calls.{slotAnswer}
-use Rattle.rm_cells.specs.ReservedBit.{OfOctets}
+use Rattle.model.proofs.Effects.{OpenPassed, Effect, refuses, opens, closes, offers, receivesData, receivesRm, setsLevel, idles, sends, makes, sendsOutOfRate, opensPath, adds, offersMember, removes, effect}
+use Rattle.abr_answers.specs.Calls.{sentOf}
+use Rattle.promise_cells.specs.ReservedBit.{OfOctets}
 use Rattle.exports.specs.Returned.{connectionOf}
 use Rattle.exports.proofs.Returned.{Knows, knows-after, none-known, back}
 use Rattle.exports.proofs.Transport.{Keeps}
@@ -55,19 +55,19 @@ use Rattle.exports_cells.specs.Heard.{TurnedCell, Receiver, nothingWaits
 
 -- The level.
 pub effect-level : {s : State} {c : Call} {o : Outcome} → Effect s c o → o .state .level ≡ cond (isAccepted (o .answer)) (levelAfter c (s .level)) (s .level)
-unfolding refuse accept replay discard sendStep sendFrom idleStep sendOutside withOffer withoutOne put inserted withTime withLevel withMembers isAccepted
+unfolding refuse accept replay discard sendStep sendFrom idleStep sendOutOfRate withOffer withoutOne withEntryOf withOpened withTime withLevel withMembers isAccepted
 effect-level (refuses c n h) = refl
-effect-level (begins vpi vci t p g) = refl
-effect-level (ends vpi vci d f) = refl
+effect-level (opens vpi vci t p g) = refl
+effect-level (closes vpi vci d f) = refl
 effect-level (offers vpi vci n d f i h) = refl
-effect-level (marks o vpi vci e u d r i z f) = refl
-effect-level (works o q d r f) = refl
-effect-level (levels l h) = refl
+effect-level (receivesData o vpi vci e u d r i z f) = refl
+effect-level (receivesRm o q d r f) = refl
+effect-level (setsLevel l h) = refl
 effect-level (idles t room g b) = refl
 effect-level (sends t room i u g b) = refl
 effect-level (makes vpi vci t d f g b m) = refl
-effect-level (leaves vpi vci t room d f g b) = refl
-effect-level (beginsPath vpi t p g) = refl
+effect-level (sendsOutOfRate vpi vci t room d f g b) = refl
+effect-level (opensPath vpi t p g) = refl
 effect-level (adds vpi vci d f j) = refl
 effect-level (offersMember vpi vci n d f i h) = refl
 effect-level (removes vpi vci d f i) = refl
@@ -84,7 +84,7 @@ destinationAt v s = entryDestination (find v (s .entries))
 pub data TurnedAs (v : ℕ) : Option TurnedCell → Waiting → Type 0 where
   noneWaits : TurnedAs v none Nothing
   oneWaits :
-      {x : TurnedCell} {p : Payload} → reading (turnedCell (vpiIn v) (vciIn v) p) ≡ Resource (x .fields) → Kept (x .received) (turnedCell (vpiIn v) (vciIn v) p)
+      {x : TurnedCell} {p : Payload} → reading (turnedCell (vpiIn v) (vciIn v) p) ≡ RmCell (x .fields) → Kept (x .received) (turnedCell (vpiIn v) (vciIn v) p)
       → TurnedAs v (some x) (Cell p)
 
 pub record ReceiverAs (v : ℕ) (r : Receiver) (d : Destination) : Type 0 where
@@ -99,15 +99,15 @@ fresh-as v = record { efci = refl; turned = noneWaits; made = refl }
 ci-as : (v : ℕ) (x : Option TurnedCell) (w : Waiting) → TurnedAs v x w → ciWaits x ≡ waitingCi w
 unfolding waitingCi turnedCell header fieldsOf
 ci-as v none Nothing noneWaits = refl
-ci-as v (some x) (Cell p) (oneWaits e k) = ap (λ (f : Fields). eqb (f .ci) 1) (resource-received (turnedCell (vpiIn v) (vciIn v) p) (x .fields) e .fields)
+ci-as v (some x) (Cell p) (oneWaits e k) = ap (λ (f : Fields). eqb (f .ci) 1) (rm-received (turnedCell (vpiIn v) (vciIn v) p) (x .fields) e .fields)
 
 -- A forward cell is turned.
 turned-as :
-    (v level : ℕ) (o : List ℕ) (g : Fields) (r : Receiver) (c : Connection) → AreOctets o → reading o ≡ Resource g → v < noName → ReceiverAs v r (c .destination)
+    (v level : ℕ) (o : List ℕ) (g : Fields) (r : Receiver) (c : Connection) → AreOctets o → reading o ≡ RmCell g → v < noName → ReceiverAs v r (c .destination)
     → ReceiverAs v (turnedAt v level o g r) (afterForwardCell level o c .destination)
 unfolding afterForwardCell markKept returned
 turned-as v level o g r c a e l h =
-    let n = resource-received o g e .size in
+    let n = rm-received o g e .size in
     let b = c .destination .efci || waitingCi (c .destination .turned) in
     let w = turned-words level b (vpiIn v) (vciIn v) o n a in
     let m : (r .efci || ciWaits (r .turned)) ≡ b = λ i. h .efci i || ci-as v (r .turned) (c .destination .turned) (h .turned) i in
@@ -116,7 +116,7 @@ turned-as v level o g r c a e l h =
       turned = oneWaits (
           ap reading w
           ∙ turned-read level b (vpiIn v) (vciIn v) o n g e (omega (arith, l)) (omega arith)
-          ∙ ap (λ (x : Bool). Resource (returned level x (vpiIn v) (vciIn v) g)) (sym m)
+          ∙ ap (λ (x : Bool). RmCell (returned level x (vpiIn v) (vciIn v) g)) (sym m)
           ) (subst (Kept o) (sym w) (turned-kept level b (vpiIn v) (vciIn v) o n));
       made = h .made;
     }
@@ -139,43 +139,43 @@ module _ (v : ℕ) where
 
   module _ (s : State) (w : NamesUnique (s .entries)) (r : Receiver) (h : ReceiverAs v r (destinationAt v s)) where
     -- an entry whose connection keeps its receiving side
-    same-as : (u : ℕ) (c d : Connection) → find u (s .entries) ≡ taken c → d .name ≡ c .name → d .destination ≡ c .destination → ReceiverAs v r (destinationAt v (put u (taken d) s))
+    same-as : (u : ℕ) (c d : Connection) → find u (s .entries) ≡ taken c → d .name ≡ c .name → d .destination ≡ c .destination → ReceiverAs v r (destinationAt v (withEntryOf u (taken d) s))
     unfolding entryDestination
     same-as u c d f n e = subst (ReceiverAs v r) (sym (put-kept entryDestination v u s w c d f n e)) h
 
     -- one whose connection changes it
     changed-as :
         (u : ℕ) (c d : Connection) (x : Receiver) → find u (s .entries) ≡ taken c → d .name ≡ c .name → (u ≡ v → ReceiverAs v r (c .destination) → ReceiverAs v x (d .destination))
-        → ReceiverAs v (cond (eqb u v) x r) (destinationAt v (put u (taken d) s))
+        → ReceiverAs v (cond (eqb u v) x r) (destinationAt v (withEntryOf u (taken d) s))
     unfolding entryDestination
     changed-as u c d x f n k =
         subst (ReceiverAs v (cond (eqb u v) x r)) (sym (put-read entryDestination v u s w c d f n))
         (either-as (eqb u v)
         (λ e. let q = eqb-true u v e in k q (subst (ReceiverAs v r) (ap entryDestination (ap (λ (i : ℕ). find i (s .entries)) (sym q) ∙ f)) h)) h)
 
-    begun-as : (u t : ℕ) (p : Params) → Enters s u t p → ReceiverAs v (cond (eqb u v) nothingWaits r) (destinationAt v (inserted (fresh u t p) s))
+    begun-as : (u t : ℕ) (p : Params) → OpenPassed s u t p → ReceiverAs v (cond (eqb u v) nothingWaits r) (destinationAt v (withOpened (fresh u t p) s))
     unfolding fresh entryDestination
     begun-as u t p g =
-        subst (ReceiverAs v (cond (eqb u v) nothingWaits r)) (sym (inserted-read entryDestination v s (fresh u t p) (g .new) (g .room))) (either-as (eqb u v) (λ _. fresh-as v) h)
+        subst (ReceiverAs v (cond (eqb u v) nothingWaits r)) (sym (with-opened-read entryDestination v s (fresh u t p) (g .new) (g .room))) (either-as (eqb u v) (λ _. fresh-as v) h)
 
-    ended-as : (u : ℕ) → ReceiverAs v (cond (eqb u v) nothingWaits r) (destinationAt v (put u free s))
+    ended-as : (u : ℕ) → ReceiverAs v (cond (eqb u v) nothingWaits r) (destinationAt v (withEntryOf u free s))
     unfolding entryDestination
     ended-as u = subst (ReceiverAs v (cond (eqb u v) nothingWaits r)) (sym (freed-read entryDestination v u s w)) (either-as (eqb u v) (λ _. fresh-as v) h)
 
     marked-as :
-        (f : ℕ → Bool) → Knows f s → (o : List ℕ) (vpi vci : ℕ) (e : Bool) (u : ℕ) (d : Connection) → reading o ≡ User vpi vci e → owner (pairName vpi vci) (s .members) ≡ u
-        → find u (s .entries) ≡ taken d → ReceiverAs v (receivedFrom v f (s .level) o (reading o) r) (destinationAt v (put u (taken (afterDataCell e d)) s))
+        (f : ℕ → Bool) → Knows f s → (o : List ℕ) (vpi vci : ℕ) (e : Bool) (u : ℕ) (d : Connection) → reading o ≡ DataCell vpi vci e → owner (addressName vpi vci) (s .members) ≡ u
+        → find u (s .entries) ≡ taken d → ReceiverAs v (receivedFrom v f (s .level) o (reading o) r) (destinationAt v (withEntryOf u (taken (afterDataCell e d)) s))
     unfolding afterDataCell owner
     marked-as f k o vpi vci e u d q z g =
-        let i : connectionOf f (pairName vpi vci) ≡ u = ap (λ (b : Bool). cond b (pathOf (pairName vpi vci)) (pairName vpi vci)) (k (pairName vpi vci)) ∙ z in
+        let i : connectionOf f (addressName vpi vci) ≡ u = ap (λ (b : Bool). cond b (pathOf (addressName vpi vci)) (addressName vpi vci)) (k (addressName vpi vci)) ∙ z in
         rw (q, i) (changed-as u d (afterDataCell e d) _ g refl (λ _ m. record { efci = refl; turned = m .turned; made = m .made }))
 
     worked-as :
-        WellFormed s → (f : ℕ → Bool) (o : List ℕ) (g : Fields) (d : Connection) → AreOctets o → reading o ≡ Resource g → find (cellName g) (s .entries) ≡ taken d
-        → ReceiverAs v (receivedFrom v f (s .level) o (reading o) r) (destinationAt v (put (cellName g) (taken (afterResourceCell (s .level) o g d)) s))
-    unfolding afterResourceCell afterBackwardCell
+        WellFormed s → (f : ℕ → Bool) (o : List ℕ) (g : Fields) (d : Connection) → AreOctets o → reading o ≡ RmCell g → find (cellName g) (s .entries) ≡ taken d
+        → ReceiverAs v (receivedFrom v f (s .level) o (reading o) r) (destinationAt v (withEntryOf (cellName g) (taken (afterRmCell (s .level) o g d)) s))
+    unfolding afterRmCell afterBackwardCell
     worked-as x f o g d a q e =
-        rw q (changed-as (cellName g) d (afterResourceCell (s .level) o g d) _ e (work-same (s .level) o g d .name) (λ i m. dirs (eqb (g .dir) 1) i m))
+        rw q (changed-as (cellName g) d (afterRmCell (s .level) o g d) _ e (work-same (s .level) o g d .name) (λ i m. dirs (eqb (g .dir) 1) i m))
       where
         low : cellName g ≡ v → v < noName
         low i = rw (← i, ← name-of (cellName g) s d e) (valid-at x (cellName g) d e .0 .coded)
@@ -187,8 +187,8 @@ module _ (v : ℕ) where
 
     sent-as :
         (t u : ℕ) (m : Option ℕ) (c : Connection) (k : Kind) → find u (s .entries) ≡ taken c
-        → ReceiverAs v (cond (eqb (kindNumber k) 2 && eqb (nameOf (vpiIn (nameAnswered u (memberServed k c (s .members)))) (vciIn (nameAnswered u (memberServed k c (s .members))))) v) (goneFrom (r .efci) (r .made) (r .turned)) r)
-        (destinationAt v (put u (taken (withServed m (after k t c))) s))
+        → ReceiverAs v (cond (eqb (kindNumber k) 2 && eqb (nameFrom (vpiIn (nameAnswered u (memberServed k c (s .members)))) (vciIn (nameAnswered u (memberServed k c (s .members))))) v) (goneFrom (r .efci) (r .made) (r .turned)) r)
+        (destinationAt v (withEntryOf u (taken (withServed m (after k t c))) s))
     unfolding after withServed sentForward sentTurned sentData nameAnswered memberServed
     sent-as t u m c Forward f = same-as u c _ f refl refl
     sent-as t u m c Turned f = rw (back u) (changed-as u c _ _ f refl (λ _. gone-as v r t c))
@@ -196,24 +196,24 @@ module _ (v : ℕ) where
 
   effect-as :
       (f : ℕ → Bool) {s : State} → WellFormed s → Knows f s → {c : Call} {o : Outcome} → OfOctets c → Effect s c o → (r : Receiver) → ReceiverAs v r (destinationAt v s)
-      → ReceiverAs v (cond (isAccepted (o .answer)) (receiverAfter v f (s .level) c (slotAnswer (o .answer)) r) r) (destinationAt v (o .state))
-  unfolding refuse accept replay discard withLevel withMembers idleStep sendStep sendFrom sendOutside withTime isAccepted offered withOffer withoutOne withMade afterOutOfRate
+      → ReceiverAs v (cond (isAccepted (o .answer)) (receiverAfter v f (s .level) c (sentOf (o .answer)) r) r) (destinationAt v (o .state))
+  unfolding refuse accept replay discard withLevel withMembers idleStep sendStep sendFrom sendOutOfRate withTime isAccepted offered withOffer withoutOne withMade afterOutOfRate
   effect-as f {s} w k q (refuses c n z) r h = h
-  effect-as f {s} w k q (begins a b t p g) r h = begun-as s (w .unique) r h (pairName a b) t p g
-  effect-as f {s} w k q (ends a b d g) r h = ended-as s (w .unique) r h (pairName a b)
-  effect-as f {s} w k q (offers a b n d g c z) r h = same-as s (w .unique) r h (pairName a b) d (offered n d) g refl refl
-  effect-as f {s} w k q (marks o a b e u d y i z g) r h = marked-as s (w .unique) r h f k o a b e u d y z g
-  effect-as f {s} w k q (works o g d y e) r h = worked-as s (w .unique) r h w f o g d q y e
-  effect-as f {s} w k q (levels l z) r h = h
+  effect-as f {s} w k q (opens a b t p g) r h = begun-as s (w .unique) r h (addressName a b) t p g
+  effect-as f {s} w k q (closes a b d g) r h = ended-as s (w .unique) r h (addressName a b)
+  effect-as f {s} w k q (offers a b n d g c z) r h = same-as s (w .unique) r h (addressName a b) d (offered n d) g refl refl
+  effect-as f {s} w k q (receivesData o a b e u d y i z g) r h = marked-as s (w .unique) r h f k o a b e u d y z g
+  effect-as f {s} w k q (receivesRm o g d y e) r h = worked-as s (w .unique) r h w f o g d q y e
+  effect-as f {s} w k q (setsLevel l z) r h = h
   effect-as f {s} w k q (idles t room g b) r h = h
   effect-as f {s} w k q (sends t room i n g b) r h = sent-as (withTime t s) (w .unique) r h t n _ (b .holder) (kindAt t (b .holder)) (b .found)
   effect-as f {s} w k q (makes a b t d e g z m) r h =
-      changed-as (withTime t s) (w .unique) r h (pairName a b) d (withMade t (s .level) d) _ e refl (λ _ y. record { efci = y .efci; turned = y .turned; made = refl })
-  effect-as f {s} w k q (leaves a b t room d e g z) r h = same-as (withTime t s) (w .unique) r h (pairName a b) d (afterOutOfRate t d) e refl refl
-  effect-as f {s} w k q (beginsPath a t p g) r h = begun-as s (w .unique) r h (pairName a pathVci) t p g
+      changed-as (withTime t s) (w .unique) r h (addressName a b) d (withMade t (s .level) d) _ e refl (λ _ y. record { efci = y .efci; turned = y .turned; made = refl })
+  effect-as f {s} w k q (sendsOutOfRate a b t room d e g z) r h = same-as (withTime t s) (w .unique) r h (addressName a b) d (afterOutOfRate t d) e refl refl
+  effect-as f {s} w k q (opensPath a t p g) r h = begun-as s (w .unique) r h (addressName a pathVci) t p g
   effect-as f {s} w k q (adds a b d e j) r h = h
-  effect-as f {s} w k q (offersMember a b n d e i z) r h = same-as s (w .unique) r h (pathOf (pairName a b)) d (offered n d) e refl refl
-  effect-as f {s} w k q (removes a b d e i) r h = same-as s (w .unique) r h (pathOf (pairName a b)) d (withQueue d (dequeued (cellsOf (pairName a b) (s .members)) (d .queue))) e refl refl
+  effect-as f {s} w k q (offersMember a b n d e i z) r h = same-as s (w .unique) r h (pathOf (addressName a b)) d (offered n d) e refl refl
+  effect-as f {s} w k q (removes a b d e i) r h = same-as s (w .unique) r h (pathOf (addressName a b)) d (withQueue d (dequeued (cellsOf (addressName a b) (s .members)) (d .queue))) e refl refl
 
 -- what is kept is so
 pub record Hears (v : ℕ) (k : Heard) (s : State) : Type 0 where

@@ -8,17 +8,17 @@ use mathlib.Core.Option.{Option, none, some}
 use native.Mathlib.Omega.{arith}
 use lib.Dec.{eqb}
 use borrow.Author.Tests.{eqb-true, eqb-false, eq-eqb}
-use Rattle.params.specs.declared.params.Params.{Params}
+use Rattle.rate_params.specs.declared.params.Params.{Params}
 use Rattle.cell.specs.Octets.{octet}
-use Rattle.cell.specs.Name.{nameOf, pairName}
+use Rattle.cell.specs.Name.{nameFrom, addressName}
 use Rattle.cell.specs.Fields.{fieldsOf, cellName}
 use Rattle.cell.specs.Reading.{reading}
 use Rattle.cell.specs.Returned.{returned}
 use Rattle.cell.specs.declared.fields.Fields.{Fields}
 use Rattle.cell.specs.declared.read.Reading.{Reading}
-use Rattle.cell.specs.declared.read.Reading.the-variants.{Refused, User, Resource}
-use Rattle.cell.proofs.Admits.{resource-received}
-use Rattle.members.specs.Path.{pathVci}
+use Rattle.cell.specs.declared.read.Reading.the-variants.{Refused, DataCell, RmCell}
+use Rattle.cell.proofs.Admits.{rm-received}
+use Rattle.connection_members.specs.Path.{pathVci}
 use Rattle.connection.specs.declared.parts.Waiting.{Waiting}
 use Rattle.connection.specs.declared.parts.Waiting.the-variants.{Nothing, Cell}
 use Rattle.model.specs.State.{State, Entry, free, taken, isFree, empty, find}
@@ -27,18 +27,18 @@ use Rattle.model.specs.declared.answer.Answer.the-variants.{Refused as Unaccept
 use Rattle.model.specs.Call.{Call, opening, closing, receiving, offering, levelling, slot, making, outOfRate, openingPath, adding, offeringMember, removing}
 use Rattle.model.specs.Step.{step}
 use Rattle.model.specs.Run.{isAccepted}
-use Rattle.answers.specs.declared.calls.SlotAnswer.{SlotAnswer}
-use Rattle.answers.specs.Calls.{slotAnswer}
-use Rattle.abr.specs.Exports.{Observation, Trace, zeros}
-use Rattle.promises.specs.Demand3.{InPlace}
+use Rattle.abr_answers.specs.declared.calls.AbrSent.{AbrSent}
+use Rattle.abr_answers.specs.Calls.{sentOf}
+use Rattle.abr.specs.Exports.{Observation, Transcript, zeros}
+use Rattle.promise_lists.specs.Demand3.{InPlace}
 use Rattle.exports.specs.Returned.{connectionOf}
 use Rattle.exports.specs.Along.{kept}
 use Rattle.exports.proofs.Transport.{Sees, stands-first, carry}
 use Rattle.exports_cells.specs.Heard.{TurnedCell, Receiver, nothingWaits, ciWaits, turnedFields, turnedAt, goneFrom, receivedFrom, receiverAfter, Heard, hears, nothingHeard, backwardDue}
-use Rattle.exports_cells.specs.Marks.{MarkHeard, withCi, withEfci, atLevel2, QuietSeen, NiHeard, withNi, atLevel1, QuietLast, Came, ExportsNoMarkInvented}
+use Rattle.exports_cells.specs.Marks.{MarkHeard, withCi, withEfci, atLevel2, QuietSeen, NiHeard, withNi, atLevel1, QuietLast, TakenInWithMark, ExportsNoMarkInvented}
 use Rattle.exports_cells.specs.Turned.{SentAsDue}
 use Rattle.exports_cells.proofs.Heard.{entryDestination, destinationAt, TurnedAs, noneWaits, oneWaits, Hears, keeps-hearing, hears-nothing}
-use Rattle.exports_cells.proofs.Pairs.{close-accepted}
+use Rattle.exports_cells.proofs.Addresses.{close-accepted}
 use Rattle.exports_cells.proofs.Turned.{exports-turned}
 
 -- a bit of the turned cell that waits
@@ -53,13 +53,13 @@ data Sets (bit : Fields → ℕ) (Mark : Fields → Heard → Type 0) (Since : C
 
 -- a call by which no forward cell of v is taken in
 abbrev NoForward : ℕ → Call → Observation → Type 0
-NoForward v c o = (octets : List ℕ) (f : Fields) → c ≡ receiving octets → reading octets ≡ Resource f → cellName f ≡ v → f .dir ≡ 0 → o .returned .refusal ≢ 0
+NoForward v c o = (octets : List ℕ) (f : Fields) → c ≡ receiving octets → reading octets ≡ RmCell f → cellName f ≡ v → f .dir ≡ 0 → o .returned .refusal ≢ 0
 
 -- what a call does to it: it stays, or a forward cell brought it
 data Step (bit : Fields → ℕ) (Mark : Fields → Heard → Type 0) (Since : Call → Observation → Type 0) (v : ℕ) (k : Heard) (c : Call) (o : Observation) : Type 0 where
   stayed : bitWaits bit (k .receiver .turned) ≡ true → Since c o → Step bit Mark Since v k c o
   brought :
-      (octets : List ℕ) (g : Fields) → c ≡ receiving octets → o .returned .refusal ≡ 0 → reading octets ≡ Resource g → cellName g ≡ v → g .dir ≡ 0 → Mark g k
+      (octets : List ℕ) (g : Fields) → c ≡ receiving octets → o .returned .refusal ≡ 0 → reading octets ≡ RmCell g → cellName g ≡ v → g .dir ≡ 0 → Mark g k
       → Step bit Mark Since v k c o
 
 -- a turned cell waits on an open connection alone, and closing one is accepted
@@ -72,11 +72,11 @@ unfolding entryDestination isFree
 waits-open free n = absurd (n refl)
 waits-open (taken c) n = refl
 
-closes-open : (v : ℕ) (s : State) (vpi vci : ℕ) → (destinationAt v s .turned ≡ Nothing → ⊥) → pairName vpi vci ≡ v → isAccepted (step s (closing vpi vci) .answer) ≡ true
+closes-open : (v : ℕ) (s : State) (vpi vci : ℕ) → (destinationAt v s .turned ≡ Nothing → ⊥) → addressName vpi vci ≡ v → isAccepted (step s (closing vpi vci) .answer) ≡ true
 closes-open v s vpi vci n e =
-    close-accepted s vpi vci (waits-open (find (pairName vpi vci) (s .entries)) (λ z. n (ap (λ (x : ℕ). destinationAt x s .turned) (sym e) ∙ z)))
+    close-accepted s vpi vci (waits-open (find (addressName vpi vci) (s .entries)) (λ z. n (ap (λ (x : ℕ). destinationAt x s .turned) (sym e) ∙ z)))
 
-refused-kind : (a : Answer) → isAccepted a ≡ false → slotAnswer a .kind ≡ 0
+refused-kind : (a : Answer) → isAccepted a ≡ false → sentOf a .kind ≡ 0
 unfolding isAccepted
 refused-kind (Unaccepted n) e = refl
 refused-kind (Accepted n) e = absurd (true≢false e)
@@ -94,7 +94,7 @@ module _ (bit : Fields → ℕ) (v : ℕ) where
   refused-quiet s k (offering vpi vci n) o h z e b = tt
   refused-quiet s k (levelling l) o h z e b = tt
   refused-quiet s k (slot t room) o h z e b = λ m.
-      let y : o .returned .kind ≡ 0 = ap (λ (r : SlotAnswer). r .kind) (z .matches .returned) ∙ refused-kind (step s (slot t room) .answer) (sym (z .accepted) ∙ e) in
+      let y : o .returned .kind ≡ 0 = ap (λ (r : AbrSent). r .kind) (z .matches .returned) ∙ refused-kind (step s (slot t room) .answer) (sym (z .accepted) ∙ e) in
       absurd (omega (arith, m, y))
   refused-quiet s k (making vpi vci t) o h z e b = tt
   refused-quiet s k (outOfRate vpi vci t room) o h z e b = tt
@@ -121,14 +121,14 @@ not-both true b e q = e
 not-both false b e q = absurd (false≢true q)
 
 module _ (octets q : List ℕ) (f : Fields) where
-  same-read : receiving octets ≡ receiving q → reading q ≡ Resource f → reading octets ≡ Resource f
+  same-read : receiving octets ≡ receiving q → reading q ≡ RmCell f → reading octets ≡ RmCell f
   same-read e r = let j : octets ≡ q = cc in ap reading j ∙ r
 
 -- a cell that is not backward is forward
-is-forward : (octets : List ℕ) (g : Fields) → reading octets ≡ Resource g → eqb (g .dir) 1 ≡ false → g .dir ≡ 0
+is-forward : (octets : List ℕ) (g : Fields) → reading octets ≡ RmCell g → eqb (g .dir) 1 ≡ false → g .dir ≡ 0
 unfolding fieldsOf
 is-forward octets g e d =
-    let x : g .dir ≡ octet 7 octets / 128 % 2 = ap (λ (h : Fields). h .dir) (resource-received octets g e .fields) in
+    let x : g .dir ≡ octet 7 octets / 128 % 2 = ap (λ (h : Fields). h .dir) (rm-received octets g e .fields) in
     let y : g .dir ≢ 1 = eqb-false (g .dir) 1 d in
     omega (arith, x, y)
 
@@ -144,10 +144,10 @@ module _ (bit : Fields → ℕ) (v : ℕ) (Mark : Fields → Heard → Type 0) (
       → bitWaits bit (receivedFrom v (k .member) (k .level) octets r (k .receiver) .turned) ≡ true → One k (receiving octets) o
   read-one k octets o (Refused n) e z b =
       stayed b (since (receiving octets) o tt (λ q f c r n d _. let i = same-read octets q f c r in let y : _≡_ {A = ℕ} 0 1 = cc in omega arith))
-  read-one k octets o (User vpi vci m) e z b =
-      stayed (same-turned bit v (eqb (connectionOf (k .member) (pairName vpi vci)) v) _ (k .receiver) refl b)
+  read-one k octets o (DataCell vpi vci m) e z b =
+      stayed (same-turned bit v (eqb (connectionOf (k .member) (addressName vpi vci)) v) _ (k .receiver) refl b)
       (since (receiving octets) o tt (λ q f c r n d _. let i = same-read octets q f c r in let y : _≡_ {A = ℕ} 0 1 = cc in omega arith))
-  read-one k octets o (Resource g) e z b = go (eqb (cellName g) v) refl (eqb (g .dir) 1) refl b
+  read-one k octets o (RmCell g) e z b = go (eqb (cellName g) v) refl (eqb (g .dir) 1) refl b
     where
       of : cellName g ≡ v → g .dir ≡ 0 → Sets bit Mark Since k g octets o → One k (receiving octets) o
       of n d (marked m) = brought octets g refl z e n d m
@@ -170,22 +170,22 @@ module _ (bit : Fields → ℕ) (v : ℕ) (Mark : Fields → Heard → Type 0) (
 
   accepted-one :
       (k : Heard) (c : Call) (o : Observation) → o .returned .refusal ≡ 0 → bitWaits bit (receiverAfter v (k .member) (k .level) c (o .returned) (k .receiver) .turned) ≡ true → One k c o
-  accepted-one k (opening vpi vci t p) o z b = stayed (stood bit v (eqb (pairName vpi vci) v) nothingWaits (k .receiver) refl b .1) (since _ o tt (λ q f e _ _ _ _. let y : _≡_ {A = ℕ} 0 1 = cc in omega arith))
+  accepted-one k (opening vpi vci t p) o z b = stayed (stood bit v (eqb (addressName vpi vci) v) nothingWaits (k .receiver) refl b .1) (since _ o tt (λ q f e _ _ _ _. let y : _≡_ {A = ℕ} 0 1 = cc in omega arith))
   accepted-one k (closing vpi vci) o z b =
-      let y = stood bit v (eqb (pairName vpi vci) v) nothingWaits (k .receiver) refl b in
-      stayed (y .1) (since (closing vpi vci) o (eqb-false (pairName vpi vci) v (y .0)) (λ q f e _ _ _ _. let y : _≡_ {A = ℕ} 0 1 = cc in omega arith))
+      let y = stood bit v (eqb (addressName vpi vci) v) nothingWaits (k .receiver) refl b in
+      stayed (y .1) (since (closing vpi vci) o (eqb-false (addressName vpi vci) v (y .0)) (λ q f e _ _ _ _. let y : _≡_ {A = ℕ} 0 1 = cc in omega arith))
   accepted-one k (receiving octets) o z b = read-one k octets o (reading octets) refl z b
   accepted-one k (offering vpi vci n) o z b = stayed b (since _ o tt (λ q f e _ _ _ _. let y : _≡_ {A = ℕ} 0 1 = cc in omega arith))
   accepted-one k (levelling l) o z b = stayed b (since _ o tt (λ q f e _ _ _ _. let y : _≡_ {A = ℕ} 0 1 = cc in omega arith))
   accepted-one k (slot t room) o z b =
       let r = o .returned in
       let d = k .receiver in
-      let y = stood bit v (eqb (r .kind) 2 && eqb (nameOf (r .vpi) (r .vci)) v) (goneFrom (d .efci) (d .made) (d .turned)) d (gone-none bit v (d .efci) (d .made) (d .turned)) b in
+      let y = stood bit v (eqb (r .kind) 2 && eqb (nameFrom (r .vpi) (r .vci)) v) (goneFrom (d .efci) (d .made) (d .turned)) d (gone-none bit v (d .efci) (d .made) (d .turned)) b in
       stayed (y .1)
-      (since (slot t room) o (λ m. eqb-false (nameOf (r .vpi) (r .vci)) v (not-both (eqb (r .kind) 2) _ (y .0) (eq-eqb (r .kind) 2 m))) (λ q f e _ _ _ _. let y : _≡_ {A = ℕ} 0 1 = cc in omega arith))
-  accepted-one k (making vpi vci t) o z b = stayed (same-turned bit v (eqb (pairName vpi vci) v) _ (k .receiver) refl b) (since _ o tt (λ q f e _ _ _ _. let y : _≡_ {A = ℕ} 0 1 = cc in omega arith))
+      (since (slot t room) o (λ m. eqb-false (nameFrom (r .vpi) (r .vci)) v (not-both (eqb (r .kind) 2) _ (y .0) (eq-eqb (r .kind) 2 m))) (λ q f e _ _ _ _. let y : _≡_ {A = ℕ} 0 1 = cc in omega arith))
+  accepted-one k (making vpi vci t) o z b = stayed (same-turned bit v (eqb (addressName vpi vci) v) _ (k .receiver) refl b) (since _ o tt (λ q f e _ _ _ _. let y : _≡_ {A = ℕ} 0 1 = cc in omega arith))
   accepted-one k (outOfRate vpi vci t room) o z b = stayed b (since _ o tt (λ q f e _ _ _ _. let y : _≡_ {A = ℕ} 0 1 = cc in omega arith))
-  accepted-one k (openingPath vpi t p) o z b = stayed (stood bit v (eqb (pairName vpi pathVci) v) nothingWaits (k .receiver) refl b .1) (since _ o tt (λ q f e _ _ _ _. let y : _≡_ {A = ℕ} 0 1 = cc in omega arith))
+  accepted-one k (openingPath vpi t p) o z b = stayed (stood bit v (eqb (addressName vpi pathVci) v) nothingWaits (k .receiver) refl b .1) (since _ o tt (λ q f e _ _ _ _. let y : _≡_ {A = ℕ} 0 1 = cc in omega arith))
   accepted-one k (adding vpi vci) o z b = stayed b (since _ o tt (λ q f e _ _ _ _. let y : _≡_ {A = ℕ} 0 1 = cc in omega arith))
   accepted-one k (offeringMember vpi vci n) o z b = stayed b (since _ o tt (λ q f e _ _ _ _. let y : _≡_ {A = ℕ} 0 1 = cc in omega arith))
   accepted-one k (removing vpi vci) o z b = stayed b (since _ o tt (λ q f e _ _ _ _. let y : _≡_ {A = ℕ} 0 1 = cc in omega arith))
@@ -200,9 +200,9 @@ module _ (bit : Fields → ℕ) (v : ℕ) (Mark : Fields → Heard → Type 0) (
   -- over a list: it waited all along, or it came
   data Traced (k : Heard) (cs : List Call) (os : List Observation) : Type 0 where
     waited : bitWaits bit (k .receiver .turned) ≡ true → InPlace Since cs os → Traced k cs os
-    came : Came Mark Since v k cs os → Traced k cs os
+    came : TakenInWithMark Mark Since v k cs os → Traced k cs os
 
-  further : (k : Heard) (c : Call) (o : Observation) (cs : List Call) (os : List Observation) → Came Mark Since v (hears v c o k) cs os → Came Mark Since v k (c ∷ cs) (o ∷ os)
+  further : (k : Heard) (c : Call) (o : Observation) (cs : List Call) (os : List Observation) → TakenInWithMark Mark Since v (hears v c o k) cs os → TakenInWithMark Mark Since v k (c ∷ cs) (o ∷ os)
   further k c o cs os x = record {
     before = c ∷ x .before;
     octets = x .octets;
@@ -247,11 +247,11 @@ module _ (bit : Fields → ℕ) (v : ℕ) (Mark : Fields → Heard → Type 0) (
   more s c o k cs os m z (waited b i) = begins k c o cs os i (one s k c o m z b)
   more s c o k cs os m z (came x) = came (further k c o cs os x)
 
-  traced : (cs : List Call) (os : List Observation) → Trace cs zeros os → bitWaits bit (kept (hears v) nothingHeard cs os .receiver .turned) ≡ true → Came Mark Since v nothingHeard cs os
+  traced : (cs : List Call) (os : List Observation) → Transcript cs zeros os → bitWaits bit (kept (hears v) nothingHeard cs os .receiver .turned) ≡ true → TakenInWithMark Mark Since v nothingHeard cs os
   traced cs os t b = of (carry (hears v) (Hears v) (keeps-hearing v) (λ s k cs os. bitWaits bit (kept (hears v) k cs os .receiver .turned) ≡ true → Traced k cs os) (λ s k b. waited b tt)
       (λ s c o k cs os m z r b. more s c o k cs os m z (r b)) empty zeros stands-first nothingHeard (hears-nothing v) cs os t b)
     where
-      of : Traced nothingHeard cs os → Came Mark Since v nothingHeard cs os
+      of : Traced nothingHeard cs os → TakenInWithMark Mark Since v nothingHeard cs os
       of (waited b i) = absurd (false≢true b)
       of (came x) = x
 
@@ -282,8 +282,8 @@ ni-sets v k g octets o e = go (eqb (k .level) 1) refl e
     go true p e = marked (atLevel1 (eqb-true (k .level) 1 p))
     go false p e = marked (withNi e)
 
-resource-same : {f g : Fields} → Resource f ≡ Resource g → f ≡ g
-resource-same e = cc
+rm-same : {f g : Fields} → RmCell f ≡ RmCell g → f ≡ g
+rm-same e = cc
 
 -- a cell with BN 0 is the turned one that waits
 due-bit : (bit : Fields → ℕ) (v : ℕ) (p : Params) (level : ℕ) (x : Option TurnedCell) (f : Fields) → f ≡ backwardDue v p level x → f .bn ≡ 0 → bit f ≡ 1 → bitWaits bit x ≡ true
@@ -291,18 +291,18 @@ due-bit bit v p level none f e n b = let y : f .bn ≡ 1 = ap (λ (g : Fields). 
 due-bit bit v p level (some x) f e n b = eq-eqb (bit (x .fields)) 1 (ap bit (sym e) ∙ b)
 
 waiting-bit :
-    (bit : Fields → ℕ) {cs : List Call} {os : List Observation} {v : ℕ} {octets : List ℕ} (d : Receiver) → SentAsDue cs os v d octets → (f : Fields) → reading octets ≡ Resource f → f .bn ≡ 0
+    (bit : Fields → ℕ) {cs : List Call} {os : List Observation} {v : ℕ} {octets : List ℕ} (d : Receiver) → SentAsDue cs os v d octets → (f : Fields) → reading octets ≡ RmCell f → f .bn ≡ 0
     → bit f ≡ 1 → bitWaits bit (d .turned) ≡ true
-waiting-bit bit {v = v} d h f e n b = due-bit bit v (h .opened .params) (d .made) (d .turned) f (resource-same (sym e ∙ h .read)) n b
+waiting-bit bit {v = v} d h f e n b = due-bit bit v (h .opened .params) (d .made) (d .turned) f (rm-same (sym e ∙ h .read)) n b
 
 pub exports-no-mark-invented : ExportsNoMarkInvented
 exports-no-mark-invented = record {
   ci = λ cs os tr t room o g k f e n b.
-      let v = nameOf (o .returned .vpi) (o .returned .vci) in
+      let v = nameFrom (o .returned .vpi) (o .returned .vci) in
       traced (λ f. f .ci) v MarkHeard (QuietSeen v) (ci-sets v) (λ c o q n. q) cs os tr
       (waiting-bit (λ f. f .ci) (kept (hears v) nothingHeard cs os .receiver) (exports-turned cs os tr t room o g k) f e n b);
   ni = λ cs os tr t room o g k f e n b.
-      let v = nameOf (o .returned .vpi) (o .returned .vci) in
+      let v = nameFrom (o .returned .vpi) (o .returned .vci) in
       traced (λ f. f .ni) v NiHeard (QuietLast v) (ni-sets v) (λ c o q n. record { quiet = q; noForward = n }) cs os tr
       (waiting-bit (λ f. f .ni) (kept (hears v) nothingHeard cs os .receiver) (exports-turned cs os tr t room o g k) f e n b);
 }

@@ -10,6 +10,6 @@ pub mod Marks
 pub mod Invented
 pub mod Spaced
 pub mod Alike
-pub mod OutsideAlone
-pub mod Pairs
+pub mod OutOfRateAlone
+pub mod Addresses
 pub mod Forward

@@ -4,11 +4,11 @@ use mathlib.Core.Path.{_≡_, sym, ap, _∙_}
 use mathlib.Core.Bool.{true, false≢true}
 use mathlib.Core.List.{List}
 use native.Mathlib.Omega.{arith}
-use Rattle.cell.specs.Name.{nameOf}
+use Rattle.cell.specs.Name.{nameFrom}
 use Rattle.cell.specs.Fields.{cellName}
 use Rattle.cell.specs.Reading.{reading}
 use Rattle.cell.specs.declared.fields.Fields.{Fields}
-use Rattle.cell.specs.declared.read.Reading.the-variants.{Resource}
+use Rattle.cell.specs.declared.read.Reading.the-variants.{RmCell}
 use Rattle.connection.specs.declared.parts.Connection.{Connection}
 use Rattle.connection.specs.declared.kind.Kind.the-variants.{Turned}
 use Rattle.connection.specs.Sending.{Buffer}
@@ -17,14 +17,14 @@ use Rattle.model.specs.declared.answer.Answer.the-variants.{Sent}
 use Rattle.model.specs.Call.{Call, opening, closing, receiving, offering, levelling, slot, making, outOfRate, openingPath, adding, offeringMember, removing, Outcome}
 use Rattle.model.specs.Step.{refuse, step}
 use Rattle.model.specs.Run.{final, isAccepted}
-use Rattle.model.proofs.Effects.{Effect, refuses, marks, works, effect}
-use Rattle.answers.specs.declared.calls.SlotAnswer.{SlotAnswer}
-use Rattle.answers.specs.Calls.{slotAnswer}
+use Rattle.model.proofs.Effects.{Effect, refuses, receivesData, receivesRm, effect}
+use Rattle.abr_answers.specs.declared.calls.AbrSent.{AbrSent}
+use Rattle.abr_answers.specs.Calls.{sentOf}
 use Rattle.engine.specs.Contract.{bufferContent}
 use Rattle.abr.specs.Exports.{Observation, zeros}
-use Rattle.promises.specs.Demand3.{InPlace}
-use Rattle.rm_cells.specs.Marks.{MarkCame, withCi as cameCi, withEfci as cameEfci, atLevel2 as cameLevel, Quiet, AllQuiet, MarkWritten}
-use Rattle.rm_cells.proofs.Marks.{no-mark-lost}
+use Rattle.promise_lists.specs.Demand3.{InPlace}
+use Rattle.promise_cells.specs.Marks.{MarkCame, withCi as cameCi, withEfci as cameEfci, atLevel2 as cameLevel, Quiet, AllQuiet, MarkWritten}
+use Rattle.promise_cells.proofs.Marks.{no-mark-lost}
 use Rattle.exports.proofs.Returned.{back}
 use Rattle.exports_cells.specs.Heard.{Heard, hears, nothingHeard}
 use Rattle.exports_cells.specs.Marks.{MarkHeard, withCi, withEfci, atLevel2, QuietSeen, MarkIn, ExportsNoMarkLost}
@@ -34,11 +34,11 @@ use Rattle.exports_cells.proofs.Sent.{sent-own, sent-of, turned-data}
 use Rattle.exports_cells.proofs.Heard.{entryDestination, Hears, keeps-hearing, hears-nothing}
 
 -- an RM cell that is taken in has an open connection
-taken-held : {s : State} {q : List ℕ} {p : Outcome} (f : Fields) → Effect s (receiving q) p → reading q ≡ Resource f → isAccepted (p .answer) ≡ true → Held (cellName f) s
+taken-held : {s : State} {q : List ℕ} {p : Outcome} (f : Fields) → Effect s (receiving q) p → reading q ≡ RmCell f → isAccepted (p .answer) ≡ true → Held (cellName f) s
 unfolding refuse isAccepted
 taken-held f (refuses _ n h) e a = absurd (false≢true a)
-taken-held f (marks q vpi vci m u d r i z g) e a = let z : _≡_ {A = ℕ} 0 1 = cc in absurd (omega arith)
-taken-held {s} f (works q g d r h) e a = let i : g ≡ f = cc in record { holder = d; found = ap (λ (x : Fields). find (cellName x) (s .entries)) (sym i) ∙ h }
+taken-held f (receivesData q vpi vci m u d r i z g) e a = let z : _≡_ {A = ℕ} 0 1 = cc in absurd (omega arith)
+taken-held {s} f (receivesRm q g d r h) e a = let i : g ≡ f = cc in record { holder = d; found = ap (λ (x : Fields). find (cellName x) (s .entries)) (sym i) ∙ h }
 
 mark-came : (f : Fields) (k : Heard) (s : State) (c : Connection) → Hears (cellName f) k s → find (cellName f) (s .entries) ≡ taken c → MarkHeard f k → MarkCame f c (s .level)
 unfolding entryDestination
@@ -53,8 +53,8 @@ quiet v s (receiving r) o z q = z .ofOctets
 quiet v s (offering vpi vci n) o z q = tt
 quiet v s (levelling l) o z q = tt
 quiet v s (slot t room) o z q = λ x acr n e.
-    let r : o .returned ≡ slotAnswer (Sent v x Turned acr n) = z .matches .returned ∙ ap slotAnswer e in
-    q (ap (λ (a : SlotAnswer). a .kind) r) (ap (λ (a : SlotAnswer). nameOf (a .vpi) (a .vci)) r ∙ back x ∙ sent-own Turned turned-data z e)
+    let r : o .returned ≡ sentOf (Sent v x Turned acr n) = z .matches .returned ∙ ap sentOf e in
+    q (ap (λ (a : AbrSent). a .kind) r) (ap (λ (a : AbrSent). nameFrom (a .vpi) (a .vci)) r ∙ back x ∙ sent-own Turned turned-data z e)
 quiet v s (making vpi vci t) o z q = tt
 quiet v s (outOfRate vpi vci t room) o z q = tt
 quiet v s (openingPath vpi t p) o z q = tt

@@ -3,7 +3,7 @@ use Prim.Native.Nat.{ℕ, _<_}
 use mathlib.Core.Path.{_≡_, refl, sym, ap, subst, _∙_}
 use native.Mathlib.Omega.{arith}
 use lib.Dec.{lit<}
-use Rattle.cell.specs.Name.{nameOf}
+use Rattle.cell.specs.Name.{nameFrom}
 use Rattle.connection.specs.declared.kind.Kind.{Kind}
 use Rattle.connection.specs.declared.kind.Kind.the-variants.{Forward, Turned, Data}
 use Rattle.connection.specs.Kind.{kindNumber}
@@ -12,11 +12,11 @@ use Rattle.model.specs.declared.answer.Answer.{Answer}
 use Rattle.model.specs.declared.answer.Answer.the-variants.{Refused, Accepted, Closed, Idle, Sent}
 use Rattle.model.specs.Call.{slot}
 use Rattle.model.specs.Step.{step}
-use Rattle.answers.specs.declared.calls.SlotAnswer.{SlotAnswer}
-use Rattle.answers.specs.Calls.{slotAnswer}
+use Rattle.abr_answers.specs.declared.calls.AbrSent.{AbrSent}
+use Rattle.abr_answers.specs.Calls.{sentOf}
 use Rattle.abr.specs.Exports.{Observation}
-use Rattle.rm_cells.specs.Addresses.{CarriesName, SentCarries}
-use Rattle.rm_cells.proofs.Addresses.{cells-carry-names}
+use Rattle.promise_cells.specs.Addresses.{CarriesName, SentCarries}
+use Rattle.promise_cells.proofs.Addresses.{cells-carry-names}
 use Rattle.exports.proofs.Returned.{back}
 use Rattle.exports.proofs.Transport.{Sees}
 
@@ -51,7 +51,7 @@ pub record SentOf (k : Kind) (v : ℕ) (a : Answer) : Type 0 where
   pub comparisons : ℕ
   pub is : a ≡ Sent v told k acr comparisons
 
-is-sent : (k : Kind) (a : Answer) → slotAnswer a .kind ≡ kindNumber k → IsSent k a
+is-sent : (k : Kind) (a : Answer) → sentOf a .kind ≡ kindNumber k → IsSent k a
 is-sent k (Refused n) e = absurd (omega (arith, e, some-kind k))
 is-sent k (Accepted n) e = absurd (omega (arith, e, some-kind k))
 is-sent k (Closed n c) e = absurd (omega (arith, e, some-kind k))
@@ -71,10 +71,10 @@ sent-own {s} {t} {room} {v} {x} k d z e =
 
 pub sent-of :
     {s : State} {t room : ℕ} {o : Observation} (k : Kind) → (k ≡ Data → ⊥) → Sees s (slot t room) o → o .returned .kind ≡ kindNumber k
-    → SentOf k (nameOf (o .returned .vpi) (o .returned .vci)) (step s (slot t room) .answer)
+    → SentOf k (nameFrom (o .returned .vpi) (o .returned .vci)) (step s (slot t room) .answer)
 sent-of {s} {t} {room} k d z e =
-    let w = is-sent k (step s (slot t room) .answer) (sym (ap (λ (a : SlotAnswer). a .kind) (z .matches .returned)) ∙ e) in
-    let n = ap (λ (a : SlotAnswer). nameOf (a .vpi) (a .vci)) (z .matches .returned ∙ ap slotAnswer (w .is)) ∙ back (w .told) ∙ sent-own k d z (w .is) in
+    let w = is-sent k (step s (slot t room) .answer) (sym (ap (λ (a : AbrSent). a .kind) (z .matches .returned)) ∙ e) in
+    let n = ap (λ (a : AbrSent). nameFrom (a .vpi) (a .vci)) (z .matches .returned ∙ ap sentOf (w .is)) ∙ back (w .told) ∙ sent-own k d z (w .is) in
     record { told = w .told; acr = w .acr; comparisons = w .comparisons; is = w .is ∙ ap (λ (v : ℕ). Sent v (w .told) k (w .acr) (w .comparisons)) (sym n) }
 
 pub turned-data : _≡_ {A = Kind} Turned Data → ⊥

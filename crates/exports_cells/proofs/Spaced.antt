@@ -1,10 +1,10 @@
--- Made cells, and cells outside the rate, lie 100 ms apart, of exported calls.
+-- Made cells, and out-of-rate cells, lie 100 ms apart, of exported calls.
 use Prim.Native.Nat.{ℕ}
 use mathlib.Core.List.{List}
 use Rattle.model.specs.Call.{Call}
-use Rattle.rm_cells.specs.Spaced.{Apart}
-use Rattle.rm_cells.proofs.OutOfRate.{out-of-rate-spaced}
-use Rattle.rm_cells.proofs.Spaced.{makings-spaced}
+use Rattle.promise_cells.specs.Spaced.{Apart}
+use Rattle.promise_cells.proofs.OutOfRate.{out-of-rate-spaced}
+use Rattle.promise_cells.proofs.Spaced.{makings-spaced}
 use Rattle.exports.proofs.Transport.{sees, stands, stands-after, was-accepted}
 use Rattle.exports_cells.specs.Spaced.{SeenApart, ExportsSpaced}
 
@@ -17,5 +17,5 @@ seen-apart vpi vci one two t later apart cs ds os ps o p x y u z h a b =
 pub exports-spaced : ExportsSpaced
 exports-spaced = record {
   made = λ vpi vci t later. seen-apart vpi vci _ _ t later (λ cs ds. makings-spaced cs ds vpi vci t later);
-  outside = λ vpi vci t room later laterRoom. seen-apart vpi vci _ _ t later (λ cs ds. out-of-rate-spaced cs ds vpi vci t room later laterRoom);
+  outOfRateCells = λ vpi vci t room later laterRoom. seen-apart vpi vci _ _ t later (λ cs ds. out-of-rate-spaced cs ds vpi vci t room later laterRoom);
 }

@@ -7,10 +7,10 @@ use mathlib.Core.Option.{Option, none, some}
 use native.Mathlib.Omega.{arith}
 use borrow.Author.Tests.{ltb-true}
 use lib.Dec.{ltb, lit≤}
-use Rattle.params.specs.declared.params.Params.{Params}
-use Rattle.cell.specs.Name.{nameOf, noName}
+use Rattle.rate_params.specs.declared.params.Params.{Params}
+use Rattle.cell.specs.Name.{nameFrom, noName}
 use Rattle.cell.specs.Reading.{reading}
-use Rattle.cell.specs.declared.read.Reading.the-variants.{Resource}
+use Rattle.cell.specs.declared.read.Reading.the-variants.{RmCell}
 use Rattle.cell.proofs.Written.{read-written}
 use Rattle.connection.specs.declared.parts.Connection.{Connection}
 use Rattle.connection.specs.declared.parts.Destination.{Destination}
@@ -21,7 +21,7 @@ use Rattle.connection.specs.declared.kind.Kind.the-variants.{Forward, Turned, D
 use Rattle.connection.specs.Kind.{kindAt}
 use Rattle.connection.specs.Making.{madeFields}
 use Rattle.connection.specs.Ready.{waits, backwardWaits}
-use Rattle.connection.specs.Sending.{Buffer, written, after, backwardCell, bufferAfter}
+use Rattle.connection.specs.Sending.{Buffer, written, after, backwardCell, bufferSent}
 use Rattle.connection.proofs.Waited.{turned-waits}
 use Rattle.connection.proofs.SendCases.{made-fits}
 use Rattle.model.specs.State.{State, taken, empty, find}
@@ -46,7 +46,7 @@ use Rattle.exports_cells.proofs.Sent.{sent-of, turned-data}
 -- what waits is sent
 record Due (v : ℕ) (p : Params) (d : Receiver) (octets : List ℕ) : Type 0 where
   waits : d .turned ≡ none → 0 < d .made
-  read : reading octets ≡ Resource (backwardDue v p (d .made) (d .turned))
+  read : reading octets ≡ RmCell (backwardDue v p (d .made) (d .turned))
   bits : KeptFrom (d .turned) octets
 
 due-from :
@@ -69,8 +69,8 @@ record Buffered (v : ℕ) (p : Params) (r : Receiver) (b : Buffer) : Type 0 wher
   due : Due v p r octets
 
 buffered : (v : ℕ) (p : Params) (r : Receiver) (c d : Connection) (k : Kind) → k ≡ Turned → c .name ≡ v → c .rate .params ≡ p → v < noName → ReceiverAs v r (c .destination)
-    → backwardWaits (c .destination) ≡ true → Buffered v p r (bufferAfter k c d)
-unfolding bufferAfter
+    → backwardWaits (c .destination) ≡ true → Buffered v p r (bufferSent k c d)
+unfolding bufferSent
 buffered v p r c d Forward e n q l h z = let y : _≡_ {A = ℕ} 0 1 = cc in absurd (omega arith)
 buffered v p r c d Turned e n q l h z = record {
   octets = backwardCell v p (c .destination .turned) (c .destination .made .level);
@@ -110,7 +110,7 @@ pub exports-turned : ExportsTurned
 unfolding entryParams
 exports-turned cs os tr t room o g k =
     let s = final empty cs in
-    let v = nameOf (o .returned .vpi) (o .returned .vci) in
+    let v = nameFrom (o .returned .vpi) (o .returned .vci) in
     let y = sees (stands cs os tr) g in
     let heard = kept-so (hears v) (Hears v) (keeps-hearing v) empty zeros stands-first nothingHeard (hears-nothing v) cs os tr in
     let h = slot-buffered v _ (y .wellFormed) (effect s (y .wellFormed .unique) (slot t room)) (sent-of Turned turned-data y k .is) (heard .receiver) in

@@ -9,18 +9,18 @@ use lib.Dec.{eqb, lit≤}
 use lib.ListN.{length, getD, drop, length-drop}
 use lib.Seq.{getD-drop}
 use Rattle.cell.specs.declared.fields.Fields.{Fields}
-use Rattle.cell.specs.declared.read.Reading.the-variants.{Resource}
+use Rattle.cell.specs.declared.read.Reading.the-variants.{RmCell}
 use Rattle.cell.specs.Octets.{octet, payload}
 use Rattle.cell.specs.Header.{header}
-use Rattle.cell.specs.Fields.{fieldsFit, fieldsOf, resourceCell}
+use Rattle.cell.specs.Fields.{fieldsFit, fieldsOf, rmCell}
 use Rattle.cell.specs.Turning.{turnedMarks, turnedPayload}
 use Rattle.cell.specs.Returned.{returned}
 use Rattle.cell.specs.Form.{Framed, Blank}
 use Rattle.cell.specs.Reading.{reading}
 use Rattle.cell.specs.declared.write.Written.the-variants.{Done, Refused}
-use Rattle.cell.specs.Writing.{writing, bufferAfter}
+use Rattle.cell.specs.Writing.{writing, bufferWritten}
 use Rattle.cell.specs.Admitted.{Admitted}
-use Rattle.cell.proofs.Admits.{taken-admitted, resource-received}
+use Rattle.cell.proofs.Admits.{taken-admitted, rm-received}
 use Rattle.cell.proofs.Written.{read-written}
 use Rattle.cell.proofs.Form.{carried-framed, written-form}
 use Rattle.cell.proofs.Turned.{turned-read, turned-words}
@@ -28,21 +28,21 @@ use Rattle.connection.specs.declared.kind.Kind.{Kind}
 use Rattle.connection.specs.declared.kind.Kind.the-variants.{Forward, Turned, Data}
 use Rattle.connection.specs.declared.parts.Connection.{Connection}
 use Rattle.connection.specs.Kind.{kindAt, kindNumber}
-use Rattle.connection.specs.Sending.{Buffer, untouched, written, bufferAfter as bufferSent, after}
+use Rattle.connection.specs.Sending.{Buffer, untouched, written, bufferSent, after}
 use Rattle.model.specs.State.{State}
 use Rattle.model.specs.Call.{Call, opening, closing, receiving, offering, levelling, slot, making, outOfRate, openingPath, adding, offeringMember, removing, Outcome}
-use Rattle.model.specs.Step.{refuse, accept, replay, discard, idleStep, sendFrom, sendStep, sendOutside, step}
-use Rattle.model.proofs.Effects.{Effect, refuses, begins, ends, offers, marks, works, levels, idles, sends, makes, leaves, beginsPath, adds, offersMember, removes, effect}
-use Rattle.answers.specs.Calls.{noCell, slotAnswer}
-use Rattle.answers.specs.Cells.{writeNumber, numberOf, octetsAfter}
+use Rattle.model.specs.Step.{refuse, accept, replay, discard, idleStep, sendFrom, sendStep, sendOutOfRate, step}
+use Rattle.model.proofs.Effects.{Effect, refuses, opens, closes, offers, receivesData, receivesRm, setsLevel, idles, sends, makes, sendsOutOfRate, opensPath, adds, offersMember, removes, effect}
+use Rattle.abr_answers.specs.Calls.{noCell, sentOf}
+use Rattle.abr_answers.specs.Cells.{writeNumber, numberOf, octetsAfter}
 use Rattle.engine.specs.Contract.{bufferContent}
 use Rattle.abr.specs.Exports.{Observation}
-use Rattle.exports_cells.specs.Written.{wrote, clpWritten, WrittenCell, WritesAdmitted, WrittenAdmitted}
+use Rattle.exports_cells.specs.Written.{wroteCell, clpWritten, WrittenCell, WritesAdmitted, WrittenAdmitted}
 use Rattle.exports.proofs.Transport.{Sees, each-call}
 use Rattle.exports_cells.proofs.WrittenCells.{Writes, Holds, written-hold}
 
 -- what is read as an RM cell is admitted
-read-admitted : (o : List ℕ) (f : Fields) → reading o ≡ Resource f → Admitted o
+read-admitted : (o : List ℕ) (f : Fields) → reading o ≡ RmCell f → Admitted o
 read-admitted o f e = taken-admitted o (λ n q. let z : _≡_ {A = ℕ} 0 1 = cc in omega arith)
 
 -- a turned cell is framed anew, and has DIR 1 and BN 0
@@ -57,10 +57,10 @@ two-bits y d n = omega (arith, d, n)
 halved : (x : ℕ) → x / 64 / 2 ≡ x / 128
 halved x = omega arith
 
-turned-marks : (o : List ℕ) (g : Fields) → reading o ≡ Resource g → g .dir ≡ 1 → g .bn ≡ 0 → octet 7 o / 64 % 4 ≡ 2
+turned-marks : (o : List ℕ) (g : Fields) → reading o ≡ RmCell g → g .dir ≡ 1 → g .bn ≡ 0 → octet 7 o / 64 % 4 ≡ 2
 unfolding fieldsOf
 turned-marks o g e d n =
-    let f = resource-received o g e .fields in
+    let f = rm-received o g e .fields in
     two-bits (octet 7 o / 64) (ap (λ (x : ℕ). x % 2) (halved (octet 7 o)) ∙ sym (ap (λ (h : Fields). h .dir) f) ∙ d) (sym (ap (λ (h : Fields). h .bn) f) ∙ n)
 
 written-holds : Holds WrittenCell
@@ -68,7 +68,7 @@ unfolding returned
 written-holds = record {
   made = λ clp f l e. let h = written-form clp f l in record { admitted = read-admitted _ f (read-written clp f l e); framed = h .0; blank = λ _. h .1 };
   turned = λ level b o f a e vpi vci g l.
-      let r = resource-received o f e in
+      let r = rm-received o f e in
       let q = turned-read level b vpi vci o (r .size) f e g l in
       subst (WrittenCell 0) (sym (turned-words level b vpi vci o (r .size) a))
       (record { admitted = read-admitted _ _ q; framed = turned-framed level b vpi vci o (r .size) (r .protocol); blank = λ n. absurd (n (turned-marks _ _ q refl refl)) });
@@ -79,7 +79,7 @@ isWritten : Buffer → Bool
 isWritten untouched = false
 isWritten (written o) = true
 
-refused-writes : (c : Call) (n : ℕ) → 0 < n → wrote c (noCell n 0) ≡ false
+refused-writes : (c : Call) (n : ℕ) → 0 < n → wroteCell c (noCell n 0) ≡ false
 refused-writes (opening vpi vci t p) n h = refl
 refused-writes (closing vpi vci) n h = refl
 refused-writes (receiving o) n h = refl
@@ -99,20 +99,20 @@ sent-writes Forward c d = refl
 sent-writes Turned c d = refl
 sent-writes Data c d = refl
 
-effect-writes : {s : State} {c : Call} {o : Outcome} → Effect s c o → wrote c (slotAnswer (o .answer)) ≡ isWritten (o .buffer)
-unfolding refuse accept replay discard idleStep sendFrom sendStep sendOutside isWritten
+effect-writes : {s : State} {c : Call} {o : Outcome} → Effect s c o → wroteCell c (sentOf (o .answer)) ≡ isWritten (o .buffer)
+unfolding refuse accept replay discard idleStep sendFrom sendStep sendOutOfRate isWritten
 effect-writes (refuses c n h) = refused-writes c n h
-effect-writes (begins a b t p g) = refl
-effect-writes (ends a b d f) = refl
+effect-writes (opens a b t p g) = refl
+effect-writes (closes a b d f) = refl
 effect-writes (offers a b n d f i p) = refl
-effect-writes (marks o a b e u d r i z f) = refl
-effect-writes (works o g d r f) = refl
-effect-writes (levels l p) = refl
+effect-writes (receivesData o a b e u d r i z f) = refl
+effect-writes (receivesRm o g d r f) = refl
+effect-writes (setsLevel l p) = refl
 effect-writes (idles t room g b) = refl
 effect-writes (sends t room i u g b) = sent-writes (kindAt t (b .holder)) (b .holder) (after (kindAt t (b .holder)) t (b .holder))
 effect-writes (makes a b t d f g p z) = refl
-effect-writes (leaves a b t room d f g p) = refl
-effect-writes (beginsPath a t p g) = refl
+effect-writes (sendsOutOfRate a b t room d f g p) = refl
+effect-writes (opensPath a t p g) = refl
 effect-writes (adds a b d f j) = refl
 effect-writes (offersMember a b n d f i p) = refl
 effect-writes (removes a b d f i) = refl
@@ -128,23 +128,23 @@ buffer-left untouched old e = refl
 buffer-left (written o) old e = absurd (true≢false e)
 
 module _ {s : State} {c : Call} {o : Observation} (y : Sees s c o) where
-  written-seen : wrote c (o .returned) ≡ isWritten (step s c .buffer)
-  written-seen = ap (wrote c) (y .matches .returned) ∙ effect-writes (effect s (y .wellFormed .unique) c)
+  written-seen : wroteCell c (o .returned) ≡ isWritten (step s c .buffer)
+  written-seen = ap (wroteCell c) (y .matches .returned) ∙ effect-writes (effect s (y .wellFormed .unique) c)
 
   -- what holds of the written octets holds of those in the lent buffer, and where none are written it stays
-  pub holds-seen : (P : List ℕ → Type 0) → Writes P (step s c .buffer) → wrote c (o .returned) ≡ true → P (o .new)
+  pub holds-seen : (P : List ℕ → Type 0) → Writes P (step s c .buffer) → wroteCell c (o .returned) ≡ true → P (o .new)
   holds-seen P h e = subst P (sym (y .matches .buffer)) (buffer-seen P (step s c .buffer) (o .old) h (sym written-seen ∙ e))
 
-  pub left-seen : wrote c (o .returned) ≡ false → o .new ≡ o .old
+  pub left-seen : wroteCell c (o .returned) ≡ false → o .new ≡ o .old
   left-seen e = y .matches .buffer ∙ buffer-left (step s c .buffer) (o .old) (sym written-seen ∙ e)
 
 -- abr_write_rm
 wrote-admitted : (f : Fields) (old : List ℕ) → numberOf f old ≡ 0 → Admitted (octetsAfter f old) × Framed 0 (octetsAfter f old) × Blank (octetsAfter f old)
-unfolding writing bufferAfter
+unfolding writing bufferWritten
 wrote-admitted f old e = go (eqb (length old) 53) (fieldsFit f) refl e
   where
     go :
-        (a b : Bool) → fieldsFit f ≡ b → writeNumber (cond a (cond b Done (Refused 7)) (Refused 1)) ≡ 0 → let o = bufferAfter (cond a (cond b Done (Refused 7)) (Refused 1)) (resourceCell 0 f) old in
+        (a b : Bool) → fieldsFit f ≡ b → writeNumber (cond a (cond b Done (Refused 7)) (Refused 1)) ≡ 0 → let o = bufferWritten (cond a (cond b Done (Refused 7)) (Refused 1)) (rmCell 0 f) old in
         Admitted o × Framed 0 o × Blank o
     go true true q e = let h = written-form 0 f (lit≤ tt) in (read-admitted _ f (read-written 0 f (lit≤ tt) q), h .0, h .1)
     go true false q e = absurd (omega (arith, e))

@@ -7,17 +7,17 @@ use mathlib.Core.List.{List}
 use mathlib.Core.Option.{Option, none, some}
 use lib.Dec.{eqb}
 use Rattle.rate.specs.Code.{codeOf}
-use Rattle.params.specs.declared.params.Params.{Params}
-use Rattle.params.specs.Params.{peak}
-use Rattle.cell.specs.Name.{nameOf, vpiIn, vciIn, pairName}
+use Rattle.rate_params.specs.declared.params.Params.{Params}
+use Rattle.rate_params.specs.Params.{peak}
+use Rattle.cell.specs.Name.{nameFrom, vpiIn, vciIn, addressName}
 use Rattle.cell.specs.Fields.{cellName}
 use Rattle.cell.specs.Reading.{reading}
 use Rattle.cell.specs.declared.fields.Fields.{Fields}
 use Rattle.cell.specs.declared.read.Reading.{Reading}
-use Rattle.cell.specs.declared.read.Reading.the-variants.{Refused, User, Resource}
-use Rattle.members.specs.Path.{pathVci}
+use Rattle.cell.specs.declared.read.Reading.the-variants.{Refused, DataCell, RmCell}
+use Rattle.connection_members.specs.Path.{pathVci}
 use Rattle.model.specs.Call.{Call, opening, closing, receiving, offering, levelling, slot, making, outOfRate, openingPath, adding, offeringMember, removing}
-use Rattle.answers.specs.declared.calls.SlotAnswer.{SlotAnswer}
+use Rattle.abr_answers.specs.declared.calls.AbrSent.{AbrSent}
 use Rattle.abr.specs.Exports.{Observation}
 use Rattle.exports.specs.Returned.{noMember, memberSeen, connectionOf}
 
@@ -68,20 +68,20 @@ goneFrom e m (some x) = record { efci = e; turned = none; made = m }
 
 abbrev pub receivedFrom : (v : ℕ) → (member : ℕ → Bool) → (level : ℕ) → List ℕ → Reading → Receiver → Receiver
 receivedFrom v f level o (Refused n) d = d
-receivedFrom v f level o (User vpi vci e) d = cond (eqb (connectionOf f (pairName vpi vci)) v) (record { efci = e; turned = d .turned; made = d .made }) d
-receivedFrom v f level o (Resource g) d = cond (eqb (cellName g) v) (cond (eqb (g .dir) 1) d (turnedAt v level o g d)) d
+receivedFrom v f level o (DataCell vpi vci e) d = cond (eqb (connectionOf f (addressName vpi vci)) v) (record { efci = e; turned = d .turned; made = d .made }) d
+receivedFrom v f level o (RmCell g) d = cond (eqb (cellName g) v) (cond (eqb (g .dir) 1) d (turnedAt v level o g d)) d
 
 -- after a call that was not refused: kind 2 is a turned or made cell
-abbrev pub receiverAfter : (v : ℕ) → (member : ℕ → Bool) → (level : ℕ) → Call → SlotAnswer → Receiver → Receiver
-receiverAfter v f level (opening vpi vci t p) r d = cond (eqb (pairName vpi vci) v) nothingWaits d
-receiverAfter v f level (closing vpi vci) r d = cond (eqb (pairName vpi vci) v) nothingWaits d
+abbrev pub receiverAfter : (v : ℕ) → (member : ℕ → Bool) → (level : ℕ) → Call → AbrSent → Receiver → Receiver
+receiverAfter v f level (opening vpi vci t p) r d = cond (eqb (addressName vpi vci) v) nothingWaits d
+receiverAfter v f level (closing vpi vci) r d = cond (eqb (addressName vpi vci) v) nothingWaits d
 receiverAfter v f level (receiving o) r d = receivedFrom v f level o (reading o) d
 receiverAfter v f level (offering vpi vci n) r d = d
 receiverAfter v f level (levelling l) r d = d
-receiverAfter v f level (slot t room) r d = cond (eqb (r .kind) 2 && eqb (nameOf (r .vpi) (r .vci)) v) (goneFrom (d .efci) (d .made) (d .turned)) d
-receiverAfter v f level (making vpi vci t) r d = cond (eqb (pairName vpi vci) v) (record { efci = d .efci; turned = d .turned; made = level }) d
+receiverAfter v f level (slot t room) r d = cond (eqb (r .kind) 2 && eqb (nameFrom (r .vpi) (r .vci)) v) (goneFrom (d .efci) (d .made) (d .turned)) d
+receiverAfter v f level (making vpi vci t) r d = cond (eqb (addressName vpi vci) v) (record { efci = d .efci; turned = d .turned; made = level }) d
 receiverAfter v f level (outOfRate vpi vci t room) r d = d
-receiverAfter v f level (openingPath vpi t p) r d = cond (eqb (pairName vpi pathVci) v) nothingWaits d
+receiverAfter v f level (openingPath vpi t p) r d = cond (eqb (addressName vpi pathVci) v) nothingWaits d
 receiverAfter v f level (adding vpi vci) r d = d
 receiverAfter v f level (offeringMember vpi vci n) r d = d
 receiverAfter v f level (removing vpi vci) r d = d

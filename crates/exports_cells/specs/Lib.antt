@@ -6,6 +6,6 @@ pub mod Heard
 pub mod Turned
 pub mod Marks
 pub mod Spaced
-pub mod OutsideAlone
-pub mod Pairs
+pub mod OutOfRateAlone
+pub mod Addresses
 pub mod Forward

@@ -5,14 +5,14 @@ use mathlib.Core.Path.{_≡_}
 use mathlib.Core.Logic.{_≢_}
 use mathlib.Core.Bool.{true}
 use mathlib.Core.List.{List, _∷_, _++_}
-use Rattle.cell.specs.Name.{nameOf, pairName}
+use Rattle.cell.specs.Name.{nameFrom, addressName}
 use Rattle.cell.specs.Fields.{cellName}
 use Rattle.cell.specs.Reading.{reading}
 use Rattle.cell.specs.declared.fields.Fields.{Fields}
-use Rattle.cell.specs.declared.read.Reading.the-variants.{Resource}
+use Rattle.cell.specs.declared.read.Reading.the-variants.{RmCell}
 use Rattle.model.specs.Call.{Call, opening, closing, receiving, offering, levelling, slot, making, outOfRate, openingPath, adding, offeringMember, removing}
-use Rattle.abr.specs.Exports.{Observation, Performs, Trace, finalWords, zeros}
-use Rattle.promises.specs.Demand3.{InPlace}
+use Rattle.abr.specs.Exports.{Observation, Performs, Transcript, finalWords, zeros}
+use Rattle.promise_lists.specs.Demand3.{InPlace}
 use Rattle.exports.specs.Along.{kept}
 use Rattle.exports_cells.specs.Heard.{Heard, hears, nothingHeard}
 
@@ -25,11 +25,11 @@ pub data MarkHeard (f : Fields) (k : Heard) : Type 0 where
 -- a call that neither closes v nor returns a turned cell of it, kind 2
 abbrev pub QuietSeen : ℕ → Call → Observation → Type 0
 QuietSeen v (opening vpi vci t p) o = Unit
-QuietSeen v (closing vpi vci) o = pairName vpi vci ≢ v
+QuietSeen v (closing vpi vci) o = addressName vpi vci ≢ v
 QuietSeen v (receiving q) o = Unit
 QuietSeen v (offering vpi vci n) o = Unit
 QuietSeen v (levelling l) o = Unit
-QuietSeen v (slot t room) o = o .returned .kind ≡ 2 → nameOf (o .returned .vpi) (o .returned .vci) ≢ v
+QuietSeen v (slot t room) o = o .returned .kind ≡ 2 → nameFrom (o .returned .vpi) (o .returned .vci) ≢ v
 QuietSeen v (making vpi vci t) o = Unit
 QuietSeen v (outOfRate vpi vci t room) o = Unit
 QuietSeen v (openingPath vpi t p) o = Unit
@@ -40,7 +40,7 @@ QuietSeen v (removing vpi vci) o = Unit
 -- the octets are read as a turned cell of v with CI 1: a made cell has BN 1
 pub record MarkIn (v : ℕ) (octets : List ℕ) : Type 0 where
   pub fields : Fields
-  pub read : reading octets ≡ Resource fields
+  pub read : reading octets ≡ RmCell fields
   pub name : cellName fields ≡ v
   pub backward : fields .dir ≡ 1
   pub turned : fields .bn ≡ 0
@@ -49,10 +49,10 @@ pub record MarkIn (v : ℕ) (octets : List ℕ) : Type 0 where
 -- after any exported calls a marked forward cell that is taken in, then any calls that neither close its connection nor return a turned cell of it, then a slot that does
 abbrev pub ExportsNoMarkLost : Type 0
 ExportsNoMarkLost =
-    (cs ds : List Call) (os ps : List Observation) (octets : List ℕ) (f : Fields) (o p : Observation) (t room : ℕ) → Trace cs zeros os → Performs (receiving octets) (finalWords zeros os) o
-    → Trace ds (o .table) ps → Performs (slot t room) (finalWords (o .table) ps) p → reading octets ≡ Resource f → f .dir ≡ 0 → o .returned .refusal ≡ 0
+    (cs ds : List Call) (os ps : List Observation) (octets : List ℕ) (f : Fields) (o p : Observation) (t room : ℕ) → Transcript cs zeros os → Performs (receiving octets) (finalWords zeros os) o
+    → Transcript ds (o .table) ps → Performs (slot t room) (finalWords (o .table) ps) p → reading octets ≡ RmCell f → f .dir ≡ 0 → o .returned .refusal ≡ 0
     → MarkHeard f (kept (hears (cellName f)) nothingHeard cs os) → InPlace (QuietSeen (cellName f)) ds ps
-    → p .returned .kind ≡ 2 → nameOf (p .returned .vpi) (p .returned .vci) ≡ cellName f → MarkIn (cellName f) (p .new)
+    → p .returned .kind ≡ 2 → nameFrom (p .returned .vpi) (p .returned .vci) ≡ cellName f → MarkIn (cellName f) (p .new)
 
 -- a forward cell is turned with NI 1: its own NI, or level 1
 pub data NiHeard (f : Fields) (k : Heard) : Type 0 where
@@ -62,10 +62,10 @@ pub data NiHeard (f : Fields) (k : Heard) : Type 0 where
 -- a quiet call by which no forward cell of v is taken in: NI of a replaced cell is not kept
 pub record QuietLast (v : ℕ) (c : Call) (o : Observation) : Type 0 where
   pub quiet : QuietSeen v c o
-  pub noForward : (octets : List ℕ) (f : Fields) → c ≡ receiving octets → reading octets ≡ Resource f → cellName f ≡ v → f .dir ≡ 0 → o .returned .refusal ≢ 0
+  pub noForward : (octets : List ℕ) (f : Fields) → c ≡ receiving octets → reading octets ≡ RmCell f → cellName f ≡ v → f .dir ≡ 0 → o .returned .refusal ≢ 0
 
 -- among these calls a forward cell of v was taken in that had such a mark, by what was known before it, and only such calls came since
-pub record Came (Mark : Fields → Heard → Type 0) (Since : Call → Observation → Type 0) (v : ℕ) (first : Heard) (cs : List Call) (os : List Observation) : Type 0 where
+pub record TakenInWithMark (Mark : Fields → Heard → Type 0) (Since : Call → Observation → Type 0) (v : ℕ) (first : Heard) (cs : List Call) (os : List Observation) : Type 0 where
   pub before : List Call
   pub octets : List ℕ
   pub since : List Call
@@ -76,7 +76,7 @@ pub record Came (Mark : Fields → Heard → Type 0) (Since : Call → Observati
   pub observed : os ≡ seen ++ (taken ∷ seenSince)
   pub accepted : taken .returned .refusal ≡ 0
   pub fields : Fields
-  pub read : reading octets ≡ Resource fields
+  pub read : reading octets ≡ RmCell fields
   pub name : cellName fields ≡ v
   pub forward : fields .dir ≡ 0
   pub mark : Mark fields (kept (hears v) first before seen)
@@ -85,10 +85,10 @@ pub record Came (Mark : Fields → Heard → Type 0) (Since : Call → Observati
 -- after any exported calls from the zero table, a slot that returns kind 2 and writes a turned cell: a made one has BN 1
 pub record ExportsNoMarkInvented : Type 0 where
   pub ci :
-      (cs : List Call) (os : List Observation) → Trace cs zeros os → (t room : ℕ) (o : Observation) → Performs (slot t room) (finalWords zeros os) o → o .returned .kind ≡ 2
-      → (f : Fields) → reading (o .new) ≡ Resource f → f .bn ≡ 0 → f .ci ≡ 1
-      → let v = nameOf (o .returned .vpi) (o .returned .vci) in Came MarkHeard (QuietSeen v) v nothingHeard cs os
+      (cs : List Call) (os : List Observation) → Transcript cs zeros os → (t room : ℕ) (o : Observation) → Performs (slot t room) (finalWords zeros os) o → o .returned .kind ≡ 2
+      → (f : Fields) → reading (o .new) ≡ RmCell f → f .bn ≡ 0 → f .ci ≡ 1
+      → let v = nameFrom (o .returned .vpi) (o .returned .vci) in TakenInWithMark MarkHeard (QuietSeen v) v nothingHeard cs os
   pub ni :
-      (cs : List Call) (os : List Observation) → Trace cs zeros os → (t room : ℕ) (o : Observation) → Performs (slot t room) (finalWords zeros os) o → o .returned .kind ≡ 2
-      → (f : Fields) → reading (o .new) ≡ Resource f → f .bn ≡ 0 → f .ni ≡ 1
-      → let v = nameOf (o .returned .vpi) (o .returned .vci) in Came NiHeard (QuietLast v) v nothingHeard cs os
+      (cs : List Call) (os : List Observation) → Transcript cs zeros os → (t room : ℕ) (o : Observation) → Performs (slot t room) (finalWords zeros os) o → o .returned .kind ≡ 2
+      → (f : Fields) → reading (o .new) ≡ RmCell f → f .bn ≡ 0 → f .ni ≡ 1
+      → let v = nameFrom (o .returned .vpi) (o .returned .vci) in TakenInWithMark NiHeard (QuietLast v) v nothingHeard cs os

@@ -7,29 +7,29 @@ use mathlib.Core.List.{List}
 use Rattle.cell.specs.Header.{typeOf}
 use Rattle.cell.specs.Reading.{reading}
 use Rattle.cell.specs.Admitted.{Admitted}
-use Rattle.members.specs.Path.{isPath, pathOf}
+use Rattle.connection_members.specs.Path.{isPath, pathOf}
 use Rattle.model.specs.Call.{Call, receiving}
-use Rattle.answers.specs.declared.cells.CellAnswer.{CellAnswer}
-use Rattle.answers.specs.Cells.{cellAnswer}
-use Rattle.abr.specs.Exports.{Observation, Performs, Trace, finalWords, zeros}
-use Rattle.exports.specs.Known.{Opened, Member, nameIn}
+use Rattle.abr_answers.specs.declared.cells.AbrCell.{AbrCell}
+use Rattle.abr_answers.specs.Cells.{cellAnswerOf}
+use Rattle.abr.specs.Exports.{Observation, Performs, Transcript, finalWords, zeros}
+use Rattle.exports.specs.Known.{Opened, KnownMember, nameIn}
 
 -- the connection of a cell is open: of a data cell the channel of its pair, which is no path's own name, or the path that the pair is a member of; of an RM cell that of its pair
 pub data ConnectionOpen (cs : List Call) (os : List Observation) (octets : List ℕ) : Type 0 where
   channel : typeOf octets ≤ 3 → isPath (nameIn octets) ≡ false → Opened cs os (nameIn octets) → ConnectionOpen cs os octets
-  member : typeOf octets ≤ 3 → Member cs os (nameIn octets) → Opened cs os (pathOf (nameIn octets)) → ConnectionOpen cs os octets
-  resource : typeOf octets ≡ 6 → Opened cs os (nameIn octets) → ConnectionOpen cs os octets
+  member : typeOf octets ≤ 3 → KnownMember cs os (nameIn octets) → Opened cs os (pathOf (nameIn octets)) → ConnectionOpen cs os octets
+  rm : typeOf octets ≡ 6 → Opened cs os (nameIn octets) → ConnectionOpen cs os octets
 
 -- after any exported calls from the zero table
 pub record TakenExactly : Type 0 where
   pub taken :
-      (cs : List Call) (os : List Observation) → Trace cs zeros os → (octets : List ℕ) (o : Observation) → Performs (receiving octets) (finalWords zeros os) o
+      (cs : List Call) (os : List Observation) → Transcript cs zeros os → (octets : List ℕ) (o : Observation) → Performs (receiving octets) (finalWords zeros os) o
       → o .returned .refusal ≡ 0 → Admitted octets × ConnectionOpen cs os octets
   pub takes :
-      (cs : List Call) (os : List Observation) → Trace cs zeros os → (octets : List ℕ) (o : Observation) → Performs (receiving octets) (finalWords zeros os) o
+      (cs : List Call) (os : List Observation) → Transcript cs zeros os → (octets : List ℕ) (o : Observation) → Performs (receiving octets) (finalWords zeros os) o
       → Admitted octets → ConnectionOpen cs os octets → o .returned .refusal ≡ 0
   -- and abr_read returns 0 exactly if it is admitted
-  pub read : (octets : List ℕ) (r : CellAnswer) → r ≡ cellAnswer (reading octets) → r .refusal ≡ 0 → Admitted octets
-  pub reads : (octets : List ℕ) (r : CellAnswer) → r ≡ cellAnswer (reading octets) → Admitted octets → r .refusal ≡ 0
+  pub read : (octets : List ℕ) (r : AbrCell) → r ≡ cellAnswerOf (reading octets) → r .refusal ≡ 0 → Admitted octets
+  pub reads : (octets : List ℕ) (r : AbrCell) → r ≡ cellAnswerOf (reading octets) → Admitted octets → r .refusal ≡ 0
   -- a member's path is open, and its own name is not: a pair is a channel or a member, never both
-  pub members : (cs : List Call) (os : List Observation) → Trace cs zeros os → (x : ℕ) → Member cs os x → Opened cs os (pathOf x) × (Opened cs os x → ⊥)
+  pub members : (cs : List Call) (os : List Observation) → Transcript cs zeros os → (x : ℕ) → KnownMember cs os x → Opened cs os (pathOf x) × (Opened cs os x → ⊥)

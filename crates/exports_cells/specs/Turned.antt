@@ -3,12 +3,12 @@ use Prim.Native.Nat.{ℕ, _<_}
 use mathlib.Core.Path.{_≡_}
 use mathlib.Core.List.{List}
 use mathlib.Core.Option.{Option, none, some}
-use Rattle.cell.specs.Name.{nameOf}
+use Rattle.cell.specs.Name.{nameFrom}
 use Rattle.cell.specs.Reading.{reading}
 use Rattle.cell.specs.Returned.{Kept}
-use Rattle.cell.specs.declared.read.Reading.the-variants.{Resource}
+use Rattle.cell.specs.declared.read.Reading.the-variants.{RmCell}
 use Rattle.model.specs.Call.{Call, slot}
-use Rattle.abr.specs.Exports.{Observation, Performs, Trace, finalWords, zeros}
+use Rattle.abr.specs.Exports.{Observation, Performs, Transcript, finalWords, zeros}
 use Rattle.exports.specs.Known.{Opened}
 use Rattle.exports.specs.Along.{kept}
 use Rattle.exports_cells.specs.Heard.{TurnedCell, Receiver, hears, nothingHeard, backwardDue}
@@ -22,11 +22,11 @@ KeptFrom (some x) octets = Kept (x .received) octets
 pub record SentAsDue (cs : List Call) (os : List Observation) (v : ℕ) (d : Receiver) (octets : List ℕ) : Type 0 where
   pub opened : Opened cs os v
   pub waits : d .turned ≡ none → 0 < d .made
-  pub read : reading octets ≡ Resource (backwardDue v (opened .params) (d .made) (d .turned))
+  pub read : reading octets ≡ RmCell (backwardDue v (opened .params) (d .made) (d .turned))
   pub bits : KeptFrom (d .turned) octets
 
 -- after any exported calls from the zero table, a slot that returns kind 2 and the pair of v
 abbrev pub ExportsTurned : Type 0
 ExportsTurned =
-    (cs : List Call) (os : List Observation) → Trace cs zeros os → (t room : ℕ) (o : Observation) → Performs (slot t room) (finalWords zeros os) o → o .returned .kind ≡ 2
-    → let v = nameOf (o .returned .vpi) (o .returned .vci) in SentAsDue cs os v (kept (hears v) nothingHeard cs os .receiver) (o .new)
+    (cs : List Call) (os : List Observation) → Transcript cs zeros os → (t room : ℕ) (o : Observation) → Performs (slot t room) (finalWords zeros os) o → o .returned .kind ≡ 2
+    → let v = nameFrom (o .returned .vpi) (o .returned .vci) in SentAsDue cs os v (kept (hears v) nothingHeard cs os .receiver) (o .new)

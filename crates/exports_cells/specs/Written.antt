@@ -11,27 +11,27 @@ use Rattle.cell.specs.Octets.{octet}
 use Rattle.cell.specs.Admitted.{Admitted}
 use Rattle.cell.specs.Form.{Framed, Blank}
 use Rattle.model.specs.Call.{Call, opening, closing, receiving, offering, levelling, slot, making, outOfRate, openingPath, adding, offeringMember, removing}
-use Rattle.answers.specs.declared.calls.SlotAnswer.{SlotAnswer}
-use Rattle.answers.specs.Cells.{numberOf, octetsAfter}
-use Rattle.abr.specs.Exports.{Observation, Trace, zeros}
-use Rattle.promises.specs.Demand3.{InPlace}
+use Rattle.abr_answers.specs.declared.calls.AbrSent.{AbrSent}
+use Rattle.abr_answers.specs.Cells.{numberOf, octetsAfter}
+use Rattle.abr.specs.Exports.{Observation, Transcript, zeros}
+use Rattle.promise_lists.specs.Demand3.{InPlace}
 
--- whether a call wrote its buffer, by what it returned: a slot of kind 1 or 2, a forward or a turned cell; a cell outside the rate that was not refused
-abbrev pub wrote : Call → SlotAnswer → Bool
-wrote (opening vpi vci t p) r = false
-wrote (closing vpi vci) r = false
-wrote (receiving o) r = false
-wrote (offering vpi vci n) r = false
-wrote (levelling l) r = false
-wrote (slot t room) r = eqb (r .kind) 1 || eqb (r .kind) 2
-wrote (making vpi vci t) r = false
-wrote (outOfRate vpi vci t room) r = eqb (r .refusal) 0
-wrote (openingPath vpi t p) r = false
-wrote (adding vpi vci) r = false
-wrote (offeringMember vpi vci n) r = false
-wrote (removing vpi vci) r = false
+-- whether a call wrote its buffer, by what it returned: a slot of kind 1 or 2, a forward or a turned cell; an out-of-rate cell that was not refused
+abbrev pub wroteCell : Call → AbrSent → Bool
+wroteCell (opening vpi vci t p) r = false
+wroteCell (closing vpi vci) r = false
+wroteCell (receiving o) r = false
+wroteCell (offering vpi vci n) r = false
+wroteCell (levelling l) r = false
+wroteCell (slot t room) r = eqb (r .kind) 1 || eqb (r .kind) 2
+wroteCell (making vpi vci t) r = false
+wroteCell (outOfRate vpi vci t room) r = eqb (r .refusal) 0
+wroteCell (openingPath vpi t p) r = false
+wroteCell (adding vpi vci) r = false
+wroteCell (offeringMember vpi vci n) r = false
+wroteCell (removing vpi vci) r = false
 
--- the CLP of what it writes: 1 outside the rate (document 02, L5)
+-- the CLP of what it writes: 1 out of rate (document 02, L5)
 abbrev pub clpWritten : Call → ℕ
 clpWritten (opening vpi vci t p) = 0
 clpWritten (closing vpi vci) = 0
@@ -53,11 +53,11 @@ pub record WrittenCell (clp : ℕ) (octets : List ℕ) : Type 0 where
   pub blank : octet 7 octets / 64 % 4 ≢ 2 → Blank octets
 
 pub record WritesAdmitted (c : Call) (o : Observation) : Type 0 where
-  pub cell : wrote c (o .returned) ≡ true → WrittenCell (clpWritten c) (o .new)
-  pub nothing : wrote c (o .returned) ≡ false → o .new ≡ o .old
+  pub cell : wroteCell c (o .returned) ≡ true → WrittenCell (clpWritten c) (o .new)
+  pub nothing : wroteCell c (o .returned) ≡ false → o .new ≡ o .old
 
 pub record WrittenAdmitted : Type 0 where
   -- in every list of exported calls from the zero table
-  pub calls : (cs : List Call) (os : List Observation) → Trace cs zeros os → InPlace WritesAdmitted cs os
+  pub calls : (cs : List Call) (os : List Observation) → Transcript cs zeros os → InPlace WritesAdmitted cs os
   -- what abr_write_rm leaves if it returns 0
   pub writes : (f : Fields) (old new : List ℕ) (r : ℕ) → r ≡ numberOf f old → new ≡ octetsAfter f old → r ≡ 0 → Admitted new × Framed 0 new × Blank new

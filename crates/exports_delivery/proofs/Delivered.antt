@@ -6,7 +6,7 @@ use mathlib.Core.List.{List, [], _∷_}
 use mathlib.Core.Option.{Option}
 use native.Mathlib.Nat.{le-trans}
 use native.Mathlib.Omega.{arith}
-use Rattle.params.specs.declared.params.Params.{Params}
+use Rattle.rate_params.specs.declared.params.Params.{Params}
 use Rattle.connection.specs.declared.parts.Connection.{Connection}
 use Rattle.model.specs.State.{State, Entry, free, taken, empty, find}
 use Rattle.model.specs.Call.{Call}
@@ -14,24 +14,24 @@ use Rattle.model.specs.Queries.{entryAcr}
 use Rattle.model.specs.Run.{final}
 use Rattle.model.proofs.Frames.{name-of}
 use Rattle.model.proofs.Preserved.{valid-at}
-use Rattle.answers.specs.declared.calls.AcrAnswer.{AcrAnswer}
-use Rattle.abr.specs.Exports.{Observation, Trace, finalWords, zeros}
+use Rattle.abr_answers.specs.declared.calls.AbrAllowed.{AbrAllowed}
+use Rattle.abr.specs.Exports.{Observation, Transcript, finalWords, zeros}
 use Rattle.exports.specs.Returned.{noMember, membersSeen}
-use Rattle.delivery.specs.Calls.{opensOf, total, isIn, OpenAmong, ifOpen, isOpen, openRates}
-use Rattle.delivery.specs.Turns.{slotOf, TurnFits, opensIn}
-use Rattle.delivery.proofs.Lists.{well}
-use Rattle.delivery_caps.specs.Capped.{rise}
-use Rattle.delivery_caps.specs.Lag.{CapTurn, turnsOf as capTurns, openOf as openIn, newAt, levelAt as levelIn, riseCount, countIn, behindCount, AllInBucket}
-use Rattle.delivery_caps.specs.Fixed.{TurnsFit, behindAt}
-use Rattle.delivery_caps.specs.Known.{Known, ifGiven}
-use Rattle.delivery_caps.specs.Own.{paramsIn, capsBy, ownTurns, OwnTurnFits, OwnTurnsFit}
-use Rattle.delivery_caps.specs.Served.{Delivers, CapsDeliveredFrom}
-use Rattle.delivery_caps.proofs.Fixed.{total-same}
-use Rattle.delivery_caps.proofs.Own.{each-found, own-caps}
-use Rattle.delivery_caps.proofs.Served.{caps-delivered}
+use Rattle.promise_delivery.specs.Calls.{opensOf, total, isIn, OpenAmong, ifOpen, isOpen, openRates}
+use Rattle.promise_delivery.specs.Turns.{slotOf, TurnFits, opensIn}
+use Rattle.promise_delivery.proofs.Lists.{well}
+use Rattle.promise_caps.specs.Capped.{rise}
+use Rattle.promise_caps.specs.Lag.{CapTurn, turnsOf as capTurns, openOf as openIn, newAt, bucketLevel as levelIn, riseCount, countIn, behindCount, AllInBucket}
+use Rattle.promise_caps.specs.Fixed.{TurnsFit, behindAt}
+use Rattle.promise_caps.specs.Known.{Known, ifGiven}
+use Rattle.promise_caps.specs.Own.{paramsIn, capsBy, ownTurns, OwnTurnFits, OwnTurnsFit}
+use Rattle.promise_caps.specs.Served.{Delivers, CapsDeliveredFrom}
+use Rattle.promise_caps.proofs.Fixed.{total-same}
+use Rattle.promise_caps.proofs.Own.{each-found, own-caps}
+use Rattle.promise_caps.proofs.Served.{caps-delivered}
 use Rattle.exports_delivery.specs.Obeyed.{knownFrom}
-use Rattle.exports_delivery.specs.Rounds.{Round, lastSeen, RoundRuns, RoundsRun, turnsOf, RoundsDelivered}
-use Rattle.exports_delivery.specs.Delivered.{knownIn, slotsFor, LinkFits, RoundHeld, RatesHeld, PeakFits, PeaksFit, capsOf, CapsFit, risesSeen, poured, levelAt, openOf, InBucket, early, behind, behindRising, ExportsDelivered}
+use Rattle.exports_delivery.specs.Rounds.{Round, lastSeen, RoundRuns, RoundsRun, turnsIn, RoundsDelivered}
+use Rattle.exports_delivery.specs.Delivered.{knownIn, slotsFor, LinkFits, RoundHeld, RatesHeld, PeakFits, PeaksFit, capsOf, RoundsFit, risesSeen, poured, bucketAt, slotsForOpen, InBucket, early, behind, behindRising, ExportsDelivered}
 use Rattle.exports_delivery.proofs.Obeyed.{cap-run, cap-is, rates-are}
 use Rattle.exports_delivery.proofs.Rounds.{At, reached-at, turnOf, still-fit, ran, reached-here, still-is, acr-at, plain, soon-is, known-here, at-next, at-first, rounds-delivered}
 
@@ -76,7 +76,7 @@ module _ (S lag m last : ℕ) (s : State) (t : List ℕ) (f : ℕ → Bool) (k :
 
   held-fits : (vs : List ℕ) (r : ℕ → ℕ) → RoundHeld vs r S (knownIn k x) x → TurnFits vs r S S m s (turnOf x)
   unfolding entryAcr
-  held-fits vs r y = turn-fits vs r S (y .link) (λ u d e. subst (λ (n : ℕ). n ≤ r u) (ap (λ (z : AcrAnswer). z .acr) (acr-at S lag m last s t f k a x h u d e)) (y .rates u))
+  held-fits vs r y = turn-fits vs r S (y .link) (λ u d e. subst (λ (n : ℕ). n ≤ r u) (ap (λ (z : AbrAllowed). z .acr) (acr-at S lag m last s t f k a x h u d e)) (y .rates u))
 
   peak-fits : (vs : List ℕ) (r : ℕ → ℕ) → PeakFits vs r S (knownIn k x) → TurnFits vs r S S m s (turnOf x)
   peak-fits vs r y =
@@ -112,7 +112,7 @@ module _ (S lag m last : ℕ) (s : State) (t : List ℕ) (f : ℕ → Bool) (k :
 module _ (S lag : ℕ) where
   rounds-held :
       (vs : List ℕ) (r : ℕ → ℕ) (xs : List Round) (m last : ℕ) (s : State) (t : List ℕ) (f : ℕ → Bool) (k : ℕ → Known) → At s t last f k → RoundsRun S lag m last t xs
-      → RatesHeld vs r S k xs → TurnsFit vs r S lag m s (turnsOf xs)
+      → RatesHeld vs r S k xs → TurnsFit vs r S lag m s (turnsIn xs)
   rounds-held vs r [] m last s t f k a h y = tt
   rounds-held vs r (x ∷ xs) m last s t f k a h y = (
     held-fits S lag m last s t f k a x (h .0) vs r (y .0),
@@ -121,7 +121,7 @@ module _ (S lag : ℕ) where
 
   rounds-peaks :
       (vs : List ℕ) (r : ℕ → ℕ) (xs : List Round) (m last : ℕ) (s : State) (t : List ℕ) (f : ℕ → Bool) (k : ℕ → Known) → At s t last f k → RoundsRun S lag m last t xs
-      → PeaksFit vs r S k xs → TurnsFit vs r S lag m s (turnsOf xs)
+      → PeaksFit vs r S k xs → TurnsFit vs r S lag m s (turnsIn xs)
   rounds-peaks vs r [] m last s t f k a h y = tt
   rounds-peaks vs r (x ∷ xs) m last s t f k a h y = (
     peak-fits S lag m last s t f k a x (h .0) vs r (y .0),
@@ -130,7 +130,7 @@ module _ (S lag : ℕ) where
 
   rounds-own :
       (vs : List ℕ) (G : ℕ) (xs : List Round) (m last : ℕ) (s : State) (t : List ℕ) (f : ℕ → Bool) (k : ℕ → Known) → At s t last f k → RoundsRun S lag m last t xs → (q : ℕ → ℕ)
-      → ((v : ℕ) → k v .cap ≡ q v) → CapsFit vs G k xs → OwnTurnsFit vs q S G lag m s (turnsOf xs)
+      → ((v : ℕ) → k v .cap ≡ q v) → RoundsFit vs G k xs → OwnTurnsFit vs q S G lag m s (turnsIn xs)
   rounds-own vs G [] m last s t f k a h q e y = tt
   rounds-own vs G (x ∷ xs) m last s t f k a h q e y = (
     own-fits S lag m last s t f k a x (h .0) q e vs G (y .0),
@@ -140,7 +140,7 @@ module _ (S lag : ℕ) where
 
   rises-are :
       (v : ℕ) (xs : List Round) (m last : ℕ) (s : State) (t : List ℕ) (f : ℕ → Bool) (k : ℕ → Known) → At s t last f k → RoundsRun S lag m last t xs → (q : ℕ → ℕ)
-      → ((v : ℕ) → k v .cap ≡ q v) → risesSeen v k xs ≡ countIn v lag q s (ownTurns lag q s (turnsOf xs))
+      → ((v : ℕ) → k v .cap ≡ q v) → risesSeen v k xs ≡ countIn v lag q s (ownTurns lag q s (turnsIn xs))
   rises-are v [] m last s t f k a h q e = refl
   rises-are v (x ∷ xs) m last s t f k a h q e =
       omega (
@@ -152,7 +152,7 @@ module _ (S lag : ℕ) where
 
   rounds-bucket :
       (vs : List ℕ) (G N A level : ℕ) (xs : List Round) (m last : ℕ) (s : State) (t : List ℕ) (f : ℕ → Bool) (k : ℕ → Known) → At s t last f k → RoundsRun S lag m last t xs → (q : ℕ → ℕ)
-      → ((v : ℕ) → k v .cap ≡ q v) → InBucket vs S G N A level k xs → AllInBucket vs q S G N A lag level s (ownTurns lag q s (turnsOf xs))
+      → ((v : ℕ) → k v .cap ≡ q v) → InBucket vs S G N A level k xs → AllInBucket vs q S G N A lag level s (ownTurns lag q s (turnsIn xs))
   rounds-bucket vs G N A level [] m last s t f k a h q e y = tt
   rounds-bucket vs G N A level (x ∷ xs) m last s t f k a h q e y =
       let z : CapTurn = record { turn = turnOf x; cap = capsBy q s (x .between) } in
@@ -162,17 +162,17 @@ module _ (S lag : ℕ) where
       total-same (λ v. opensOf v (x .between) * G + ifGiven (k v .given) (rise G (k v .cap) (knownIn k x v .cap)))
       (λ v. opensOf v (x .between) * G + ifOpen (find v (s .entries)) (rise G (q v) (capsBy q s (x .between) v)))
       (λ v. ap (λ (c : ℕ). opensOf v (x .between) * G + c) (rise-is S lag m last s t f k a x (h .0) q e v (rise G))) vs in
-      let level-is : levelAt vs S G level k x ≡ levelIn vs q S G level s z = ap (λ (c : ℕ). (level + c) - (G - S)) new in
-      let open-is : openOf vs (knownIn k x) ≡ openIn vs n =
+      let level-is : bucketAt vs S G level k x ≡ levelIn vs q S G level s z = ap (λ (c : ℕ). (level + c) - (G - S)) new in
+      let open-is : slotsForOpen vs (knownIn k x) ≡ openIn vs n =
       total-same (λ v. slotsFor (knownIn k x v)) (isOpen n) (λ v. omega (arith, given-open (knownIn k x v .given) (find v (n .entries)) 1 (next .known v))) vs in (
         subst (λ (c : ℕ). c ≤ A) level-is (y .0),
         subst (λ (c : ℕ). c ≤ N) open-is (y .1),
-        subst (λ (c : ℕ). AllInBucket vs (capsBy q s (x .between)) S G N A lag c n (ownTurns lag (capsBy q s (x .between)) n (turnsOf xs))) level-is
-            (rounds-bucket vs G N A (levelAt vs S G level k x) xs (x .now) (x .passed) n (x .sent .table) _ (knownIn k x) next (h .1) (capsBy q s (x .between))
+        subst (λ (c : ℕ). AllInBucket vs (capsBy q s (x .between)) S G N A lag c n (ownTurns lag (capsBy q s (x .between)) n (turnsIn xs))) level-is
+            (rounds-bucket vs G N A (bucketAt vs S G level k x) xs (x .now) (x .passed) n (x .sent .table) _ (knownIn k x) next (h .1) (capsBy q s (x .between))
             (caps-here S lag m last s t f k a x (h .0) q e) (y .2)),
       )
 
-module _ (cs : List Call) (os : List Observation) (tr : Trace cs zeros os) (vs : List ℕ) (S lag m : ℕ) (xs : List Round) (h : RoundsRun S lag m (lastSeen 0 cs os) (finalWords zeros os) xs) where
+module _ (cs : List Call) (os : List Observation) (tr : Transcript cs zeros os) (vs : List ℕ) (S lag m : ℕ) (xs : List Round) (h : RoundsRun S lag m (lastSeen 0 cs os) (finalWords zeros os) xs) where
   abbrev first : State
   first = final empty cs
 
@@ -183,7 +183,7 @@ module _ (cs : List Call) (os : List Observation) (tr : Trace cs zeros os) (vs :
   caps = capsBy (λ u. 0) empty cs
 
   abbrev whole : ℕ → Type 0
-  whole j = Delivers first j lag (turnsOf xs) → RoundsDelivered cs os j xs
+  whole j = Delivers first j lag (turnsIn xs) → RoundsDelivered cs os j xs
 
   delivered : (j : ℕ) → whole j
   delivered j y = rounds-delivered cs os tr S lag m j xs h y
@@ -194,28 +194,28 @@ module _ (cs : List Call) (os : List Observation) (tr : Trace cs zeros os) (vs :
   early-is : early cs os m ≡ m - first .last
   early-is = ap (λ (l : ℕ). m - l) (start .time)
 
-  behind-is : behind cs os vs S m xs ≡ behindAt vs S m first (turnsOf xs)
+  behind-is : behind cs os vs S m xs ≡ behindAt vs S m first (turnsIn xs)
   behind-is =
-      ap (λ (e : ℕ). e + total (λ v. slotsFor (knownFrom cs os v) + opensIn v (turnsOf xs)) vs * S) early-is
+      ap (λ (e : ℕ). e + total (λ v. slotsFor (knownFrom cs os v) + opensIn v (turnsIn xs)) vs * S) early-is
       ∙ ap (λ (n : ℕ). (m - first .last) + n * S)
-      (total-same (λ v. slotsFor (knownFrom cs os v) + opensIn v (turnsOf xs)) (λ v. isOpen first v + opensIn v (turnsOf xs)) (λ v. omega (arith, open-first v)) vs)
+      (total-same (λ v. slotsFor (knownFrom cs os v) + opensIn v (turnsIn xs)) (λ v. isOpen first v + opensIn v (turnsIn xs)) (λ v. omega (arith, open-first v)) vs)
 
   abbrev own : List CapTurn
-  own = ownTurns lag caps first (turnsOf xs)
+  own = ownTurns lag caps first (turnsIn xs)
 
   rising-is : behindRising cs os vs S m xs ≡ behindCount vs caps S lag m first own
   rising-is =
-      ap (λ (e : ℕ). e + total (λ v. slotsFor (knownFrom cs os v) + opensIn v (turnsOf xs) + risesSeen v (knownFrom cs os) xs) vs * S) early-is
+      ap (λ (e : ℕ). e + total (λ v. slotsFor (knownFrom cs os v) + opensIn v (turnsIn xs) + risesSeen v (knownFrom cs os) xs) vs * S) early-is
       ∙ ap (λ (n : ℕ). (m - first .last) + n * S)
-      (total-same (λ v. slotsFor (knownFrom cs os v) + opensIn v (turnsOf xs) + risesSeen v (knownFrom cs os) xs) (λ v. isOpen first v + opensIn v (capTurns own) + countIn v lag caps first own)
+      (total-same (λ v. slotsFor (knownFrom cs os v) + opensIn v (turnsIn xs) + risesSeen v (knownFrom cs os) xs) (λ v. isOpen first v + opensIn v (capTurns own) + countIn v lag caps first own)
       (λ v. omega (
         arith,
         open-first v,
-        ap (opensIn v) (own-caps cs .same caps lag (turnsOf xs)),
+        ap (opensIn v) (own-caps cs .same caps lag (turnsIn xs)),
         rises-are S lag v xs m (lastSeen 0 cs os) first (finalWords zeros os) (membersSeen noMember cs os) (knownFrom cs os) start h caps (cap-is cs os tr),
       )) vs)
 
-  own-turns : (G : ℕ) → CapsFit vs G (knownFrom cs os) xs → OwnTurnsFit vs caps S G lag m first (turnsOf xs)
+  own-turns : (G : ℕ) → RoundsFit vs G (knownFrom cs os) xs → OwnTurnsFit vs caps S G lag m first (turnsIn xs)
   own-turns G y = rounds-own S lag vs G xs m (lastSeen 0 cs os) first (finalWords zeros os) (membersSeen noMember cs os) (knownFrom cs os) start h caps (cap-is cs os tr) y
 
 pub exports-delivered : ExportsDelivered
@@ -241,11 +241,11 @@ exports-delivered cs os tr vs S lag m xs h = record {
     s : State
     s = final empty cs
 
-    d : CapsDeliveredFrom s vs S lag m (turnsOf xs)
-    d = caps-delivered cs vs S lag m (turnsOf xs)
+    d : CapsDeliveredFrom s vs S lag m (turnsIn xs)
+    d = caps-delivered cs vs S lag m (turnsIn xs)
 
-    b : behind cs os vs S m xs ≡ behindAt vs S m s (turnsOf xs)
+    b : behind cs os vs S m xs ≡ behindAt vs S m s (turnsIn xs)
     b = behind-is cs os tr vs S lag m xs h
 
-    out : (j : ℕ) → Delivers s j lag (turnsOf xs) → RoundsDelivered cs os j xs
+    out : (j : ℕ) → Delivers s j lag (turnsIn xs) → RoundsDelivered cs os j xs
     out j y = delivered cs os tr vs S lag m xs h j y

@@ -2,19 +2,19 @@
 use mathlib.Core.Path.{sym, subst}
 use mathlib.Core.List.{List}
 use Rattle.rate.specs.Gap.{gap}
-use Rattle.params.specs.declared.params.Params.{Params}
-use Rattle.params.specs.Params.{peak}
+use Rattle.rate_params.specs.declared.params.Params.{Params}
+use Rattle.rate_params.specs.Params.{peak}
 use Rattle.model.specs.State.{empty}
 use Rattle.model.specs.Run.{final}
 use Rattle.model.proofs.Reached.{reached-well-formed}
 use Rattle.abr.specs.Exports.{finalWords, zeros}
 use Rattle.abr.proofs.Exports.{exports-are-run}
-use Rattle.own_traces.specs.InRate.{SentCell, sentFrom}
+use Rattle.promise_traces.specs.InRate.{SentCell, sentFrom}
 use Rattle.exports.specs.Returned.{noMember, membersSeen}
 use Rattle.exports.proofs.Recorded.{recorded-sent}
 use Rattle.exports.proofs.Known.{members-known}
-use Rattle.delivery.specs.Policed.{PolicedCells}
-use Rattle.delivery.proofs.Policed.{policed}
+use Rattle.promise_delivery.specs.Policed.{PolicedCells}
+use Rattle.promise_delivery.proofs.Policed.{policed}
 use Rattle.exports_delivery.specs.Policed.{ExportsPoliced}
 use Rattle.exports_delivery.proofs.Obeyed.{observed-open}
 

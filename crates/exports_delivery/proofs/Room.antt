@@ -7,12 +7,12 @@ use mathlib.Core.Option.{Option}
 use native.Mathlib.Nat.{le-trans, mul-le-mul-right}
 use native.Mathlib.Omega.{arith}
 use lib.Dec.{eqb}
-use Rattle.params.specs.declared.params.Params.{Params}
-use Rattle.params.specs.Params.{least}
+use Rattle.rate_params.specs.declared.params.Params.{Params}
+use Rattle.rate_params.specs.Params.{least}
 use Rattle.model.specs.State.{State, empty, find}
 use Rattle.model.specs.Call.{Call, slot}
 use Rattle.model.specs.Step.{step}
-use Rattle.model.specs.Run.{run, final, isAccepted, given}
+use Rattle.model.specs.Run.{run, final, isAccepted, paramsAfter}
 use Rattle.model.proofs.Entries.{each-at}
 use Rattle.model.proofs.Frames.{name-of}
 use Rattle.model.proofs.Preserved.{valid-at}
@@ -20,17 +20,17 @@ use Rattle.abr.specs.Exports.{Observation, finalWords, zeros, AllMatch, neither
 use Rattle.abr.proofs.Exports.{exports-are-run}
 use Rattle.exports.specs.Returned.{noMember, membersSeen}
 use Rattle.exports.proofs.Exports.{accepted-seen}
-use Rattle.delivery.specs.Calls.{total}
-use Rattle.delivery.specs.Turns.{timePassed, slotOf}
-use Rattle.delivery.proofs.Lists.{Reached, reach, well}
-use Rattle.delivery_caps.specs.Known.{Known, capBy, ifGiven, load}
-use Rattle.delivery_caps.specs.Own.{paramsIn, capsBy, RatesUnder}
-use Rattle.delivery_caps.specs.Room.{Distinct, CapsAtLeast}
-use Rattle.delivery_caps.proofs.Own.{own-caps}
-use Rattle.delivery_caps.proofs.Room.{rooms-kept}
+use Rattle.promise_delivery.specs.Calls.{total}
+use Rattle.promise_delivery.specs.Turns.{timePassed, slotOf}
+use Rattle.promise_delivery.proofs.Lists.{Reached, reach, well}
+use Rattle.promise_caps.specs.Known.{Known, capBy, ifGiven, load}
+use Rattle.promise_caps.specs.Own.{paramsIn, capsBy, RatesUnder}
+use Rattle.promise_caps.specs.Room.{Distinct, CapsAtLeast}
+use Rattle.promise_caps.proofs.Own.{own-caps}
+use Rattle.promise_caps.proofs.Room.{rooms-kept}
 use Rattle.exports_delivery.specs.Obeyed.{knownAfter, knownSeen, knownFrom}
 use Rattle.exports_delivery.specs.Rounds.{Round, lastSeen, RoundsRun}
-use Rattle.exports_delivery.specs.Delivered.{knownIn, CapsFit}
+use Rattle.exports_delivery.specs.Delivered.{knownIn, RoundsFit}
 use Rattle.exports_delivery.specs.Room.{AllInRoom, RoundsInRoom, RoundsAmong, CapsInRoom, MinimumAlways}
 use Rattle.exports_delivery.proofs.Obeyed.{found-params, step-given, cap-run, given-first, rates-first, cap-is, rates-are}
 use Rattle.exports_delivery.proofs.Rounds.{At, reached-at, turnOf, ran, at-next, at-first}
@@ -68,7 +68,7 @@ module _ (capacity : ℕ) (vs : List ℕ) (d : Distinct vs) where
       room-run (λ v. knownAfter v c o (k v)) (capsBy q s (c ∷ [])) (step s c .state)
       (record {
         reached = reach (y .reached) (c ∷ []);
-        known = λ v. ap (λ (b : Bool). given v c b (k v .given)) (accepted-seen (well (y .reached)) c m) ∙ (ap (given v c (isAccepted (step s c .answer))) (y .known v) ∙ sym (step-given v (y .reached) c));
+        known = λ v. ap (λ (b : Bool). paramsAfter v c b (k v .given)) (accepted-seen (well (y .reached)) c m) ∙ (ap (paramsAfter v c (isAccepted (step s c .answer))) (y .known v) ∙ sym (step-given v (y .reached) c));
         caps = λ v. ap (λ (n : ℕ). capBy v n (k v .given) c) (y .caps v) ∙ ap (λ (g : Option Params). capBy v (q v) g c) (y .known v);
         under = kept-under q (y .reached) (y .under) (c ∷ []);
       })
@@ -76,7 +76,7 @@ module _ (capacity : ℕ) (vs : List ℕ) (d : Distinct vs) where
 
   rounds-room :
       (S lag G : ℕ) → capacity * G ≤ 512_000_000_000 → (xs : List Round) (m last : ℕ) (s : State) (t : List ℕ) (f : ℕ → Bool) (k : ℕ → Known) → At s t last f k → RoundsRun S lag m last t xs
-      → (q : ℕ → ℕ) → ((v : ℕ) → k v .cap ≡ q v) → RatesUnder q s → total (λ v. load (k v)) vs ≤ capacity → RoundsInRoom capacity vs k xs → RoundsAmong vs k xs → CapsFit vs G k xs
+      → (q : ℕ → ℕ) → ((v : ℕ) → k v .cap ≡ q v) → RatesUnder q s → total (λ v. load (k v)) vs ≤ capacity → RoundsInRoom capacity vs k xs → RoundsAmong vs k xs → RoundsFit vs G k xs
   rounds-room S lag G wide [] m last s t f k a h q e u l y z = tt
   rounds-room S lag G wide (x ∷ xs) m last s t f k a h q e u l y z =
       let r = ran S lag m last s t f k a x (h .0) .0 in

@@ -8,25 +8,25 @@ use native.Mathlib.Nat.{le-refl, le-trans}
 use native.Mathlib.Omega.{arith}
 use lib.Dec.{eqb}
 use Rattle.rate.specs.Gap.{gap}
-use Rattle.params.specs.declared.params.Params.{Params}
-use Rattle.params.specs.Params.{least}
+use Rattle.rate_params.specs.declared.params.Params.{Params}
+use Rattle.rate_params.specs.Params.{least}
 use Rattle.connection.specs.declared.parts.Connection.{Connection}
 use Rattle.connection.specs.declared.parts.Pace.{Pace}
 use Rattle.connection.specs.declared.parts.Pace.the-variants.{Unsent, Running}
 use Rattle.connection.specs.Invariant.{PaceFits}
-use Rattle.model.specs.State.{State, Entry, free, taken, empty, find, put, inserted, withTime, withLevel, withMembers}
+use Rattle.model.specs.State.{State, Entry, free, taken, empty, find, withEntryOf, withOpened, withTime, withLevel, withMembers}
 use Rattle.model.specs.Invariant.{WellFormed}
 use Rattle.model.specs.Call.{Call, opening, closing, receiving, offering, levelling, slot, making, outOfRate, openingPath, adding, offeringMember, removing, Outcome, goesTo}
-use Rattle.model.specs.Step.{refuse, accept, replay, discard, withOffer, withoutOne, sendFrom, sendStep, sendOutside, idleStep, step}
+use Rattle.model.specs.Step.{refuse, accept, replay, discard, withOffer, withoutOne, sendFrom, sendStep, sendOutOfRate, idleStep, step}
 use Rattle.model.specs.Queries.{entryAcr, acrOf, nextReady}
-use Rattle.model.specs.Run.{run, final, isAccepted, given}
+use Rattle.model.specs.Run.{run, final, isAccepted, paramsAfter}
 use Rattle.model.proofs.Preserved.{valid-at, empty-well-formed}
-use Rattle.model.proofs.Effects.{Effect, refuses, begins, ends, offers, marks, works, levels, idles, sends, makes, leaves, beginsPath, adds, offersMember, removes, effect}
+use Rattle.model.proofs.Effects.{Effect, refuses, opens, closes, offers, receivesData, receivesRm, setsLevel, idles, sends, makes, sendsOutOfRate, opensPath, adds, offersMember, removes, effect}
 use Rattle.model.proofs.Reached.{step-well-formed, reached-well-formed}
 use Rattle.table.specs.Layout.{words}
-use Rattle.answers.specs.declared.calls.AcrAnswer.{AcrAnswer}
-use Rattle.answers.specs.Calls.{acrAnswer}
-use Rattle.abr.specs.Exports.{Observation, Trace, finalWords, zeros, Matches, AllMatch, neither, both}
+use Rattle.abr_answers.specs.declared.calls.AbrAllowed.{AbrAllowed}
+use Rattle.abr_answers.specs.Calls.{allowedOf}
+use Rattle.abr.specs.Exports.{Observation, Transcript, finalWords, zeros, Matches, AllMatch, neither, both}
 use Rattle.abr.proofs.Exports.{performs-matches, exports-are-run}
 use Rattle.exports.specs.Returned.{noMember, membersSeen, wentTo}
 use Rattle.exports.proofs.Returned.{Knows, knows-after, names-connection, went-to}
@@ -38,18 +38,18 @@ use Rattle.exports_rates.specs.Seen.{Watched, watch, watched}
 use Rattle.exports_rates.proofs.Seen.{entrySeen, Watches, watches, watched-so}
 use Rattle.exports_service.specs.Ready.{waitsSeen}
 use Rattle.exports_service.proofs.Ready.{waits-same}
-use Rattle.service.specs.Liveness.{latestReady}
-use Rattle.delivery.specs.Calls.{AllFit}
-use Rattle.delivery.specs.Turns.{Turn, timePassed, slotOf, OnTime, AllOnTime}
-use Rattle.delivery.specs.Served.{WaitsAt, AllWait, RateAt, AllRated, movedOn, AllServed, oneMore, AllDelivered, TurnPlain}
-use Rattle.delivery.proofs.SlotTime.{slot-last}
-use Rattle.delivery.proofs.Calls.{step-last, final-last}
-use Rattle.delivery.proofs.Lists.{Reached, reach, well}
-use Rattle.delivery_caps.specs.Known.{Known}
-use Rattle.delivery_caps.specs.Own.{paramsIn}
-use Rattle.delivery_caps.specs.Served.{Delivers}
+use Rattle.promise_service.specs.Liveness.{latestReady}
+use Rattle.promise_delivery.specs.Calls.{AllFit}
+use Rattle.promise_delivery.specs.Turns.{Turn, timePassed, slotOf, OnTime, AllOnTime}
+use Rattle.promise_delivery.specs.Served.{WaitsAt, AllWait, RateAt, AllRated, movedOn, AllServed, oneMore, AllDelivered, TurnPlain}
+use Rattle.promise_delivery.proofs.SlotTime.{slot-last}
+use Rattle.promise_delivery.proofs.Calls.{step-last, final-last}
+use Rattle.promise_delivery.proofs.Lists.{Reached, reach, well}
+use Rattle.promise_caps.specs.Known.{Known}
+use Rattle.promise_caps.specs.Own.{paramsIn}
+use Rattle.promise_caps.specs.Served.{Delivers}
 use Rattle.exports_delivery.specs.Obeyed.{knownFrom}
-use Rattle.exports_delivery.specs.Rounds.{Round, timeKept, lastSeen, wordsAt, RoundRuns, RoundsRun, turnsOf, PassedNear, AllPassedNear, watchedAt, watchedAfter, Waiting, AllWaiting, AllSent, AllRatesIn, AllSpaced, Exactly, lastCell, AllExact, RoundsDelivered}
+use Rattle.exports_delivery.specs.Rounds.{Round, timeKept, lastSeen, wordsAt, RoundRuns, RoundsRun, turnsIn, PassedNear, AllPassedNear, watchedAt, watchedAfter, WaitsBefore, AllWaiting, AllSent, AllRatesIn, AllSpaced, ExactlyAfter, lastCell, AllExact, RoundsDelivered}
 use Rattle.exports_delivery.specs.Delivered.{knownIn}
 use Rattle.exports_delivery.proofs.Obeyed.{OpenWith, observed-open, step-given, given-run, given-is}
 
@@ -70,19 +70,19 @@ refused-keeps (offeringMember a b n) l = refl
 refused-keeps (removing a b) l = refl
 
 effect-time : {s : State} {c : Call} {o : Outcome} → Effect s c o → timeKept c (isAccepted (o .answer)) (s .last) ≡ o .state .last
-unfolding refuse accept replay discard sendFrom sendStep idleStep sendOutside withTime withLevel withMembers withOffer withoutOne put inserted isAccepted timeKept
+unfolding refuse accept replay discard sendFrom sendStep idleStep sendOutOfRate withTime withLevel withMembers withOffer withoutOne withEntryOf withOpened isAccepted timeKept
 effect-time {s} (refuses c n z) = refused-keeps c (s .last)
-effect-time (begins a b t p g) = refl
-effect-time (ends a b d f) = refl
+effect-time (opens a b t p g) = refl
+effect-time (closes a b d f) = refl
 effect-time (offers a b n d f i h) = refl
-effect-time (marks o a b e u d r i z f) = refl
-effect-time (works o q d r f) = refl
-effect-time (levels l h) = refl
+effect-time (receivesData o a b e u d r i z f) = refl
+effect-time (receivesRm o q d r f) = refl
+effect-time (setsLevel l h) = refl
 effect-time (idles t room g b) = refl
 effect-time (sends t room i u g b) = refl
 effect-time (makes a b t d f g h m) = refl
-effect-time (leaves a b t room d f g h) = refl
-effect-time (beginsPath a t p g) = refl
+effect-time (sendsOutOfRate a b t room d f g h) = refl
+effect-time (opensPath a t p g) = refl
 effect-time (adds a b d f j) = refl
 effect-time (offersMember a b n d f i h) = refl
 effect-time (removes a b d f i) = refl
@@ -145,9 +145,9 @@ module _ (S lag m last : ℕ) (s : State) (t : List ℕ) (f : ℕ → Bool) (k :
   time-is : x .passed ≡ timePassed lag s (turnOf x)
   time-is = h .timed .is here (well reached-here) (ran .1)
 
-  pub acr-at : (v : ℕ) (d : Connection) → find v (here .entries) ≡ taken d → x .acrs v ≡ acrAnswer (entryAcr (taken d))
+  pub acr-at : (v : ℕ) (d : Connection) → find v (here .entries) ≡ taken d → x .acrs v ≡ allowedOf (entryAcr (taken d))
   unfolding acrOf
-  acr-at v d e = h .read v .meets here (well reached-here) (ran .1) ∙ ap (λ (y : Entry). acrAnswer (entryAcr y)) e
+  acr-at v d e = h .read v .meets here (well reached-here) (ran .1) ∙ ap (λ (y : Entry). allowedOf (entryAcr y)) e
 
   pub plain : TurnPlain s (turnOf x)
   plain = record { others = h .others; timely = omega (arith, h .timely, last-is); inRange = h .inRange }
@@ -178,7 +178,7 @@ module _ (S lag m last : ℕ) (s : State) (t : List ℕ) (f : ℕ → Bool) (k :
   knows-next = knows-after (well reached-here) (slot (timePassed lag s (turnOf x)) 53) (membersSeen f (x .between) (x .seen)) knows-here _ refl
 
   known-next : (v : ℕ) → knownIn k x v .given ≡ paramsIn (find v (slotOf lag s (turnOf x) .state .entries))
-  unfolding given
+  unfolding paramsAfter
   known-next v = known-here v ∙ sym (step-given v reached-here (slot (timePassed lag s (turnOf x)) 53))
 
   pub at-next : At (slotOf lag s (turnOf x) .state) (x .sent .table) (x .passed) (membersSeen f (x .between) (x .seen)) (knownIn k x)
@@ -206,7 +206,7 @@ module _ (S lag m last : ℕ) (s : State) (t : List ℕ) (f : ℕ → Bool) (k :
       subst (λ (n : ℕ). Watches v (watchedAfter v w x) (step here (slot n 53) .state)) time-is
       (watches v .goes here (slot (x .passed) 53) (x .sent) (watchedAt v w x) (watched-here v w y) (sees stands-here (h .slotted)))
 
-  waits-is : (v : ℕ) (w : Watched) → Watches v w s → Waiting v w x → WaitsAt v s (turnOf x)
+  waits-is : (v : ℕ) (w : Watched) → Watches v w s → WaitsBefore v w x → WaitsAt v s (turnOf x)
   unfolding entrySeen
   waits-is v w y d = go (find v (here .entries)) refl (watched-here v w y .connection)
     where
@@ -214,17 +214,17 @@ module _ (S lag m last : ℕ) (s : State) (t : List ℕ) (f : ℕ → Bool) (k :
       go free e q = absurd (true≢false (sym (d .some) ∙ ap waitsSeen q))
       go (taken c) e q = record { holder = c; found = e; waits = sym (waits-same c) ∙ (sym (ap waitsSeen q) ∙ d .some); kept = d .kept; still = still-is }
 
-  rated-is : (v low high : ℕ) (w : Watched) → Watches v w s → Waiting v w x → low ≤ x .acrs v .acr → x .acrs v .acr ≤ high → RateAt v low high s (turnOf x)
+  rated-is : (v low high : ℕ) (w : Watched) → Watches v w s → WaitsBefore v w x → low ≤ x .acrs v .acr → x .acrs v .acr ≤ high → RateAt v low high s (turnOf x)
   unfolding entryAcr
   rated-is v low high w y d l u =
       let z = waits-is v w y d in
-      let e : x .acrs v .acr ≡ z .holder .rate .acr = ap (λ (y : AcrAnswer). y .acr) (acr-at v (z .holder) (z .found)) in
+      let e : x .acrs v .acr ≡ z .holder .rate .acr = ap (λ (y : AbrAllowed). y .acr) (acr-at v (z .holder) (z .found)) in
       record { waiting = z; above = omega (arith, l, e); below = omega (arith, u, e) }
 
 -- All rounds.
 module _ (S lag : ℕ) where
   rounds-near :
-      (j : ℕ) (xs : List Round) (m last : ℕ) (s : State) (t : List ℕ) (f : ℕ → Bool) (k : ℕ → Known) → At s t last f k → RoundsRun S lag m last t xs → AllOnTime j lag s (turnsOf xs)
+      (j : ℕ) (xs : List Round) (m last : ℕ) (s : State) (t : List ℕ) (f : ℕ → Bool) (k : ℕ → Known) → At s t last f k → RoundsRun S lag m last t xs → AllOnTime j lag s (turnsIn xs)
       → AllPassedNear j last xs
   rounds-near j [] m last s t f k a h o = tt
   rounds-near j (x ∷ xs) m last s t f k a h o = (
@@ -234,7 +234,7 @@ module _ (S lag : ℕ) where
 
   rounds-wait :
       (v : ℕ) (w : Watched) (xs : List Round) (m last : ℕ) (s : State) (t : List ℕ) (f : ℕ → Bool) (k : ℕ → Known) → At s t last f k → RoundsRun S lag m last t xs → Watches v w s
-      → AllWaiting v w xs → AllWait v lag s (turnsOf xs)
+      → AllWaiting v w xs → AllWait v lag s (turnsIn xs)
   rounds-wait v w [] m last s t f k a h y d = tt
   rounds-wait v w (x ∷ xs) m last s t f k a h y d = (
     waits-is S lag m last s t f k a x (h .0) v w y (d .0),
@@ -244,19 +244,19 @@ module _ (S lag : ℕ) where
 
   rounds-sent :
       (v g j start n : ℕ) (xs : List Round) (m last : ℕ) (s : State) (t : List ℕ) (f : ℕ → Bool) (k : ℕ → Known) → At s t last f k → RoundsRun S lag m last t xs
-      → AllDelivered v g j lag start n s (turnsOf xs) → AllSent v g j start n f xs
+      → AllDelivered v g j lag start n s (turnsIn xs) → AllSent v g j start n f xs
   rounds-sent v g j start n [] m last s t f k a h d = tt
   rounds-sent v g j start n (x ∷ xs) m last s t f k a h d =
       let u = membersSeen f (x .between) (x .seen) in (
         d .0,
         rounds-sent v g j start (oneMore v n (wentTo u (x .sent .returned))) xs (x .now) (x .passed) (slotOf lag s (turnOf x) .state) (x .sent .table) u _
             (at-next S lag m last s t f k a x (h .0)) (h .1)
-            (subst (λ (w : Option ℕ). AllDelivered v g j lag start (oneMore v n w) (slotOf lag s (turnOf x) .state) (turnsOf xs)) (sym (went-is S lag m last s t f k a x (h .0))) (d .1)),
+            (subst (λ (w : Option ℕ). AllDelivered v g j lag start (oneMore v n w) (slotOf lag s (turnOf x) .state) (turnsIn xs)) (sym (went-is S lag m last s t f k a x (h .0))) (d .1)),
       )
 
   rounds-rated :
       (v low high : ℕ) (w : Watched) (xs : List Round) (m last : ℕ) (s : State) (t : List ℕ) (f : ℕ → Bool) (k : ℕ → Known) → At s t last f k → RoundsRun S lag m last t xs → Watches v w s
-      → AllWaiting v w xs → AllRatesIn v low high xs → AllRated v low high lag s (turnsOf xs)
+      → AllWaiting v w xs → AllRatesIn v low high xs → AllRated v low high lag s (turnsIn xs)
   rounds-rated v low high w [] m last s t f k a h y d u = tt
   rounds-rated v low high w (x ∷ xs) m last s t f k a h y d u = (
     rated-is S lag m last s t f k a x (h .0) v low high w y (d .0) (u .0 .0) (u .0 .1),
@@ -266,7 +266,7 @@ module _ (S lag : ℕ) where
 
   rounds-spaced :
       (v low high from by early : ℕ) (xs : List Round) (m last : ℕ) (s : State) (t : List ℕ) (f : ℕ → Bool) (k : ℕ → Known) → At s t last f k → RoundsRun S lag m last t xs → early ≤ from
-      → AllServed v low high lag from by s (turnsOf xs) → AllSpaced v low high early by f xs
+      → AllServed v low high lag from by s (turnsIn xs) → AllSpaced v low high early by f xs
   rounds-spaced v low high from by early [] m last s t f k a h l d = tt
   rounds-spaced v low high from by early (x ∷ xs) m last s t f k a h l d =
       let u = membersSeen f (x .between) (x .seen) in
@@ -281,8 +281,8 @@ module _ (S lag : ℕ) where
             (at-next S lag m last s t f k a x (h .0)) (h .1)
             (subst (λ (p : ℕ). movedOn v (gap high) p early w ≤ movedOn v (gap high) q from z) (sym e)
             (subst (λ (y : Option ℕ). movedOn v (gap high) q early y ≤ movedOn v (gap high) q from z) (sym g) (moved-later v (gap high) q early from z l)))
-            (subst (λ (p : ℕ). AllServed v low high lag (movedOn v (gap high) q from z) (movedOn v (gap low) p by w) n (turnsOf xs)) (sym e)
-            (subst (λ (y : Option ℕ). AllServed v low high lag (movedOn v (gap high) q from z) (movedOn v (gap low) q by y) n (turnsOf xs)) (sym g) (d .1))),
+            (subst (λ (p : ℕ). AllServed v low high lag (movedOn v (gap high) q from z) (movedOn v (gap low) p by w) n (turnsIn xs)) (sym e)
+            (subst (λ (y : Option ℕ). AllServed v low high lag (movedOn v (gap high) q from z) (movedOn v (gap low) q by y) n (turnsIn xs)) (sym g) (d .1))),
       )
 
 -- At one rate both instants for the next cell are a gap after the last one.
@@ -299,7 +299,7 @@ tied-on v g t from by l (some u) h = go (eqb u v)
     go true = (refl, refl)
     go false = h
 
-tied-exact : (g t from by : ℕ) (l : Option ℕ) → Tied g from by l → t ≤ by → from ≤ t → Exactly g l t
+tied-exact : (g t from by : ℕ) (l : Option ℕ) → Tied g from by l → t ≤ by → from ≤ t → ExactlyAfter g l t
 tied-exact g t from by none h k j = tt
 tied-exact g t from by (some l) h k j = omega (arith, h .0, h .1)
 
@@ -313,7 +313,7 @@ spaced-exact v a from by l f (x ∷ xs) h d =
     )
 
 -- From the zero table.
-pub at-first : (cs : List Call) (os : List Observation) → Trace cs zeros os → At (final empty cs) (finalWords zeros os) (lastSeen 0 cs os) (membersSeen noMember cs os) (knownFrom cs os)
+pub at-first : (cs : List Call) (os : List Observation) → Transcript cs zeros os → At (final empty cs) (finalWords zeros os) (lastSeen 0 cs os) (membersSeen noMember cs os) (knownFrom cs os)
 unfolding empty
 at-first cs os tr = record {
   stands = all-stand cs os tr;
@@ -327,7 +327,7 @@ unfolding latestReady
 soon-by m d now nr Unsent h l = omega arith
 soon-by m d now nr (Running sent forward k turned) h l = omega (arith, h .1)
 
-module _ (cs : List Call) (os : List Observation) (tr : Trace cs zeros os) (S lag m j : ℕ) (xs : List Round) (h : RoundsRun S lag m (lastSeen 0 cs os) (finalWords zeros os) xs) (y : Delivers (final empty cs) j lag (turnsOf xs)) where
+module _ (cs : List Call) (os : List Observation) (tr : Transcript cs zeros os) (S lag m j : ℕ) (xs : List Round) (h : RoundsRun S lag m (lastSeen 0 cs os) (finalWords zeros os) xs) (y : Delivers (final empty cs) j lag (turnsIn xs)) where
   abbrev first : State
   first = final empty cs
 

@@ -9,10 +9,10 @@ use lib.ListN.{getD}
 use borrow.Author.Tests.{leb-true, leb-false, eq-eqb, eqb-true}
 use Rattle.laws.specs.Require.{require}
 use Rattle.rate.specs.Units.{latestTime}
-use Rattle.answers.specs.declared.calls.SlotAnswer.{SlotAnswer}
-use Rattle.answers.specs.Calls.{slotAnswer}
+use Rattle.abr_answers.specs.declared.calls.AbrSent.{AbrSent}
+use Rattle.abr_answers.specs.Calls.{sentOf}
 use Rattle.model.specs.State.{State, Entry, free, taken, empty, find, withTime}
-use Rattle.model.specs.Choice.{Winner, noneReady, wins, winner}
+use Rattle.model.specs.Winner.{Winner, noneReady, wins, winner}
 use Rattle.model.specs.Call.{Call, slot, Outcome}
 use Rattle.model.specs.Step.{refuse, sendFrom, sendStep, idleStep, serveEntry, serve, slotStep, step}
 use Rattle.model.specs.Queries.{nextReady, slotTime}
@@ -21,14 +21,14 @@ use Rattle.model.proofs.Effects.{Effect, Timely, refuses, idles, sends, effect}
 use Rattle.model.proofs.Reached.{reached-well-formed}
 use Rattle.model.proofs.SlotTime.{slot-time}
 use Rattle.table.specs.Layout.{nodesFrom}
-use Rattle.tournament.specs.Standing.{wordStanding}
-use Rattle.tournament.specs.Next.{GivesNext}
-use Rattle.tournament.proofs.Leading.{gives-next}
-use Rattle.abr.specs.Exports.{Observation, Performs, Trace, Matches, finalWords, zeros}
+use Rattle.table_tournament.specs.KeyedWinner.{keyedWord}
+use Rattle.table_tournament.specs.Next.{GivesNext}
+use Rattle.table_tournament.proofs.Winning.{gives-next}
+use Rattle.abr.specs.Exports.{Observation, Performs, Transcript, Matches, finalWords, zeros}
 use Rattle.abr.proofs.Exports.{performs-matches, exports-are-run}
-use Rattle.service.specs.Liveness.{IsAccepted}
-use Rattle.delivery.specs.SlotTime.{Passed}
-use Rattle.delivery.proofs.SlotTime.{slot-times}
+use Rattle.promise_service.specs.Liveness.{IsAccepted}
+use Rattle.promise_delivery.specs.SlotTime.{TimePassed}
+use Rattle.promise_delivery.proofs.SlotTime.{slot-times}
 use Rattle.exports.proofs.Exports.{accepted-seen}
 use Rattle.exports.specs.NextReady.{SentFrom}
 use Rattle.exports.proofs.NextReady.{exports-next-ready}
@@ -44,23 +44,23 @@ timely-of (idles t room z b) a = z
 timely-of (sends t room i u z b) a = z
 
 -- one that is not refused before its connection is looked for is accepted; so 14 means that it is before the last accepted time
-served-zero : (s : State) (t : ℕ) (w : Winner) → slotAnswer (serve s t w .answer) .refusal ≡ 0
+served-zero : (s : State) (t : ℕ) (w : Winner) → sentOf (serve s t w .answer) .refusal ≡ 0
 unfolding serve serveEntry idleStep sendStep sendFrom
 served-zero s t noneReady = refl
 served-zero s t (wins i v) = go (find v (s .entries))
   where
-    go : (x : Entry) → slotAnswer (serveEntry s t v x .answer) .refusal ≡ 0
+    go : (x : Entry) → sentOf (serveEntry s t v x .answer) .refusal ≡ 0
     go free = refl
     go (taken c) = refl
 
-refused-early : (s : State) (t : ℕ) → slotAnswer (step s (slot t 53) .answer) .refusal ≡ 14 → t ≤ s .last
+refused-early : (s : State) (t : ℕ) → sentOf (step s (slot t 53) .answer) .refusal ≡ 14 → t ≤ s .last
 unfolding step slotStep require refuse
 refused-early s t e = go (leb t latestTime) (leb (s .last) t) refl e
   where
     o : Outcome
     o = serve (withTime t s) t (winner t (s .entries))
 
-    go : (x y : Bool) → leb (s .last) t ≡ y → slotAnswer (require (refuse s 8) x (require (refuse s 14) y o) .answer) .refusal ≡ 14 → t ≤ s .last
+    go : (x y : Bool) → leb (s .last) t ≡ y → sentOf (require (refuse s 8) x (require (refuse s 14) y o) .answer) .refusal ≡ 14 → t ≤ s .last
     go true true q e = absurd (omega (arith, e, served-zero (withTime t s) t (winner t (s .entries))))
     go true false q e = omega (arith, leb-false (s .last) t q)
     go false y q e = absurd (omega (arith, e))
@@ -73,7 +73,7 @@ before-next next t o f k = go (leb next t) refl
     go true e = absurd (f .sends (leb-true next t e) k)
     go false e = leb-false next t e
 
-module _ (cs : List Call) (os : List Observation) (tr : Trace cs zeros os) where
+module _ (cs : List Call) (os : List Observation) (tr : Transcript cs zeros os) where
   here : State
   here = final empty cs
 
@@ -96,11 +96,11 @@ module _ (cs : List Call) (os : List Observation) (tr : Trace cs zeros os) where
   sent-from : (t : ℕ) (o : Observation) → Performs (slot t 53) words-there o → o .returned .refusal ≡ 0 → SentFrom (nextReady here) t o
   unfolding here words-there
   sent-from t o p z =
-      let g = gives-next (finalWords zeros os) (wordStanding (finalWords zeros os) (getD (finalWords zeros os) (nodesFrom + 1) 0)) refl in
+      let g = gives-next (finalWords zeros os) (keyedWord (finalWords zeros os) (getD (finalWords zeros os) (nodesFrom + 1) 0)) refl in
       subst (λ (n : ℕ). SentFrom n t o) (exports-are-run .next cs os tr _ g) (exports-next-ready cs os tr _ g t 53 o p z)
 
   module _ (now lag : ℕ) (o p : Observation) (own : Performs (slot now 53) words-there o) (passed : Performs (slot (slotTime here now lag) 53) words-there p) where
-    time-passed : o .returned .refusal ≡ 0 → Passed here now lag × (now ≤ latestTime)
+    time-passed : o .returned .refusal ≡ 0 → TimePassed here now lag × (now ≤ latestTime)
     unfolding here
     time-passed z =
         let t = timely-of (effect here (reached-well-formed cs .unique) (slot now 53)) (is-accepted now o own z) in
@@ -136,5 +136,5 @@ exports-slot-time cs os tr now lag time h =
       late = λ next g h k. omega (arith, q, n next g, l, h, k);
       alike = λ o p own passed. alike cs os tr now lag o p own (subst (λ (t : ℕ). Performs (slot t 53) (finalWords zeros os) p) q passed);
       wrongClock = λ o own e.
-          q ∙ b .early (refused-early (final empty cs) now (sym (ap (λ (r : SlotAnswer). r .refusal) (matches cs os tr now o own .returned)) ∙ e));
+          q ∙ b .early (refused-early (final empty cs) now (sym (ap (λ (r : AbrSent). r .refusal) (matches cs os tr now o own .returned)) ∙ e));
     }

@@ -4,17 +4,17 @@ use mathlib.Core.Path.{_≡_}
 use mathlib.Core.Bool.{true}
 use mathlib.Core.List.{List, [], _∷_}
 use mathlib.Core.Option.{some}
-use Rattle.params.specs.declared.params.Params.{Params}
-use Rattle.params.specs.Params.{peak}
+use Rattle.rate_params.specs.declared.params.Params.{Params}
+use Rattle.rate_params.specs.Params.{peak}
 use Rattle.model.specs.Call.{Call}
-use Rattle.abr.specs.Exports.{Observation, Trace, finalWords, zeros}
-use Rattle.delivery.specs.Calls.{opensOf, total, isIn}
-use Rattle.delivery.specs.Turns.{opensIn}
-use Rattle.delivery_caps.specs.Capped.{rise}
-use Rattle.delivery_caps.specs.Lag.{riseCount}
-use Rattle.delivery_caps.specs.Known.{Known, ifGiven}
+use Rattle.abr.specs.Exports.{Observation, Transcript, finalWords, zeros}
+use Rattle.promise_delivery.specs.Calls.{opensOf, total, isIn}
+use Rattle.promise_delivery.specs.Turns.{opensIn}
+use Rattle.promise_caps.specs.Capped.{rise}
+use Rattle.promise_caps.specs.Lag.{riseCount}
+use Rattle.promise_caps.specs.Known.{Known, ifGiven}
 use Rattle.exports_delivery.specs.Obeyed.{knownSeen, knownFrom}
-use Rattle.exports_delivery.specs.Rounds.{Round, lastSeen, RoundsRun, turnsOf, RoundsDelivered}
+use Rattle.exports_delivery.specs.Rounds.{Round, lastSeen, RoundsRun, turnsIn, RoundsDelivered}
 
 -- what is known before the slot of a round
 abbrev pub knownIn : (ℕ → Known) → Round → ℕ → Known
@@ -51,9 +51,9 @@ PeaksFit vs r S k (x ∷ xs) = PeakFits vs r S (knownIn k x) × PeaksFit vs r S 
 abbrev pub capsOf : (ℕ → Known) → ℕ → ℕ
 capsOf k v = k v .cap
 
-abbrev pub CapsFit : (vs : List ℕ) (G : ℕ) → (ℕ → Known) → List Round → Type 0
-CapsFit vs G k [] = Unit
-CapsFit vs G k (x ∷ xs) = LinkFits vs (capsOf (knownIn k x)) G (knownIn k x) × CapsFit vs G (knownIn k x) xs
+abbrev pub RoundsFit : (vs : List ℕ) (G : ℕ) → (ℕ → Known) → List Round → Type 0
+RoundsFit vs G k [] = Unit
+RoundsFit vs G k (x ∷ xs) = LinkFits vs (capsOf (knownIn k x)) G (knownIn k x) × RoundsFit vs G (knownIn k x) xs
 
 -- how often the cap of v rises from one slot to the next while it is open
 abbrev pub risesSeen : (v : ℕ) → (ℕ → Known) → List Round → ℕ
@@ -64,16 +64,16 @@ risesSeen v k (x ∷ xs) = ifGiven (k v .given) (riseCount (k v .cap) (knownIn k
 abbrev pub poured : (vs : List ℕ) (G : ℕ) → (ℕ → Known) → Round → ℕ
 poured vs G k x = total (λ v. opensOf v (x .between) * G + ifGiven (k v .given) (rise G (k v .cap) (knownIn k x v .cap))) vs
 
-abbrev pub levelAt : (vs : List ℕ) (S G level : ℕ) → (ℕ → Known) → Round → ℕ
-levelAt vs S G level k x = (level + poured vs G k x) - (G - S)
+abbrev pub bucketAt : (vs : List ℕ) (S G level : ℕ) → (ℕ → Known) → Round → ℕ
+bucketAt vs S G level k x = (level + poured vs G k x) - (G - S)
 
-abbrev pub openOf : (vs : List ℕ) → (ℕ → Known) → ℕ
-openOf vs k = total (λ v. slotsFor (k v)) vs
+abbrev pub slotsForOpen : (vs : List ℕ) → (ℕ → Known) → ℕ
+slotsForOpen vs k = total (λ v. slotsFor (k v)) vs
 
 abbrev pub InBucket : (vs : List ℕ) (S G N A level : ℕ) → (ℕ → Known) → List Round → Type 0
 InBucket vs S G N A level k [] = Unit
 InBucket vs S G N A level k (x ∷ xs) =
-    (levelAt vs S G level k x ≤ A) × (openOf vs (knownIn k x) ≤ N) × InBucket vs S G N A (levelAt vs S G level k x) (knownIn k x) xs
+    (bucketAt vs S G level k x ≤ A) × (slotsForOpen vs (knownIn k x) ≤ N) × InBucket vs S G N A (bucketAt vs S G level k x) (knownIn k x) xs
 
 -- After any exported calls from the zero table, rounds on it.
 module _ (cs : List Call) (os : List Observation) where
@@ -83,20 +83,20 @@ module _ (cs : List Call) (os : List Observation) where
 
   -- and a slot for each connection that is open, for each call that opens one, and for each rise
   abbrev pub behind : (vs : List ℕ) (S m : ℕ) → List Round → ℕ
-  behind vs S m xs = early m + total (λ v. slotsFor (knownFrom cs os v) + opensIn v (turnsOf xs)) vs * S
+  behind vs S m xs = early m + total (λ v. slotsFor (knownFrom cs os v) + opensIn v (turnsIn xs)) vs * S
 
   abbrev pub behindRising : (vs : List ℕ) (S m : ℕ) → List Round → ℕ
-  behindRising vs S m xs = early m + total (λ v. slotsFor (knownFrom cs os v) + opensIn v (turnsOf xs) + risesSeen v (knownFrom cs os) xs) vs * S
+  behindRising vs S m xs = early m + total (λ v. slotsFor (knownFrom cs os v) + opensIn v (turnsIn xs) + risesSeen v (knownFrom cs os) xs) vs * S
 
   pub record DeliveredAfter (vs : List ℕ) (S lag m : ℕ) (xs : List Round) : Type 0 where
     pub held : (r : ℕ → ℕ) → behind vs S m xs ≤ lag → RatesHeld vs r S (knownFrom cs os) xs → RoundsDelivered cs os (behind vs S m xs) xs
     pub atPeaks : (r : ℕ → ℕ) → behind vs S m xs ≤ lag → PeaksFit vs r S (knownFrom cs os) xs → RoundsDelivered cs os (behind vs S m xs) xs
-    pub counted : behindRising vs S m xs ≤ lag → CapsFit vs S (knownFrom cs os) xs → RoundsDelivered cs os (behindRising vs S m xs) xs
+    pub counted : behindRising vs S m xs ≤ lag → RoundsFit vs S (knownFrom cs os) xs → RoundsDelivered cs os (behindRising vs S m xs) xs
     pub bucket :
-        (G N A : ℕ) → S ≤ G → CapsFit vs G (knownFrom cs os) xs → openOf vs (knownFrom cs os) ≤ N → InBucket vs S G N A 0 (knownFrom cs os) xs → early m + N * G + A ≤ lag
+        (G N A : ℕ) → S ≤ G → RoundsFit vs G (knownFrom cs os) xs → slotsForOpen vs (knownFrom cs os) ≤ N → InBucket vs S G N A 0 (knownFrom cs os) xs → early m + N * G + A ≤ lag
         → RoundsDelivered cs os (early m + N * G + A) xs
 
 abbrev pub ExportsDelivered : Type 0
 ExportsDelivered =
-    (cs : List Call) (os : List Observation) → Trace cs zeros os → (vs : List ℕ) (S lag m : ℕ) (xs : List Round)
+    (cs : List Call) (os : List Observation) → Transcript cs zeros os → (vs : List ℕ) (S lag m : ℕ) (xs : List Round)
     → RoundsRun S lag m (lastSeen 0 cs os) (finalWords zeros os) xs → DeliveredAfter cs os vs S lag m xs

@@ -5,15 +5,15 @@ use mathlib.Core.Path.{_≡_}
 use mathlib.Core.List.{List}
 use mathlib.Core.Option.{none, some}
 use lib.Dec.{eqb}
-use Rattle.params.specs.declared.params.Params.{Params}
-use Rattle.params.specs.Params.{least}
+use Rattle.rate_params.specs.declared.params.Params.{Params}
+use Rattle.rate_params.specs.Params.{least}
 use Rattle.model.specs.Call.{Call}
-use Rattle.answers.specs.declared.calls.AcrAnswer.{AcrAnswer}
-use Rattle.abr.specs.Contract.{AnswersAcr}
-use Rattle.abr.specs.Exports.{Observation, Trace, finalWords, zeros}
+use Rattle.abr_answers.specs.declared.calls.AbrAllowed.{AbrAllowed}
+use Rattle.abr.specs.Contract.{ReturnsAllowed}
+use Rattle.abr.specs.Exports.{Observation, Transcript, finalWords, zeros}
 use Rattle.exports.specs.Along.{kept}
 use Rattle.exports.specs.Exports.{paramsObserved}
-use Rattle.delivery_caps.specs.Known.{Known, unknown, knownBy}
+use Rattle.promise_caps.specs.Known.{Known, unknown, knownBy}
 
 -- what a caller knows of a name, from a call and what it returned: 0 is no refusal
 abbrev pub knownAfter : (v : ℕ) → Call → Observation → Known → Known
@@ -30,8 +30,8 @@ pub record ObeyedBy (cs : List Call) (os : List Observation) (v : ℕ) : Type 0 
   -- it knows the parameters of an open connection
   pub given : knownFrom cs os v .given ≡ paramsObserved v none cs os
   -- the rate of one is at most its cap, and at least its minimum
-  pub rate : (p : Params) (a : AcrAnswer) → knownFrom cs os v .given ≡ some p → AnswersAcr v (finalWords zeros os) a → (least p ≤ a .acr) × (a .acr ≤ knownFrom cs os v .cap)
+  pub rate : (p : Params) (a : AbrAllowed) → knownFrom cs os v .given ≡ some p → ReturnsAllowed v (finalWords zeros os) a → (least p ≤ a .acr) × (a .acr ≤ knownFrom cs os v .cap)
   pub minimum : (p : Params) → knownFrom cs os v .given ≡ some p → least p ≤ knownFrom cs os v .cap
 
 abbrev pub ExportsObeyed : Type 0
-ExportsObeyed = (cs : List Call) (os : List Observation) → Trace cs zeros os → (v : ℕ) → ObeyedBy cs os v
+ExportsObeyed = (cs : List Call) (os : List Observation) → Transcript cs zeros os → (v : ℕ) → ObeyedBy cs os v

@@ -4,18 +4,18 @@ use mathlib.Core.Path.{_≡_}
 use mathlib.Core.List.{List}
 use mathlib.Core.Option.{none, some}
 use Rattle.rate.specs.Gap.{gap}
-use Rattle.params.specs.declared.params.Params.{Params}
-use Rattle.params.specs.Params.{peak}
+use Rattle.rate_params.specs.declared.params.Params.{Params}
+use Rattle.rate_params.specs.Params.{peak}
 use Rattle.model.specs.Call.{Call}
-use Rattle.answers.specs.declared.calls.AcrAnswer.{AcrAnswer}
-use Rattle.abr.specs.Exports.{Observation, Trace, finalWords, zeros}
+use Rattle.abr_answers.specs.declared.calls.AbrAllowed.{AbrAllowed}
+use Rattle.abr.specs.Exports.{Observation, Transcript, finalWords, zeros}
 use Rattle.exports.specs.Exports.{paramsObserved}
 use Rattle.exports.specs.Recorded.{recorded, RatesRead}
 use Rattle.exports.specs.Returned.{noMember, membersSeen}
-use Rattle.delivery.specs.Policed.{PolicedCells}
+use Rattle.promise_delivery.specs.Policed.{PolicedCells}
 
 -- After any exported calls, of a connection that is open with the parameters p, and any further ones until it is closed.
 abbrev pub ExportsPoliced : Type 0
 ExportsPoliced =
-    (cs ds : List Call) (os ps : List Observation) (v : ℕ) (p : Params) (rs : List AcrAnswer) → Trace cs zeros os → Trace ds (finalWords zeros os) ps → paramsObserved v none cs os ≡ some p
+    (cs ds : List Call) (os ps : List Observation) (v : ℕ) (p : Params) (rs : List AbrAllowed) → Transcript cs zeros os → Transcript ds (finalWords zeros os) ps → paramsObserved v none cs os ≡ some p
     → RatesRead v (finalWords zeros os) ps rs → PolicedCells (gap (peak p)) (recorded v (membersSeen noMember cs os) ds ps rs)

@@ -8,21 +8,21 @@ use mathlib.Core.Option.{Option, none, some}
 use lib.Dec.{eqb}
 use Rattle.rate.specs.Units.{latestTime}
 use Rattle.rate.specs.Gap.{gap}
-use Rattle.params.specs.declared.params.Params.{Params}
-use Rattle.params.specs.Params.{least}
+use Rattle.rate_params.specs.declared.params.Params.{Params}
+use Rattle.rate_params.specs.Params.{least}
 use Rattle.model.specs.Call.{Call, opening, closing, receiving, offering, levelling, slot, making, outOfRate, openingPath, adding, offeringMember, removing}
-use Rattle.tournament.specs.Next.{GivesNext, GivesSlotTime}
-use Rattle.answers.specs.declared.calls.AcrAnswer.{AcrAnswer}
-use Rattle.abr.specs.Contract.{AnswersAcr}
-use Rattle.abr.specs.Exports.{Observation, Performs, Trace, finalWords}
-use Rattle.promises.specs.All.{All}
+use Rattle.table_tournament.specs.Next.{GivesNext, GivesSlotTime}
+use Rattle.abr_answers.specs.declared.calls.AbrAllowed.{AbrAllowed}
+use Rattle.abr.specs.Contract.{ReturnsAllowed}
+use Rattle.abr.specs.Exports.{Observation, Performs, Transcript, finalWords}
+use Rattle.laws.specs.All.{All}
 use Rattle.exports.specs.Exports.{paramsObserved}
 use Rattle.exports.specs.Returned.{noMember, membersSeen, wentTo}
 use Rattle.exports_rates.specs.Seen.{Watched, watch, watchedFrom, watched}
 use Rattle.exports_service.specs.Ready.{waitsSeen}
-use Rattle.delivery.specs.Calls.{sortOf}
-use Rattle.delivery.specs.Turns.{Turn, NoSlot}
-use Rattle.delivery.specs.Served.{NotCloser, movedOn, oneMore}
+use Rattle.promise_delivery.specs.Calls.{sortOf}
+use Rattle.promise_delivery.specs.Turns.{Turn, NoSlot}
+use Rattle.promise_delivery.specs.Served.{NotCloser, movedOn, oneMore}
 
 -- one round: the calls since the last slot with what they returned; the slot's own time, what abr_next and abr_slot_time return at it, what abr_slot did, and what abr_acr returns of each
 -- name before it
@@ -33,7 +33,7 @@ pub record Round : Type 0 where
   pub next : ℕ
   pub passed : ℕ
   pub sent : Observation
-  pub acrs : ℕ → AcrAnswer
+  pub acrs : ℕ → AbrAllowed
 
 -- the last accepted time, from the calls and the numbers that they returned: 0 is no refusal
 unfoldable pub timeKept : Call → (accepted : Bool) → (last : ℕ) → ℕ
@@ -60,11 +60,11 @@ wordsAt t x = finalWords t (x .seen)
 
 -- on a table with these words, the last accepted time being `last` and the slot before at m by the clock
 pub record RoundRuns (S lag m last : ℕ) (t : List ℕ) (x : Round) : Type 0 where
-  pub done : Trace (x .between) t (x .seen)
+  pub done : Transcript (x .between) t (x .seen)
   pub asked : GivesNext (wordsAt t x) (x .next)
   pub timed : GivesSlotTime (wordsAt t x) (x .now) lag (x .passed)
   pub slotted : Performs (slot (x .passed) 53) (wordsAt t x) (x .sent)
-  pub read : (v : ℕ) → AnswersAcr v (wordsAt t x) (x .acrs v)
+  pub read : (v : ℕ) → ReturnsAllowed v (wordsAt t x) (x .acrs v)
   pub others : All (λ c. NoSlot (sortOf c)) (x .between)
   -- opens, made and out-of-rate cells take the last passed time, so that no call but the slots moves the last accepted one; and the clock is not behind it
   pub still : lastSeen last (x .between) (x .seen) ≡ last
@@ -77,9 +77,9 @@ abbrev pub RoundsRun : (S lag m last : ℕ) → List ℕ → List Round → Type
 RoundsRun S lag m last t [] = Unit
 RoundsRun S lag m last t (x ∷ xs) = RoundRuns S lag m last t x × RoundsRun S lag (x .now) (x .passed) (x .sent .table) xs
 
-abbrev pub turnsOf : List Round → List Turn
-turnsOf [] = []
-turnsOf (x ∷ xs) = record { between = x .between; now = x .now } ∷ turnsOf xs
+abbrev pub turnsIn : List Round → List Turn
+turnsIn [] = []
+turnsIn (x ∷ xs) = record { between = x .between; now = x .now } ∷ turnsIn xs
 
 -- the lag does not decide, and the slot is passed no more than k behind its own time
 pub record PassedNear (k last : ℕ) (x : Round) : Type 0 where
@@ -98,13 +98,13 @@ abbrev pub watchedAfter : (v : ℕ) → Watched → Round → Watched
 watchedAfter v k x = watch v (slot (x .passed) 53) (x .sent) (watchedAt v k x)
 
 -- something waits on v before the slot, data, a turned or a made cell; and v was not closed since the last slot
-pub record Waiting (v : ℕ) (k : Watched) (x : Round) : Type 0 where
+pub record WaitsBefore (v : ℕ) (k : Watched) (x : Round) : Type 0 where
   pub some : waitsSeen (watchedAt v k x .connection) ≡ true
   pub kept : All (λ c. NotCloser v (sortOf c)) (x .between)
 
 abbrev pub AllWaiting : (v : ℕ) → Watched → List Round → Type 0
 AllWaiting v k [] = Unit
-AllWaiting v k (x ∷ xs) = Waiting v k x × AllWaiting v (watchedAfter v k x) xs
+AllWaiting v k (x ∷ xs) = WaitsBefore v k x × AllWaiting v (watchedAfter v k x) xs
 
 -- each slot's own time is at most k, and a gap for each cell of v before it, after `start`; f says which pairs are members
 abbrev pub AllSent : (v gap k start cells : ℕ) → (ℕ → Bool) → List Round → Type 0
@@ -127,9 +127,9 @@ AllSpaced v low high from by f (x ∷ xs) =
     ((x .passed ≤ by) × (w ≡ some v → from ≤ x .passed)) × AllSpaced v low high (movedOn v (gap high) (x .passed) from w) (movedOn v (gap low) (x .passed) by w) h xs
 
 -- each cell of v is passed exactly a gap g after the one before, which was passed `last`: the first has none before it
-abbrev pub Exactly : (g : ℕ) → (last : Option ℕ) → (passed : ℕ) → Type 0
-Exactly g none t = Unit
-Exactly g (some l) t = t ≡ l + g
+abbrev pub ExactlyAfter : (g : ℕ) → (last : Option ℕ) → (passed : ℕ) → Type 0
+ExactlyAfter g none t = Unit
+ExactlyAfter g (some l) t = t ≡ l + g
 
 unfoldable pub lastCell : (v passed : ℕ) → (last : Option ℕ) → Option ℕ → Option ℕ
 lastCell v t l none = l
@@ -140,7 +140,7 @@ AllExact v g l f [] = Unit
 AllExact v g l f (x ∷ xs) =
     let h = membersSeen f (x .between) (x .seen) in
     let w = wentTo h (x .sent .returned) in
-    (w ≡ some v → Exactly g l (x .passed)) × AllExact v g (lastCell v (x .passed) l w) h xs
+    (w ≡ some v → ExactlyAfter g l (x .passed)) × AllExact v g (lastCell v (x .passed) l w) h xs
 
 -- after exported calls from the zero table
 pub record RoundsDelivered (cs : List Call) (os : List Observation) (k : ℕ) (xs : List Round) : Type 0 where

@@ -3,8 +3,8 @@ use Prim.Native.Nat.{ℕ, _+_, _≤_}
 use mathlib.Core.Path.{_≡_}
 use mathlib.Core.List.{List}
 use Rattle.model.specs.Call.{Call, slot}
-use Rattle.tournament.specs.Next.{GivesNext, GivesSlotTime}
-use Rattle.abr.specs.Exports.{Observation, Performs, Trace, finalWords, zeros}
+use Rattle.table_tournament.specs.Next.{GivesNext, GivesSlotTime}
+use Rattle.abr.specs.Exports.{Observation, Performs, Transcript, finalWords, zeros}
 use Rattle.exports_delivery.specs.Rounds.{lastSeen}
 
 -- what a slot at the slot's own time returns, and what one at the time passed does: no refusal where there is none, and kind 0, which is no cell, in both or in neither
@@ -30,5 +30,5 @@ pub record TimeToPass (l : List ℕ) (last now lag time : ℕ) : Type 0 where
 -- After any exported calls from the zero table.
 abbrev pub ExportsSlotTime : Type 0
 ExportsSlotTime =
-    (cs : List Call) (os : List Observation) → Trace cs zeros os → (now lag time : ℕ) → GivesSlotTime (finalWords zeros os) now lag time
+    (cs : List Call) (os : List Observation) → Transcript cs zeros os → (now lag time : ℕ) → GivesSlotTime (finalWords zeros os) now lag time
     → TimeToPass (finalWords zeros os) (lastSeen 0 cs os) now lag time

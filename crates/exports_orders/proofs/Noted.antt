@@ -9,11 +9,11 @@ use lib.Dec.{ltb, eqb}
 use lib.ListN.{length, replicate}
 use borrow.Author.Tests.{eqb-true}
 use Rattle.cell.specs.declared.fields.Fields.{Fields}
-use Rattle.cell.specs.Name.{pairName}
+use Rattle.cell.specs.Name.{addressName}
 use Rattle.cell.specs.Fields.{cellName}
-use Rattle.members.specs.Path.{pathVci, pathOf}
-use Rattle.members.specs.Members.{Member, cellsOf, without, withMember, withCells}
-use Rattle.members.specs.Turn.{afterServing}
+use Rattle.connection_members.specs.Path.{pathVci, pathOf}
+use Rattle.connection_members.specs.Members.{Member, cellsOf, without, withMember, withCells}
+use Rattle.connection_members.specs.Turn.{afterServing}
 use Rattle.connection.specs.declared.parts.Connection.{Connection}
 use Rattle.connection.specs.declared.parts.Made.{Made}
 use Rattle.connection.specs.declared.parts.Waiting.{Waiting}
@@ -23,21 +23,21 @@ use Rattle.connection.specs.declared.kind.Kind.the-variants.{Forward, Turned, D
 use Rattle.connection.specs.declared.ready.Instant.the-variants.{At}
 use Rattle.connection.specs.Parts.{fresh, withQueue, dequeued}
 use Rattle.connection.specs.Making.{withMade}
-use Rattle.connection.specs.Receiving.{offered, afterDataCell, afterBackwardCell, afterForwardCell, afterResourceCell}
+use Rattle.connection.specs.Receiving.{offered, afterDataCell, afterBackwardCell, afterForwardCell, afterRmCell}
 use Rattle.connection.specs.Kind.{kindAt}
 use Rattle.connection.specs.Sending.{after, withServed, memberServed, sentForward, sentTurned, sentData, madeLeft}
 use Rattle.connection.specs.OutOfRate.{afterOutOfRate}
 use Rattle.connection.proofs.Keeps.{work-same, after-same}
-use Rattle.model.specs.State.{State, Entry, free, taken, capacity, empty, find, put, inserted, withTime, withLevel, withMembers}
+use Rattle.model.specs.State.{State, Entry, free, taken, capacity, empty, find, withEntryOf, withOpened, withTime, withLevel, withMembers}
 use Rattle.model.specs.Invariant.{NamesUnique}
 use Rattle.model.specs.Call.{Call, Outcome}
-use Rattle.model.specs.Step.{refuse, accept, replay, discard, withOffer, withoutOne, sendFrom, sendStep, sendOutside, idleStep, step}
+use Rattle.model.specs.Step.{refuse, accept, replay, discard, withOffer, withoutOne, sendFrom, sendStep, sendOutOfRate, idleStep, step}
 use Rattle.model.specs.Run.{final, isAccepted}
-use Rattle.model.specs.Orders.{lastMade, lastOutside}
+use Rattle.model.specs.Orders.{lastMade, lastOutOfRate}
 use Rattle.model.proofs.Entries.{absent-find, each-free}
-use Rattle.model.proofs.Frames.{put-read, put-kept, inserted-read, freed-read}
-use Rattle.model.proofs.Effects.{Effect, refuses, begins, ends, offers, marks, works, levels, idles, sends, makes, leaves, beginsPath, adds, offersMember, removes, effect}
-use Rattle.abr.specs.Exports.{Observation, Trace, zeros}
+use Rattle.model.proofs.Frames.{put-read, put-kept, with-opened-read, freed-read}
+use Rattle.model.proofs.Effects.{Effect, refuses, opens, closes, offers, receivesData, receivesRm, setsLevel, idles, sends, makes, sendsOutOfRate, opensPath, adds, offersMember, removes, effect}
+use Rattle.abr.specs.Exports.{Observation, Transcript, zeros}
 use Rattle.exports.specs.Along.{kept}
 use Rattle.exports.proofs.Transport.{Keeps, stands-first, kept-so}
 use Rattle.exports_cells.specs.Heard.{levelAfter}
@@ -54,7 +54,7 @@ module _ {K : Type 0} (F : State → K) (next : Call → K → K) (f : ChangesAs
     goes = λ s c o k m z. (λ i. cond (z .accepted i) (next c (m i)) (m i)) ∙ sym (f s (z .wellFormed .unique) c (step s c) (effect s (z .wellFormed .unique) c));
   }
 
-  pub noted-so : (k : K) → k ≡ F empty → (cs : List Call) (os : List Observation) → Trace cs zeros os → kept (noted next) k cs os ≡ F (final empty cs)
+  pub noted-so : (k : K) → k ≡ F empty → (cs : List Call) (os : List Observation) → Transcript cs zeros os → kept (noted next) k cs os ≡ F (final empty cs)
   noted-so k e cs os t = kept-so (noted next) (λ k s. k ≡ F s) keeps empty zeros stands-first k e cs os t
 
 -- The level.
@@ -62,7 +62,7 @@ none-set : 0 ≡ empty .level
 unfolding empty
 none-set = refl
 
-pub level-noted : (cs : List Call) (os : List Observation) → Trace cs zeros os → levelNoted cs os ≡ final empty cs .level
+pub level-noted : (cs : List Call) (os : List Observation) → Transcript cs zeros os → levelNoted cs os ≡ final empty cs .level
 level-noted cs os t = noted-so (λ s. s .level) levelAfter (λ s w c o e. effect-level e) 0 none-set cs os t
 
 -- The names of the members.
@@ -103,21 +103,21 @@ serving-names (some x) ms = cells-names x _ ms
 effect-names :
     {s : State} {c : Call} {o : Outcome} → Effect s c o
     → namesOf (o .state .members) ≡ cond (isAccepted (o .answer)) (namesAfter c (namesOf (s .members))) (namesOf (s .members))
-unfolding refuse accept replay discard sendStep sendFrom idleStep sendOutside withOffer withoutOne put inserted withTime withLevel withMembers isAccepted
+unfolding refuse accept replay discard sendStep sendFrom idleStep sendOutOfRate withOffer withoutOne withEntryOf withOpened withTime withLevel withMembers isAccepted
 effect-names (refuses c n h) = refl
-effect-names (begins a b t p g) = refl
-effect-names {s} (ends a b d f) = without-names _ (s .members)
+effect-names (opens a b t p g) = refl
+effect-names {s} (closes a b d f) = without-names _ (s .members)
 effect-names (offers a b n d f i h) = refl
-effect-names (marks o a b e u d r i z f) = refl
-effect-names (works o q d r f) = refl
-effect-names (levels l h) = refl
+effect-names (receivesData o a b e u d r i z f) = refl
+effect-names (receivesRm o q d r f) = refl
+effect-names (setsLevel l h) = refl
 effect-names (idles t room g b) = refl
 effect-names {s} (sends t room i u g b) = serving-names (memberServed (kindAt t (b .holder)) (b .holder) (s .members)) (s .members)
 effect-names (makes a b t d f g h m) = refl
-effect-names (leaves a b t room d f g h) = refl
-effect-names (beginsPath a t p g) = refl
-effect-names {s} (adds a b d f j) = with-name (pairName a b) (s .members)
-effect-names {s} (offersMember a b n d f i h) = cells-names (pairName a b) _ (s .members)
+effect-names (sendsOutOfRate a b t room d f g h) = refl
+effect-names (opensPath a t p g) = refl
+effect-names {s} (adds a b d f j) = with-name (addressName a b) (s .members)
+effect-names {s} (offersMember a b n d f i h) = cells-names (addressName a b) _ (s .members)
 effect-names {s} (removes a b d f i) = without-names _ (s .members)
 
 no-names : [] ≡ namesOf (empty .members)
@@ -128,21 +128,21 @@ names-length : (ms : List Member) → length (namesOf ms) ≡ length ms
 names-length [] = refl
 names-length (m ∷ ms) = ap suc (names-length ms)
 
-pub members-noted : (cs : List Call) (os : List Observation) → Trace cs zeros os → length (namesNoted cs os) ≡ length (final empty cs .members)
+pub members-noted : (cs : List Call) (os : List Observation) → Transcript cs zeros os → length (namesNoted cs os) ≡ length (final empty cs .members)
 members-noted cs os t =
     ap length (noted-so (λ s. namesOf (s .members)) namesAfter (λ s w c o e. effect-names e) [] no-names cs os t) ∙ names-length (final empty cs .members)
 
 -- The instants of a connection.
 abbrev pub instantsIn : Entry → Instants
-instantsIn x = record { made = lastMade x; outside = lastOutside x }
+instantsIn x = record { made = lastMade x; «out_of_rate» = lastOutOfRate x }
 
 left-last : (w : Waiting) (m : Made) → madeLeft w m .last ≡ m .last
 unfolding madeLeft
 left-last Nothing m = refl
 left-last (Cell p) m = refl
 
-work-instants : (level : ℕ) (o : List ℕ) (f : Fields) (d : Connection) → instantsIn (taken (afterResourceCell level o f d)) ≡ instantsIn (taken d)
-unfolding afterResourceCell afterBackwardCell afterForwardCell
+work-instants : (level : ℕ) (o : List ℕ) (f : Fields) (d : Connection) → instantsIn (taken (afterRmCell level o f d)) ≡ instantsIn (taken d)
+unfolding afterRmCell afterBackwardCell afterForwardCell
 work-instants level o f d = go (eqb (f .dir) 1)
   where
     go : (b : Bool) → instantsIn (taken (cond b (afterBackwardCell f d) (afterForwardCell level o d))) ≡ instantsIn (taken d)
@@ -152,7 +152,7 @@ work-instants level o f d = go (eqb (f .dir) 1)
 sent-instants : (k : Kind) (t : ℕ) (x : Option ℕ) (d : Connection) → instantsIn (taken (withServed x (after k t d))) ≡ instantsIn (taken d)
 unfolding after withServed sentForward sentTurned sentData
 sent-instants Forward t x d = refl
-sent-instants Turned t x d = λ i. record { made = left-last (d .destination .turned) (d .destination .made) i; outside = d .outside }
+sent-instants Turned t x d = λ i. record { made = left-last (d .destination .turned) (d .destination .made) i; «out_of_rate» = d .«out_of_rate» }
 sent-instants Data t x d = refl
 
 module _ (v : ℕ) where
@@ -168,35 +168,35 @@ module _ (v : ℕ) where
   own u s d f e = ap instantsIn (sym f ∙ ap (λ (x : ℕ). find x (s .entries)) (eqb-true u v e))
 
   effect-instants : {s : State} → NamesUnique (s .entries) → {c : Call} {o : Outcome} → Effect s c o → at (o .state) ≡ cond (isAccepted (o .answer)) (instantsAfter v c (at s)) (at s)
-  unfolding refuse accept replay discard sendStep sendFrom idleStep sendOutside withOffer withoutOne withServed withTime withLevel withMembers isAccepted fresh offered afterDataCell withMade afterOutOfRate
+  unfolding refuse accept replay discard sendStep sendFrom idleStep sendOutOfRate withOffer withoutOne withServed withTime withLevel withMembers isAccepted fresh offered afterDataCell withMade afterOutOfRate
   effect-instants w (refuses c n h) = refl
-  effect-instants {s} w (begins a b t p g) = inserted-read instantsIn v s (fresh (pairName a b) t p) (g .new) (g .room)
-  effect-instants {s} w (ends a b d f) = freed-read instantsIn v (pairName a b) s w
-  effect-instants {s} w (offers a b n d f i h) = put-kept instantsIn v (pairName a b) s w d (offered n d) f refl refl
-  effect-instants {s} w (marks o a b e u d r i z f) = put-kept instantsIn v u s w d (afterDataCell e d) f refl refl
-  effect-instants {s} w (works o q d r f) =
-      put-kept instantsIn v (cellName q) s w d (afterResourceCell (s .level) o q d) f (work-same (s .level) o q d .name) (work-instants (s .level) o q d)
-  effect-instants w (levels l h) = refl
+  effect-instants {s} w (opens a b t p g) = with-opened-read instantsIn v s (fresh (addressName a b) t p) (g .new) (g .room)
+  effect-instants {s} w (closes a b d f) = freed-read instantsIn v (addressName a b) s w
+  effect-instants {s} w (offers a b n d f i h) = put-kept instantsIn v (addressName a b) s w d (offered n d) f refl refl
+  effect-instants {s} w (receivesData o a b e u d r i z f) = put-kept instantsIn v u s w d (afterDataCell e d) f refl refl
+  effect-instants {s} w (receivesRm o q d r f) =
+      put-kept instantsIn v (cellName q) s w d (afterRmCell (s .level) o q d) f (work-same (s .level) o q d .name) (work-instants (s .level) o q d)
+  effect-instants w (setsLevel l h) = refl
   effect-instants w (idles t room g b) = refl
   effect-instants {s} w (sends t room i u g b) =
       let k = kindAt t (b .holder) in
       put-kept instantsIn v u (withTime t s) w (b .holder) (withServed (memberServed k (b .holder) (s .members)) (after k t (b .holder))) (b .found) (after-same k t (b .holder) .name)
       (sent-instants k t (memberServed k (b .holder) (s .members)) (b .holder))
   effect-instants {s} w (makes a b t d f g h m) =
-      put-read instantsIn v (pairName a b) (withTime t s) w d (withMade t (s .level) d) f refl
-      ∙ changed (eqb (pairName a b) v) _ _ (at s) (λ e. λ i. record { made = At t; outside = own (pairName a b) s d f e i .outside })
-  effect-instants {s} w (leaves a b t room d f g h) =
-      put-read instantsIn v (pairName a b) (withTime t s) w d (afterOutOfRate t d) f refl
-      ∙ changed (eqb (pairName a b) v) _ _ (at s) (λ e. λ i. record { made = own (pairName a b) s d f e i .made; outside = At t })
-  effect-instants {s} w (beginsPath a t p g) = inserted-read instantsIn v s (fresh (pairName a pathVci) t p) (g .new) (g .room)
+      put-read instantsIn v (addressName a b) (withTime t s) w d (withMade t (s .level) d) f refl
+      ∙ changed (eqb (addressName a b) v) _ _ (at s) (λ e. λ i. record { made = At t; «out_of_rate» = own (addressName a b) s d f e i .«out_of_rate» })
+  effect-instants {s} w (sendsOutOfRate a b t room d f g h) =
+      put-read instantsIn v (addressName a b) (withTime t s) w d (afterOutOfRate t d) f refl
+      ∙ changed (eqb (addressName a b) v) _ _ (at s) (λ e. λ i. record { made = own (addressName a b) s d f e i .made; «out_of_rate» = At t })
+  effect-instants {s} w (opensPath a t p g) = with-opened-read instantsIn v s (fresh (addressName a pathVci) t p) (g .new) (g .room)
   effect-instants w (adds a b d f j) = refl
-  effect-instants {s} w (offersMember a b n d f i h) = put-kept instantsIn v (pathOf (pairName a b)) s w d (offered n d) f refl refl
+  effect-instants {s} w (offersMember a b n d f i h) = put-kept instantsIn v (pathOf (addressName a b)) s w d (offered n d) f refl refl
   effect-instants {s} w (removes a b d f i) =
-      put-kept instantsIn v (pathOf (pairName a b)) s w d (withQueue d (dequeued (cellsOf (pairName a b) (s .members)) (d .queue))) f refl refl
+      put-kept instantsIn v (pathOf (addressName a b)) s w d (withQueue d (dequeued (cellsOf (addressName a b) (s .members)) (d .queue))) f refl refl
 
   no-instants : noInstants ≡ at empty
   unfolding empty
   no-instants = rw (absent-find v (replicate capacity free) (each-free (λ c. c .name ≢ v) capacity)) refl
 
-  pub instants-noted : (cs : List Call) (os : List Observation) → Trace cs zeros os → instantsNoted v cs os ≡ at (final empty cs)
+  pub instants-noted : (cs : List Call) (os : List Observation) → Transcript cs zeros os → instantsNoted v cs os ≡ at (final empty cs)
   instants-noted cs os t = noted-so at (instantsAfter v) (λ s w c o e. effect-instants w e) noInstants no-instants cs os t

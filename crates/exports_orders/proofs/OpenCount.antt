@@ -6,17 +6,17 @@ use mathlib.Core.List.{List, [], _∷_}
 use native.Mathlib.Omega.{arith}
 use lib.ListN.{length, getD, set, replicate}
 use borrow.Author.Tests.{ltb-true}
-use Rattle.params.specs.declared.params.Params.{Params}
+use Rattle.rate_params.specs.declared.params.Params.{Params}
 use Rattle.connection.specs.declared.parts.Connection.{Connection}
 use Rattle.connection.specs.Parts.{fresh}
-use Rattle.model.specs.State.{State, Entry, free, taken, capacity, empty, position, isFree, holds, find, put, inserted, roomLeft, withTime, withLevel, withMembers}
+use Rattle.model.specs.State.{State, Entry, free, taken, capacity, empty, position, isFree, holds, find, withEntryOf, withOpened, roomLeft, withTime, withLevel, withMembers}
 use Rattle.model.specs.Call.{Call, Outcome}
-use Rattle.model.specs.Step.{refuse, accept, replay, discard, withOffer, withoutOne, sendFrom, sendStep, sendOutside, idleStep}
+use Rattle.model.specs.Step.{refuse, accept, replay, discard, withOffer, withoutOne, sendFrom, sendStep, sendOutOfRate, idleStep}
 use Rattle.model.specs.Run.{final, isAccepted}
 use Rattle.model.specs.Orders.{openCount}
 use Rattle.model.proofs.Entries.{taken-in, lowest-free}
-use Rattle.model.proofs.Effects.{Enters, Effect, refuses, begins, ends, offers, marks, works, levels, idles, sends, makes, leaves, beginsPath, adds, offersMember, removes}
-use Rattle.abr.specs.Exports.{Observation, Trace, zeros}
+use Rattle.model.proofs.Effects.{OpenPassed, Effect, refuses, opens, closes, offers, receivesData, receivesRm, setsLevel, idles, sends, makes, sendsOutOfRate, opensPath, adds, offersMember, removes}
+use Rattle.abr.specs.Exports.{Observation, Transcript, zeros}
 use Rattle.exports.specs.Along.{kept}
 use Rattle.exports_progress.specs.PassedOver.{openAfter, countsOpen}
 use Rattle.exports_orders.proofs.Noted.{noted-so}
@@ -39,22 +39,22 @@ count-set (taken c ∷ ss) (suc i) x l = omega (arith, count-set ss i x (omega (
 abbrev total : State → ℕ
 total s = openCount (s .entries)
 
-changed-count : (u : ℕ) (s : State) (c d : Connection) → find u (s .entries) ≡ taken c → total (put u (taken d) s) ≡ total s
-unfolding put find
+changed-count : (u : ℕ) (s : State) (c d : Connection) → find u (s .entries) ≡ taken c → total (withEntryOf u (taken d) s) ≡ total s
+unfolding withEntryOf find
 changed-count u s c d e =
     let i = position (holds u) (s .entries) in
     let k : used (getD (s .entries) i free) ≡ 1 = ap used e in
     omega (arith, count-set (s .entries) i (taken d) (taken-in (s .entries) i c e), k)
 
-freed-count : (u : ℕ) (s : State) (c : Connection) → find u (s .entries) ≡ taken c → total (put u free s) ≡ total s - 1
-unfolding put find
+freed-count : (u : ℕ) (s : State) (c : Connection) → find u (s .entries) ≡ taken c → total (withEntryOf u free s) ≡ total s - 1
+unfolding withEntryOf find
 freed-count u s c e =
     let i = position (holds u) (s .entries) in
     let k : used (getD (s .entries) i free) ≡ 1 = ap used e in
     omega (arith, count-set (s .entries) i free (taken-in (s .entries) i c e), k)
 
-begun-count : (u t : ℕ) (p : Params) (s : State) → Enters s u t p → total (inserted (fresh u t p) s) ≡ total s + 1
-unfolding inserted roomLeft
+begun-count : (u t : ℕ) (p : Params) (s : State) → OpenPassed s u t p → total (withOpened (fresh u t p) s) ≡ total s + 1
+unfolding withOpened roomLeft
 begun-count u t p s g =
     let i = position isFree (s .entries) in
     let l : i < length (s .entries) = ltb-true _ _ (g .room) in
@@ -62,19 +62,19 @@ begun-count u t p s g =
     omega (arith, count-set (s .entries) i (taken (fresh u t p)) l, k)
 
 effect-count : {s : State} {c : Call} {o : Outcome} → Effect s c o → total (o .state) ≡ cond (isAccepted (o .answer)) (openAfter c (total s)) (total s)
-unfolding refuse accept replay discard sendStep sendFrom idleStep sendOutside withOffer withoutOne withTime withLevel withMembers isAccepted
+unfolding refuse accept replay discard sendStep sendFrom idleStep sendOutOfRate withOffer withoutOne withTime withLevel withMembers isAccepted
 effect-count (refuses c n h) = refl
-effect-count {s} (begins a b t p g) = begun-count _ t p s g
-effect-count {s} (ends a b d f) = freed-count _ s d f
+effect-count {s} (opens a b t p g) = begun-count _ t p s g
+effect-count {s} (closes a b d f) = freed-count _ s d f
 effect-count {s} (offers a b n d f i h) = changed-count _ s d _ f
-effect-count {s} (marks o a b e u d r i z f) = changed-count _ s d _ f
-effect-count {s} (works o q d r f) = changed-count _ s d _ f
-effect-count (levels l h) = refl
+effect-count {s} (receivesData o a b e u d r i z f) = changed-count _ s d _ f
+effect-count {s} (receivesRm o q d r f) = changed-count _ s d _ f
+effect-count (setsLevel l h) = refl
 effect-count (idles t room g b) = refl
 effect-count {s} (sends t room i u g b) = changed-count u (withTime t s) (b .holder) _ (b .found)
 effect-count {s} (makes a b t d f g h m) = changed-count _ (withTime t s) d _ f
-effect-count {s} (leaves a b t room d f g h) = changed-count _ (withTime t s) d _ f
-effect-count {s} (beginsPath a t p g) = begun-count _ t p s g
+effect-count {s} (sendsOutOfRate a b t room d f g h) = changed-count _ (withTime t s) d _ f
+effect-count {s} (opensPath a t p g) = begun-count _ t p s g
 effect-count (adds a b d f j) = refl
 effect-count {s} (offersMember a b n d f i h) = changed-count _ s d _ f
 effect-count {s} (removes a b d f i) = changed-count _ s d _ f
@@ -88,5 +88,5 @@ none-first : 0 ≡ total empty
 unfolding empty
 none-first = none-open capacity
 
-pub open-noted : (cs : List Call) (os : List Observation) → Trace cs zeros os → kept countsOpen 0 cs os ≡ openCount (final empty cs .entries)
+pub open-noted : (cs : List Call) (os : List Observation) → Transcript cs zeros os → kept countsOpen 0 cs os ≡ openCount (final empty cs .entries)
 open-noted cs os t = noted-so total openAfter (λ s w c o e. effect-count e) 0 none-first cs os t

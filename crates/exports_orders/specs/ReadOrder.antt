@@ -7,12 +7,12 @@ use mathlib.Core.List.{List}
 use mathlib.Core.Option.{Option, none, some}
 use lib.Dec.{eqb}
 use lib.ListN.{length, take}
-use Rattle.crc.specs.Checks.{headerCheck, payloadCheck}
+use Rattle.cell_crc.specs.Checks.{headerCheck, payloadCheck}
 use Rattle.cell.specs.Octets.{octet, pair, payload}
 use Rattle.cell.specs.Header.{typeOf}
 use Rattle.cell.specs.Fields.{ratesClear}
 use Rattle.model.specs.Orders.{Asks}
-use Rattle.answers.specs.declared.cells.CellAnswer.{CellAnswer}
+use Rattle.abr_answers.specs.declared.cells.AbrCell.{AbrCell}
 
 -- a payload type above 3, which is user data, is 6
 abbrev pub ReadOrder : List ℕ → (Option ℕ → Type 0) → Option ℕ → Type 0
@@ -26,5 +26,5 @@ ReadOrder o Rest =
     Rest)))))
 
 -- 0 is no refusal
-abbrev pub readReturned : CellAnswer → Option ℕ
+abbrev pub readReturned : AbrCell → Option ℕ
 readReturned r = cond (eqb (r .refusal) 0) none (some (r .refusal))

@@ -6,9 +6,9 @@ use mathlib.Core.Option.{some}
 use mathlib.Core.List.{List}
 use native.Mathlib.Omega.{arith}
 use lib.Dec.{eqb}
-use Rattle.params.specs.declared.params.Params.{Params}
-use Rattle.params.specs.Params.{least, initialUsed, crm}
-use Rattle.members.specs.Members.{Member}
+use Rattle.rate_params.specs.declared.params.Params.{Params}
+use Rattle.rate_params.specs.Params.{least, initialUsed, crm}
+use Rattle.connection_members.specs.Members.{Member}
 use Rattle.connection.specs.declared.parts.Connection.{Connection}
 use Rattle.connection.specs.declared.kind.Kind.{Kind}
 use Rattle.connection.specs.declared.kind.Kind.the-variants.{Forward, Turned, Data}
@@ -17,17 +17,17 @@ use Rattle.connection.specs.Sending.{memberServed}
 use Rattle.model.specs.State.{State, Entry, free, taken, empty, find, withTime}
 use Rattle.model.specs.declared.answer.Answer.the-variants.{Sent}
 use Rattle.model.specs.Call.{Call, Outcome}
-use Rattle.model.specs.Step.{refuse, accept, replay, discard, nameAnswered, sendFrom, sendStep, sendOutside, idleStep}
+use Rattle.model.specs.Step.{refuse, accept, replay, discard, nameAnswered, sendFrom, sendStep, sendOutOfRate, idleStep}
 use Rattle.model.specs.Queries.{entryAcr, acrOf}
 use Rattle.model.specs.Run.{final}
 use Rattle.model.proofs.Conservation.{cond-zero}
 use Rattle.model.proofs.Given.{entryParams}
-use Rattle.model.proofs.Effects.{Effect, refuses, begins, ends, offers, marks, works, levels, idles, sends, makes, leaves, beginsPath, adds, offersMember, removes, effect}
-use Rattle.answers.specs.declared.calls.AcrAnswer.{AcrAnswer}
-use Rattle.answers.specs.Calls.{slotAnswer, acrAnswer}
+use Rattle.model.proofs.Effects.{Effect, refuses, opens, closes, offers, receivesData, receivesRm, setsLevel, idles, sends, makes, sendsOutOfRate, opensPath, adds, offersMember, removes, effect}
+use Rattle.abr_answers.specs.declared.calls.AbrAllowed.{AbrAllowed}
+use Rattle.abr_answers.specs.Calls.{sentOf, allowedOf}
 use Rattle.abr.specs.Exports.{finalWords, zeros}
-use Rattle.service.specs.Deaf.{cutTimes, forwardCells, forwardSlotOf, forwardSlots}
-use Rattle.service.proofs.Deaf.{deaf-falls, deaf-stays}
+use Rattle.promise_service.specs.Deaf.{cutTimes, forwardCells, forwardSlotOf, forwardSlots}
+use Rattle.promise_service.proofs.Deaf.{deaf-falls, deaf-stays}
 use Rattle.exports.proofs.Returned.{back}
 use Rattle.exports.proofs.Transport.{Stands, stands, stands-after, sum-seen, acr-seen}
 use Rattle.exports.proofs.Known.{params-known}
@@ -36,26 +36,26 @@ use Rattle.exports_rates.proofs.Held.{seen-held}
 use Rattle.exports_progress.specs.Deaf.{forwardReturned, forwardsReturned, ExportsDeafFalls, ExportsDeafStays}
 
 -- a slot's forward cell has its connection's own name
-sent-forward : (v u a n : ℕ) (d : Connection) (ms : List Member) (k : Kind) → forwardReturned v (slotAnswer (Sent u (nameAnswered u (memberServed k d ms)) k a n)) ≡ cond (eqb u v) (forwardCells k) 0
+sent-forward : (v u a n : ℕ) (d : Connection) (ms : List Member) (k : Kind) → forwardReturned v (sentOf (Sent u (nameAnswered u (memberServed k d ms)) k a n)) ≡ cond (eqb u v) (forwardCells k) 0
 unfolding forwardCells memberServed nameAnswered
 sent-forward v u a n d ms Forward = ap (λ (x : ℕ). cond (eqb x v) 1 0) (back u)
 sent-forward v u a n d ms Turned = sym (cond-zero (eqb u v))
 sent-forward v u a n d ms Data = sym (cond-zero (eqb u v))
 
-effect-forward : (v : ℕ) {s : State} {c : Call} {o : Outcome} → Effect s c o → forwardReturned v (slotAnswer (o .answer)) ≡ forwardSlotOf v (o .answer)
-unfolding refuse accept replay discard idleStep sendStep sendFrom sendOutside withTime forwardSlotOf
+effect-forward : (v : ℕ) {s : State} {c : Call} {o : Outcome} → Effect s c o → forwardReturned v (sentOf (o .answer)) ≡ forwardSlotOf v (o .answer)
+unfolding refuse accept replay discard idleStep sendStep sendFrom sendOutOfRate withTime forwardSlotOf
 effect-forward v (refuses c n h) = refl
-effect-forward v (begins a b t p g) = refl
-effect-forward v (ends a b d g) = refl
+effect-forward v (opens a b t p g) = refl
+effect-forward v (closes a b d g) = refl
 effect-forward v (offers a b n d g c h) = refl
-effect-forward v (marks o a b e u d r i z g) = refl
-effect-forward v (works o q d r g) = refl
-effect-forward v (levels l h) = refl
+effect-forward v (receivesData o a b e u d r i z g) = refl
+effect-forward v (receivesRm o q d r g) = refl
+effect-forward v (setsLevel l h) = refl
 effect-forward v (idles t room g b) = refl
 effect-forward v {s} (sends t room i u g b) = sent-forward v u 0 0 (b .holder) (s .members) (kindAt t (b .holder))
 effect-forward v (makes a b t d e g h m) = refl
-effect-forward v (leaves a b t room d e g h) = refl
-effect-forward v (beginsPath a t p g) = refl
+effect-forward v (sendsOutOfRate a b t room d e g h) = refl
+effect-forward v (opensPath a t p g) = refl
 effect-forward v (adds a b d e j) = refl
 effect-forward v (offersMember a b n d e i h) = refl
 effect-forward v (removes a b d e i) = refl
@@ -71,12 +71,12 @@ unfolding entryParams
 open-known free p e = let z : _≡_ {A = ℕ} 0 1 = cc in absurd (omega arith)
 open-known (taken c) p e = record { holder = c; is = refl; params = cc }
 
-rate-read : (x : Entry) (d : Connection) → x ≡ taken d → acrAnswer (entryAcr x) .acr ≡ d .rate .acr
+rate-read : (x : Entry) (d : Connection) → x ≡ taken d → allowedOf (entryAcr x) .acr ≡ d .rate .acr
 unfolding entryAcr
-rate-read x d e = ap (λ (y : Entry). acrAnswer (entryAcr y) .acr) e
+rate-read x d e = ap (λ (y : Entry). allowedOf (entryAcr y) .acr) e
 
 -- a rate that is read is at most what it is at most if the connection is open
-read-below : (x : Entry) (m : ℕ) → ((e : Connection) → x ≡ taken e → e .rate .acr ≤ m) → acrAnswer (entryAcr x) .acr ≤ m
+read-below : (x : Entry) (m : ℕ) → ((e : Connection) → x ≡ taken e → e .rate .acr ≤ m) → allowedOf (entryAcr x) .acr ≤ m
 unfolding entryAcr
 read-below free m h = omega arith
 read-below (taken e) m h = h e refl
@@ -90,17 +90,17 @@ exports-deaf-falls cs os x v p e c ds ps y u j n k a b ha hb =
     let w = d .holder in
     let count : forwardsReturned v ds ps ≡ forwardSlots v s ds =
     sum-seen (λ c o. forwardReturned v (o .returned)) (λ c a. forwardSlotOf v a) (λ s c o z. ap (forwardReturned v) (z .matches .returned) ∙ effect-forward v (effect s (z .wellFormed .unique) c)) s (finalWords zeros os) st ds ps y in
-    let unacked : seenOf v cs os .unanswered ≡ w .unacked = ap (λ (k : Seen). k .unanswered) (seen-held cs os x v w (d .is)) in
-    let before : a .acr ≡ w .rate .acr = ap (λ (r : AcrAnswer). r .acr) (acr-seen st v a ha) ∙ rate-read (find v (s .entries)) w (d .is) in
-    let after : b .acr ≡ acrAnswer (entryAcr (find v (final s ds .entries))) .acr = ap (λ (r : AcrAnswer). r .acr) (acr-seen (stands-after st ds ps y) v b hb) in
+    let unanswered : seenOf v cs os .unanswered ≡ w .unanswered = ap (λ (k : Seen). k .unanswered) (seen-held cs os x v w (d .is)) in
+    let before : a .acr ≡ w .rate .acr = ap (λ (r : AbrAllowed). r .acr) (acr-seen st v a ha) ∙ rate-read (find v (s .entries)) w (d .is) in
+    let after : b .acr ≡ allowedOf (entryAcr (find v (final s ds .entries))) .acr = ap (λ (r : AbrAllowed). r .acr) (acr-seen (stands-after st ds ps y) v b hb) in
     let q = d .params in
     let low = read-below (find v (final s ds .entries)) (max (least (w .rate .params)) (cutTimes j (w .rate .params .c) (w .rate .acr)))
-    (λ f g. deaf-falls cs ds v j w f (d .is) g u (λ z. c (sym (ap (λ (r : Params). r .c) q) ∙ z)) (omega (arith, n, count)) (omega (arith, k, count, unacked, ap crm q))) in
+    (λ f g. deaf-falls cs ds v j w f (d .is) g u (λ z. c (sym (ap (λ (r : Params). r .c) q) ∙ z)) (omega (arith, n, count)) (omega (arith, k, count, unanswered, ap crm q))) in
     let same : max (least (w .rate .params)) (cutTimes j (w .rate .params .c) (w .rate .acr)) ≡ max (least p) (cutTimes j (p .c) (a .acr)) = (λ i. max (least (q i)) (cutTimes j (q i .c) (sym before i))) in
     omega (arith, after, low, same)
 
 -- a name of which abr_acr returns no refusal is open
-read-above : (x : Entry) (m : ℕ) → acrAnswer (entryAcr x) .refusal ≡ 0 → ((e : Connection) → x ≡ taken e → m ≤ e .rate .acr) → m ≤ acrAnswer (entryAcr x) .acr
+read-above : (x : Entry) (m : ℕ) → allowedOf (entryAcr x) .refusal ≡ 0 → ((e : Connection) → x ≡ taken e → m ≤ e .rate .acr) → m ≤ allowedOf (entryAcr x) .acr
 unfolding entryAcr
 read-above free m r h = absurd (omega (arith, r))
 read-above (taken e) m r h = h e refl
@@ -113,8 +113,8 @@ exports-deaf-stays cs os x v p e c ds ps y u a b ha hb open-still =
     let d = open-known (find v (s .entries)) p (sym (params-known cs os x v) ∙ e) in
     let w = d .holder in
     let q = d .params in
-    let before : a .acr ≡ w .rate .acr = ap (λ (r : AcrAnswer). r .acr) (acr-seen st v a ha) ∙ rate-read (find v (s .entries)) w (d .is) in
-    let read : b ≡ acrAnswer (entryAcr (find v (final s ds .entries))) = acr-seen (stands-after st ds ps y) v b hb in
-    let low = read-above (find v (final s ds .entries)) (min (w .rate .acr) (initialUsed (w .rate .params))) (sym (ap (λ (r : AcrAnswer). r .refusal) read) ∙ open-still)
+    let before : a .acr ≡ w .rate .acr = ap (λ (r : AbrAllowed). r .acr) (acr-seen st v a ha) ∙ rate-read (find v (s .entries)) w (d .is) in
+    let read : b ≡ allowedOf (entryAcr (find v (final s ds .entries))) = acr-seen (stands-after st ds ps y) v b hb in
+    let low = read-above (find v (final s ds .entries)) (min (w .rate .acr) (initialUsed (w .rate .params))) (sym (ap (λ (r : AbrAllowed). r .refusal) read) ∙ open-still)
     (λ f g. deaf-stays cs ds v w f (d .is) g u (ap (λ (r : Params). r .c) q ∙ c)) in
-    omega (arith, before, low, ap (λ (r : AcrAnswer). r .acr) read, ap initialUsed q)
+    omega (arith, before, low, ap (λ (r : AbrAllowed). r .acr) read, ap initialUsed q)

@@ -12,18 +12,18 @@ use Rattle.connection.specs.Kind.{kindNumber, kindAt}
 use Rattle.model.specs.State.{State, empty, withTime}
 use Rattle.model.specs.declared.answer.Answer.the-variants.{Idle}
 use Rattle.model.specs.Call.{Call, opening, closing, receiving, offering, levelling, slot, making, outOfRate, openingPath, adding, offeringMember, removing, Outcome, closedCells}
-use Rattle.model.specs.Step.{refuse, accept, replay, discard, idleStep, sendFrom, sendStep, sendOutside, step}
+use Rattle.model.specs.Step.{refuse, accept, replay, discard, idleStep, sendFrom, sendStep, sendOutOfRate, step}
 use Rattle.model.specs.Queries.{acrOf, nextReady, slotTime}
 use Rattle.model.specs.Run.{run, final}
-use Rattle.model.proofs.Effects.{Effect, refuses, begins, ends, offers, marks, works, levels, idles, sends, makes, leaves, beginsPath, adds, offersMember, removes, effect}
+use Rattle.model.proofs.Effects.{Effect, refuses, opens, closes, offers, receivesData, receivesRm, setsLevel, idles, sends, makes, sendsOutOfRate, opensPath, adds, offersMember, removes, effect}
 use Rattle.engine.specs.Contract.{bufferContent}
-use Rattle.answers.specs.declared.calls.SlotAnswer.{SlotAnswer}
-use Rattle.answers.specs.Calls.{slotAnswer, acrAnswer}
-use Rattle.abr.specs.Exports.{Observation, Trace, ended, then}
-use Rattle.promises.specs.Demand3.{InPlace}
-use Rattle.service.specs.PassedOver.{slotCall, slotTaken}
-use Rattle.service.specs.LeftOut.{NotBefore, SameBehind, isIdle}
-use Rattle.service.proofs.LeftOut.{same-time, same-step, effect-idle, rested-behind, left-out}
+use Rattle.abr_answers.specs.declared.calls.AbrSent.{AbrSent}
+use Rattle.abr_answers.specs.Calls.{sentOf, allowedOf}
+use Rattle.abr.specs.Exports.{Observation, Transcript, ended, then}
+use Rattle.promise_lists.specs.Demand3.{InPlace}
+use Rattle.promise_service.specs.PassedOver.{slotCall, slotTaken}
+use Rattle.promise_service.specs.LeftOut.{NotBefore, SameBehind, isIdle}
+use Rattle.promise_service.proofs.LeftOut.{same-time, same-step, effect-idle, rested-behind, left-out}
 use Rattle.exports.proofs.Transport.{Stands, Sees, sees, stands, acr-seen}
 use Rattle.exports_progress.specs.LeftOut.{SameWithoutSlots, idleSeen, awakeSeen, notIdleSeen, timeOfSlot, InOrderSeen, idleUntil, ExportsLeftOut}
 
@@ -46,10 +46,10 @@ time-slot t now lag s h = ap (λ (n : ℕ). min now (max (nextReady s) n)) (back
 
 one-seen : (t : ℕ) (r s : State) (c : Call) (p q : Observation) → SameBehind t (step r c) (step s c) → Sees r c p → Sees s c q → (u : ℕ) → t ≤ u → SameWithoutSlots u p q
 one-seen t r s c p q h a b u n = record {
-  returned = a .matches .returned ∙ ap slotAnswer (h .answer) ∙ sym (b .matches .returned);
+  returned = a .matches .returned ∙ ap sentOf (h .answer) ∙ sym (b .matches .returned);
   cells = a .matches .cells ∙ ap closedCells (h .answer) ∙ sym (b .matches .cells);
   octets = λ e. a .matches .buffer ∙ (λ i. bufferContent (h .buffer i) (e i)) ∙ sym (b .matches .buffer);
-  rates = λ v x y k l. acr-seen (a .next) v x k ∙ ap (λ (z : State). acrAnswer (acrOf z v)) (h .state) ∙ ap acrAnswer (time-acr _ (step s c .state) v) ∙ sym (acr-seen (b .next) v y l);
+  rates = λ v x y k l. acr-seen (a .next) v x k ∙ ap (λ (z : State). allowedOf (acrOf z v)) (h .state) ∙ ap allowedOf (time-acr _ (step s c .state) v) ∙ sym (acr-seen (b .next) v y l);
   next = λ x y k l.
       k .is (step r c .state) (a .next .wellFormed) (a .next .table) ∙ ap nextReady (h .state) ∙ time-next _ (step s c .state) ∙ sym (l .is (step s c .state) (b .next .wellFormed) (b .next .table));
   times = λ now lag x y m k l.
@@ -59,7 +59,7 @@ one-seen t r s c p q h a b u n = record {
 
 same-seen :
     (t : ℕ) (ds : List Call) {r s : State} {l k : List ℕ} → Stands r l → Stands s k → InPlace (SameBehind t) (run r ds) (run s ds) → (ps qs : List Observation)
-    → Trace ds l ps → Trace ds k qs → InPlace (SameWithoutSlots t) ps qs
+    → Transcript ds l ps → Transcript ds k qs → InPlace (SameWithoutSlots t) ps qs
 same-seen t [] st su h [] [] ended ended = tt
 same-seen t (c ∷ cs) {r} {s} st su h (p ∷ ps) (q ∷ qs) (then x tx) (then y ty) =
     let a = sees st x in
@@ -72,7 +72,7 @@ kind-some Forward e = omega (arith, e)
 kind-some Turned e = omega (arith, e)
 kind-some Data e = omega (arith, e)
 
-was-idle : {s : State} {t room : ℕ} {p : Outcome} → Effect s (slot t room) p → slotAnswer (p .answer) .refusal ≡ 0 → slotAnswer (p .answer) .kind ≡ 0 → p .answer ≡ Idle
+was-idle : {s : State} {t room : ℕ} {p : Outcome} → Effect s (slot t room) p → sentOf (p .answer) .refusal ≡ 0 → sentOf (p .answer) .kind ≡ 0 → p .answer ≡ Idle
 unfolding refuse idleStep sendFrom sendStep
 was-idle (refuses _ n h) e k = absurd (omega (arith, e, h))
 was-idle (idles _ _ g b) e k = refl
@@ -89,33 +89,33 @@ no-slot e = absurd (true≢false (sym e))
 refused-idle : (c : Call) (n : ℕ) → 0 < n → (eqb (slotTaken c (eqb n 0)) 1 && true) ≡ false
 refused-idle c n h = rw (ne-eqb n 0 (λ e. omega (arith, e, h))) refl
 
-idled : {s : State} {c : Call} {p : Outcome} → Effect s c p → idleSeen c (slotAnswer (p .answer)) ≡ true → Idled c p
-unfolding refuse accept replay discard idleStep sendFrom sendStep sendOutside withTime slotCall timeOfSlot isIdle
+idled : {s : State} {c : Call} {p : Outcome} → Effect s c p → idleSeen c (sentOf (p .answer)) ≡ true → Idled c p
+unfolding refuse accept replay discard idleStep sendFrom sendStep sendOutOfRate withTime slotCall timeOfSlot isIdle
 idled (refuses c n h) e = no-slot (sym (refused-idle c n h) ∙ e)
-idled (begins a b t p g) e = no-slot e
-idled (ends a b d f) e = no-slot e
+idled (opens a b t p g) e = no-slot e
+idled (closes a b d f) e = no-slot e
 idled (offers a b n d f i h) e = no-slot e
-idled (marks o a b k u d r i h f) e = no-slot e
-idled (works o q d r f) e = no-slot e
-idled (levels l h) e = no-slot e
+idled (receivesData o a b k u d r i h f) e = no-slot e
+idled (receivesRm o q d r f) e = no-slot e
+idled (setsLevel l h) e = no-slot e
 idled (idles t room g b) e = record { idle = refl; time = refl }
 idled (sends t room i u g b) e = absurd (kind-some (kindAt t (b .holder)) (eqb-true _ _ e))
 idled (makes a b t d f g h m) e = no-slot e
-idled (leaves a b t room d f g h) e = no-slot e
-idled (beginsPath a t p g) e = no-slot e
+idled (sendsOutOfRate a b t room d f g h) e = no-slot e
+idled (opensPath a t p g) e = no-slot e
 idled (adds a b d f j) e = no-slot e
 idled (offersMember a b n d f i h) e = no-slot e
 idled (removes a b d f i) e = no-slot e
 
 -- the idle slots come in order
-no-idle : {A : Type 0} (r : SlotAnswer) → (eqb (cond (eqb (r .refusal) 0) 0 0) 1 && eqb (r .kind) 0) ≡ true → A
+no-idle : {A : Type 0} (r : AbrSent) → (eqb (cond (eqb (r .refusal) 0) 0 0) 1 && eqb (r .kind) 0) ≡ true → A
 no-idle {A} r e = go (eqb (r .refusal) 0) e
   where
     go : (a : Bool) → (eqb (cond a 0 0) 1 && eqb (r .kind) 0) ≡ true → A
     go true q = no-slot q
     go false q = no-slot q
 
-idle-later : (x : ℕ) (c : Call) (r : SlotAnswer) → idleSeen c r ≡ true → NotBefore x c → x ≤ timeOfSlot c
+idle-later : (x : ℕ) (c : Call) (r : AbrSent) → idleSeen c r ≡ true → NotBefore x c → x ≤ timeOfSlot c
 unfolding slotCall timeOfSlot
 idle-later x (opening vpi vci t p) r e n = no-idle r e
 idle-later x (closing vpi vci) r e n = no-idle r e
@@ -143,8 +143,8 @@ until-later x (c ∷ cs) (o ∷ os) g = go (idleSeen c (o .returned)) refl (g .1
 
 module _ (u : ℕ) where
   all-seen :
-      (x : ℕ) (ds : List Call) (ps : List Observation) {s r : State} {l k : List ℕ} → Stands s l → Stands r k → s ≡ withTime (max x (r .last)) r → Trace ds l ps → InOrderSeen x ds ps
-      → idleUntil x ds ps ≤ u → (qs : List Observation) → Trace (awakeSeen ds ps) k qs → InPlace (SameWithoutSlots u) (notIdleSeen ds ps) qs
+      (x : ℕ) (ds : List Call) (ps : List Observation) {s r : State} {l k : List ℕ} → Stands s l → Stands r k → s ≡ withTime (max x (r .last)) r → Transcript ds l ps → InOrderSeen x ds ps
+      → idleUntil x ds ps ≤ u → (qs : List Observation) → Transcript (awakeSeen ds ps) k qs → InPlace (SameWithoutSlots u) (notIdleSeen ds ps) qs
   all-seen x [] [] st su e ended g n [] ended = tt
   all-seen x (c ∷ cs) (o ∷ os) {s} {r} {l} {k} st su e (then p t) g n qs y =
       go (idleSeen c (o .returned)) refl (g .1) n (λ w q k su e g n qs y. all-seen w cs os (z .next) su e t g n qs y) qs y
@@ -157,8 +157,8 @@ module _ (u : ℕ) where
 
       go :
           (b : Bool) → idleSeen c (o .returned) ≡ b → InOrderSeen (cond b (timeOfSlot c) x) cs os → idleUntil (cond b (timeOfSlot c) x) cs os ≤ u
-          → ((w : ℕ) (q : State) (k : List ℕ) → Stands q k → step s c .state ≡ withTime (max w (q .last)) q → InOrderSeen w cs os → idleUntil w cs os ≤ u → (qs : List Observation) → Trace (awakeSeen cs os) k qs → InPlace (SameWithoutSlots u) (notIdleSeen cs os) qs)
-          → (qs : List Observation) → Trace (cond b (awakeSeen cs os) (c ∷ awakeSeen cs os)) k qs → InPlace (SameWithoutSlots u) (cond b (notIdleSeen cs os) (o ∷ notIdleSeen cs os)) qs
+          → ((w : ℕ) (q : State) (k : List ℕ) → Stands q k → step s c .state ≡ withTime (max w (q .last)) q → InOrderSeen w cs os → idleUntil w cs os ≤ u → (qs : List Observation) → Transcript (awakeSeen cs os) k qs → InPlace (SameWithoutSlots u) (notIdleSeen cs os) qs)
+          → (qs : List Observation) → Transcript (cond b (awakeSeen cs os) (c ∷ awakeSeen cs os)) k qs → InPlace (SameWithoutSlots u) (cond b (notIdleSeen cs os) (o ∷ notIdleSeen cs os)) qs
       go true i g n f qs y =
           let m = effect s (st .wellFormed .unique) c in
           let a = idled m (sym (ap (idleSeen c) (z .matches .returned)) ∙ i) in
@@ -174,8 +174,8 @@ exports-left-out = record {
       let s = final empty cs in
       let st = stands cs os x in
       let a = sees st p in
-      let r : o .returned ≡ slotAnswer (step s (slot t room) .answer) = a .matches .returned in
-      let i = was-idle (effect s (st .wellFormed .unique) (slot t room)) (sym (ap (λ (w : SlotAnswer). w .refusal) r) ∙ e) (sym (ap (λ (w : SlotAnswer). w .kind) r) ∙ k) in
+      let r : o .returned ≡ sentOf (step s (slot t room) .answer) = a .matches .returned in
+      let i = was-idle (effect s (st .wellFormed .unique) (slot t room)) (sym (ap (λ (w : AbrSent). w .refusal) r) ∙ e) (sym (ap (λ (w : AbrSent). w .kind) r) ∙ k) in
       same-seen t ds (a .next) st (left-out .one cs ds t room i l) ps qs y z;
   all = λ cs os x ds ps y g qs z.
       let s = final empty cs in

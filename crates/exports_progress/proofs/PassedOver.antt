@@ -8,26 +8,26 @@ use native.Mathlib.Nat.{le-refl}
 use native.Mathlib.Omega.{arith}
 use lib.Dec.{eqb}
 use lib.ListN.{replicate}
-use Rattle.params.specs.declared.params.Params.{Params}
-use Rattle.params.specs.Params.{least}
-use Rattle.cell.specs.Name.{pairName}
+use Rattle.rate_params.specs.declared.params.Params.{Params}
+use Rattle.rate_params.specs.Params.{least}
+use Rattle.cell.specs.Name.{addressName}
 use Rattle.connection.specs.declared.parts.Connection.{Connection}
 use Rattle.connection.specs.Ready.{anyWaits}
-use Rattle.model.specs.State.{State, Entry, free, taken, capacity, empty, find, put, withMembers}
+use Rattle.model.specs.State.{State, Entry, free, taken, capacity, empty, find, withEntryOf, withMembers}
 use Rattle.model.specs.Invariant.{WellFormed}
 use Rattle.model.specs.Call.{Call, opening, closing, receiving, offering, levelling, slot, making, outOfRate, openingPath, adding, offeringMember, removing, Outcome, goesTo}
 use Rattle.model.specs.Step.{refuse, discard, step}
 use Rattle.model.specs.Run.{run, final, isAccepted}
 use Rattle.model.specs.Queries.{entryAcr, acrOf}
-use Rattle.model.proofs.Effects.{Effect, refuses, ends, effect}
-use Rattle.answers.specs.declared.calls.AcrAnswer.{AcrAnswer}
-use Rattle.answers.specs.Calls.{acrAnswer}
-use Rattle.abr.specs.Exports.{Observation, Trace, ended, then, finalWords, zeros}
-use Rattle.service.specs.Liveness.{latestReady, GoesTo, Somewhere, here, there}
-use Rattle.service.specs.PassedOver.{openEntries, openCount, openCall, opensBy, opensUntil, slotTaken, slotsTaken, ReadyBy, FoundReady}
-use Rattle.service.proofs.Counted.{one, passes, any, freed-count, effect-count, open-count}
-use Rattle.service.proofs.Liveness.{ready-soon}
-use Rattle.service.proofs.PassedOver.{not-passed-over}
+use Rattle.model.proofs.Effects.{Effect, refuses, closes, effect}
+use Rattle.abr_answers.specs.declared.calls.AbrAllowed.{AbrAllowed}
+use Rattle.abr_answers.specs.Calls.{allowedOf}
+use Rattle.abr.specs.Exports.{Observation, Transcript, ended, then, finalWords, zeros}
+use Rattle.promise_service.specs.Liveness.{latestReady, GoesTo, Somewhere, here, there}
+use Rattle.promise_service.specs.PassedOver.{openEntries, openConnections, openCall, opensBy, opensUntil, slotTaken, slotsTaken, ReadyBy, FoundReady}
+use Rattle.promise_service.proofs.Counted.{one, passes, any, freed-count, effect-count, open-count}
+use Rattle.promise_service.proofs.Liveness.{ready-soon}
+use Rattle.promise_service.proofs.PassedOver.{not-passed-over}
 use Rattle.exports.specs.Returned.{noMember, memberSeen, membersSeen, wentTo, placesSeen}
 use Rattle.exports.specs.Along.{kept}
 use Rattle.exports.proofs.Returned.{Knows, knows-after, names-connection, went-to}
@@ -51,18 +51,18 @@ same : (b : Bool) (x y k : ℕ) → x ≤ y + cond b 0 0 → y ≤ k → x ≤ c
 same true x y k h l = omega (arith, h, l)
 same false x y k h l = omega (arith, h, l)
 
-closed-count : {s : State} (a b k : ℕ) {o : Outcome} → Effect s (closing a b) o → openCount s ≤ k → openCount (o .state) ≤ cond (isAccepted (o .answer)) (k - 1) k
+closed-count : {s : State} (a b k : ℕ) {o : Outcome} → Effect s (closing a b) o → openConnections s ≤ k → openConnections (o .state) ≤ cond (isAccepted (o .answer)) (k - 1) k
 unfolding refuse discard withMembers isAccepted passes
 closed-count a b k (refuses _ n h) l = l
-closed-count {s} a b k (ends _ _ d f) l =
-    let h : one (passes any (find (pairName a b) (s .entries))) ≡ 1 = ap (λ (x : Entry). one (passes any x)) f in
-    omega (arith, freed-count any (pairName a b) s, h, open-count (s .entries), open-count (put (pairName a b) free s .entries), l)
+closed-count {s} a b k (closes _ _ d f) l =
+    let h : one (passes any (find (addressName a b) (s .entries))) ≡ 1 = ap (λ (x : Entry). one (passes any x)) f in
+    omega (arith, freed-count any (addressName a b) s, h, open-count (s .entries), open-count (withEntryOf (addressName a b) free s .entries), l)
 
-step-count : {s : State} → WellFormed s → (c : Call) → openCount (step s c .state) ≤ openCount s + cond (isAccepted (step s c .answer)) (openCall (λ t. true) c) 0
+step-count : {s : State} → WellFormed s → (c : Call) → openConnections (step s c .state) ≤ openConnections s + cond (isAccepted (step s c .answer)) (openCall (λ t. true) c) 0
 step-count {s} w c =
     omega (arith, open-count (s .entries), open-count (step s c .state .entries), effect-count any (effect s (w .unique) c) (λ t room d e a. le-refl 1))
 
-counts : {s : State} → WellFormed s → (c : Call) (k : ℕ) → openCount s ≤ k → openCount (step s c .state) ≤ cond (isAccepted (step s c .answer)) (openAfter c k) k
+counts : {s : State} → WellFormed s → (c : Call) (k : ℕ) → openConnections s ≤ k → openConnections (step s c .state) ≤ cond (isAccepted (step s c .answer)) (openAfter c k) k
 unfolding openCall
 counts {s} w (opening a b t p) k l = more (isAccepted (step s (opening a b t p) .answer)) _ _ k (step-count w (opening a b t p)) l
 counts {s} w (closing a b) k l = closed-count a b k (effect s (w .unique) (closing a b)) l
@@ -78,7 +78,7 @@ counts {s} w (offeringMember a b n) k l = same (isAccepted (step s (offeringMemb
 counts {s} w (removing a b) k l = same (isAccepted (step s (removing a b) .answer)) _ _ k (step-count w (removing a b)) l
 
 abbrev AtMost : ℕ → State → Type 0
-AtMost k s = openCount s ≤ k
+AtMost k s = openConnections s ≤ k
 
 keeps-count : Keeps countsOpen AtMost
 keeps-count = record { goes = λ s c o k m z. rw (z .accepted) (counts (z .wellFormed) c k m) }
@@ -108,7 +108,7 @@ record Reads (x : Entry) : Type 0 where
   is : x ≡ taken holder
   moving : 0 < holder .rate .acr
 
-moving-open : (x : Entry) → 0 < acrAnswer (entryAcr x) .acr → Reads x
+moving-open : (x : Entry) → 0 < allowedOf (entryAcr x) .acr → Reads x
 unfolding entryAcr
 moving-open free l = absurd (omega (arith, l))
 moving-open (taken c) l = record { holder = c; is = refl; moving = l }
@@ -117,10 +117,10 @@ moving-open (taken c) l = record { holder = c; is = refl; moving = l }
 ready-read : (m v : ℕ) (k : Watched) {s : State} {l : List ℕ} → Stands s l → Watches v k s → ReadySeen m v k l → ReadyBy m v s
 unfolding acrOf entryAcr
 ready-read m v k {s} st h r =
-    let e : r .rate .acr ≡ acrAnswer (entryAcr (find v (s .entries))) .acr = ap (λ (a : AcrAnswer). a .acr) (acr-seen st v (r .rate) (r .read)) in
+    let e : r .rate .acr ≡ allowedOf (entryAcr (find v (s .entries))) .acr = ap (λ (a : AbrAllowed). a .acr) (acr-seen st v (r .rate) (r .read)) in
     let d = moving-open (find v (s .entries)) (omega (arith, e, r .moving)) in
     let c = d .holder in
-    let q : r .rate .acr ≡ c .rate .acr = e ∙ ap (λ (x : Entry). acrAnswer (entryAcr x) .acr) (d .is) in
+    let q : r .rate .acr ≡ c .rate .acr = e ∙ ap (λ (x : Entry). allowedOf (entryAcr x) .acr) (d .is) in
     let w = known v k s h c (d .is) in
     let y = ready-soon (c .rate .acr) c (d .moving) (le-refl _) (sym (w .waits) ∙ r .waits) in
     record {
@@ -132,7 +132,7 @@ ready-read m v k {s} st h r =
     }
 
 found :
-    (m v : ℕ) (ds : List Call) (ps : List Observation) {s : State} {l : List ℕ} → Stands s l → (k : Watched) → Watches v k s → Trace ds l ps → FoundReadySeen m v k l ds ps → FoundReady m v s ds
+    (m v : ℕ) (ds : List Call) (ps : List Observation) {s : State} {l : List ℕ} → Stands s l → (k : Watched) → Watches v k s → Transcript ds l ps → FoundReadySeen m v k l ds ps → FoundReady m v s ds
 found m v [] [] st k h ended g = tt
 found m v (c ∷ cs) (o ∷ os) {s} st k h (then p t) g =
     let z = sees st p in
@@ -160,7 +160,7 @@ not-empty (there g) = tt
 knows : Keeps memberSeen Knows
 knows = record { goes = λ s c o f m z. knows-after (z .wellFormed) c f m _ (z .accepted) }
 
-module _ (cs : List Call) (os : List Observation) (x : Trace cs zeros os) (ds : List Call) (ps : List Observation) (y : Trace ds (finalWords zeros os) ps) where
+module _ (cs : List Call) (os : List Observation) (x : Transcript cs zeros os) (ds : List Call) (ps : List Observation) (y : Transcript ds (finalWords zeros os) ps) where
   abbrev s : State
   s = final empty cs
 
@@ -170,7 +170,7 @@ module _ (cs : List Call) (os : List Observation) (x : Trace cs zeros os) (ds : 
   held : (v : ℕ) → Watches v (watched v cs os) s
   held v = watched-so v cs os x
 
-  open-now : openCount s ≤ kept countsOpen 0 cs os
+  open-now : openConnections s ≤ kept countsOpen 0 cs os
   open-now = kept-so countsOpen AtMost keeps-count empty zeros stands-first 0 none-first cs os x
 
   opens : (m : ℕ) → opensReturned m ds ps ≡ opensUntil m s ds

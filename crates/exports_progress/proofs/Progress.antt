@@ -7,8 +7,8 @@ use mathlib.Core.List.{List, [], _∷_, _++_}
 use native.Mathlib.Omega.{arith}
 use lib.Dec.{eqb}
 use lib.ListN.{length}
-use Rattle.params.specs.declared.params.Params.{Params}
-use Rattle.params.specs.Params.{nrm}
+use Rattle.rate_params.specs.declared.params.Params.{Params}
+use Rattle.rate_params.specs.Params.{nrm}
 use Rattle.connection.specs.declared.parts.Connection.{Connection}
 use Rattle.connection.specs.declared.kind.Kind.{Kind}
 use Rattle.connection.specs.declared.kind.Kind.the-variants.{Forward, Turned, Data}
@@ -20,18 +20,18 @@ use Rattle.model.specs.declared.answer.Answer.the-variants.{Refused, Accepted, 
 use Rattle.model.specs.Call.{Call}
 use Rattle.model.specs.Step.{step}
 use Rattle.model.specs.Run.{final}
-use Rattle.answers.specs.Calls.{slotAnswer}
+use Rattle.abr_answers.specs.Calls.{sentOf}
 use Rattle.abr.specs.Exports.{Observation, finalWords, zeros}
-use Rattle.promises.specs.All.{All}
-use Rattle.service.specs.Liveness.{Somewhere, here, there}
-use Rattle.service.specs.Progress.{OwnCell, entryAnswers, ownCell, ownCells, turnedKind, turnedAmong, Progress}
-use Rattle.service.proofs.Progress.{progresses}
+use Rattle.laws.specs.All.{All}
+use Rattle.promise_service.specs.Liveness.{Somewhere, here, there}
+use Rattle.promise_service.specs.Progress.{OwnCell, entryAnswers, ownCell, cellsSent, turnedKind, turnedAmong, Progress}
+use Rattle.promise_service.proofs.Progress.{progresses}
 use Rattle.exports.specs.Returned.{connectionReturned}
 use Rattle.exports.specs.Along.{kept}
 use Rattle.exports.proofs.Returned.{NamesConnection, names-connection, connection-back}
 use Rattle.exports.proofs.Transport.{Stands, Sees, stands, stands-first, carry, kept-so}
 use Rattle.exports.proofs.Known.{params-known}
-use Rattle.exports_progress.specs.Progress.{Answers, Waiting, nothingWaits, waits, SeenCell, seenCell, seenCells, turnedSeen, ProgressSeen, ExportsProgress}
+use Rattle.exports_progress.specs.Progress.{BackwardKept, WaitingKept, nothingKept, keptAfter, SeenCell, seenCell, seenCells, turnedSeen, ProgressSeen, ExportsProgress}
 use Rattle.exports_progress.proofs.Waiting.{answersOf, Waits, keeps-waiting, none-waiting}
 use Rattle.exports_progress.proofs.Deaf.{open-known}
 
@@ -54,9 +54,9 @@ answers-same (taken c) = refl
 
 -- of one answer
 kind-cell : (v : ℕ) (f : ℕ → Bool) (k : ℕ) (b : Bool) (u x a n : ℕ) (j : Kind) → NamesConnection f (Sent u x j a n)
-    → cond (not (eqb (kindNumber j) 0) && eqb (connectionReturned f (slotAnswer (Sent u x j a n))) v) (record { kind = kindNumber j; cells = k; answers = b } ∷ []) []
+    → cond (not (eqb (kindNumber j) 0) && eqb (connectionReturned f (sentOf (Sent u x j a n))) v) (record { kind = kindNumber j; cells = k; answers = b } ∷ []) []
     ≡ allSeen (cond (eqb u v) (record { kind = j; waiting = k; answers = b } ∷ []) [])
-kind-cell v f k b u x a n j h = go j (eqb (connectionReturned f (slotAnswer (Sent u x j a n))) v) (eqb u v) (ap (λ (w : ℕ). eqb w v) (connection-back f u x h))
+kind-cell v f k b u x a n j h = go j (eqb (connectionReturned f (sentOf (Sent u x j a n))) v) (eqb u v) (ap (λ (w : ℕ). eqb w v) (connection-back f u x h))
   where
     go : (j : Kind) (y z : Bool) → y ≡ z
         → cond (not (eqb (kindNumber j) 0) && y) (record { kind = kindNumber j; cells = k; answers = b } ∷ []) [] ≡ allSeen (cond z (record { kind = j; waiting = k; answers = b } ∷ []) [])
@@ -67,8 +67,8 @@ kind-cell v f k b u x a n j h = go j (eqb (connectionReturned f (slotAnswer (Sen
     go Data true z e = rw (← e) refl
     go Data false z e = rw (← e) refl
 
-one-cell : (v : ℕ) (k : Waiting) (x : Entry) (a : Answer) → NamesConnection (k .member) a → k .cells ≡ entryCells x → (k .answers .turned || k .answers .made) ≡ entryAnswers x
-    → seenCell v k (slotAnswer a) ≡ allSeen (ownCell v x a)
+one-cell : (v : ℕ) (k : WaitingKept) (x : Entry) (a : Answer) → NamesConnection (k .member) a → k .cells ≡ entryCells x → (k .answers .turned || k .answers .made) ≡ entryAnswers x
+    → seenCell v k (sentOf a) ≡ allSeen (ownCell v x a)
 unfolding ownCell
 one-cell v k x (Refused n) h c b = refl
 one-cell v k x (Accepted n) h c b = refl
@@ -76,11 +76,11 @@ one-cell v k x (Closed n j) h c b = refl
 one-cell v k x Idle h c b = refl
 one-cell v k x (Sent u y j a n) h c b = rw (c, b) (kind-cell v (k .member) (entryCells x) (entryAnswers x) u y a n j h)
 
-cell-seen : (v : ℕ) (s : State) (c : Call) (o : Observation) (k : Waiting) → Waits v k s → Sees s c o → seenCell v k (o .returned) ≡ allSeen (ownCell v (find v (s .entries)) (step s c .answer))
+cell-seen : (v : ℕ) (s : State) (c : Call) (o : Observation) (k : WaitingKept) → Waits v k s → Sees s c o → seenCell v k (o .returned) ≡ allSeen (ownCell v (find v (s .entries)) (step s c .answer))
 cell-seen v s c o k m z =
     ap (seenCell v k) (z .matches .returned)
     ∙ one-cell v k (find v (s .entries)) (step s c .answer) (names-connection (z .wellFormed) (k .member) (m .member) c) (m .cells)
-    (ap (λ (r : Answers). r .turned || r .made) (m .answers) ∙ answers-same (find v (s .entries)))
+    (ap (λ (r : BackwardKept). r .turned || r .made) (m .answers) ∙ answers-same (find v (s .entries)))
 
 -- through the view
 all-back : (P : SeenCell → Type 0) (xs : List OwnCell) → All P (allSeen xs) → All (λ x. P (seen x)) xs
@@ -131,12 +131,12 @@ pub exports-progress : ExportsProgress
 exports-progress cs os x v p e ds ps y u =
     let s = final empty cs in
     let st : Stands s (finalWords zeros os) = stands cs os x in
-    let k : Waiting = kept (waits v) nothingWaits cs os in
-    let m = kept-so (waits v) (Waits v) (keeps-waiting v) empty zeros stands-first nothingWaits (none-waiting v) cs os x in
+    let k : WaitingKept = kept (keptAfter v) nothingKept cs os in
+    let m = kept-so (keptAfter v) (Waits v) (keeps-waiting v) empty zeros stands-first nothingKept (none-waiting v) cs os x in
     let d = open-known (find v (s .entries)) p (sym (params-known cs os x v) ∙ e) in
-    let same : seenCells v k ds ps ≡ allSeen (ownCells v s ds) =
-    carry (waits v) (Waits v) (keeps-waiting v) (λ s k cs os. seenCells v k cs os ≡ allSeen (ownCells v s cs)) (λ s k. refl)
+    let same : seenCells v k ds ps ≡ allSeen (cellsSent v s ds) =
+    carry (keptAfter v) (Waits v) (keeps-waiting v) (λ s k cs os. seenCells v k cs os ≡ allSeen (cellsSent v s cs)) (λ s k. refl)
     (λ s c o k cs os m z r.
-    (λ i. cell-seen v s c o k m z i ++ r i) ∙ sym (seen-append (ownCell v (find v (s .entries)) (step s c .answer)) (ownCells v (step s c .state) cs)))
+    (λ i. cell-seen v s c o k m z i ++ r i) ∙ sym (seen-append (ownCell v (find v (s .entries)) (step s c .answer)) (cellsSent v (step s c .state) cs)))
     s (finalWords zeros os) st k m ds ps y in
-    subst (ProgressSeen p) (sym same) (progress-seen (d .holder) p (ownCells v s ds) (d .params) (progresses cs ds v (d .holder) (d .is) u))
+    subst (ProgressSeen p) (sym same) (progress-seen (d .holder) p (cellsSent v s ds) (d .params) (progresses cs ds v (d .holder) (d .is) u))

@@ -7,23 +7,23 @@ use mathlib.Core.Bool.{cond, _&&_}
 use mathlib.Core.List.{List}
 use mathlib.Core.Option.{none, some}
 use lib.Dec.{eqb}
-use Rattle.params.specs.declared.params.Params.{Params}
-use Rattle.params.specs.Params.{least, initialUsed, crm}
-use Rattle.cell.specs.Name.{nameOf}
+use Rattle.rate_params.specs.declared.params.Params.{Params}
+use Rattle.rate_params.specs.Params.{least, initialUsed, crm}
+use Rattle.cell.specs.Name.{nameFrom}
 use Rattle.model.specs.Call.{Call}
-use Rattle.answers.specs.declared.calls.SlotAnswer.{SlotAnswer}
-use Rattle.answers.specs.declared.calls.AcrAnswer.{AcrAnswer}
-use Rattle.abr.specs.Contract.{AnswersAcr}
-use Rattle.abr.specs.Exports.{Observation, Trace, finalWords, zeros}
-use Rattle.promises.specs.All.{All}
-use Rattle.service.specs.Deaf.{cutTimes, Unheard, Silent}
+use Rattle.abr_answers.specs.declared.calls.AbrSent.{AbrSent}
+use Rattle.abr_answers.specs.declared.calls.AbrAllowed.{AbrAllowed}
+use Rattle.abr.specs.Contract.{ReturnsAllowed}
+use Rattle.abr.specs.Exports.{Observation, Transcript, finalWords, zeros}
+use Rattle.laws.specs.All.{All}
+use Rattle.promise_service.specs.Deaf.{cutTimes, Unheard, Silent}
 use Rattle.exports.specs.Exports.{paramsObserved}
 use Rattle.exports.specs.Conservation.{sumObserved}
 use Rattle.exports_rates.specs.Seen.{seenOf}
 
 -- 1 for a slot that returned kind 1, a forward cell, and the pair of v
-abbrev pub forwardReturned : (v : ℕ) → SlotAnswer → ℕ
-forwardReturned v r = cond (eqb (r .kind) 1 && eqb (nameOf (r .vpi) (r .vci)) v) 1 0
+abbrev pub forwardReturned : (v : ℕ) → AbrSent → ℕ
+forwardReturned v r = cond (eqb (r .kind) 1 && eqb (nameFrom (r .vpi) (r .vci)) v) 1 0
 
 abbrev pub forwardsReturned : (v : ℕ) → List Call → List Observation → ℕ
 forwardsReturned v = sumObserved (λ c o. forwardReturned v (o .returned))
@@ -32,16 +32,16 @@ forwardsReturned v = sumObserved (λ c o. forwardReturned v (o .returned))
 -- answer pass CRM by j, and so many at least are among the further ones, so the rate that abr_acr returns was cut j times
 abbrev pub ExportsDeafFalls : Type 0
 ExportsDeafFalls =
-    (cs : List Call) (os : List Observation) → Trace cs zeros os → (v : ℕ) (p : Params) → paramsObserved v none cs os ≡ some p → p .c ≢ 7
-    → (ds : List Call) (ps : List Observation) → Trace ds (finalWords zeros os) ps → All (Unheard v) ds
+    (cs : List Call) (os : List Observation) → Transcript cs zeros os → (v : ℕ) (p : Params) → paramsObserved v none cs os ≡ some p → p .c ≢ 7
+    → (ds : List Call) (ps : List Observation) → Transcript ds (finalWords zeros os) ps → All (Unheard v) ds
     → (j : ℕ) → j ≤ forwardsReturned v ds ps → crm p + j ≤ seenOf v cs os .unanswered + forwardsReturned v ds ps
-    → (a b : AcrAnswer) → AnswersAcr v (finalWords zeros os) a → AnswersAcr v (finalWords (finalWords zeros os) ps) b
+    → (a b : AbrAllowed) → ReturnsAllowed v (finalWords zeros os) a → ReturnsAllowed v (finalWords (finalWords zeros os) ps) b
     → b .acr ≤ max (least p) (cutTimes j (p .c) (a .acr))
 
 -- with CDF zero, and no backward cell of it among them, the rate falls to the initial rate used at most, by the first cell or idle
 abbrev pub ExportsDeafStays : Type 0
 ExportsDeafStays =
-    (cs : List Call) (os : List Observation) → Trace cs zeros os → (v : ℕ) (p : Params) → paramsObserved v none cs os ≡ some p → p .c ≡ 7
-    → (ds : List Call) (ps : List Observation) → Trace ds (finalWords zeros os) ps → All (Silent v) ds
-    → (a b : AcrAnswer) → AnswersAcr v (finalWords zeros os) a → AnswersAcr v (finalWords (finalWords zeros os) ps) b → b .refusal ≡ 0
+    (cs : List Call) (os : List Observation) → Transcript cs zeros os → (v : ℕ) (p : Params) → paramsObserved v none cs os ≡ some p → p .c ≡ 7
+    → (ds : List Call) (ps : List Observation) → Transcript ds (finalWords zeros os) ps → All (Silent v) ds
+    → (a b : AbrAllowed) → ReturnsAllowed v (finalWords zeros os) a → ReturnsAllowed v (finalWords (finalWords zeros os) ps) b → b .refusal ≡ 0
     → min (a .acr) (initialUsed p) ≤ b .acr

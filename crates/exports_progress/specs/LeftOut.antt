@@ -7,15 +7,15 @@ use mathlib.Core.Bool.{Bool, cond, _&&_}
 use mathlib.Core.List.{List, [], _∷_}
 use lib.Dec.{eqb}
 use Rattle.model.specs.Call.{Call, opening, closing, receiving, offering, levelling, slot, making, outOfRate, openingPath, adding, offeringMember, removing}
-use Rattle.tournament.specs.Next.{GivesNext, GivesSlotTime}
-use Rattle.answers.specs.declared.calls.SlotAnswer.{SlotAnswer}
-use Rattle.answers.specs.declared.calls.AcrAnswer.{AcrAnswer}
-use Rattle.abr.specs.Contract.{AnswersAcr}
-use Rattle.abr.specs.Exports.{Observation, Performs, Trace, finalWords, zeros}
-use Rattle.promises.specs.All.{All}
-use Rattle.promises.specs.Demand3.{InPlace}
-use Rattle.service.specs.PassedOver.{slotTaken}
-use Rattle.service.specs.LeftOut.{NotBefore}
+use Rattle.table_tournament.specs.Next.{GivesNext, GivesSlotTime}
+use Rattle.abr_answers.specs.declared.calls.AbrSent.{AbrSent}
+use Rattle.abr_answers.specs.declared.calls.AbrAllowed.{AbrAllowed}
+use Rattle.abr.specs.Contract.{ReturnsAllowed}
+use Rattle.abr.specs.Exports.{Observation, Performs, Transcript, finalWords, zeros}
+use Rattle.laws.specs.All.{All}
+use Rattle.promise_lists.specs.Demand3.{InPlace}
+use Rattle.promise_service.specs.PassedOver.{slotTaken}
+use Rattle.promise_service.specs.LeftOut.{NotBefore}
 
 -- a caller sees no difference where slots up to t were left out: in what was returned, in the octets of a buffer that was the same before, or in what abr_acr and abr_next return afterwards;
 -- in what abr_slot_time returns none, where it looks back no further than t
@@ -23,12 +23,12 @@ pub record SameWithoutSlots (t : ℕ) (o q : Observation) : Type 0 where
   pub returned : o .returned ≡ q .returned
   pub cells : o .cells ≡ q .cells
   pub octets : o .old ≡ q .old → o .new ≡ q .new
-  pub rates : (v : ℕ) (a b : AcrAnswer) → AnswersAcr v (o .table) a → AnswersAcr v (q .table) b → a ≡ b
+  pub rates : (v : ℕ) (a b : AbrAllowed) → ReturnsAllowed v (o .table) a → ReturnsAllowed v (q .table) b → a ≡ b
   pub next : (a b : ℕ) → GivesNext (o .table) a → GivesNext (q .table) b → a ≡ b
   pub times : (now lag a b : ℕ) → t + lag ≤ now → GivesSlotTime (o .table) now lag a → GivesSlotTime (q .table) now lag b → a ≡ b
 
 -- a slot that returned 0 and no cell
-abbrev pub idleSeen : Call → SlotAnswer → Bool
+abbrev pub idleSeen : Call → AbrSent → Bool
 idleSeen c r = eqb (slotTaken c (eqb (r .refusal) 0)) 1 && eqb (r .kind) 0
 
 -- a list of calls without these, and what was observed of the others
@@ -72,10 +72,10 @@ idleUntil t (c ∷ cs) (o ∷ os) = idleUntil (cond (idleSeen c (o .returned)) (
 pub record ExportsLeftOut : Type 0 where
   -- a slot in front of ds that returned 0 and no cell
   pub one :
-      (cs : List Call) (os : List Observation) → Trace cs zeros os → (t room : ℕ) (o : Observation) → Performs (slot t room) (finalWords zeros os) o
+      (cs : List Call) (os : List Observation) → Transcript cs zeros os → (t room : ℕ) (o : Observation) → Performs (slot t room) (finalWords zeros os) o
       → o .returned .refusal ≡ 0 → o .returned .kind ≡ 0 → (ds : List Call) → All (NotBefore t) ds
-      → (ps qs : List Observation) → Trace ds (o .table) ps → Trace ds (finalWords zeros os) qs → InPlace (SameWithoutSlots t) ps qs
+      → (ps qs : List Observation) → Transcript ds (o .table) ps → Transcript ds (finalWords zeros os) qs → InPlace (SameWithoutSlots t) ps qs
   -- all such slots of ds
   pub all :
-      (cs : List Call) (os : List Observation) → Trace cs zeros os → (ds : List Call) (ps : List Observation) → Trace ds (finalWords zeros os) ps → InOrderSeen 0 ds ps
-      → (qs : List Observation) → Trace (awakeSeen ds ps) (finalWords zeros os) qs → InPlace (SameWithoutSlots (idleUntil 0 ds ps)) (notIdleSeen ds ps) qs
+      (cs : List Call) (os : List Observation) → Transcript cs zeros os → (ds : List Call) (ps : List Observation) → Transcript ds (finalWords zeros os) ps → InOrderSeen 0 ds ps
+      → (qs : List Observation) → Transcript (awakeSeen ds ps) (finalWords zeros os) qs → InPlace (SameWithoutSlots (idleUntil 0 ds ps)) (notIdleSeen ds ps) qs

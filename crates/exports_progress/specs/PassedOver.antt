@@ -6,15 +6,15 @@ use mathlib.Core.Bool.{true, cond}
 use mathlib.Core.List.{List, [], _∷_}
 use mathlib.Core.Option.{none, some}
 use lib.Dec.{eqb}
-use Rattle.params.specs.declared.params.Params.{Params}
-use Rattle.params.specs.Params.{least}
+use Rattle.rate_params.specs.declared.params.Params.{Params}
+use Rattle.rate_params.specs.Params.{least}
 use Rattle.model.specs.Call.{Call, opening, closing, receiving, offering, levelling, slot, making, outOfRate, openingPath, adding, offeringMember, removing}
-use Rattle.answers.specs.declared.calls.AcrAnswer.{AcrAnswer}
-use Rattle.abr.specs.Contract.{AnswersAcr}
-use Rattle.abr.specs.Exports.{Observation, Trace, finalWords, zeros}
-use Rattle.promises.specs.All.{All}
-use Rattle.service.specs.Liveness.{Somewhere}
-use Rattle.service.specs.PassedOver.{opensBy, slotTaken, SlotFrom, Leaves}
+use Rattle.abr_answers.specs.declared.calls.AbrAllowed.{AbrAllowed}
+use Rattle.abr.specs.Contract.{ReturnsAllowed}
+use Rattle.abr.specs.Exports.{Observation, Transcript, finalWords, zeros}
+use Rattle.laws.specs.All.{All}
+use Rattle.promise_service.specs.Liveness.{Somewhere}
+use Rattle.promise_service.specs.PassedOver.{opensBy, slotTaken, SlotFrom, KeepsOpen}
 use Rattle.exports.specs.Exports.{paramsObserved}
 use Rattle.exports.specs.Returned.{noMember, membersSeen, wentTo, placesSeen}
 use Rattle.exports.specs.Conservation.{sumObserved}
@@ -51,8 +51,8 @@ slotsReturned = sumObserved (λ c o. slotTaken c (eqb (o .returned .refusal) 0))
 -- v is ready at m or before, by what is kept and by the rate that abr_acr returns of these words
 pub record ReadySeen (m v : ℕ) (k : Watched) (l : List ℕ) : Type 0 where
   pub waits : waitsSeen (k .connection) ≡ true
-  pub rate : AcrAnswer
-  pub read : AnswersAcr v l rate
+  pub rate : AbrAllowed
+  pub read : ReturnsAllowed v l rate
   pub moving : 0 < rate .acr
   pub by : latestSeen (rate .acr) (k .connection) ≤ m
 
@@ -67,15 +67,15 @@ FoundReadySeen m v k l (c ∷ cs) (o ∷ os) =
 -- After any exported calls from the zero table, and in any further ones: of as many slots that returned 0 as connections are open, and as are opened among them by m, one is v's own
 pub record ExportsNotPassedOver : Type 0 where
   pub served :
-      (cs : List Call) (os : List Observation) → Trace cs zeros os → (v m : ℕ)
-      → (ds : List Call) (ps : List Observation) → Trace ds (finalWords zeros os) ps → FoundReadySeen m v (watched v cs os) (finalWords zeros os) ds ps
+      (cs : List Call) (os : List Observation) → Transcript cs zeros os → (v m : ℕ)
+      → (ds : List Call) (ps : List Observation) → Transcript ds (finalWords zeros os) ps → FoundReadySeen m v (watched v cs os) (finalWords zeros os) ds ps
       → 0 < slotsReturned ds ps → kept countsOpen 0 cs os + opensReturned m ds ps ≤ slotsReturned ds ps
       → Somewhere (λ x. x ≡ some v) (placesSeen (membersSeen noMember cs os) ds ps)
   -- so if v is open with a minimum above 0, something waits on it, none of the further calls closes it or removes one of its members, and all slots come at m or later, which is a gap at
   -- the minimum or more after its last cell
   pub guaranteed :
-      (cs : List Call) (os : List Observation) → Trace cs zeros os → (v : ℕ) (p : Params) → paramsObserved v none cs os ≡ some p → 0 < least p
+      (cs : List Call) (os : List Observation) → Transcript cs zeros os → (v : ℕ) (p : Params) → paramsObserved v none cs os ≡ some p → 0 < least p
       → waitsSeen (seenOf v cs os) ≡ true → (m : ℕ) → latestSeen (least p) (seenOf v cs os) ≤ m
-      → (ds : List Call) (ps : List Observation) → Trace ds (finalWords zeros os) ps → All (Leaves v) ds → All (SlotFrom m) ds
+      → (ds : List Call) (ps : List Observation) → Transcript ds (finalWords zeros os) ps → All (KeepsOpen v) ds → All (SlotFrom m) ds
       → kept countsOpen 0 cs os + opensReturned m ds ps ≤ slotsReturned ds ps
       → Somewhere (λ x. x ≡ some v) (placesSeen (membersSeen noMember cs os) ds ps)

@@ -8,66 +8,66 @@ use mathlib.Core.List.{List, [], _∷_, _++_}
 use mathlib.Core.Option.{none, some}
 use lib.Dec.{eqb}
 use lib.ListN.{length}
-use Rattle.params.specs.declared.params.Params.{Params}
-use Rattle.params.specs.Params.{nrm}
+use Rattle.rate_params.specs.declared.params.Params.{Params}
+use Rattle.rate_params.specs.Params.{nrm}
 use Rattle.cell.specs.declared.read.Reading.{Reading}
-use Rattle.cell.specs.declared.read.Reading.the-variants.{Refused, User, Resource}
-use Rattle.cell.specs.Name.{pairName}
+use Rattle.cell.specs.declared.read.Reading.the-variants.{Refused, DataCell, RmCell}
+use Rattle.cell.specs.Name.{addressName}
 use Rattle.cell.specs.Fields.{cellName}
 use Rattle.cell.specs.Reading.{reading}
-use Rattle.members.specs.Path.{pathVci}
+use Rattle.connection_members.specs.Path.{pathVci}
 use Rattle.model.specs.Call.{Call, opening, closing, receiving, offering, levelling, slot, making, outOfRate, openingPath, adding, offeringMember, removing}
 use Rattle.model.specs.Conservation.{offeredTo, closedOn}
-use Rattle.answers.specs.declared.calls.SlotAnswer.{SlotAnswer}
-use Rattle.abr.specs.Exports.{Observation, Trace, finalWords, zeros}
-use Rattle.promises.specs.All.{All}
-use Rattle.service.specs.Liveness.{Somewhere}
-use Rattle.service.specs.Progress.{NoClose}
+use Rattle.abr_answers.specs.declared.calls.AbrSent.{AbrSent}
+use Rattle.abr.specs.Exports.{Observation, Transcript, finalWords, zeros}
+use Rattle.laws.specs.All.{All}
+use Rattle.promise_service.specs.Liveness.{Somewhere}
+use Rattle.promise_service.specs.Progress.{NoClose}
 use Rattle.exports.specs.Exports.{paramsObserved}
 use Rattle.exports.specs.Returned.{noMember, memberSeen, connectionReturned}
 use Rattle.exports.specs.Conservation.{dataReturned}
 use Rattle.exports.specs.Along.{kept}
 
 -- whether a turned cell waits, and whether a made one does
-pub record Answers : Type 0 where
+pub record BackwardKept : Type 0 where
   pub turned : Bool
   pub made : Bool
 
-abbrev pub noAnswers : Answers
+abbrev pub noAnswers : BackwardKept
 noAnswers = record { turned = false; made = false }
 
 -- a forward RM cell of v becomes its turned cell
-abbrev pub turnedRead : (v : ℕ) → Reading → Answers → Answers
+abbrev pub turnedRead : (v : ℕ) → Reading → BackwardKept → BackwardKept
 turnedRead v (Refused n) k = k
-turnedRead v (User vpi vci e) k = k
-turnedRead v (Resource g) k = cond (eqb (cellName g) v) (cond (eqb (g .dir) 1) k (record { turned = true; made = k .made })) k
+turnedRead v (DataCell vpi vci e) k = k
+turnedRead v (RmCell g) k = cond (eqb (cellName g) v) (cond (eqb (g .dir) 1) k (record { turned = true; made = k .made })) k
 
 -- after a call that returned 0: kind 2 is a turned cell or, if none waited, a made one
-abbrev pub answersAfter : (v : ℕ) → (member : ℕ → Bool) → Call → SlotAnswer → Answers → Answers
-answersAfter v f (opening vpi vci t p) r k = cond (eqb (pairName vpi vci) v) noAnswers k
-answersAfter v f (closing vpi vci) r k = cond (eqb (pairName vpi vci) v) noAnswers k
+abbrev pub answersAfter : (v : ℕ) → (member : ℕ → Bool) → Call → AbrSent → BackwardKept → BackwardKept
+answersAfter v f (opening vpi vci t p) r k = cond (eqb (addressName vpi vci) v) noAnswers k
+answersAfter v f (closing vpi vci) r k = cond (eqb (addressName vpi vci) v) noAnswers k
 answersAfter v f (receiving o) r k = turnedRead v (reading o) k
 answersAfter v f (offering vpi vci n) r k = k
 answersAfter v f (levelling l) r k = k
 answersAfter v f (slot t room) r k = cond (eqb (r .kind) 2 && eqb (connectionReturned f r) v) (record { turned = false; made = k .turned && k .made }) k
-answersAfter v f (making vpi vci t) r k = cond (eqb (pairName vpi vci) v) (record { turned = k .turned; made = true }) k
+answersAfter v f (making vpi vci t) r k = cond (eqb (addressName vpi vci) v) (record { turned = k .turned; made = true }) k
 answersAfter v f (outOfRate vpi vci t room) r k = k
-answersAfter v f (openingPath vpi t p) r k = cond (eqb (pairName vpi pathVci) v) noAnswers k
+answersAfter v f (openingPath vpi t p) r k = cond (eqb (addressName vpi pathVci) v) noAnswers k
 answersAfter v f (adding vpi vci) r k = k
 answersAfter v f (offeringMember vpi vci n) r k = k
 answersAfter v f (removing vpi vci) r k = k
 
 -- what a caller keeps of v: the members, the data cells that wait, those offered less those that slots returned and closes gave back, and its answers
-pub record Waiting : Type 0 where
+pub record WaitingKept : Type 0 where
   pub member : ℕ → Bool
   pub cells : ℕ
-  pub answers : Answers
+  pub answers : BackwardKept
 
-abbrev pub nothingWaits : Waiting
-nothingWaits = record { member = noMember; cells = 0; answers = noAnswers }
+abbrev pub nothingKept : WaitingKept
+nothingKept = record { member = noMember; cells = 0; answers = noAnswers }
 
-abbrev pub waits : (v : ℕ) → Call → Observation → Waiting → Waiting
-waits v c o k = record {
+abbrev pub keptAfter : (v : ℕ) → Call → Observation → WaitingKept → WaitingKept
+keptAfter v c o k = record {
   member = memberSeen c o (k .member);
   cells = (k .cells + offeredTo v c (eqb (o .returned .refusal) 0)) - (dataReturned v (k .member) (o .returned) + closedOn v c (o .cells));
   answers = cond (eqb (o .returned .refusal) 0) (answersAfter v (k .member) c (o .returned) (k .answers)) (k .answers);
@@ -79,16 +79,16 @@ pub record SeenCell : Type 0 where
   pub cells : ℕ
   pub answers : Bool
 
-abbrev pub seenCell : (v : ℕ) → Waiting → SlotAnswer → List SeenCell
+abbrev pub seenCell : (v : ℕ) → WaitingKept → AbrSent → List SeenCell
 seenCell v k r =
     cond (not (eqb (r .kind) 0) && eqb (connectionReturned (k .member) r) v)
     (record { kind = r .kind; cells = k .cells; answers = k .answers .turned || k .answers .made } ∷ []) []
 
 -- the cells of v that slots returned, one after the other
-abbrev pub seenCells : (v : ℕ) → Waiting → List Call → List Observation → List SeenCell
+abbrev pub seenCells : (v : ℕ) → WaitingKept → List Call → List Observation → List SeenCell
 seenCells v k [] os = []
 seenCells v k (c ∷ cs) [] = []
-seenCells v k (c ∷ cs) (o ∷ os) = seenCell v k (o .returned) ++ seenCells v (waits v c o k) cs os
+seenCells v k (c ∷ cs) (o ∷ os) = seenCell v k (o .returned) ++ seenCells v (keptAfter v c o k) cs os
 
 unfoldable pub turnedSeen : List SeenCell → ℕ
 turnedSeen [] = 0
@@ -104,6 +104,6 @@ pub record ProgressSeen (p : Params) (xs : List SeenCell) : Type 0 where
 -- after any exported calls from the zero table, of a name that is open, in any further ones without its close
 abbrev pub ExportsProgress : Type 0
 ExportsProgress =
-    (cs : List Call) (os : List Observation) → Trace cs zeros os → (v : ℕ) (p : Params) → paramsObserved v none cs os ≡ some p
-    → (ds : List Call) (ps : List Observation) → Trace ds (finalWords zeros os) ps → All (NoClose v) ds
-    → ProgressSeen p (seenCells v (kept (waits v) nothingWaits cs os) ds ps)
+    (cs : List Call) (os : List Observation) → Transcript cs zeros os → (v : ℕ) (p : Params) → paramsObserved v none cs os ≡ some p
+    → (ds : List Call) (ps : List Observation) → Transcript ds (finalWords zeros os) ps → All (NoClose v) ds
+    → ProgressSeen p (seenCells v (kept (keptAfter v) nothingKept cs os) ds ps)

@@ -10,11 +10,11 @@ use lib.Dec.{eqb}
 use lib.IntN.{pos, negsuc, _-ℤ_}
 use lib.ListN.{replicate}
 use borrow.Author.Tests.{eq-eqb, ne-eqb, le-ltb}
-use Rattle.params.specs.declared.params.Params.{Params}
-use Rattle.params.specs.Params.{initialUsed}
+use Rattle.rate_params.specs.declared.params.Params.{Params}
+use Rattle.rate_params.specs.Params.{initialUsed}
 use Rattle.cell.specs.declared.fields.Fields.{Fields}
 use Rattle.cell.specs.declared.read.Reading.{Reading}
-use Rattle.cell.specs.declared.read.Reading.the-variants.{Resource}
+use Rattle.cell.specs.declared.read.Reading.the-variants.{RmCell}
 use Rattle.cell.specs.Fields.{cellName}
 use Rattle.cell.specs.Reading.{reading}
 use Rattle.connection.specs.declared.parts.Connection.{Connection}
@@ -27,14 +27,14 @@ use Rattle.model.specs.Step.{refuse, step}
 use Rattle.model.specs.Queries.{entryAcr, acrOf}
 use Rattle.model.specs.Run.{final, isAccepted}
 use Rattle.model.proofs.Entries.{Case, same, other, case, taken≢free, absent-find, each-free}
-use Rattle.model.proofs.Effects.{Enters, Effect, refuses, begins, beginsPath, effect}
-use Rattle.answers.specs.declared.calls.AcrAnswer.{AcrAnswer}
+use Rattle.model.proofs.Effects.{OpenPassed, Effect, refuses, opens, opensPath, effect}
+use Rattle.abr_answers.specs.declared.calls.AbrAllowed.{AbrAllowed}
 use Rattle.abr.specs.Exports.{Observation, zeros}
-use Rattle.promises.proofs.Moves.{Begun, begun-at}
-use Rattle.promises.proofs.Refusals.{refused-unchanged}
-use Rattle.rm_cells.specs.Changes.{NotFedBack}
-use Rattle.rm_cells.proofs.Changes.{changes}
-use Rattle.rm_cells.proofs.BeforeFeedback.{call-unraised}
+use Rattle.promise_lists.proofs.Moves.{Begun, begun-at}
+use Rattle.promise_lists.proofs.Refusals.{refused-unchanged}
+use Rattle.promise_cells.specs.Changes.{NotFedBack}
+use Rattle.promise_cells.proofs.Changes.{changes}
+use Rattle.promise_cells.proofs.BeforeFeedback.{call-unraised}
 use Rattle.exports.proofs.Transport.{Sees, Keeps, stands, stands-first, kept-so}
 use Rattle.exports_rates.specs.BeforeFeedback.{feeds, fedAfter, fedSeen, ExportsBeforeFeedback}
 use Rattle.exports_rates.proofs.Held.{acr-held, open-under}
@@ -63,11 +63,11 @@ or-false : (a b : Bool) → (a || b) ≡ false → (a ≡ false) × (b ≡ false
 or-false true b e = absurd (true≢false e)
 or-false false b e = (refl, e)
 
-not-fed-by : (v : ℕ) (r : Reading) → feeds v r ≡ false → (f : Fields) → r ≡ Resource f → f .dir ≡ 1 → cellName f ≢ v
+not-fed-by : (v : ℕ) (r : Reading) → feeds v r ≡ false → (f : Fields) → r ≡ RmCell f → f .dir ≡ 1 → cellName f ≢ v
 not-fed-by v r h f e b n = absurd (true≢false (sym (ap (feeds v) e ∙ (λ i. eq-eqb (cellName f) v n i && eq-eqb (f .dir) 1 b i)) ∙ h))
 
 module _ (v : ℕ) {s : State} (d : Connection) (found : find v (s .entries) ≡ taken d) where
-  new-other : (u t : ℕ) (p : Params) → Enters s u t p → (k : Bool) → cond (eqb u v) false k ≡ false → k ≡ false
+  new-other : (u t : ℕ) (p : Params) → OpenPassed s u t p → (k : Bool) → cond (eqb u v) false k ≡ false → k ≡ false
   new-other u t p g k e = go (case u v)
     where
       go : Case u v → k ≡ false
@@ -77,12 +77,12 @@ module _ (v : ℕ) {s : State} (d : Connection) (found : find v (s .entries) ≡
   opened-other : {a b t : ℕ} {p : Params} {o : Outcome} → Effect s (opening a b t p) o → (k : Bool) → isAccepted (o .answer) ≡ true → fedAfter v (opening a b t p) k ≡ false → k ≡ false
   unfolding refuse isAccepted
   opened-other (refuses _ n h) k a e = absurd (true≢false (sym a))
-  opened-other (begins _ _ _ _ g) k a e = new-other _ _ _ g k e
+  opened-other (opens _ _ _ _ g) k a e = new-other _ _ _ g k e
 
   path-other : {a t : ℕ} {p : Params} {o : Outcome} → Effect s (openingPath a t p) o → (k : Bool) → isAccepted (o .answer) ≡ true → fedAfter v (openingPath a t p) k ≡ false → k ≡ false
   unfolding refuse isAccepted
   path-other (refuses _ n h) k a e = absurd (true≢false (sym a))
-  path-other (beginsPath _ _ _ g) k a e = new-other _ _ _ g k e
+  path-other (opensPath _ _ _ g) k a e = new-other _ _ _ g k e
 
   not-fed : (c : Call) {o : Outcome} → Effect s c o → (k : Bool) → isAccepted (o .answer) ≡ true → fedAfter v c k ≡ false → (k ≡ false) × NotFedBack v c
   not-fed (opening a b t p) h k q e = (opened-other h k q e, tt)
@@ -147,6 +147,6 @@ exports-before-feedback cs os t v p e n a h =
     let u = kept-so (fedSeen v) (Unless v) (keeps-unfed v) empty zeros stands-first false (none-fed v) cs os t n (d .holder) (d .found) in
     let r = acr-held (stands cs os t) v (d .holder) (d .found) a h in
     record {
-      change = ap (λ (x : AcrAnswer). x .change) r ∙ u .change;
-      rate = subst (λ (n : ℕ). n ≤ initialUsed p) (sym (ap (λ (x : AcrAnswer). x .acr) r)) (subst (λ (x : Params). d .holder .rate .acr ≤ initialUsed x) (d .params) (u .rate));
+      change = ap (λ (x : AbrAllowed). x .change) r ∙ u .change;
+      rate = subst (λ (n : ℕ). n ≤ initialUsed p) (sym (ap (λ (x : AbrAllowed). x .acr) r)) (subst (λ (x : Params). d .holder .rate .acr ≤ initialUsed x) (d .params) (u .rate));
     }

@@ -6,11 +6,11 @@ use mathlib.Core.List.{List}
 use mathlib.Core.Option.{some}
 use lib.Dec.{eqb}
 use Rattle.cell.specs.declared.read.Reading.{Reading}
-use Rattle.cell.specs.declared.read.Reading.the-variants.{Refused as Unread, User, Resource}
-use Rattle.cell.specs.Name.{nameOf, pairName}
+use Rattle.cell.specs.declared.read.Reading.the-variants.{Refused as Unread, DataCell, RmCell}
+use Rattle.cell.specs.Name.{nameFrom, addressName}
 use Rattle.cell.specs.Reading.{reading}
-use Rattle.members.specs.Path.{pathOf}
-use Rattle.members.specs.Members.{owner}
+use Rattle.connection_members.specs.Path.{pathOf}
+use Rattle.connection_members.specs.Members.{owner}
 use Rattle.connection.specs.declared.parts.Connection.{Connection}
 use Rattle.connection.specs.declared.kind.Kind.the-variants.{Forward, Turned, Data}
 use Rattle.connection.specs.Parts.{waiting}
@@ -21,11 +21,11 @@ use Rattle.model.specs.Call.{Call, opening, closing, receiving, offering, level
 use Rattle.model.specs.Step.{refuse, discard, ofOpen, closeStep, step}
 use Rattle.model.specs.Queries.{entryAcr, acrOf}
 use Rattle.model.specs.Run.{final}
-use Rattle.answers.specs.declared.calls.SlotAnswer.{SlotAnswer}
-use Rattle.answers.specs.Calls.{slotAnswer, acrAnswer}
-use Rattle.abr.specs.Exports.{Observation, Performs, Trace, finalWords, zeros}
-use Rattle.promises.specs.Interference.{readName, names, answersName, touches}
-use Rattle.promises.proofs.Interference.{no-interference}
+use Rattle.abr_answers.specs.declared.calls.AbrSent.{AbrSent}
+use Rattle.abr_answers.specs.Calls.{sentOf, allowedOf}
+use Rattle.abr.specs.Exports.{Observation, Performs, Transcript, finalWords, zeros}
+use Rattle.promise_lists.specs.Interference.{readName, concerns, answersName, touches}
+use Rattle.promise_lists.proofs.Interference.{no-interference}
 use Rattle.exports.specs.Returned.{noMember, membersSeen}
 use Rattle.exports.proofs.Returned.{Knows, NamesConnection, names-connection, went-to, back}
 use Rattle.exports.proofs.Transport.{Sees, sees, stands, acr-seen}
@@ -37,11 +37,11 @@ use Rattle.exports_rates.specs.Interference.{readNameSeen, namesSeen, to
 read-name : (f : ℕ → Bool) (s : State) → Knows f s → (r : Reading) → readNameSeen f r ≡ readName (s .members) r
 unfolding readName owner
 read-name f s k (Unread n) = refl
-read-name f s k (User vpi vci e) = ap (λ (b : Bool). some (cond b (pathOf (pairName vpi vci)) (pairName vpi vci))) (k (pairName vpi vci))
-read-name f s k (Resource g) = refl
+read-name f s k (DataCell vpi vci e) = ap (λ (b : Bool). some (cond b (pathOf (addressName vpi vci)) (addressName vpi vci))) (k (addressName vpi vci))
+read-name f s k (RmCell g) = refl
 
-names-seen : (f : ℕ → Bool) (s : State) → Knows f s → (c : Call) (a : Answer) → NamesConnection f a → namesSeen f c (slotAnswer a) ≡ names (s .members) c a
-unfolding names
+names-seen : (f : ℕ → Bool) (s : State) → Knows f s → (c : Call) (a : Answer) → NamesConnection f a → namesSeen f c (sentOf a) ≡ concerns (s .members) c a
+unfolding concerns
 names-seen f s k (opening vpi vci t p) a h = refl
 names-seen f s k (closing vpi vci) a h = refl
 names-seen f s k (receiving o) a h = read-name f s k (reading o)
@@ -55,7 +55,7 @@ names-seen f s k (adding vpi vci) a h = refl
 names-seen f s k (offeringMember vpi vci n) a h = refl
 names-seen f s k (removing vpi vci) a h = refl
 
-name-told : (x : ℕ) (a : Answer) → (not (eqb (slotAnswer a .kind) 0) && eqb (nameOf (slotAnswer a .vpi) (slotAnswer a .vci)) x) ≡ answersName x a
+name-told : (x : ℕ) (a : Answer) → (not (eqb (sentOf a .kind) 0) && eqb (nameFrom (sentOf a .vpi) (sentOf a .vci)) x) ≡ answersName x a
 unfolding answersName
 name-told x (Refused n) = refl
 name-told x (Accepted n) = refl
@@ -65,7 +65,7 @@ name-told x (Sent v y Forward a n) = ap (λ (z : ℕ). eqb z x) (back y)
 name-told x (Sent v y Turned a n) = ap (λ (z : ℕ). eqb z x) (back y)
 name-told x (Sent v y Data a n) = ap (λ (z : ℕ). eqb z x) (back y)
 
-touches-seen : (x : ℕ) (c : Call) (a : Answer) → touchesSeen x c (slotAnswer a) ≡ touches x c a
+touches-seen : (x : ℕ) (c : Call) (a : Answer) → touchesSeen x c (sentOf a) ≡ touches x c a
 unfolding touches
 touches-seen x (opening vpi vci t p) a = refl
 touches-seen x (closing vpi vci) a = refl
@@ -84,7 +84,7 @@ touches-seen x (removing vpi vci) a = refl
 abbrev closeNumber : Entry → ℕ
 closeNumber x = cond (isFree x) 11 0
 
-close-number : (s : State) (n : Connection → ℕ) (leaf : ℕ) (r : State) (x : Entry) → slotAnswer (ofOpen s x (λ c. discard (n c) leaf s r) .answer) .refusal ≡ closeNumber x
+close-number : (s : State) (n : Connection → ℕ) (leaf : ℕ) (r : State) (x : Entry) → sentOf (ofOpen s x (λ c. discard (n c) leaf s r) .answer) .refusal ≡ closeNumber x
 unfolding ofOpen refuse discard isFree
 close-number s n leaf r free = refl
 close-number s n leaf r (taken c) = refl
@@ -94,16 +94,16 @@ unfolding ofOpen refuse discard closedCells entryCells
 close-cells s leaf r free = refl
 close-cells s leaf r (taken c) = refl
 
-closes-as : {s : State} {vpi vci : ℕ} {o : Observation} → Sees s (closing vpi vci) o → (o .returned .refusal ≡ closeNumber (find (pairName vpi vci) (s .entries))) × (o .cells ≡ entryCells (find (pairName vpi vci) (s .entries)))
+closes-as : {s : State} {vpi vci : ℕ} {o : Observation} → Sees s (closing vpi vci) o → (o .returned .refusal ≡ closeNumber (find (addressName vpi vci) (s .entries))) × (o .cells ≡ entryCells (find (addressName vpi vci) (s .entries)))
 unfolding step closeStep
 closes-as {s} {vpi} {vci} z = (
-  ap (λ (r : SlotAnswer). r .refusal) (z .matches .returned) ∙ close-number s _ _ _ (find (pairName vpi vci) (s .entries)),
-  z .matches .cells ∙ close-cells s _ _ (find (pairName vpi vci) (s .entries)),
+  ap (λ (r : AbrSent). r .refusal) (z .matches .returned) ∙ close-number s _ _ _ (find (addressName vpi vci) (s .entries)),
+  z .matches .cells ∙ close-cells s _ _ (find (addressName vpi vci) (s .entries)),
 )
 
 -- the entry of another name stays
 same-entry :
-    (cs : List Call) (os : List Observation) (t : Trace cs zeros os) (c : Call) (o : Observation) → Performs c (finalWords zeros os) o → (u : ℕ)
+    (cs : List Call) (os : List Observation) (t : Transcript cs zeros os) (c : Call) (o : Observation) → Performs c (finalWords zeros os) o → (u : ℕ)
     → (namesSeen (membersSeen noMember cs os) c (o .returned) ≡ some u → ⊥) → find u (step (final empty cs) c .state .entries) ≡ find u (final empty cs .entries)
 same-entry cs os t c o q u n =
     let y = sees (stands cs os t) q in
@@ -118,18 +118,18 @@ unfolding acrOf
 exports-no-interference = record {
   rates = λ cs os t c o q u n a b h k.
       let st = stands cs os t in
-      acr-seen (sees st q .next) u b k ∙ ap (λ (x : Entry). acrAnswer (entryAcr x)) (same-entry cs os t c o q u n) ∙ sym (acr-seen st u a h);
+      acr-seen (sees st q .next) u b k ∙ ap (λ (x : Entry). allowedOf (entryAcr x)) (same-entry cs os t c o q u n) ∙ sym (acr-seen st u a h);
   closes = λ cs os t c o q vpi vci n a b h k.
       let st = stands cs os t in
       let before = closes-as (sees st h) in
       let after = closes-as (sees (sees st q .next) k) in
-      let e = same-entry cs os t c o q (pairName vpi vci) n in
+      let e = same-entry cs os t c o q (addressName vpi vci) n in
       record { refusals = after .0 ∙ ap closeNumber e ∙ sym (before .0); cells = after .1 ∙ ap entryCells e ∙ sym (before .1) };
   removes = λ cs os t c o q vpi vci n a b h k.
       let st = stands cs os t in
       let y = sees st q in
-      let e = no-interference .members cs c (pairName vpi vci)
-      (sym (touches-seen (pairName vpi vci) c (step (final empty cs) c .answer)) ∙ ap (touchesSeen (pairName vpi vci) c) (sym (y .matches .returned)) ∙ n) in
+      let e = no-interference .members cs c (addressName vpi vci)
+      (sym (touches-seen (addressName vpi vci) c (step (final empty cs) c .answer)) ∙ ap (touchesSeen (addressName vpi vci) c) (sym (y .matches .returned)) ∙ n) in
       let before = sees st h in
       let after = sees (y .next) k in
       let old = removal (before .wellFormed) vpi vci in

@@ -3,10 +3,10 @@ use Prim.Native.Nat.{ℕ, suc, _+_, _*_, min}
 use mathlib.Core.Path.{_≡_, refl, sym, ap, subst, _∙_}
 use mathlib.Core.List.{List}
 use mathlib.Core.Option.{none, some}
-use Rattle.params.specs.declared.params.Params.{Params}
-use Rattle.moves.specs.declared.moves.Rate.{Rate}
-use Rattle.moves.specs.Moves.{feedback}
-use Rattle.share.specs.declared.share.FairShare.{FairShare}
+use Rattle.rate_params.specs.declared.params.Params.{Params}
+use Rattle.rate_moves.specs.declared.moves.Rate.{Rate}
+use Rattle.rate_moves.specs.Moves.{feedback}
+use Rattle.port_share.specs.declared.share.FairShare.{FairShare}
 use Rattle.connection.specs.declared.parts.Connection.{Connection}
 use Rattle.connection.specs.declared.kind.Kind.the-variants.{Forward}
 use Rattle.model.specs.State.{State, Entry, taken, empty}
@@ -15,19 +15,19 @@ use Rattle.model.specs.Call.{Call}
 use Rattle.model.specs.Step.{step}
 use Rattle.model.specs.Run.{final, allowed}
 use Rattle.model.proofs.Given.{params-given}
-use Rattle.answers.specs.declared.calls.SlotAnswer.{SlotAnswer}
-use Rattle.answers.specs.declared.calls.AcrAnswer.{AcrAnswer}
-use Rattle.answers.specs.Calls.{slotAnswer}
-use Rattle.abr.specs.Contract.{AnswersAcr}
-use Rattle.abr.specs.Exports.{Observation, Trace, ended as endedHere, then, finalWords, zeros}
-use Rattle.promises.specs.Demand3.{NotAbove}
-use Rattle.service.specs.Restart.{increase}
-use Rattle.rm_cells.specs.Changes.{NotFedBack}
-use Rattle.closed_loop.specs.Share.{settled}
-use Rattle.closed_loop.specs.Loop.{FromPort, Unmarked, Feedbacks, ended as endedAt, fedBack as fedBackAt, otherCall as otherAt, NotClosed, RateKept, Unmoved, NotLowered, Loop}
-use Rattle.closed_loop.proofs.Fed.{Stands as StandsAt, allowed-is, unmarked-step}
-use Rattle.closed_loop.proofs.Others.{other-step, not-closed, kept-step}
-use Rattle.closed_loop.proofs.Loop.{run-from-port, closed-loop}
+use Rattle.abr_answers.specs.declared.calls.AbrSent.{AbrSent}
+use Rattle.abr_answers.specs.declared.calls.AbrAllowed.{AbrAllowed}
+use Rattle.abr_answers.specs.Calls.{sentOf}
+use Rattle.abr.specs.Contract.{ReturnsAllowed}
+use Rattle.abr.specs.Exports.{Observation, Transcript, ended as endedHere, then, finalWords, zeros}
+use Rattle.promise_lists.specs.Demand3.{NotAbove}
+use Rattle.promise_service.specs.Restart.{increase}
+use Rattle.promise_cells.specs.Changes.{NotFedBack}
+use Rattle.promise_loop.specs.Share.{settled}
+use Rattle.promise_loop.specs.Loop.{FromPort, Unmarked, Feedbacks, ended as endedAt, fedBack as fedBackAt, otherCall as otherAt, NotClosed, RateKept, Unmoved, NotLowered, Loop}
+use Rattle.promise_loop.proofs.Fed.{Stands as StandsAt, allowed-is, unmarked-step}
+use Rattle.promise_loop.proofs.Others.{other-step, not-closed, kept-step}
+use Rattle.promise_loop.proofs.Loop.{run-from-port, closed-loop}
 use Rattle.exports.specs.Exports.{rateReturned, paramsObserved}
 use Rattle.exports.proofs.Returned.{back}
 use Rattle.exports.proofs.Transport.{Stands, Sees, sees, stands, stands-after, kept-so}
@@ -38,7 +38,7 @@ use Rattle.exports_rates.proofs.Seen.{connectionSeen, entrySeen, Watche
 use Rattle.exports_rates.proofs.Held.{rate-seen, rate-is, open-under}
 
 -- feedbacks, as they are in the states
-open-in : (v : ℕ) (Cell : List ℕ → Type 0) {k : Watched} {l : List ℕ} {n : ℕ} {ds : List Call} {ps : List Observation} {s : State} → Stands s l → Trace ds l ps
+open-in : (v : ℕ) (Cell : List ℕ → Type 0) {k : Watched} {l : List ℕ} {n : ℕ} {ds : List Call} {ps : List Observation} {s : State} → Stands s l → Transcript ds l ps
     → FeedbacksSeen v Cell (NotClosedSeen v) k l n ds ps → Feedbacks v Cell (NotClosed v) s n ds
 open-in v Cell st endedHere ended = endedAt
 open-in v Cell st (then p t) (fedBack c f) = fedBackAt c (open-in v Cell (sees st p .next) t f)
@@ -66,10 +66,10 @@ unfolding entrySeen
 not-lowered {v} {p} {q} {s} {l} {k} {c} {o} z e m y h = record {
   notClosed = record { otherName = h .notClosed .otherName };
   forwardCell = λ t room acr n d i a f.
-      let r : o .returned ≡ slotAnswer (Sent v v Forward acr n) = y .matches .returned ∙ ap slotAnswer a in
+      let r : o .returned ≡ sentOf (Sent v v Forward acr n) = y .matches .returned ∙ ap sentOf a in
       let same : d ≡ z .holder = same-holder f (z .found) in
       unmoved-so p t (k .connection) d (m .connection ∙ ap entrySeen f) (ap (λ (x : Connection). x .rate .params) same ∙ ap (λ (x : Rate). x .params) (z .rate) ∙ e)
-      (h .forwardCell t room i (ap (λ (x : SlotAnswer). x .kind) r) (rw r (back v)));
+      (h .forwardCell t room i (ap (λ (x : AbrSent). x .kind) r) (rw r (back v)));
 }
 
 -- a call whose forward cell, if it is one of v, does not lower the rate
@@ -90,7 +90,7 @@ read-kept {v} st y h = record { same = sym (rate-seen (y .next) v (h .after) (h 
 -- where the rate stays over each other call
 left-in :
     {v : ℕ} {share : FairShare} {p : Params} {q : Rate} {s : State} {l : List ℕ} {k : Watched} {n : ℕ} {ds : List Call} {ps : List Observation} → Stands s l → StandsAt v q s → q .params ≡ p
-    → Watches v k s → Trace ds l ps → FeedbacksSeen v (Unmarked v p share) (RateLeft v p) k l n ds ps → Feedbacks v (Unmarked v p share) (RateKept v) s n ds
+    → Watches v k s → Transcript ds l ps → FeedbacksSeen v (Unmarked v p share) (RateLeft v p) k l n ds ps → Feedbacks v (Unmarked v p share) (RateKept v) s n ds
 unfolding feedback
 left-in st z e m endedHere ended = endedAt
 left-in {v} {q = q} st z e m (then p t) (fedBack u f) =
@@ -106,7 +106,7 @@ left-in {v} st z e m (then p t) (otherCall n (notLowered h) f) =
 
 run-kept :
     {v : ℕ} {share : FairShare} {p : Params} {q : Rate} {s : State} {l : List ℕ} {k : Watched} {n : ℕ} {ds : List Call} {ps : List Observation} → Stands s l → StandsAt v q s → q .params ≡ p
-    → Watches v k s → Trace ds l ps → FeedbacksSeen v (Unmarked v p share) (NotLoweredSeen v p) k l n ds ps → FeedbacksSeen v (Unmarked v p share) (SameRate v) k l n ds ps
+    → Watches v k s → Transcript ds l ps → FeedbacksSeen v (Unmarked v p share) (NotLoweredSeen v p) k l n ds ps → FeedbacksSeen v (Unmarked v p share) (SameRate v) k l n ds ps
 unfolding feedback
 run-kept st z e m endedHere ended = ended
 run-kept {v} {q = q} st z e m (then p t) (fedBack u f) =
@@ -116,7 +116,7 @@ run-kept {v} st z e m (then p t) (otherCall n h f) =
     let x = not-lowered-step z e m y n h in
     otherCall n (record { same = λ a b i j. rate-seen (y .next) v b j ∙ rate-kept z x .same ∙ sym (rate-seen st v a i) }) (run-kept (y .next) x e (watches v .goes _ _ _ _ m y) t f)
 
-module _ (cs : List Call) (os : List Observation) (t : Trace cs zeros os) (v : ℕ) (p : Params) (e : paramsObserved v none cs os ≡ some p) (share : FairShare) where
+module _ (cs : List Call) (os : List Observation) (t : Transcript cs zeros os) (v : ℕ) (p : Params) (e : paramsObserved v none cs os ≡ some p) (share : FairShare) where
   abbrev words : List ℕ
   words = finalWords zeros os
 
@@ -130,24 +130,24 @@ module _ (cs : List Call) (os : List Observation) (t : Trace cs zeros os) (v : �
   acr = open-under cs os t v p e .holder .rate .acr
 
   -- the rate is the one that abr_acr returns
-  read-now : (a : AcrAnswer) → AnswersAcr v words a → acr ≡ a .acr
+  read-now : (a : AbrAllowed) → ReturnsAllowed v words a → acr ≡ a .acr
   read-now a h = rate-is a acr (rate-seen st v a h ∙ allowed-is now)
 
   loop : Loop (final empty cs) v p acr share
   loop = closed-loop cs v acr share p (record { given = sym (params-given v cs) ∙ sym (params-known cs os t v) ∙ e; rate = allowed-is now })
 
   -- after further calls
-  read-then : (ds : List Call) (ps : List Observation) → Trace ds words ps → (b : AcrAnswer) → AnswersAcr v (finalWords words ps) b → rateReturned b ≡ allowed v (final (final empty cs) ds)
+  read-then : (ds : List Call) (ps : List Observation) → Transcript ds words ps → (b : AbrAllowed) → ReturnsAllowed v (finalWords words ps) b → rateReturned b ≡ allowed v (final (final empty cs) ds)
   read-then ds ps u b h = rate-seen (stands-after st ds ps u) v b h
 
   -- where the rate stays over each other call, from here on and from further calls on
-  left : {n : ℕ} {ds : List Call} {ps : List Observation} → Trace ds words ps → FeedbacksSeen v (Unmarked v p share) (RateLeft v p) (watched v cs os) words n ds ps
+  left : {n : ℕ} {ds : List Call} {ps : List Observation} → Transcript ds words ps → FeedbacksSeen v (Unmarked v p share) (RateLeft v p) (watched v cs os) words n ds ps
       → Feedbacks v (Unmarked v p share) (RateKept v) (final empty cs) n ds
   left u f = left-in st now (open-under cs os t v p e .params) (watched-so v cs os t) u f
 
   left-then :
-      (other : FairShare) {m n : ℕ} (ds : List Call) {es : List Call} (ps : List Observation) {qs : List Observation} (u : Trace ds words ps)
-      → Feedbacks v (FromPort v share) (NotClosed v) (final empty cs) m ds → Trace es (finalWords words ps) qs
+      (other : FairShare) {m n : ℕ} (ds : List Call) {es : List Call} (ps : List Observation) {qs : List Observation} (u : Transcript ds words ps)
+      → Feedbacks v (FromPort v share) (NotClosed v) (final empty cs) m ds → Transcript es (finalWords words ps) qs
       → FeedbacksSeen v (Unmarked v p other) (RateLeft v p) (watchedFrom v (watched v cs os) ds ps) (finalWords words ps) n es qs
       → Feedbacks v (Unmarked v p other) (RateKept v) (final (final empty cs) ds) n es
   left-then other ds ps u r w g =

@@ -2,20 +2,20 @@
 use Prim.Native.Nat.{ℕ}
 use mathlib.Core.Path.{_≡_, sym, ap, subst}
 use mathlib.Core.List.{List, [], _∷_}
-use Rattle.share.specs.Share.{fairShare}
-use Rattle.share.specs.declared.share.FairShare.{FairShare}
-use Rattle.share.specs.declared.share.FairShare.the-variants.{Refused, NoLimit, Limit}
-use Rattle.port.specs.Limit.{Passed}
+use Rattle.port_share.specs.Share.{fairShare}
+use Rattle.port_share.specs.declared.share.FairShare.{FairShare}
+use Rattle.port_share.specs.declared.share.FairShare.the-variants.{Refused, NoLimit, Limit}
+use Rattle.port.specs.Limit.{Forwarded}
 use Rattle.port.specs.Port.{portBy}
 use Rattle.model.specs.Call.{Call, receiving}
-use Rattle.promises.specs.Demand3.{InPlace, Comparable, equal}
-use Rattle.rm_cells.specs.Ported.{held}
-use Rattle.rm_cells.proofs.Ported.{comparable}
+use Rattle.promise_lists.specs.Demand3.{InPlace, Comparable, equal}
+use Rattle.promise_cells.specs.Ported.{held}
+use Rattle.promise_cells.proofs.Ported.{comparable}
 use Rattle.exports.proofs.Exports.{exports-demand3}
 use Rattle.exports_rates.specs.Ported.{PortedCall, same, limited, ported, ExportsPorts}
 
-left-cell : {a b : Passed} → a ≡ b → a .cell ≡ b .cell
-left-cell e = ap (λ (x : Passed). x .cell) e
+left-cell : {a b : Forwarded} → a ≡ b → a .cell ≡ b .cell
+left-cell e = ap (λ (x : Forwarded). x .cell) e
 
 by-share : (share : FairShare) (o : List ℕ) → Comparable (receiving o) (receiving (portBy share o .cell))
 unfolding portBy

@@ -5,8 +5,8 @@ use Rattle.model.specs.Step.{step}
 use Rattle.model.specs.Run.{final}
 use Rattle.abr.specs.Exports.{then}
 use Rattle.abr.proofs.Exports.{exports-are-run}
-use Rattle.own_traces.specs.Traces.{cellsOf}
-use Rattle.own_traces.proofs.RoundTrip.{own-round-trip}
+use Rattle.promise_traces.specs.Traces.{traceCells}
+use Rattle.promise_traces.proofs.RoundTrip.{own-round-trip}
 use Rattle.exports.specs.Returned.{noMember, membersSeen}
 use Rattle.exports.proofs.Returned.{knows-after}
 use Rattle.exports.proofs.Recorded.{recorded-sent}
@@ -20,4 +20,4 @@ recorded-trip-bounded before after c v p os ps o rs k x (then q u) z r n earlier
     let s = step (final empty before) c .state in
     let m = knows-after (w .wellFormed) c (membersSeen noMember before os) (members-known before os x) _ (w .accepted) in
     let sent = recorded-sent v after s (w .next .wellFormed) _ m (o .table) (w .next .table) ps rs (exports-are-run .onward s (w .next .wellFormed) after (o .table) ps u (w .next .table) .0) r in
-    own-round-trip before c v p after k (was-accepted w z) n earlier y later rest (ap cellsOf (sym sent) ∙ e)
+    own-round-trip before c v p after k (was-accepted w z) n earlier y later rest (ap traceCells (sym sent) ∙ e)

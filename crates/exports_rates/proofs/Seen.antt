@@ -8,15 +8,15 @@ use mathlib.Core.Option.{Option, none, some}
 use lib.Dec.{eqb, ltb}
 use lib.ListN.{replicate}
 use borrow.Author.Tests.{eq-eqb, ne-eqb, lt-ltb}
-use Rattle.params.specs.declared.params.Params.{Params}
-use Rattle.cell.specs.Name.{nameOf, vpiIn, vciIn, pairName}
+use Rattle.rate_params.specs.declared.params.Params.{Params}
+use Rattle.cell.specs.Name.{nameFrom, vpiIn, vciIn, addressName}
 use Rattle.cell.specs.Fields.{cellName}
 use Rattle.cell.specs.declared.fields.Fields.{Fields}
 use Rattle.cell.specs.declared.read.Reading.{Reading}
-use Rattle.members.specs.Path.{pathVci, pathOf}
-use Rattle.members.specs.Members.{cellsOf}
-use Rattle.members.specs.Turn.{turn, lastAfter}
-use Rattle.members.proofs.Turns.{turn-picks}
+use Rattle.connection_members.specs.Path.{pathVci, pathOf}
+use Rattle.connection_members.specs.Members.{cellsOf}
+use Rattle.connection_members.specs.Turn.{turn, lastAfter}
+use Rattle.connection_members.proofs.Turns.{turn-picks}
 use Rattle.connection.specs.declared.parts.Connection.{Connection}
 use Rattle.connection.specs.declared.parts.Pace.{Pace}
 use Rattle.connection.specs.declared.parts.Pace.the-variants.{Unsent, Running}
@@ -28,22 +28,22 @@ use Rattle.connection.specs.declared.kind.Kind.the-variants.{Forward, Turned, D
 use Rattle.connection.specs.Parts.{fresh, waiting, withQueue, dequeued}
 use Rattle.connection.specs.Ready.{waits}
 use Rattle.connection.specs.Making.{withMade}
-use Rattle.connection.specs.Receiving.{offered, afterDataCell, afterBackwardCell, afterForwardCell, afterResourceCell}
+use Rattle.connection.specs.Receiving.{offered, afterDataCell, afterBackwardCell, afterForwardCell, afterRmCell}
 use Rattle.connection.specs.Kind.{kindAt}
 use Rattle.connection.specs.Sending.{after, paced, madeLeft, memberServed, withServed, sentForward, sentTurned, sentData}
 use Rattle.connection.specs.OutOfRate.{afterOutOfRate}
 use Rattle.connection.proofs.Keeps.{work-same, after-same}
-use Rattle.model.specs.State.{State, Entry, free, taken, capacity, empty, find, put, inserted, withTime, withLevel, withMembers}
+use Rattle.model.specs.State.{State, Entry, free, taken, capacity, empty, find, withEntryOf, withOpened, withTime, withLevel, withMembers}
 use Rattle.model.specs.Invariant.{WellFormed, NamesUnique}
 use Rattle.model.specs.Call.{Call, Outcome, closedCells}
 use Rattle.model.specs.declared.answer.Answer.the-variants.{Sent}
-use Rattle.model.specs.Step.{refuse, accept, replay, discard, withOffer, withoutOne, nameAnswered, sendFrom, sendStep, sendOutside, idleStep}
+use Rattle.model.specs.Step.{refuse, accept, replay, discard, withOffer, withoutOne, nameAnswered, sendFrom, sendStep, sendOutOfRate, idleStep}
 use Rattle.model.specs.Run.{final, isAccepted}
 use Rattle.model.proofs.Entries.{Case, same, other, case, absent-find, each-free}
-use Rattle.model.proofs.Frames.{put-read, inserted-read, freed-read}
-use Rattle.model.proofs.Effects.{Enters, Effect, refuses, begins, ends, offers, marks, works, levels, idles, sends, makes, leaves, beginsPath, adds, offersMember, removes, effect}
-use Rattle.answers.specs.Calls.{slotAnswer}
-use Rattle.abr.specs.Exports.{Observation, Trace, zeros}
+use Rattle.model.proofs.Frames.{put-read, with-opened-read, freed-read}
+use Rattle.model.proofs.Effects.{OpenPassed, Effect, refuses, opens, closes, offers, receivesData, receivesRm, setsLevel, idles, sends, makes, sendsOutOfRate, opensPath, adds, offersMember, removes, effect}
+use Rattle.abr_answers.specs.Calls.{sentOf}
+use Rattle.abr.specs.Exports.{Observation, Transcript, zeros}
 use Rattle.exports.specs.Returned.{connectionReturned}
 use Rattle.exports.proofs.Returned.{Knows, knows-after, none-known, NamesConnection, names-connection, connection-back, back, open-alone}
 use Rattle.exports.proofs.Transport.{Keeps, stands-first, kept-so}
@@ -51,7 +51,7 @@ use Rattle.exports_rates.specs.Seen.{Seen, seen, openedAt, received, rea
 
 -- of a connection, and of an entry
 abbrev pub connectionSeen : Connection → Seen
-connectionSeen c = seen (c .opened) (c .pace) (c .unacked) (waits (c .destination .turned)) (ltb 0 (c .destination .made .level)) (waiting (c .queue)) (c .queue .served)
+connectionSeen c = seen (c .opened) (c .pace) (c .unanswered) (waits (c .destination .turned)) (ltb 0 (c .destination .made .level)) (waiting (c .queue)) (c .queue .served)
 
 unfoldable pub entrySeen : Entry → Seen
 entrySeen free = openedAt 0
@@ -63,7 +63,7 @@ seenAt v s = entrySeen (find v (s .entries))
 module _ (v : ℕ) (s : State) (w : NamesUnique (s .entries)) where
   -- one connection, d before and e after, is changed as G says
   own : (G : Seen → Seen) (u : ℕ) (d e : Connection) → find u (s .entries) ≡ taken d → e .name ≡ d .name → connectionSeen e ≡ G (connectionSeen d)
-      → seenAt v (put u (taken e) s) ≡ cond (eqb u v) (G (seenAt v s)) (seenAt v s)
+      → seenAt v (withEntryOf u (taken e) s) ≡ cond (eqb u v) (G (seenAt v s)) (seenAt v s)
   unfolding entrySeen
   own G u d e f n h = put-read entrySeen v u s w d e f n ∙ go (case u v)
     where
@@ -72,28 +72,28 @@ module _ (v : ℕ) (s : State) (w : NamesUnique (s .entries)) where
       go (other q) = rw (ne-eqb u v q) refl
 
   -- or stays as it was
-  unmoved : (u : ℕ) (d e : Connection) → find u (s .entries) ≡ taken d → e .name ≡ d .name → connectionSeen e ≡ connectionSeen d → seenAt v (put u (taken e) s) ≡ seenAt v s
+  unmoved : (u : ℕ) (d e : Connection) → find u (s .entries) ≡ taken d → e .name ≡ d .name → connectionSeen e ≡ connectionSeen d → seenAt v (withEntryOf u (taken e) s) ≡ seenAt v s
   unmoved u d e f n h = own (λ k. k) u d e f n h ∙ either (eqb u v)
     where
       either : (b : Bool) → cond b (seenAt v s) (seenAt v s) ≡ seenAt v s
       either true = refl
       either false = refl
 
-  begun : (u t : ℕ) (p : Params) → Enters s u t p → seenAt v (inserted (fresh u t p) s) ≡ cond (eqb u v) (openedAt t) (seenAt v s)
+  begun : (u t : ℕ) (p : Params) → OpenPassed s u t p → seenAt v (withOpened (fresh u t p) s) ≡ cond (eqb u v) (openedAt t) (seenAt v s)
   unfolding fresh entrySeen waits
-  begun u t p g = inserted-read entrySeen v s (fresh u t p) (g .new) (g .room)
+  begun u t p g = with-opened-read entrySeen v s (fresh u t p) (g .new) (g .room)
 
-  ended : (u : ℕ) → seenAt v (put u free s) ≡ cond (eqb u v) (openedAt 0) (seenAt v s)
+  ended : (u : ℕ) → seenAt v (withEntryOf u free s) ≡ cond (eqb u v) (openedAt 0) (seenAt v s)
   unfolding entrySeen
   ended u = freed-read entrySeen v u s w
 
 -- a received RM cell
-worked : (level : ℕ) (o : List ℕ) (f : Fields) (d : Connection) → connectionSeen (afterResourceCell level o f d) ≡ received f (connectionSeen d)
-unfolding afterResourceCell afterBackwardCell afterForwardCell waits
+worked : (level : ℕ) (o : List ℕ) (f : Fields) (d : Connection) → connectionSeen (afterRmCell level o f d) ≡ received f (connectionSeen d)
+unfolding afterRmCell afterBackwardCell afterForwardCell waits
 worked level o f d = go (eqb (f .dir) 1)
   where
     go : (b : Bool) → connectionSeen (cond b (afterBackwardCell f d) (afterForwardCell level o d))
-        ≡ seen (d .opened) (d .pace) (cond (b && eqb (f .bn) 0) 0 (d .unacked)) (not b || waits (d .destination .turned)) (ltb 0 (d .destination .made .level)) (waiting (d .queue)) (d .queue .served)
+        ≡ seen (d .opened) (d .pace) (cond (b && eqb (f .bn) 0) 0 (d .unanswered)) (not b || waits (d .destination .turned)) (ltb 0 (d .destination .made .level)) (waiting (d .queue)) (d .queue .served)
     go true = refl
     go false = refl
 
@@ -109,25 +109,25 @@ made-left Nothing m = refl
 made-left (Cell p) m = refl
 
 member-last : (f : ℕ → Bool) (s : State) → WellFormed s → Knows f s → (v : ℕ) (d : Connection) → find v (s .entries) ≡ taken d → (m : Option ℕ) → turn (d .name) (d .queue .served) (s .members) ≡ m → (x : ℕ)
-    → lastAfter m x ≡ cond (f (nameOf (vpiIn (nameAnswered v m)) (vciIn (nameAnswered v m)))) (vciIn (nameAnswered v m)) x
+    → lastAfter m x ≡ cond (f (nameFrom (vpiIn (nameAnswered v m)) (vciIn (nameAnswered v m)))) (vciIn (nameAnswered v m)) x
 unfolding lastAfter nameAnswered
 member-last f s w k v d e none q x = rw (back v, k v, open-alone s w v d e) refl
 member-last f s w k v d e (some y) q x = rw (back y, k y, turn-picks _ _ (s .members) y q .member) refl
 
 cell-sent :
     (f : ℕ → Bool) (s : State) → WellFormed s → Knows f s → (v t : ℕ) (d : Connection) → find v (s .entries) ≡ taken d → (k : Kind) (a n : ℕ) → let m = memberServed k d (s .members) in
-    connectionSeen (withServed m (after k t d)) ≡ cellSent t f (slotAnswer (Sent v (nameAnswered v m) k a n)) (connectionSeen d)
+    connectionSeen (withServed m (after k t d)) ≡ cellSent t f (sentOf (Sent v (nameAnswered v m) k a n)) (connectionSeen d)
 unfolding after sentForward sentTurned sentData withServed memberServed lastAfter waits
 cell-sent f s w h v t d e Forward a n = refl
 cell-sent f s w h v t d e Turned a n =
-    λ i. seen (d .opened) (paced-further t true (d .pace) i) (d .unacked) false (made-left (d .destination .turned) (d .destination .made) i) (waiting (d .queue)) (d .queue .served)
+    λ i. seen (d .opened) (paced-further t true (d .pace) i) (d .unanswered) false (made-left (d .destination .turned) (d .destination .made) i) (waiting (d .queue)) (d .queue .served)
 cell-sent f s w h v t d e Data a n =
-    λ i. seen (d .opened) (paced-further t false (d .pace) i) (d .unacked) (waits (d .destination .turned)) (ltb 0 (d .destination .made .level)) (waiting (d .queue) - 1)
+    λ i. seen (d .opened) (paced-further t false (d .pace) i) (d .unanswered) (waits (d .destination .turned)) (ltb 0 (d .destination .made .level)) (waiting (d .queue) - 1)
     (member-last f s w h v d e _ refl (d .queue .served) i)
 
 -- the slot's connection, as a caller knows it
 went : (f : ℕ → Bool) (v u x : ℕ) (k : Kind) (a n : ℕ) (y z : Seen) → NamesConnection f (Sent u x k a n)
-    → cond (eqb u v) y z ≡ cond (not (eqb (slotAnswer (Sent u x k a n) .kind) 0) && eqb (connectionReturned f (slotAnswer (Sent u x k a n))) v) y z
+    → cond (eqb u v) y z ≡ cond (not (eqb (sentOf (Sent u x k a n) .kind) 0) && eqb (connectionReturned f (sentOf (Sent u x k a n))) v) y z
 went f v u x Forward a n y z h = ap (λ (c : ℕ). cond (eqb c v) y z) (sym (connection-back f u x h))
 went f v u x Turned a n y z h = ap (λ (c : ℕ). cond (eqb c v) y z) (sym (connection-back f u x h))
 went f v u x Data a n y z h = ap (λ (c : ℕ). cond (eqb c v) y z) (sym (connection-back f u x h))
@@ -138,31 +138,31 @@ made-now t level d h = rw (lt-ltb 0 level h) refl
 
 effect-seen :
     (v : ℕ) (f : ℕ → Bool) {s : State} → WellFormed s → Knows f s → {c : Call} {o : Outcome} → Effect s c o → NamesConnection f (o .answer)
-    → seenAt v (o .state) ≡ cond (isAccepted (o .answer)) (seenAfter v f c (slotAnswer (o .answer)) (closedCells (o .answer)) (seenAt v s)) (seenAt v s)
-unfolding refuse accept replay discard withLevel withMembers idleStep sendStep sendFrom sendOutside withTime isAccepted closedCells offered withOffer withoutOne afterDataCell withMade afterOutOfRate withServed
+    → seenAt v (o .state) ≡ cond (isAccepted (o .answer)) (seenAfter v f c (sentOf (o .answer)) (closedCells (o .answer)) (seenAt v s)) (seenAt v s)
+unfolding refuse accept replay discard withLevel withMembers idleStep sendStep sendFrom sendOutOfRate withTime isAccepted closedCells offered withOffer withoutOne afterDataCell withMade afterOutOfRate withServed
 effect-seen v f {s} w h (refuses c n g) k = refl
-effect-seen v f {s} w h (begins a b t p g) k = begun v s (w .unique) (pairName a b) t p g
-effect-seen v f {s} w h (ends a b d g) k = ended v s (w .unique) (pairName a b)
-effect-seen v f {s} w h (offers a b n d g c q) k = own v s (w .unique) (λ x. waitsNow (x .waiting + n) x) (pairName a b) d (offered n d) g refl refl
-effect-seen v f {s} w h (marks o a b e u d r i z g) k = unmoved v s (w .unique) u d (afterDataCell e d) g refl refl ∙ ap (λ (x : Reading). readSeen v x (seenAt v s)) (sym r)
-effect-seen v f {s} w h (works o q d r g) k =
-    own v s (w .unique) (received q) (cellName q) d (afterResourceCell (s .level) o q d) g (work-same (s .level) o q d .name) (worked (s .level) o q d)
+effect-seen v f {s} w h (opens a b t p g) k = begun v s (w .unique) (addressName a b) t p g
+effect-seen v f {s} w h (closes a b d g) k = ended v s (w .unique) (addressName a b)
+effect-seen v f {s} w h (offers a b n d g c q) k = own v s (w .unique) (λ x. waitsNow (x .waiting + n) x) (addressName a b) d (offered n d) g refl refl
+effect-seen v f {s} w h (receivesData o a b e u d r i z g) k = unmoved v s (w .unique) u d (afterDataCell e d) g refl refl ∙ ap (λ (x : Reading). readSeen v x (seenAt v s)) (sym r)
+effect-seen v f {s} w h (receivesRm o q d r g) k =
+    own v s (w .unique) (received q) (cellName q) d (afterRmCell (s .level) o q d) g (work-same (s .level) o q d .name) (worked (s .level) o q d)
     ∙ ap (λ (x : Reading). readSeen v x (seenAt v s)) (sym r)
-effect-seen v f {s} w h (levels l g) k = refl
+effect-seen v f {s} w h (setsLevel l g) k = refl
 effect-seen v f {s} w h (idles t room g b) k = refl
 effect-seen v f {s} w h (sends t room i n g b) k =
     let d = b .holder in
     let x = kindAt t d in
-    own v (withTime t s) (w .unique) (cellSent t f (slotAnswer (Sent n (nameAnswered n (memberServed x d (s .members))) x 0 0))) n d (withServed (memberServed x d (s .members)) (after x t d)) (b .found)
+    own v (withTime t s) (w .unique) (cellSent t f (sentOf (Sent n (nameAnswered n (memberServed x d (s .members))) x 0 0))) n d (withServed (memberServed x d (s .members)) (after x t d)) (b .found)
     (after-same x t d .name) (cell-sent f s w h n t d (b .found) x 0 0)
     ∙ went f v n _ x 0 0 _ (seenAt v s) k
-effect-seen v f {s} w h (makes a b t d e g l m) k = own v (withTime t s) (w .unique) makesSeen (pairName a b) d (withMade t (s .level) d) e refl (made-now t (s .level) d l)
-effect-seen v f {s} w h (leaves a b t room d e g l) k = unmoved v (withTime t s) (w .unique) (pairName a b) d (afterOutOfRate t d) e refl refl
-effect-seen v f {s} w h (beginsPath a t p g) k = begun v s (w .unique) (pairName a pathVci) t p g
+effect-seen v f {s} w h (makes a b t d e g l m) k = own v (withTime t s) (w .unique) makesSeen (addressName a b) d (withMade t (s .level) d) e refl (made-now t (s .level) d l)
+effect-seen v f {s} w h (sendsOutOfRate a b t room d e g l) k = unmoved v (withTime t s) (w .unique) (addressName a b) d (afterOutOfRate t d) e refl refl
+effect-seen v f {s} w h (opensPath a t p g) k = begun v s (w .unique) (addressName a pathVci) t p g
 effect-seen v f {s} w h (adds a b d e j) k = refl
-effect-seen v f {s} w h (offersMember a b n d e i l) k = own v s (w .unique) (λ x. waitsNow (x .waiting + n) x) (pathOf (pairName a b)) d (offered n d) e refl refl
+effect-seen v f {s} w h (offersMember a b n d e i l) k = own v s (w .unique) (λ x. waitsNow (x .waiting + n) x) (pathOf (addressName a b)) d (offered n d) e refl refl
 effect-seen v f {s} w h (removes a b d e i) k =
-    own v s (w .unique) (λ x. waitsNow (x .waiting - cellsOf (pairName a b) (s .members)) x) (pathOf (pairName a b)) d (withQueue d (dequeued (cellsOf (pairName a b) (s .members)) (d .queue))) e refl refl
+    own v s (w .unique) (λ x. waitsNow (x .waiting - cellsOf (addressName a b) (s .members)) x) (pathOf (addressName a b)) d (withQueue d (dequeued (cellsOf (addressName a b) (s .members)) (d .queue))) e refl refl
 
 -- what is kept is so
 pub record Watches (v : ℕ) (k : Watched) (s : State) : Type 0 where
@@ -184,8 +184,8 @@ unfolding empty entrySeen
 unwatched-so v = record { member = none-known; connection = rw (absent-find v (replicate capacity free) (each-free (λ c. c .name ≢ v) capacity)) refl }
 
 -- after calls from the zero table
-pub watched-so : (v : ℕ) (cs : List Call) (os : List Observation) → Trace cs zeros os → Watches v (watched v cs os) (final empty cs)
+pub watched-so : (v : ℕ) (cs : List Call) (os : List Observation) → Transcript cs zeros os → Watches v (watched v cs os) (final empty cs)
 watched-so v cs os t = kept-so (watch v) (Watches v) (watches v) empty zeros stands-first unwatched (unwatched-so v) cs os t
 
-pub seen-so : (v : ℕ) (cs : List Call) (os : List Observation) → Trace cs zeros os → seenOf v cs os ≡ seenAt v (final empty cs)
+pub seen-so : (v : ℕ) (cs : List Call) (os : List Observation) → Transcript cs zeros os → seenOf v cs os ≡ seenAt v (final empty cs)
 seen-so v cs os t = watched-so v cs os t .connection

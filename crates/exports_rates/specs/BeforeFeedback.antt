@@ -6,29 +6,29 @@ use mathlib.Core.List.{List}
 use mathlib.Core.Option.{none, some}
 use lib.Dec.{eqb}
 use lib.IntN.{pos}
-use Rattle.params.specs.declared.params.Params.{Params}
-use Rattle.params.specs.Params.{initialUsed}
+use Rattle.rate_params.specs.declared.params.Params.{Params}
+use Rattle.rate_params.specs.Params.{initialUsed}
 use Rattle.cell.specs.declared.read.Reading.{Reading}
-use Rattle.cell.specs.declared.read.Reading.the-variants.{Refused, User, Resource}
-use Rattle.cell.specs.Name.{pairName}
+use Rattle.cell.specs.declared.read.Reading.the-variants.{Refused, DataCell, RmCell}
+use Rattle.cell.specs.Name.{addressName}
 use Rattle.cell.specs.Fields.{cellName}
 use Rattle.cell.specs.Reading.{reading}
-use Rattle.members.specs.Path.{pathVci}
+use Rattle.connection_members.specs.Path.{pathVci}
 use Rattle.model.specs.Call.{Call, opening, closing, receiving, offering, levelling, slot, making, outOfRate, openingPath, adding, offeringMember, removing}
-use Rattle.answers.specs.declared.calls.AcrAnswer.{AcrAnswer}
-use Rattle.abr.specs.Contract.{AnswersAcr}
-use Rattle.abr.specs.Exports.{Observation, Trace, finalWords, zeros}
+use Rattle.abr_answers.specs.declared.calls.AbrAllowed.{AbrAllowed}
+use Rattle.abr.specs.Contract.{ReturnsAllowed}
+use Rattle.abr.specs.Exports.{Observation, Transcript, finalWords, zeros}
 use Rattle.exports.specs.Along.{kept}
 use Rattle.exports.specs.Exports.{paramsObserved}
 
 -- whether a backward cell of v was accepted since its last open, from calls that returned 0
 abbrev pub feeds : (v : ℕ) → Reading → Bool
 feeds v (Refused n) = false
-feeds v (User vpi vci e) = false
-feeds v (Resource f) = eqb (cellName f) v && eqb (f .dir) 1
+feeds v (DataCell vpi vci e) = false
+feeds v (RmCell f) = eqb (cellName f) v && eqb (f .dir) 1
 
 abbrev pub fedAfter : (v : ℕ) → Call → Bool → Bool
-fedAfter v (opening vpi vci t p) b = cond (eqb (pairName vpi vci) v) false b
+fedAfter v (opening vpi vci t p) b = cond (eqb (addressName vpi vci) v) false b
 fedAfter v (closing vpi vci) b = b
 fedAfter v (receiving o) b = feeds v (reading o) || b
 fedAfter v (offering vpi vci n) b = b
@@ -36,7 +36,7 @@ fedAfter v (levelling l) b = b
 fedAfter v (slot t room) b = b
 fedAfter v (making vpi vci t) b = b
 fedAfter v (outOfRate vpi vci t room) b = b
-fedAfter v (openingPath vpi t p) b = cond (eqb (pairName vpi pathVci) v) false b
+fedAfter v (openingPath vpi t p) b = cond (eqb (addressName vpi pathVci) v) false b
 fedAfter v (adding vpi vci) b = b
 fedAfter v (offeringMember vpi vci n) b = b
 fedAfter v (removing vpi vci) b = b
@@ -44,12 +44,12 @@ fedAfter v (removing vpi vci) b = b
 abbrev pub fedSeen : (v : ℕ) → Call → Observation → Bool → Bool
 fedSeen v c o b = cond (eqb (o .returned .refusal) 0) (fedAfter v c b) b
 
-pub record NotFed (p : Params) (a : AcrAnswer) : Type 0 where
+pub record NotFed (p : Params) (a : AbrAllowed) : Type 0 where
   pub change : a .change ≡ pos 0
   pub rate : a .acr ≤ initialUsed p
 
 -- after any exported calls from the zero table, of a connection that is open under p
 abbrev pub ExportsBeforeFeedback : Type 0
 ExportsBeforeFeedback =
-    (cs : List Call) (os : List Observation) → Trace cs zeros os → (v : ℕ) (p : Params) → paramsObserved v none cs os ≡ some p → kept (fedSeen v) false cs os ≡ false
-    → (a : AcrAnswer) → AnswersAcr v (finalWords zeros os) a → NotFed p a
+    (cs : List Call) (os : List Observation) → Transcript cs zeros os → (v : ℕ) (p : Params) → paramsObserved v none cs os ≡ some p → kept (fedSeen v) false cs os ≡ false
+    → (a : AbrAllowed) → ReturnsAllowed v (finalWords zeros os) a → NotFed p a

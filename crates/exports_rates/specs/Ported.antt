@@ -3,16 +3,16 @@ use Prim.Native.Nat.{ℕ}
 use mathlib.Core.Path.{_≡_}
 use mathlib.Core.List.{List}
 use Rattle.cell.specs.declared.fields.Fields.{Fields}
-use Rattle.cell.specs.declared.read.Reading.the-variants.{Resource}
+use Rattle.cell.specs.declared.read.Reading.the-variants.{RmCell}
 use Rattle.cell.specs.Fields.{cellName}
 use Rattle.cell.specs.Reading.{reading}
-use Rattle.share.specs.Share.{fairShare}
+use Rattle.port_share.specs.Share.{fairShare}
 use Rattle.port.specs.Limit.{passed, limit}
 use Rattle.port.specs.Port.{port}
 use Rattle.model.specs.Call.{Call, receiving}
-use Rattle.abr.specs.Exports.{Observation, Trace, zeros}
-use Rattle.promises.specs.Demand3.{InPlace}
-use Rattle.closed_loop.specs.Loop.{FromPort}
+use Rattle.abr.specs.Exports.{Observation, Transcript, zeros}
+use Rattle.promise_lists.specs.Demand3.{InPlace}
+use Rattle.promise_loop.specs.Loop.{FromPort}
 use Rattle.exports.specs.Exports.{SameConnection, ObservedAgree}
 use Rattle.exports.specs.Returned.{noMember, placesSeen}
 
@@ -26,7 +26,7 @@ pub data PortedCall : Call → Call → Type 0 where
 pub record LeftByPort (v capacity : ℕ) (demands o : List ℕ) : Type 0 where
   pub before : List ℕ
   pub fields : Fields
-  pub read : reading before ≡ Resource fields
+  pub read : reading before ≡ RmCell fields
   pub backward : fields .dir ≡ 1
   pub name : cellName fields ≡ v
   pub n : ℕ
@@ -35,7 +35,7 @@ pub record LeftByPort (v capacity : ℕ) (demands o : List ℕ) : Type 0 where
 pub record ExportsPorts : Type 0 where
   -- any exported calls from the zero table, and the same with received cells as ports left them, wherever their slots go to the same connections
   pub neverRaise :
-      (xs ys : List Call) (os ps : List Observation) → Trace xs zeros os → Trace ys zeros ps → InPlace PortedCall xs ys
+      (xs ys : List Call) (os ps : List Observation) → Transcript xs zeros os → Transcript ys zeros ps → InPlace PortedCall xs ys
       → InPlace SameConnection (placesSeen noMember xs os) (placesSeen noMember ys ps) → InPlace ObservedAgree os ps
   -- such cells are those of the closed loop
   pub inLoop : (v capacity : ℕ) (demands o : List ℕ) → LeftByPort v capacity demands o → FromPort v (fairShare capacity demands) o

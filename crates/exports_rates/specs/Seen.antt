@@ -6,15 +6,15 @@ use mathlib.Core.List.{List}
 use lib.Dec.{eqb}
 use Rattle.cell.specs.declared.fields.Fields.{Fields}
 use Rattle.cell.specs.declared.read.Reading.{Reading}
-use Rattle.cell.specs.declared.read.Reading.the-variants.{Refused, User, Resource}
-use Rattle.cell.specs.Name.{nameOf, pairName}
+use Rattle.cell.specs.declared.read.Reading.the-variants.{Refused, DataCell, RmCell}
+use Rattle.cell.specs.Name.{nameFrom, addressName}
 use Rattle.cell.specs.Fields.{cellName}
 use Rattle.cell.specs.Reading.{reading}
-use Rattle.members.specs.Path.{pathVci, pathOf}
+use Rattle.connection_members.specs.Path.{pathVci, pathOf}
 use Rattle.connection.specs.declared.parts.Pace.{Pace}
 use Rattle.connection.specs.declared.parts.Pace.the-variants.{Unsent, Running}
 use Rattle.model.specs.Call.{Call, opening, closing, receiving, offering, levelling, slot, making, outOfRate, openingPath, adding, offeringMember, removing}
-use Rattle.answers.specs.declared.calls.SlotAnswer.{SlotAnswer}
+use Rattle.abr_answers.specs.declared.calls.AbrSent.{AbrSent}
 use Rattle.abr.specs.Exports.{Observation}
 use Rattle.exports.specs.Returned.{noMember, memberSeen, connectionReturned}
 use Rattle.exports.specs.Along.{kept}
@@ -42,8 +42,8 @@ received f k =
 
 abbrev pub readSeen : (v : ℕ) → Reading → Seen → Seen
 readSeen v (Refused n) k = k
-readSeen v (User vpi vci e) k = k
-readSeen v (Resource f) k = cond (eqb (cellName f) v) (received f k) k
+readSeen v (DataCell vpi vci e) k = k
+readSeen v (RmCell f) k = cond (eqb (cellName f) v) (received f k) k
 
 -- a cell of it from a slot at t: a forward one, after which the count begins anew
 abbrev pub forwardSent : (t : ℕ) → Seen → Seen
@@ -63,8 +63,8 @@ abbrev pub dataSent : (t : ℕ) → (ofMember : Bool) → (vci : ℕ) → Seen �
 dataSent t b x k = seen (k .opened) (further t false (k .pace)) (k .unanswered) (k .turned) (k .made) (k .waiting - 1) (cond b x (k .served))
 
 -- kind 1 is forward, 2 turned or made, 3 data
-abbrev pub cellSent : (t : ℕ) → (member : ℕ → Bool) → SlotAnswer → Seen → Seen
-cellSent t f r k = cond (eqb (r .kind) 1) (forwardSent t k) (cond (eqb (r .kind) 2) (turnedSent t k) (dataSent t (f (nameOf (r .vpi) (r .vci))) (r .vci) k))
+abbrev pub cellSent : (t : ℕ) → (member : ℕ → Bool) → AbrSent → Seen → Seen
+cellSent t f r k = cond (eqb (r .kind) 1) (forwardSent t k) (cond (eqb (r .kind) 2) (turnedSent t k) (dataSent t (f (nameFrom (r .vpi) (r .vci))) (r .vci) k))
 
 abbrev pub makes : Seen → Seen
 makes k = seen (k .opened) (k .pace) (k .unanswered) (k .turned) true (k .waiting) (k .served)
@@ -73,19 +73,19 @@ abbrev pub waitsNow : (n : ℕ) → Seen → Seen
 waitsNow n k = seen (k .opened) (k .pace) (k .unanswered) (k .turned) (k .made) n (k .served)
 
 -- after a call that was not refused, returned this and, as a close or a removal, this many cells
-abbrev pub seenAfter : (v : ℕ) → (member : ℕ → Bool) → Call → SlotAnswer → (cells : ℕ) → Seen → Seen
-seenAfter v f (opening vpi vci t p) r n k = cond (eqb (pairName vpi vci) v) (openedAt t) k
-seenAfter v f (closing vpi vci) r n k = cond (eqb (pairName vpi vci) v) (openedAt 0) k
+abbrev pub seenAfter : (v : ℕ) → (member : ℕ → Bool) → Call → AbrSent → (cells : ℕ) → Seen → Seen
+seenAfter v f (opening vpi vci t p) r n k = cond (eqb (addressName vpi vci) v) (openedAt t) k
+seenAfter v f (closing vpi vci) r n k = cond (eqb (addressName vpi vci) v) (openedAt 0) k
 seenAfter v f (receiving o) r n k = readSeen v (reading o) k
-seenAfter v f (offering vpi vci m) r n k = cond (eqb (pairName vpi vci) v) (waitsNow (k .waiting + m) k) k
+seenAfter v f (offering vpi vci m) r n k = cond (eqb (addressName vpi vci) v) (waitsNow (k .waiting + m) k) k
 seenAfter v f (levelling l) r n k = k
 seenAfter v f (slot t room) r n k = cond (not (eqb (r .kind) 0) && eqb (connectionReturned f r) v) (cellSent t f r k) k
-seenAfter v f (making vpi vci t) r n k = cond (eqb (pairName vpi vci) v) (makes k) k
+seenAfter v f (making vpi vci t) r n k = cond (eqb (addressName vpi vci) v) (makes k) k
 seenAfter v f (outOfRate vpi vci t room) r n k = k
-seenAfter v f (openingPath vpi t p) r n k = cond (eqb (pairName vpi pathVci) v) (openedAt t) k
+seenAfter v f (openingPath vpi t p) r n k = cond (eqb (addressName vpi pathVci) v) (openedAt t) k
 seenAfter v f (adding vpi vci) r n k = k
-seenAfter v f (offeringMember vpi vci m) r n k = cond (eqb (pathOf (pairName vpi vci)) v) (waitsNow (k .waiting + m) k) k
-seenAfter v f (removing vpi vci) r n k = cond (eqb (pathOf (pairName vpi vci)) v) (waitsNow (k .waiting - n) k) k
+seenAfter v f (offeringMember vpi vci m) r n k = cond (eqb (pathOf (addressName vpi vci)) v) (waitsNow (k .waiting + m) k) k
+seenAfter v f (removing vpi vci) r n k = cond (eqb (pathOf (addressName vpi vci)) v) (waitsNow (k .waiting - n) k) k
 
 -- kept together with the members, by which a returned pair says whose cell it was
 pub record Watched : Type 0 where

@@ -3,14 +3,14 @@ use Prim.Native.Nat.{ℕ, _<_}
 use mathlib.Core.Path.{_≡_, sym, ap, subst, _∙_}
 use mathlib.Core.Bool.{Bool, _&&_}
 use lib.Dec.{eqb}
-use Rattle.cell.specs.Name.{pairName}
-use Rattle.members.specs.Path.{pathOf}
+use Rattle.cell.specs.Name.{addressName}
+use Rattle.connection_members.specs.Path.{pathOf}
 use Rattle.model.specs.State.{State, empty}
 use Rattle.model.specs.Call.{Call, opening, closing, receiving, offering, levelling, slot, making, outOfRate, openingPath, adding, offeringMember, removing}
 use Rattle.model.specs.Run.{final}
 use Rattle.abr.specs.Exports.{Observation, finalWords, zeros}
-use Rattle.service.specs.Fairness.{dataTold, dataCellsOf, BothGoOn, Stretch}
-use Rattle.service.proofs.Fairness.{fairness}
+use Rattle.promise_service.specs.Fairness.{dataTold, dataCellsOf, BothGoOn, Stretch}
+use Rattle.promise_service.proofs.Fairness.{fairness}
 use Rattle.exports.specs.Along.{kept, Along}
 use Rattle.exports_service.specs.Fairness.{toldReturned, cellsSeen, noCells, BothGoOnSeen, dataReturnedOf, ExportsFair}
 use Rattle.exports.proofs.Transport.{Stands, Sees, stands-first, stands, carry, kept-so, sum-seen}
@@ -18,7 +18,7 @@ use Rattle.exports_service.proofs.MemberCells.{told-number, Counts, cou
 
 go-on : (v a b : ℕ) (s : State) (c : Call) (o : Observation) (f : ℕ → ℕ) → Counts f s → Sees s c o → BothGoOnSeen v a b f c o → BothGoOn v a b s c
 go-on v a b s (opening vpi vci t p) o f m z h = tt
-go-on v a b s (closing vpi vci) o f m z h = ap (λ (x : Bool). x && eqb (pairName vpi vci) v) (sym (z .accepted)) ∙ h
+go-on v a b s (closing vpi vci) o f m z h = ap (λ (x : Bool). x && eqb (addressName vpi vci) v) (sym (z .accepted)) ∙ h
 go-on v a b s (receiving q) o f m z h = tt
 go-on v a b s (offering vpi vci n) o f m z h = tt
 go-on v a b s (levelling l) o f m z h = tt

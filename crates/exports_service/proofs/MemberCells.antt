@@ -6,35 +6,35 @@ use mathlib.Core.Option.{Option, none, some}
 use native.Mathlib.Omega.{arith}
 use lib.Dec.{eqb}
 use borrow.Author.Tests.{eqb-true}
-use Rattle.cell.specs.Name.{pairName}
-use Rattle.members.specs.Members.{named, onPath, isMember, cellsWhere, cellsOf}
-use Rattle.members.specs.Turn.{turn, afterServing}
-use Rattle.members.proofs.Lists.{cells-none, without-cells-of, with-member-cells, with-cells-of}
-use Rattle.members.proofs.Turns.{turn-picks}
+use Rattle.cell.specs.Name.{addressName}
+use Rattle.connection_members.specs.Members.{named, onPath, isMember, cellsWhere, cellsOf}
+use Rattle.connection_members.specs.Turn.{turn, afterServing}
+use Rattle.connection_members.proofs.Lists.{cells-none, without-cells-of, with-member-cells, with-cells-of}
+use Rattle.connection_members.proofs.Turns.{turn-picks}
 use Rattle.connection.specs.declared.parts.Connection.{Connection}
 use Rattle.connection.specs.declared.kind.Kind.{Kind}
 use Rattle.connection.specs.declared.kind.Kind.the-variants.{Forward, Turned, Data}
 use Rattle.connection.specs.Kind.{kindAt}
 use Rattle.connection.specs.Sending.{memberServed}
-use Rattle.model.specs.State.{State, taken, empty, find, put, inserted, withTime, withLevel, withMembers}
+use Rattle.model.specs.State.{State, taken, empty, find, withEntryOf, withOpened, withTime, withLevel, withMembers}
 use Rattle.model.specs.Invariant.{WellFormed}
 use Rattle.model.specs.declared.answer.Answer.{Answer}
 use Rattle.model.specs.declared.answer.Answer.the-variants.{Refused, Accepted, Closed, Idle, Sent}
 use Rattle.model.specs.Call.{Call, Outcome}
-use Rattle.model.specs.Step.{refuse, accept, replay, discard, withOffer, withoutOne, nameAnswered, sendFrom, sendStep, idleStep, sendOutside, step}
+use Rattle.model.specs.Step.{refuse, accept, replay, discard, withOffer, withoutOne, nameAnswered, sendFrom, sendStep, idleStep, sendOutOfRate, step}
 use Rattle.model.specs.Run.{isAccepted}
-use Rattle.model.specs.Conservation.{dataCells}
+use Rattle.model.specs.Conservation.{dataIn}
 use Rattle.model.proofs.Conservation.{cond-zero}
-use Rattle.model.proofs.Effects.{Effect, refuses, begins, ends, offers, marks, works, levels, idles, sends, makes, leaves, beginsPath, adds, offersMember, removes, effect}
-use Rattle.answers.specs.Calls.{slotAnswer}
-use Rattle.service.specs.Fairness.{dataTold}
+use Rattle.model.proofs.Effects.{Effect, refuses, opens, closes, offers, receivesData, receivesRm, setsLevel, idles, sends, makes, sendsOutOfRate, opensPath, adds, offersMember, removes, effect}
+use Rattle.abr_answers.specs.Calls.{sentOf}
+use Rattle.promise_service.specs.Fairness.{dataTold}
 use Rattle.exports.proofs.Returned.{back, open-alone}
 use Rattle.exports_service.specs.Fairness.{toldReturned, cellsAfter, cellsSeen, noCells}
 use Rattle.exports.proofs.Transport.{Keeps}
 
 -- the data cell that a slot returned is the one that it told
-pub told-number : (x : ℕ) (a : Answer) → toldReturned x (slotAnswer a) ≡ dataTold x a
-unfolding dataTold dataCells
+pub told-number : (x : ℕ) (a : Answer) → toldReturned x (sentOf a) ≡ dataTold x a
+unfolding dataTold dataIn
 told-number x (Refused n) = refl
 told-number x (Accepted n) = refl
 told-number x (Closed n k) = refl
@@ -59,7 +59,7 @@ none-less false n h = omega arith
 served-cells :
     (s : State) → WellFormed s → (v : ℕ) (d : Connection) → find v (s .entries) ≡ taken d → (k : Kind) (x a n : ℕ)
     → cellsOf x (afterServing (memberServed k d (s .members)) (s .members)) ≡ cellsOf x (s .members) - dataTold x (Sent v (nameAnswered v (memberServed k d (s .members))) k a n)
-unfolding memberServed afterServing nameAnswered dataTold dataCells
+unfolding memberServed afterServing nameAnswered dataTold dataIn
 served-cells s w v d f Forward x a n = omega (arith, cond-zero (eqb v x))
 served-cells s w v d f Turned x a n = omega (arith, cond-zero (eqb v x))
 served-cells s w v d f Data x a n = go (turn (d .name) (d .queue .served) (s .members)) refl
@@ -75,28 +75,28 @@ offered-cells : (b : Bool) (m n k : ℕ) → (b ≡ true → m ≡ n) → cond b
 offered-cells true m n k h = ap (λ (z : ℕ). z + k) (h refl)
 offered-cells false m n k h = refl
 
-effect-cells : {s : State} → WellFormed s → {c : Call} {o : Outcome} → Effect s c o → (x : ℕ) → waitsIn (o .state) x ≡ cond (isAccepted (o .answer)) (cellsAfter c (slotAnswer (o .answer)) (waitsIn s)) (waitsIn s) x
-unfolding refuse accept replay discard sendStep sendFrom idleStep sendOutside withOffer withoutOne put inserted withTime withLevel withMembers isAccepted
+effect-cells : {s : State} → WellFormed s → {c : Call} {o : Outcome} → Effect s c o → (x : ℕ) → waitsIn (o .state) x ≡ cond (isAccepted (o .answer)) (cellsAfter c (sentOf (o .answer)) (waitsIn s)) (waitsIn s) x
+unfolding refuse accept replay discard sendStep sendFrom idleStep sendOutOfRate withOffer withoutOne withEntryOf withOpened withTime withLevel withMembers isAccepted
 effect-cells w (refuses c n h) x = refl
-effect-cells w (begins vpi vci t p g) x = refl
-effect-cells {s} w (ends vpi vci d f) x = without-cells-of x (onPath (pairName vpi vci)) (s .members)
+effect-cells w (opens vpi vci t p g) x = refl
+effect-cells {s} w (closes vpi vci d f) x = without-cells-of x (onPath (addressName vpi vci)) (s .members)
 effect-cells w (offers vpi vci n d f i h) x = refl
-effect-cells w (marks o vpi vci e u d r i z f) x = refl
-effect-cells w (works o q d r f) x = refl
-effect-cells w (levels l h) x = refl
+effect-cells w (receivesData o vpi vci e u d r i z f) x = refl
+effect-cells w (receivesRm o q d r f) x = refl
+effect-cells w (setsLevel l h) x = refl
 effect-cells w (idles t room g b) x = omega arith
 effect-cells {s} w (sends t room i u g b) x =
     let k = kindAt t (b .holder) in
     served-cells s w u (b .holder) (b .found) k x 0 0
     ∙ ap (λ (n : ℕ). cellsOf x (s .members) - n) (sym (told-number x (Sent u (nameAnswered u (memberServed k (b .holder) (s .members))) k 0 0)))
 effect-cells w (makes vpi vci t d f g b m) x = refl
-effect-cells w (leaves vpi vci t room d f g b) x = refl
-effect-cells w (beginsPath vpi t p g) x = refl
-effect-cells {s} w (adds vpi vci d f j) x = with-member-cells (named x) (pairName vpi vci) (s .members)
+effect-cells w (sendsOutOfRate vpi vci t room d f g b) x = refl
+effect-cells w (opensPath vpi t p g) x = refl
+effect-cells {s} w (adds vpi vci d f j) x = with-member-cells (named x) (addressName vpi vci) (s .members)
 effect-cells {s} w (offersMember vpi vci n d f i h) x =
-    with-cells-of x (pairName vpi vci) _ (s .members) (w .members .valid .rising) i
-    ∙ offered-cells (eqb (pairName vpi vci) x) _ _ n (λ q. ap (λ (z : ℕ). cellsOf z (s .members)) (eqb-true (pairName vpi vci) x q))
-effect-cells {s} w (removes vpi vci d f i) x = without-cells-of x (named (pairName vpi vci)) (s .members)
+    with-cells-of x (addressName vpi vci) _ (s .members) (w .members .valid .rising) i
+    ∙ offered-cells (eqb (addressName vpi vci) x) _ _ n (λ q. ap (λ (z : ℕ). cellsOf z (s .members)) (eqb-true (addressName vpi vci) x q))
+effect-cells {s} w (removes vpi vci d f i) x = without-cells-of x (named (addressName vpi vci)) (s .members)
 
 -- what is counted is so
 abbrev pub Counts : (ℕ → ℕ) → State → Type 0
@@ -106,7 +106,7 @@ pub counts : Keeps cellsSeen Counts
 counts = record {
   goes = λ s c o f m z.
       let a = step s c .answer in
-      let is : waitsIn (step s c .state) ≡ cond (isAccepted a) (cellsAfter c (slotAnswer a) (waitsIn s)) (waitsIn s) =
+      let is : waitsIn (step s c .state) ≡ cond (isAccepted a) (cellsAfter c (sentOf a) (waitsIn s)) (waitsIn s) =
       λ i. λ x. effect-cells (z .wellFormed) (effect s (z .wellFormed .unique) c) x i in
       (λ i. cond (z .accepted i) (cellsAfter c (z .matches .returned i) (m i)) (m i)) ∙ sym is;
 }

@@ -10,7 +10,7 @@ use Rattle.model.specs.Queries.{entryReady}
 use Rattle.model.specs.Run.{final}
 use Rattle.model.proofs.Entries.{each-at}
 use Rattle.abr.proofs.Exports.{exports-are-run}
-use Rattle.service.proofs.NextReady.{next-ready}
+use Rattle.promise_service.proofs.NextReady.{next-ready}
 use Rattle.exports_service.specs.Next.{ExportsNext}
 use Rattle.exports_service.proofs.Ready.{ready-held}
 use Rattle.exports_service.proofs.Slots.{ready-each}

@@ -4,7 +4,7 @@ use mathlib.Core.Path.{_≡_, refl, ap, subst, _∙_}
 use mathlib.Core.Bool.{Bool, true, false, cond}
 use mathlib.Core.List.{List}
 use mathlib.Core.Option.{none}
-use Rattle.params.specs.Params.{trmTime}
+use Rattle.rate_params.specs.Params.{trmTime}
 use Rattle.cell.specs.Name.{noName}
 use Rattle.connection.specs.declared.parts.Connection.{Connection}
 use Rattle.connection.specs.declared.parts.Pace.{Pace}
@@ -19,9 +19,9 @@ use Rattle.model.specs.Run.{final}
 use Rattle.model.proofs.Given.{entryParams}
 use Rattle.model.proofs.Preserved.{valid-at}
 use Rattle.model.proofs.Frames.{name-of}
-use Rattle.answers.specs.declared.calls.AcrAnswer.{AcrAnswer}
-use Rattle.abr.specs.Contract.{AnswersAcr}
-use Rattle.abr.specs.Exports.{Observation, Trace, finalWords, zeros}
+use Rattle.abr_answers.specs.declared.calls.AbrAllowed.{AbrAllowed}
+use Rattle.abr.specs.Contract.{ReturnsAllowed}
+use Rattle.abr.specs.Exports.{Observation, Transcript, finalWords, zeros}
 use Rattle.exports.specs.Exports.{paramsObserved}
 use Rattle.exports.proofs.Transport.{stands}
 use Rattle.exports.proofs.Known.{params-known}
@@ -64,17 +64,17 @@ module _ (c : Connection) (e : c .trm ≡ trmTime (c .rate .params .trm)) where
   kind-same t = kind-from t (c .pace)
 
 -- of a name after calls from the zero table
-module _ (cs : List Call) (os : List Observation) (x : Trace cs zeros os) (v : ℕ) where
+module _ (cs : List Call) (os : List Observation) (x : Transcript cs zeros os) (v : ℕ) where
   pub trm-held : (c : Connection) → find v (final empty cs .entries) ≡ taken c → c .trm ≡ trmTime (c .rate .params .trm)
   trm-held c f = valid-at (stands cs os x .wellFormed) v c f .0 .trmTime
 
   pub coded-held : (c : Connection) → find v (final empty cs .entries) ≡ taken c → v < noName
   coded-held c f = subst (λ (u : ℕ). u < noName) (name-of v (final empty cs) c f) (valid-at (stands cs os x .wellFormed) v c f .0 .coded)
 
-  pub rate-held : (a : AcrAnswer) → AnswersAcr v (finalWords zeros os) a → (c : Connection) → find v (final empty cs .entries) ≡ taken c → a .acr ≡ c .rate .acr
-  rate-held a h c f = ap (λ (r : AcrAnswer). r .acr) (acr-held (stands cs os x) v c f a h)
+  pub rate-held : (a : AbrAllowed) → ReturnsAllowed v (finalWords zeros os) a → (c : Connection) → find v (final empty cs .entries) ≡ taken c → a .acr ≡ c .rate .acr
+  rate-held a h c f = ap (λ (r : AbrAllowed). r .acr) (acr-held (stands cs os x) v c f a h)
 
-  pub ready-held : (a : AcrAnswer) → (v < noName → AnswersAcr v (finalWords zeros os) a)
+  pub ready-held : (a : AbrAllowed) → (v < noName → ReturnsAllowed v (finalWords zeros os) a)
       → readyUnder (paramsObserved v none cs os) (a .acr) (seenOf v cs os) ≡ entryReady (find v (final empty cs .entries))
   unfolding entryReady entryParams
   ready-held a h = go (find v (final empty cs .entries)) refl

@@ -6,8 +6,8 @@ use mathlib.Core.List.{List}
 use mathlib.Core.Option.{none, some}
 use native.Mathlib.Omega.{arith}
 use Rattle.rate.specs.Code.{rateOf}
-use Rattle.params.specs.declared.params.Params.{Params}
-use Rattle.params.specs.Params.{least, trmTime}
+use Rattle.rate_params.specs.declared.params.Params.{Params}
+use Rattle.rate_params.specs.Params.{least, trmTime}
 use Rattle.cell.specs.declared.fields.Fields.{Fields}
 use Rattle.cell.specs.Fields.{cellName}
 use Rattle.connection.specs.declared.parts.Connection.{Connection}
@@ -21,14 +21,14 @@ use Rattle.model.specs.Step.{step}
 use Rattle.model.specs.Queries.{entryAcr, acrOf}
 use Rattle.model.specs.Run.{final}
 use Rattle.model.proofs.Preserved.{valid-at}
-use Rattle.answers.specs.declared.calls.AcrAnswer.{AcrAnswer}
-use Rattle.answers.specs.Calls.{acrAnswer}
-use Rattle.abr.specs.Contract.{AnswersAcr}
-use Rattle.abr.specs.Exports.{Observation, Performs, Trace, finalWords, zeros}
-use Rattle.promises.proofs.Moves.{moves-at}
-use Rattle.service.specs.Restart.{increase, Raises, hasNext, Restarted}
-use Rattle.service.proofs.Restart.{rises, stays-at-zero}
-use Rattle.closed_loop.proofs.Others.{moves-params}
+use Rattle.abr_answers.specs.declared.calls.AbrAllowed.{AbrAllowed}
+use Rattle.abr_answers.specs.Calls.{allowedOf}
+use Rattle.abr.specs.Contract.{ReturnsAllowed}
+use Rattle.abr.specs.Exports.{Observation, Performs, Transcript, finalWords, zeros}
+use Rattle.promise_lists.proofs.Moves.{moves-at}
+use Rattle.promise_service.specs.Restart.{increase, Raises, hasNext, Restarted}
+use Rattle.promise_service.proofs.Restart.{rises, stays-at-zero}
+use Rattle.promise_loop.proofs.Others.{moves-params}
 use Rattle.exports.specs.Exports.{paramsObserved}
 use Rattle.exports.proofs.Transport.{sees, stands, acr-seen}
 use Rattle.exports_rates.specs.Seen.{Seen, watch, watched, seenOf}
@@ -45,14 +45,14 @@ unfolding anyWaits backwardWaits lastBefore
 next-same c Unsent = refl
 next-same c (Running sent forward n turned) = refl
 
-module _ (f : Fields) (c : Connection) (p : Params) (b : AcrAnswer) (s : State) (r : Restarted f c s) (e : c .rate .params ≡ p) (g : r .holder .rate .params ≡ p)
-    (t : r .holder .trm ≡ trmTime (r .holder .rate .params .trm)) (answer : b ≡ acrAnswer (Rate (r .holder .rate .acr) (r .holder .change)))
+module _ (f : Fields) (c : Connection) (p : Params) (b : AbrAllowed) (s : State) (r : Restarted f c s) (e : c .rate .params ≡ p) (g : r .holder .rate .params ≡ p)
+    (t : r .holder .trm ≡ trmTime (r .holder .rate .params .trm)) (answer : b ≡ allowedOf (Rate (r .holder .rate .acr) (r .holder .change)))
   where
     abbrev d : Connection
     d = r .holder
 
     acr : b .acr ≡ d .rate .acr
-    acr = ap (λ (x : AcrAnswer). x .acr) answer
+    acr = ap (λ (x : AbrAllowed). x .acr) answer
 
     ready-is : readyInstant d ≡ readySeen p (b .acr) (connectionSeen d)
     ready-is = sym (ready-same d t) ∙ (λ i. readySeen (g i) (sym acr i) (connectionSeen d))
@@ -62,7 +62,7 @@ module _ (f : Fields) (c : Connection) (p : Params) (b : AcrAnswer) (s : State) 
 
     restarted : RestartedSeen p f (connectionSeen c) (connectionSeen d) b
     restarted = record {
-      refusal = ap (λ (x : AcrAnswer). x .refusal) answer;
+      refusal = ap (λ (x : AbrAllowed). x .refusal) answer;
       raised = subst (λ (x : Params). min (rateOf (f .er)) (increase x) ≤ b .acr) e (omega (arith, r .raised, acr));
       moving = omega (arith, r .moving, acr);
       ready = λ h. record { instant = r .ready (next-is h) .instant; readyAt = sym ready-is ∙ r .ready (next-is h) .readyAt };
@@ -72,8 +72,8 @@ module _ (f : Fields) (c : Connection) (p : Params) (b : AcrAnswer) (s : State) 
     }
 
 rises-seen :
-    (cs : List Call) (os : List Observation) → Trace cs zeros os → (octets : List ℕ) (f : Fields) → Raises octets f → (p : Params) → paramsObserved (cellName f) none cs os ≡ some p → 1 ≤ increase p
-    → (o : Observation) → Performs (receiving octets) (finalWords zeros os) o → (b : AcrAnswer) → AnswersAcr (cellName f) (o .table) b
+    (cs : List Call) (os : List Observation) → Transcript cs zeros os → (octets : List ℕ) (f : Fields) → Raises octets f → (p : Params) → paramsObserved (cellName f) none cs os ≡ some p → 1 ≤ increase p
+    → (o : Observation) → Performs (receiving octets) (finalWords zeros os) o → (b : AbrAllowed) → ReturnsAllowed (cellName f) (o .table) b
     → RestartedSeen p f (seenOf (cellName f) cs os) (watch (cellName f) (receiving octets) o (watched (cellName f) cs os) .connection) b
 unfolding entrySeen
 rises-seen cs os x octets f raises p e i o q b h =
@@ -93,10 +93,10 @@ rises-seen cs os x octets f raises p e i o q b h =
     (restarted f c p b _ r (held .params) params trm (acr-held (y .next) v d (r .found) b h)))
 
 -- a closed one answers 0
-zero-after : (x : Entry) (b : AcrAnswer) → b ≡ acrAnswer (entryAcr x) → ((d : Connection) → x ≡ taken d → d .rate .acr ≡ 0) → b .acr ≡ 0
+zero-after : (x : Entry) (b : AbrAllowed) → b ≡ allowedOf (entryAcr x) → ((d : Connection) → x ≡ taken d → d .rate .acr ≡ 0) → b .acr ≡ 0
 unfolding entryAcr
-zero-after free b e h = ap (λ (r : AcrAnswer). r .acr) e
-zero-after (taken d) b e h = ap (λ (r : AcrAnswer). r .acr) e ∙ h d refl
+zero-after free b e h = ap (λ (r : AbrAllowed). r .acr) e
+zero-after (taken d) b e h = ap (λ (r : AbrAllowed). r .acr) e ∙ h d refl
 
 pub exports-restart : ExportsRestart
 unfolding acrOf

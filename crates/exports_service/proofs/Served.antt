@@ -6,8 +6,8 @@ use mathlib.Core.List.{List, [], _∷_}
 use mathlib.Core.Option.{Option, none, some}
 use native.Mathlib.Omega.{arith}
 use lib.ListN.{length}
-use Rattle.params.specs.declared.params.Params.{Params}
-use Rattle.params.specs.Params.{least}
+use Rattle.rate_params.specs.declared.params.Params.{Params}
+use Rattle.rate_params.specs.Params.{least}
 use Rattle.connection.specs.declared.parts.Connection.{Connection}
 use Rattle.connection.specs.declared.parts.Pace.{Pace}
 use Rattle.connection.specs.declared.parts.Pace.the-variants.{Unsent, Running}
@@ -18,12 +18,12 @@ use Rattle.model.specs.State.{State, capacity, empty}
 use Rattle.model.specs.Call.{Call, Outcome}
 use Rattle.model.specs.Step.{step}
 use Rattle.model.specs.Run.{run, final}
-use Rattle.answers.specs.declared.calls.AcrAnswer.{AcrAnswer}
-use Rattle.abr.specs.Contract.{AnswersAcr}
-use Rattle.abr.specs.Exports.{Observation, Trace, finalWords, zeros}
-use Rattle.promises.specs.All.{All}
-use Rattle.service.specs.Liveness.{latestReady, ReadySoon, GoesTo, IsAccepted, Somewhere, here, there, slots, Live}
-use Rattle.service.proofs.Liveness.{liveness}
+use Rattle.abr_answers.specs.declared.calls.AbrAllowed.{AbrAllowed}
+use Rattle.abr.specs.Contract.{ReturnsAllowed}
+use Rattle.abr.specs.Exports.{Observation, Transcript, finalWords, zeros}
+use Rattle.laws.specs.All.{All}
+use Rattle.promise_service.specs.Liveness.{latestReady, ReadySoon, GoesTo, IsAccepted, Somewhere, here, there, slots, Live}
+use Rattle.promise_service.proofs.Liveness.{liveness}
 use Rattle.exports.specs.Exports.{paramsObserved}
 use Rattle.exports.specs.Returned.{noMember, memberSeen, membersSeen, wentTo, placesSeen}
 use Rattle.exports.proofs.Returned.{Knows, knows-after, names-connection, went-to}
@@ -61,7 +61,7 @@ nowhere : {P : Outcome → Type 0} {ps : List Outcome} → Somewhere P ps → ps
 nowhere (here g) e = let z : _≡_ {A = ℕ} 0 1 = cc in omega arith
 nowhere (there g) e = let z : _≡_ {A = ℕ} 0 1 = cc in omega arith
 
-module _ (cs : List Call) (os : List Observation) (x : Trace cs zeros os) (v : ℕ) (p : Params) (e : paramsObserved v none cs os ≡ some p) where
+module _ (cs : List Call) (os : List Observation) (x : Transcript cs zeros os) (v : ℕ) (p : Params) (e : paramsObserved v none cs os ≡ some p) where
   abbrev s : State
   s = final empty cs
 
@@ -86,7 +86,7 @@ module _ (cs : List Call) (os : List Observation) (x : Trace cs zeros os) (v : �
   low-is : 0 < least p → 0 < least (c .rate .params)
   low-is l = subst (λ (q : Params). 0 < least q) (sym (held .params)) l
 
-  ready-is : (a : AcrAnswer) → AnswersAcr v (finalWords zeros os) a → readyInstant c ≡ readySeen p (a .acr) (seenOf v cs os)
+  ready-is : (a : AbrAllowed) → ReturnsAllowed v (finalWords zeros os) a → readyInstant c ≡ readySeen p (a .acr) (seenOf v cs os)
   ready-is a h =
       sym (ready-same c (trm-held cs os x v c (held .found)))
       ∙ (λ i. readySeen (held .params i) (sym (rate-held cs os x v a h c (held .found)) i) (sym seen-is i))
@@ -95,7 +95,7 @@ module _ (cs : List Call) (os : List Observation) (x : Trace cs zeros os) (v : �
   by-seen rate r h = subst (λ (k : Seen). ReadyNotAfter r (latestSeen rate k)) (sym seen-is) h
 
   reaches :
-      (i : ℕ) → readyInstant c ≡ At i → (ts : List ℕ) → length ts ≡ capacity → All (λ t. i ≤ t) ts → (ps : List Observation) → Trace (slots ts) (finalWords zeros os) ps
+      (i : ℕ) → readyInstant c ≡ At i → (ts : List ℕ) → length ts ≡ capacity → All (λ t. i ≤ t) ts → (ps : List Observation) → Transcript (slots ts) (finalWords zeros os) ps
       → All (λ o. o .returned .refusal ≡ 0) ps → Reaches cs os v ts ps
   reaches i r ts n late ps y unrefused =
       let f = membersSeen noMember cs os in

@@ -8,7 +8,7 @@ use mathlib.Core.Option.{none, some}
 use native.Mathlib.Decide.{decLt}
 use native.Mathlib.Omega.{arith}
 use borrow.Author.Tests.{eq-eqb}
-use Rattle.params.specs.declared.params.Params.{Params}
+use Rattle.rate_params.specs.declared.params.Params.{Params}
 use Rattle.connection.specs.declared.parts.Connection.{Connection}
 use Rattle.connection.specs.declared.parts.Pace.{Pace}
 use Rattle.connection.specs.declared.parts.Pace.the-variants.{Unsent, Running}
@@ -17,11 +17,11 @@ use Rattle.connection.specs.declared.kind.Kind.the-variants.{Forward, Turned, D
 use Rattle.connection.specs.declared.ready.Instant.the-variants.{At}
 use Rattle.connection.specs.Ready.{readyInstant}
 use Rattle.connection.specs.Kind.{kindNumber, kindAt}
-use Rattle.connection.specs.Sending.{Buffer, untouched, bufferAfter, after, withServed}
+use Rattle.connection.specs.Sending.{Buffer, untouched, bufferSent, after, withServed}
 use Rattle.connection.proofs.Keeps.{after-same}
 use Rattle.model.specs.State.{State, Entry, free, taken, empty, find, withTime, withMembers}
 use Rattle.model.specs.Invariant.{NamesUnique, Each}
-use Rattle.model.specs.Choice.{Ahead, sooner, Chosen, Best, noneReady}
+use Rattle.model.specs.Winner.{Ahead, sooner, Chosen, Best, noneReady}
 use Rattle.model.specs.declared.answer.Answer.the-variants.{Sent}
 use Rattle.model.specs.Call.{Call, slot, Outcome, goesTo}
 use Rattle.model.specs.Step.{refuse, idleStep, sendFrom, sendStep, step}
@@ -31,15 +31,15 @@ use Rattle.model.proofs.Entries.{each-at}
 use Rattle.model.proofs.Frames.{put-read, name-of}
 use Rattle.model.proofs.Effects.{Effect, refuses, idles, sends, effect}
 use Rattle.engine.specs.Contract.{bufferContent}
-use Rattle.answers.specs.declared.calls.SlotAnswer.{SlotAnswer}
-use Rattle.answers.specs.declared.calls.AcrAnswer.{AcrAnswer}
-use Rattle.answers.specs.Calls.{slotAnswer}
-use Rattle.abr.specs.Contract.{AnswersAcr}
-use Rattle.abr.specs.Exports.{Observation, Performs, Trace, finalWords, zeros}
-use Rattle.service.specs.Spacing.{NotEarly}
-use Rattle.service.specs.SentWaited.{Waited}
-use Rattle.service.proofs.SentWaited.{spacing, sent-waited}
-use Rattle.service.proofs.Liveness.{liveness}
+use Rattle.abr_answers.specs.declared.calls.AbrSent.{AbrSent}
+use Rattle.abr_answers.specs.declared.calls.AbrAllowed.{AbrAllowed}
+use Rattle.abr_answers.specs.Calls.{sentOf}
+use Rattle.abr.specs.Contract.{ReturnsAllowed}
+use Rattle.abr.specs.Exports.{Observation, Performs, Transcript, finalWords, zeros}
+use Rattle.promise_service.specs.Spacing.{NotEarly}
+use Rattle.promise_service.specs.SentWaited.{Waited}
+use Rattle.promise_service.proofs.SentWaited.{spacing, sent-waited}
+use Rattle.promise_service.proofs.Liveness.{liveness}
 use Rattle.exports.specs.Exports.{paramsObserved}
 use Rattle.exports.specs.Returned.{noMember, membersSeen, wentTo}
 use Rattle.exports.proofs.Returned.{names-connection, went-to}
@@ -83,7 +83,7 @@ goes {s} w {t} {v = v} {o} (sends _ _ i u g b) e =
     })
 
 -- nobody is ready by t, if an accepted slot is idle
-idle-none : {s : State} {t room : ℕ} {o : Outcome} → Effect s (slot t room) o → isAccepted (o .answer) ≡ true → slotAnswer (o .answer) .kind ≡ 0 → Best t (s .entries) noneReady
+idle-none : {s : State} {t room : ℕ} {o : Outcome} → Effect s (slot t room) o → isAccepted (o .answer) ≡ true → sentOf (o .answer) .kind ≡ 0 → Best t (s .entries) noneReady
 unfolding refuse idleStep sendFrom sendStep isAccepted
 idle-none (refuses _ n h) a e = let z : _≡_ {A = ℕ} 0 1 = cc in absurd (omega arith)
 idle-none (idles _ _ g b) a e = b
@@ -95,13 +95,13 @@ idle-none {t = t} (sends _ _ i u g b) a e = absurd (sent-none (kindAt t (b .hold
     sent-none Data z = omega (arith, z)
 
 -- only forward, turned and made cells are written
-slot-unwritten : {s : State} {t room : ℕ} {o : Outcome} → Effect s (slot t room) o → slotAnswer (o .answer) .kind ≢ 1 → slotAnswer (o .answer) .kind ≢ 2 → o .buffer ≡ untouched
-unfolding refuse idleStep sendFrom sendStep bufferAfter
+slot-unwritten : {s : State} {t room : ℕ} {o : Outcome} → Effect s (slot t room) o → sentOf (o .answer) .kind ≢ 1 → sentOf (o .answer) .kind ≢ 2 → o .buffer ≡ untouched
+unfolding refuse idleStep sendFrom sendStep bufferSent
 slot-unwritten (refuses _ n h) a b = refl
 slot-unwritten (idles _ _ g c) a b = refl
 slot-unwritten {t = t} (sends _ _ i u g c) a b = go (kindAt t (c .holder)) a b
   where
-    go : (k : Kind) → kindNumber k ≢ 1 → kindNumber k ≢ 2 → bufferAfter k (c .holder) (after k t (c .holder)) ≡ untouched
+    go : (k : Kind) → kindNumber k ≢ 1 → kindNumber k ≢ 2 → bufferSent k (c .holder) (after k t (c .holder)) ≡ untouched
     go Forward a b = absurd (a refl)
     go Turned a b = absurd (b refl)
     go Data a b = refl
@@ -124,7 +124,7 @@ waited-seen c Forward h = record { backward = λ z. absurd (omega (arith, z)); c
 waited-seen c Turned h = record { backward = λ z. backward-same c ∙ h; cells = λ z. absurd (omega (arith, z)) }
 waited-seen c Data h = record { backward = λ z. absurd (omega (arith, z)); cells = λ z. h }
 
-module _ (cs : List Call) (os : List Observation) (x : Trace cs zeros os) (a : ℕ → AcrAnswer) (h : RatesOf (finalWords zeros os) a) (t room : ℕ) (o : Observation)
+module _ (cs : List Call) (os : List Observation) (x : Transcript cs zeros os) (a : ℕ → AbrAllowed) (h : RatesOf (finalWords zeros os) a) (t room : ℕ) (o : Observation)
     (p : Performs (slot t room) (finalWords zeros os) o)
   where
     abbrev s : State
@@ -139,11 +139,11 @@ module _ (cs : List Call) (os : List Observation) (x : Trace cs zeros os) (a : �
     idle-seen : o .returned .refusal ≡ 0 → o .returned .kind ≡ 0 → (u i : ℕ) → readyOf cs os a u ≡ At i → t < i
     idle-seen e k u i r =
         ready-each (λ j v. t < j) (s .entries)
-        (idle-none (effect s (z .wellFormed .unique) (slot t room)) (was-accepted z e) (sym (ap (λ (r : SlotAnswer). r .kind) (z .matches .returned)) ∙ k)) u i (sym (ready-is u) ∙ r) s refl
+        (idle-none (effect s (z .wellFormed .unique) (slot t room)) (was-accepted z e) (sym (ap (λ (r : AbrSent). r .kind) (z .matches .returned)) ∙ k)) u i (sym (ready-is u) ∙ r) s refl
 
     unwritten : o .returned .kind ≢ 1 → o .returned .kind ≢ 2 → o .new ≡ o .old
     unwritten i j =
-        let k : o .returned .kind ≡ slotAnswer (step s (slot t room) .answer) .kind = ap (λ (r : SlotAnswer). r .kind) (z .matches .returned) in
+        let k : o .returned .kind ≡ sentOf (step s (slot t room) .answer) .kind = ap (λ (r : AbrSent). r .kind) (z .matches .returned) in
         z .matches .buffer ∙ ap (λ (b : Buffer). bufferContent b (o .old)) (slot-unwritten (effect s (z .wellFormed .unique) (slot t room)) (λ q. i (k ∙ q)) (λ q. j (k ∙ q)))
 
     module _ (v : ℕ) (e : wentTo (membersSeen noMember cs os) (o .returned) ≡ some v) where
@@ -161,8 +161,8 @@ module _ (cs : List Call) (os : List Observation) (x : Trace cs zeros os) (a : �
       found : find v (s .entries) ≡ taken c
       found = g .chosen .found
 
-      told : o .returned ≡ slotAnswer (Sent v (g .told) (kindAt t c) (g .acr) (g .comparisons))
-      told = z .matches .returned ∙ ap slotAnswer (g .answer)
+      told : o .returned ≡ sentOf (Sent v (g .told) (kindAt t c) (g .acr) (g .comparisons))
+      told = z .matches .returned ∙ ap sentOf (g .answer)
 
       picked : Picked (readyOf cs os a) t v
       unfolding entryReady
@@ -185,13 +185,13 @@ module _ (cs : List Call) (os : List Observation) (x : Trace cs zeros os) (a : �
       kind-seen q i =
           let same : some (c .rate .params) ≡ some q = sym (given-held cs os x v c found) ∙ i in
           let is : c .rate .params ≡ q = cc in
-          ap (λ (r : SlotAnswer). r .kind) told ∙ sym (kind-same c (trm-held cs os x v c found) t) ∙ (λ i. kindSeen (is i) t (sym (seen-held cs os x v c found) i))
+          ap (λ (r : AbrSent). r .kind) told ∙ sym (kind-same c (trm-held cs os x v c found) t) ∙ (λ i. kindSeen (is i) t (sym (seen-held cs os x v c found) i))
 
       waited : WaitedSeen (o .returned .kind) (seenOf v cs os)
       waited = rw (told, seen-held cs os x v c found) (waited-seen c (kindAt t c) (sent-waited cs t room v (g .told) (g .acr) (g .comparisons) (kindAt t c) c found (g .answer)))
 
-      acr-left : (b : AcrAnswer) → AnswersAcr v (o .table) b → o .returned .acr ≡ b .acr
-      acr-left b i = ap (λ (r : SlotAnswer). r .acr) told ∙ rate-is b (g .acr) (rate-seen (z .next) v b i ∙ g .left)
+      acr-left : (b : AbrAllowed) → ReturnsAllowed v (o .table) b → o .returned .acr ≡ b .acr
+      acr-left b i = ap (λ (r : AbrSent). r .acr) told ∙ rate-is b (g .acr) (rate-seen (z .next) v b i ∙ g .left)
 
 pub exports-slots : ExportsSlots
 exports-slots cs os x a h t room o p e = record {

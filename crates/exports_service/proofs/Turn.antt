@@ -7,12 +7,12 @@ use mathlib.Core.Logic.{by-cases}
 use mathlib.Core.Option.{Option, none, some}
 use native.Mathlib.Decide.{decLt}
 use native.Mathlib.Omega.{arith}
-use Rattle.cell.specs.Name.{nameOf, vpiIn, vciIn}
-use Rattle.members.specs.Path.{isPath, pathOf}
-use Rattle.members.specs.Members.{Member, cellsOf}
-use Rattle.members.specs.Turn.{firstFrom, orElse, turn}
-use Rattle.members.proofs.Turns.{first-picks, Found, found, first-found, turn-picks}
-use Rattle.members.specs.Invariant.{Rising}
+use Rattle.cell.specs.Name.{nameFrom, vpiIn, vciIn}
+use Rattle.connection_members.specs.Path.{isPath, pathOf}
+use Rattle.connection_members.specs.Members.{Member, cellsOf}
+use Rattle.connection_members.specs.Turn.{firstFrom, orElse, turn}
+use Rattle.connection_members.proofs.Turns.{first-picks, Found, found, first-found, turn-picks}
+use Rattle.connection_members.specs.Invariant.{Rising}
 use Rattle.connection.specs.declared.parts.Connection.{Connection}
 use Rattle.connection.specs.declared.kind.Kind.{Kind}
 use Rattle.connection.specs.declared.kind.Kind.the-variants.{Forward, Turned, Data}
@@ -23,10 +23,10 @@ use Rattle.model.specs.Call.{Call, slot}
 use Rattle.model.specs.Step.{step}
 use Rattle.model.specs.Run.{final}
 use Rattle.model.proofs.Effects.{effect}
-use Rattle.answers.specs.declared.calls.SlotAnswer.{SlotAnswer}
-use Rattle.answers.specs.Calls.{slotAnswer}
-use Rattle.abr.specs.Exports.{Observation, Performs, Trace, finalWords, zeros}
-use Rattle.service.proofs.Fairness.{fairness}
+use Rattle.abr_answers.specs.declared.calls.AbrSent.{AbrSent}
+use Rattle.abr_answers.specs.Calls.{sentOf}
+use Rattle.abr.specs.Exports.{Observation, Performs, Transcript, finalWords, zeros}
+use Rattle.promise_service.proofs.Fairness.{fairness}
 use Rattle.exports.specs.Returned.{noMember, membersSeen, wentTo}
 use Rattle.exports.proofs.Returned.{names-connection, went-to, back}
 use Rattle.exports.proofs.Transport.{Sees, sees, stands, stands-first, kept-so}
@@ -49,7 +49,7 @@ found-some low z o (found y a b) e = let w : _≡_ {A = ℕ} 0 1 = cc in omega a
 -- what `turn` picks, in the words of L13
 module _ (v q : ℕ) (ms : List Member) (rising : Rising ms) (x : ℕ) where
   abbrev low : ℕ
-  low = nameOf (vpiIn v) q + 1
+  low = nameFrom (vpiIn v) q + 1
 
   from-low : firstFrom v low ms ≡ some x → (z : ℕ) → pathOf z ≡ v → 0 < cellsOf z ms → NotLater q x z
   from-low e z p h =
@@ -77,7 +77,7 @@ kind-data Forward e = absurd (omega (arith, e))
 kind-data Turned e = absurd (omega (arith, e))
 kind-data Data e = refl
 
-module _ (cs : List Call) (os : List Observation) (y : Trace cs zeros os) (t room v : ℕ) (o : Observation) (p : Performs (slot t room) (finalWords zeros os) o)
+module _ (cs : List Call) (os : List Observation) (y : Transcript cs zeros os) (t room v : ℕ) (o : Observation) (p : Performs (slot t room) (finalWords zeros os) o)
     (e : wentTo (membersSeen noMember cs os) (o .returned) ≡ some v) (k : o .returned .kind ≡ 3)
   where
     abbrev s : State
@@ -95,16 +95,16 @@ module _ (cs : List Call) (os : List Observation) (y : Trace cs zeros os) (t roo
     abbrev c : Connection
     c = g .chosen .holder
 
-    told : o .returned ≡ slotAnswer (Sent v (g .told) (kindAt t c) (g .acr) (g .comparisons))
-    told = z .matches .returned ∙ ap slotAnswer (g .answer)
+    told : o .returned ≡ sentOf (Sent v (g .told) (kindAt t c) (g .acr) (g .comparisons))
+    told = z .matches .returned ∙ ap sentOf (g .answer)
 
     answered : step s (slot t room) .answer ≡ Sent v (g .told) Data (g .acr) (g .comparisons)
-    answered = g .answer ∙ ap (λ (x : Kind). Sent v (g .told) x (g .acr) (g .comparisons)) (kind-data (kindAt t c) (sym (ap (λ (r : SlotAnswer). r .kind) told) ∙ k))
+    answered = g .answer ∙ ap (λ (x : Kind). Sent v (g .told) x (g .acr) (g .comparisons)) (kind-data (kindAt t c) (sym (ap (λ (r : AbrSent). r .kind) told) ∙ k))
 
-    name : nameOf (o .returned .vpi) (o .returned .vci) ≡ g .told
-    name = ap (λ (r : SlotAnswer). nameOf (r .vpi) (r .vci)) told ∙ back (g .told)
+    name : nameFrom (o .returned .vpi) (o .returned .vci) ≡ g .told
+    name = ap (λ (r : AbrSent). nameFrom (r .vpi) (r .vci)) told ∙ back (g .told)
 
-    in-turn : isPath v ≡ true → InTurn (kept cellsSeen noCells cs os) (seenOf v cs os .served) v (nameOf (o .returned .vpi) (o .returned .vci))
+    in-turn : isPath v ≡ true → InTurn (kept cellsSeen noCells cs os) (seenOf v cs os .served) v (nameFrom (o .returned .vpi) (o .returned .vci))
     in-turn i =
         let turn-is = fairness .inTurn cs t room v (g .told) (g .acr) (g .comparisons) c (g .chosen .found) answered i in
         let picks = turn-picks v (c .queue .served) (s .members) (g .told) turn-is in

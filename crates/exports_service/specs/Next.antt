@@ -7,9 +7,9 @@ use Rattle.connection.specs.declared.ready.Instant.{Instant}
 use Rattle.connection.specs.declared.ready.Instant.the-variants.{Never, At}
 use Rattle.model.specs.Call.{Call}
 use Rattle.model.specs.Queries.{neverWord}
-use Rattle.tournament.specs.Next.{GivesNext}
-use Rattle.answers.specs.declared.calls.AcrAnswer.{AcrAnswer}
-use Rattle.abr.specs.Exports.{Observation, Trace, finalWords, zeros}
+use Rattle.table_tournament.specs.Next.{GivesNext}
+use Rattle.abr_answers.specs.declared.calls.AbrAllowed.{AbrAllowed}
+use Rattle.abr.specs.Exports.{Observation, Transcript, finalWords, zeros}
 use Rattle.exports_service.specs.Slots.{RatesOf, readyOf}
 
 pub record NextOf (ready : ℕ → Instant) (next : ℕ) : Type 0 where
@@ -19,5 +19,5 @@ pub record NextOf (ready : ℕ → Instant) (next : ℕ) : Type 0 where
 -- after any exported calls from the zero table
 abbrev pub ExportsNext : Type 0
 ExportsNext =
-    (cs : List Call) (os : List Observation) → Trace cs zeros os → (a : ℕ → AcrAnswer) → RatesOf (finalWords zeros os) a → (next : ℕ) → GivesNext (finalWords zeros os) next
+    (cs : List Call) (os : List Observation) → Transcript cs zeros os → (a : ℕ → AbrAllowed) → RatesOf (finalWords zeros os) a → (next : ℕ) → GivesNext (finalWords zeros os) next
     → NextOf (readyOf cs os a) next

@@ -6,18 +6,18 @@ use mathlib.Core.List.{List}
 use mathlib.Core.Option.{none, some}
 use lib.Dec.{leb, eqb}
 use Rattle.rate.specs.Code.{rateOf}
-use Rattle.params.specs.declared.params.Params.{Params}
-use Rattle.params.specs.Params.{nrm, least}
+use Rattle.rate_params.specs.declared.params.Params.{Params}
+use Rattle.rate_params.specs.Params.{nrm, least}
 use Rattle.cell.specs.declared.fields.Fields.{Fields}
 use Rattle.cell.specs.Fields.{cellName}
 use Rattle.connection.specs.declared.parts.Pace.{Pace}
 use Rattle.connection.specs.declared.parts.Pace.the-variants.{Unsent, Running}
 use Rattle.connection.specs.declared.ready.Instant.the-variants.{At}
 use Rattle.model.specs.Call.{Call, receiving}
-use Rattle.answers.specs.declared.calls.AcrAnswer.{AcrAnswer}
-use Rattle.abr.specs.Contract.{AnswersAcr}
-use Rattle.abr.specs.Exports.{Observation, Performs, Trace, finalWords, zeros}
-use Rattle.service.specs.Restart.{increase, Raises}
+use Rattle.abr_answers.specs.declared.calls.AbrAllowed.{AbrAllowed}
+use Rattle.abr.specs.Contract.{ReturnsAllowed}
+use Rattle.abr.specs.Exports.{Observation, Performs, Transcript, finalWords, zeros}
+use Rattle.promise_service.specs.Restart.{increase, Raises}
 use Rattle.exports.specs.Exports.{paramsObserved}
 use Rattle.exports_rates.specs.Seen.{Seen, watch, watched, seenOf}
 use Rattle.exports_service.specs.Ready.{waitsSeen, readySeen}
@@ -33,7 +33,7 @@ pub record ReadySometime (p : Params) (acr : ℕ) (k : Seen) : Type 0 where
   pub readyAt : readySeen p acr k ≡ At instant
 
 -- abr_acr after the cell, with what is kept of the connection before the cell and after it
-pub record RestartedSeen (p : Params) (f : Fields) (before after : Seen) (b : AcrAnswer) : Type 0 where
+pub record RestartedSeen (p : Params) (f : Fields) (before after : Seen) (b : AbrAllowed) : Type 0 where
   pub refusal : b .refusal ≡ 0
   -- at least the increase, or ER if that is less, and so above 0
   pub raised : min (rateOf (f .er)) (increase p) ≤ b .acr
@@ -45,10 +45,10 @@ pub record RestartedSeen (p : Params) (f : Fields) (before after : Seen) (b : Ac
 -- after any exported calls from the zero table, whatever the rate is, 0 too
 pub record ExportsRestart : Type 0 where
   pub rises :
-      (cs : List Call) (os : List Observation) → Trace cs zeros os → (octets : List ℕ) (f : Fields) → Raises octets f → (p : Params) → paramsObserved (cellName f) none cs os ≡ some p → 1 ≤ increase p
-      → (o : Observation) → Performs (receiving octets) (finalWords zeros os) o → (b : AcrAnswer) → AnswersAcr (cellName f) (o .table) b
+      (cs : List Call) (os : List Observation) → Transcript cs zeros os → (octets : List ℕ) (f : Fields) → Raises octets f → (p : Params) → paramsObserved (cellName f) none cs os ≡ some p → 1 ≤ increase p
+      → (o : Observation) → Performs (receiving octets) (finalWords zeros os) o → (b : AbrAllowed) → ReturnsAllowed (cellName f) (o .table) b
       → RestartedSeen p f (seenOf (cellName f) cs os) (watch (cellName f) (receiving octets) o (watched (cellName f) cs os) .connection) b
   -- The increase must be at least one unit: without it, and without a minimum, no call raises a rate of 0.
   pub staysAtZero :
-      (cs : List Call) (os : List Observation) → Trace cs zeros os → (c : Call) (o : Observation) → Performs c (finalWords zeros os) o → (v : ℕ) (p : Params) → paramsObserved v none cs os ≡ some p
-      → least p ≡ 0 → increase p ≡ 0 → (a b : AcrAnswer) → AnswersAcr v (finalWords zeros os) a → AnswersAcr v (o .table) b → a .acr ≡ 0 → b .acr ≡ 0
+      (cs : List Call) (os : List Observation) → Transcript cs zeros os → (c : Call) (o : Observation) → Performs c (finalWords zeros os) o → (v : ℕ) (p : Params) → paramsObserved v none cs os ≡ some p
+      → least p ≡ 0 → increase p ≡ 0 → (a b : AbrAllowed) → ReturnsAllowed v (finalWords zeros os) a → ReturnsAllowed v (o .table) b → a .acr ≡ 0 → b .acr ≡ 0

@@ -7,19 +7,19 @@ use mathlib.Core.List.{List}
 use mathlib.Core.Option.{none, some}
 use lib.ListN.{length}
 use Rattle.rate.specs.Gap.{gap}
-use Rattle.params.specs.declared.params.Params.{Params}
-use Rattle.params.specs.Params.{least}
+use Rattle.rate_params.specs.declared.params.Params.{Params}
+use Rattle.rate_params.specs.Params.{least}
 use Rattle.connection.specs.declared.parts.Pace.{Pace}
 use Rattle.connection.specs.declared.parts.Pace.the-variants.{Unsent, Running}
 use Rattle.connection.specs.declared.ready.Instant.{Instant}
 use Rattle.connection.specs.declared.ready.Instant.the-variants.{At}
 use Rattle.model.specs.State.{capacity}
 use Rattle.model.specs.Call.{Call}
-use Rattle.answers.specs.declared.calls.AcrAnswer.{AcrAnswer}
-use Rattle.abr.specs.Contract.{AnswersAcr}
-use Rattle.abr.specs.Exports.{Observation, Trace, finalWords, zeros}
-use Rattle.promises.specs.All.{All}
-use Rattle.service.specs.Liveness.{Somewhere, slots}
+use Rattle.abr_answers.specs.declared.calls.AbrAllowed.{AbrAllowed}
+use Rattle.abr.specs.Contract.{ReturnsAllowed}
+use Rattle.abr.specs.Exports.{Observation, Transcript, finalWords, zeros}
+use Rattle.laws.specs.All.{All}
+use Rattle.promise_service.specs.Liveness.{Somewhere, slots}
 use Rattle.exports.specs.Exports.{paramsObserved}
 use Rattle.exports.specs.Returned.{noMember, membersSeen, placesSeen}
 use Rattle.exports_rates.specs.Seen.{Seen, seenOf}
@@ -46,23 +46,23 @@ Reaches cs os v ts ps = Somewhere (λ x. x ≡ some v) (placesSeen (membersSeen 
 pub record ServedSeen (cs : List Call) (os : List Observation) (v : ℕ) (p : Params) : Type 0 where
   -- if anything waits, and the contract has a minimum, it is ready no later than a gap at the minimum after its last cell
   pub guaranteed :
-      waitsSeen (seenOf v cs os) ≡ true → 0 < least p → (a : AcrAnswer) → AnswersAcr v (finalWords zeros os) a
+      waitsSeen (seenOf v cs os) ≡ true → 0 < least p → (a : AbrAllowed) → ReturnsAllowed v (finalWords zeros os) a
       → ReadyNotAfter (readySeen p (a .acr) (seenOf v cs os)) (latestSeen (least p) (seenOf v cs os))
   -- with a minimum or without, no later than a gap at its rate, if that is above 0 (L5)
   pub ready :
-      waitsSeen (seenOf v cs os) ≡ true → (a : AcrAnswer) → AnswersAcr v (finalWords zeros os) a → 0 < a .acr
+      waitsSeen (seenOf v cs os) ≡ true → (a : AbrAllowed) → ReturnsAllowed v (finalWords zeros os) a → 0 < a .acr
       → ReadyNotAfter (readySeen p (a .acr) (seenOf v cs os)) (latestSeen (a .acr) (seenOf v cs os))
   -- of as many slots in a row as connections can be open, none refused, all from its ready instant on, one is its own
   pub served :
-      (a : AcrAnswer) → AnswersAcr v (finalWords zeros os) a → (i : ℕ) → readySeen p (a .acr) (seenOf v cs os) ≡ At i
-      → (ts : List ℕ) → length ts ≡ capacity → All (λ t. i ≤ t) ts → (ps : List Observation) → Trace (slots ts) (finalWords zeros os) ps → All (λ o. o .returned .refusal ≡ 0) ps
+      (a : AbrAllowed) → ReturnsAllowed v (finalWords zeros os) a → (i : ℕ) → readySeen p (a .acr) (seenOf v cs os) ≡ At i
+      → (ts : List ℕ) → length ts ≡ capacity → All (λ t. i ≤ t) ts → (ps : List Observation) → Transcript (slots ts) (finalWords zeros os) ps → All (λ o. o .returned .refusal ≡ 0) ps
       → Reaches cs os v ts ps
   -- so, where anything waits and there is a minimum, of as many from a gap at the minimum after its last cell on
   pub inTime :
       waitsSeen (seenOf v cs os) ≡ true → 0 < least p
       → (ts : List ℕ) → length ts ≡ capacity → All (λ t. latestSeen (least p) (seenOf v cs os) ≤ t) ts
-      → (ps : List Observation) → Trace (slots ts) (finalWords zeros os) ps → All (λ o. o .returned .refusal ≡ 0) ps → Reaches cs os v ts ps
+      → (ps : List Observation) → Transcript (slots ts) (finalWords zeros os) ps → All (λ o. o .returned .refusal ≡ 0) ps → Reaches cs os v ts ps
 
 -- after any exported calls from the zero table
 abbrev pub ExportsServed : Type 0
-ExportsServed = (cs : List Call) (os : List Observation) → Trace cs zeros os → (v : ℕ) (p : Params) → paramsObserved v none cs os ≡ some p → ServedSeen cs os v p
+ExportsServed = (cs : List Call) (os : List Observation) → Transcript cs zeros os → (v : ℕ) (p : Params) → paramsObserved v none cs os ≡ some p → ServedSeen cs os v p

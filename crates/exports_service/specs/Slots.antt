@@ -7,27 +7,27 @@ use mathlib.Core.Bool.{true}
 use mathlib.Core.List.{List}
 use mathlib.Core.Option.{none, some}
 use Rattle.rate.specs.Gap.{gap}
-use Rattle.params.specs.declared.params.Params.{Params}
+use Rattle.rate_params.specs.declared.params.Params.{Params}
 use Rattle.cell.specs.Name.{noName}
 use Rattle.connection.specs.declared.parts.Pace.{Pace}
 use Rattle.connection.specs.declared.parts.Pace.the-variants.{Unsent, Running}
 use Rattle.connection.specs.declared.ready.Instant.{Instant}
 use Rattle.connection.specs.declared.ready.Instant.the-variants.{At}
-use Rattle.model.specs.Choice.{Ahead}
+use Rattle.model.specs.Winner.{Ahead}
 use Rattle.model.specs.Call.{Call, slot}
-use Rattle.answers.specs.declared.calls.AcrAnswer.{AcrAnswer}
-use Rattle.abr.specs.Contract.{AnswersAcr}
-use Rattle.abr.specs.Exports.{Observation, Performs, Trace, finalWords, zeros}
+use Rattle.abr_answers.specs.declared.calls.AbrAllowed.{AbrAllowed}
+use Rattle.abr.specs.Contract.{ReturnsAllowed}
+use Rattle.abr.specs.Exports.{Observation, Performs, Transcript, finalWords, zeros}
 use Rattle.exports.specs.Exports.{paramsObserved}
 use Rattle.exports.specs.Returned.{noMember, membersSeen, wentTo}
 use Rattle.exports_rates.specs.Seen.{Seen, seenOf}
 use Rattle.exports_service.specs.Ready.{backwardSeen, readyUnder, kindSeen}
 
 -- what abr_acr returns of every name of 24 bits, and the ready instants that follow
-abbrev pub RatesOf : List ℕ → (ℕ → AcrAnswer) → Type 0
-RatesOf l a = (u : ℕ) → u < noName → AnswersAcr u l (a u)
+abbrev pub RatesOf : List ℕ → (ℕ → AbrAllowed) → Type 0
+RatesOf l a = (u : ℕ) → u < noName → ReturnsAllowed u l (a u)
 
-abbrev pub readyOf : List Call → List Observation → (ℕ → AcrAnswer) → (u : ℕ) → Instant
+abbrev pub readyOf : List Call → List Observation → (ℕ → AbrAllowed) → (u : ℕ) → Instant
 readyOf cs os a u = readyUnder (paramsObserved u none cs os) (a u .acr) (seenOf u cs os)
 
 -- v is ready, not after t, and comes before every other that is ever ready: earlier, or in a tie with the lower name
@@ -48,7 +48,7 @@ pub record WaitedSeen (kind : ℕ) (k : Seen) : Type 0 where
   pub cells : kind ≡ 3 → 0 < k .waiting
 
 -- a slot at t that returned no refusal
-pub record SlotOf (cs : List Call) (os : List Observation) (a : ℕ → AcrAnswer) (t : ℕ) (o : Observation) : Type 0 where
+pub record SlotOf (cs : List Call) (os : List Observation) (a : ℕ → AbrAllowed) (t : ℕ) (o : Observation) : Type 0 where
   -- kind 0, idle: no connection is ready by then
   pub idle : o .returned .kind ≡ 0 → (u i : ℕ) → readyOf cs os a u ≡ At i → t < i
   -- else it goes to the one that a scan of all names picks
@@ -64,10 +64,10 @@ pub record SlotOf (cs : List Call) (os : List Observation) (a : ℕ → AcrAnswe
   -- idle or with a data cell it leaves the lent buffer
   pub unwritten : o .returned .kind ≢ 1 → o .returned .kind ≢ 2 → o .new ≡ o .old
   -- it returns the rate that abr_acr returns after it
-  pub acr : (v : ℕ) → wentTo (membersSeen noMember cs os) (o .returned) ≡ some v → (b : AcrAnswer) → AnswersAcr v (o .table) b → o .returned .acr ≡ b .acr
+  pub acr : (v : ℕ) → wentTo (membersSeen noMember cs os) (o .returned) ≡ some v → (b : AbrAllowed) → ReturnsAllowed v (o .table) b → o .returned .acr ≡ b .acr
 
 -- after any exported calls from the zero table
 abbrev pub ExportsSlots : Type 0
 ExportsSlots =
-    (cs : List Call) (os : List Observation) → Trace cs zeros os → (a : ℕ → AcrAnswer) → RatesOf (finalWords zeros os) a
+    (cs : List Call) (os : List Observation) → Transcript cs zeros os → (a : ℕ → AbrAllowed) → RatesOf (finalWords zeros os) a
     → (t room : ℕ) (o : Observation) → Performs (slot t room) (finalWords zeros os) o → o .returned .refusal ≡ 0 → SlotOf cs os a t o

@@ -5,10 +5,10 @@ use mathlib.Core.Path.{_≡_}
 use mathlib.Core.Bool.{true, false}
 use mathlib.Core.List.{List}
 use mathlib.Core.Option.{some}
-use Rattle.cell.specs.Name.{nameOf, vciIn}
-use Rattle.members.specs.Path.{isPath, pathOf}
+use Rattle.cell.specs.Name.{nameFrom, vciIn}
+use Rattle.connection_members.specs.Path.{isPath, pathOf}
 use Rattle.model.specs.Call.{Call, slot}
-use Rattle.abr.specs.Exports.{Observation, Performs, Trace, finalWords, zeros}
+use Rattle.abr.specs.Exports.{Observation, Performs, Transcript, finalWords, zeros}
 use Rattle.exports.specs.Returned.{noMember, membersSeen, wentTo}
 use Rattle.exports.specs.Along.{kept}
 use Rattle.exports_rates.specs.Seen.{seenOf}
@@ -28,10 +28,10 @@ pub record InTurn (waits : ℕ → ℕ) (last v x : ℕ) : Type 0 where
 -- after any exported calls from the zero table, a slot that returned a data cell, kind 3, of the connection v
 pub record ExportsInTurn : Type 0 where
   pub inTurn :
-      (cs : List Call) (os : List Observation) → Trace cs zeros os → (t room v : ℕ) (o : Observation) → Performs (slot t room) (finalWords zeros os) o
+      (cs : List Call) (os : List Observation) → Transcript cs zeros os → (t room v : ℕ) (o : Observation) → Performs (slot t room) (finalWords zeros os) o
       → wentTo (membersSeen noMember cs os) (o .returned) ≡ some v → o .returned .kind ≡ 3 → isPath v ≡ true
-      → InTurn (kept cellsSeen noCells cs os) (seenOf v cs os .served) v (nameOf (o .returned .vpi) (o .returned .vci))
+      → InTurn (kept cellsSeen noCells cs os) (seenOf v cs os .served) v (nameFrom (o .returned .vpi) (o .returned .vci))
   pub own :
-      (cs : List Call) (os : List Observation) → Trace cs zeros os → (t room v : ℕ) (o : Observation) → Performs (slot t room) (finalWords zeros os) o
+      (cs : List Call) (os : List Observation) → Transcript cs zeros os → (t room v : ℕ) (o : Observation) → Performs (slot t room) (finalWords zeros os) o
       → wentTo (membersSeen noMember cs os) (o .returned) ≡ some v → o .returned .kind ≡ 3 → isPath v ≡ false
-      → nameOf (o .returned .vpi) (o .returned .vci) ≡ v
+      → nameFrom (o .returned .vpi) (o .returned .vci) ≡ v

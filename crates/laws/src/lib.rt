@@ -1,1 +1,2 @@
-// Facts about lists and blocks that belong to no one crate: definitions in specs/, laws in proofs/, no code.
+// Facts about lists and blocks that belong to no one crate, in specs/ and proofs/, and the numbers of the refusals for the code.
+pub mod refusals;

@@ -9,35 +9,35 @@ use native.Mathlib.Omega.{arith}
 use lib.Dec.{eqb}
 use lib.ListN.{replicate}
 use borrow.Author.Tests.{eq-eqb, ne-eqb}
-use Rattle.params.specs.declared.params.Params.{Params}
+use Rattle.rate_params.specs.declared.params.Params.{Params}
 use Rattle.cell.specs.declared.fields.Fields.{Fields}
-use Rattle.cell.specs.Name.{pairName}
+use Rattle.cell.specs.Name.{addressName}
 use Rattle.cell.specs.Fields.{cellName}
-use Rattle.members.specs.Path.{pathVci, pathOf}
-use Rattle.members.specs.Members.{cellsOf}
+use Rattle.connection_members.specs.Path.{pathVci, pathOf}
+use Rattle.connection_members.specs.Members.{cellsOf}
 use Rattle.connection.specs.declared.parts.Connection.{Connection}
 use Rattle.connection.specs.declared.kind.Kind.{Kind}
 use Rattle.connection.specs.declared.kind.Kind.the-variants.{Forward, Turned, Data}
 use Rattle.connection.specs.Parts.{fresh, waiting, withQueue, dequeued}
 use Rattle.connection.specs.Making.{withMade}
-use Rattle.connection.specs.Receiving.{offered, afterDataCell, afterBackwardCell, afterForwardCell, afterResourceCell}
+use Rattle.connection.specs.Receiving.{offered, afterDataCell, afterBackwardCell, afterForwardCell, afterRmCell}
 use Rattle.connection.specs.Kind.{kindAt}
 use Rattle.connection.specs.Sending.{sentForward, sentTurned, sentData, after, withServed}
 use Rattle.connection.specs.OutOfRate.{afterOutOfRate}
 use Rattle.connection.proofs.Keeps.{work-same, after-same}
 use Rattle.connection.proofs.Waited.{data-waits}
-use Rattle.model.specs.State.{State, free, taken, capacity, empty, find, put, inserted, withTime, withLevel, withMembers, entryCells}
+use Rattle.model.specs.State.{State, free, taken, capacity, empty, find, withEntryOf, withOpened, withTime, withLevel, withMembers, entryCells}
 use Rattle.model.specs.Invariant.{NamesUnique, WellFormed}
-use Rattle.model.specs.Choice.{Chosen}
+use Rattle.model.specs.Winner.{Chosen}
 use Rattle.model.specs.Call.{Call, opening, closing, receiving, offering, levelling, slot, making, outOfRate, openingPath, adding, offeringMember, removing, Outcome, closedCells}
-use Rattle.model.specs.Step.{refuse, accept, replay, discard, withOffer, withoutOne, sendFrom, sendStep, sendOutside, idleStep, step}
+use Rattle.model.specs.Step.{refuse, accept, replay, discard, withOffer, withoutOne, sendFrom, sendStep, sendOutOfRate, idleStep, step}
 use Rattle.model.specs.Run.{final, isAccepted}
-use Rattle.model.specs.Conservation.{offeredTo, closedOn, dataCells, dataSlotOf, sumOver, cellsOffered, dataSlots, cellsClosed, cellsWaiting, Conservation}
+use Rattle.model.specs.Conservation.{offeredTo, closedOn, dataIn, dataSlotOf, sumOver, cellsOffered, dataSlots, cellsClosed, cellsWaiting, Conservation}
 use Rattle.model.proofs.Entries.{Case, same, other, case, absent-find, each-free}
-use Rattle.model.proofs.Frames.{put-read, put-kept, inserted-read, freed-read}
+use Rattle.model.proofs.Frames.{put-read, put-kept, with-opened-read, freed-read}
 use Rattle.model.proofs.Members.{member-waits}
 use Rattle.model.proofs.Preserved.{empty-well-formed}
-use Rattle.model.proofs.Effects.{Enters, Effect, refuses, begins, ends, offers, marks, works, levels, idles, sends, makes, leaves, beginsPath, adds, offersMember, removes, effect}
+use Rattle.model.proofs.Effects.{OpenPassed, Effect, refuses, opens, closes, offers, receivesData, receivesRm, setsLevel, idles, sends, makes, sendsOutOfRate, opensPath, adds, offersMember, removes, effect}
 use Rattle.model.proofs.Reached.{step-well-formed}
 
 -- the outcome o of the call c on s keeps the balance of v
@@ -68,7 +68,7 @@ no-offer v (removing a b) = refl
 none-closed : (v : ℕ) (c : Call) → closedOn v c 0 ≡ 0
 unfolding closedOn
 none-closed v (opening a b t p) = refl
-none-closed v (closing a b) = cond-zero (eqb (pairName a b) v)
+none-closed v (closing a b) = cond-zero (eqb (addressName a b) v)
 none-closed v (receiving o) = refl
 none-closed v (offering a b n) = refl
 none-closed v (levelling l) = refl
@@ -78,7 +78,7 @@ none-closed v (outOfRate a b t room) = refl
 none-closed v (openingPath a t p) = refl
 none-closed v (adding a b) = refl
 none-closed v (offeringMember a b n) = refl
-none-closed v (removing a b) = cond-zero (eqb (pathOf (pairName a b)) v)
+none-closed v (removing a b) = cond-zero (eqb (pathOf (addressName a b)) v)
 
 refused-balanced : (v : ℕ) (s : State) (c : Call) (n : ℕ) → Balanced v s c (refuse s n)
 unfolding refuse isAccepted dataSlotOf closedCells
@@ -90,14 +90,14 @@ same-cells w z h = omega arith
 -- a connection in its own entry, with what waits on it
 kept-cells :
     (v u : ℕ) (s : State) → NamesUnique (s .entries) → (d e : Connection) → find u (s .entries) ≡ taken d → e .name ≡ d .name → waiting (e .queue) ≡ waiting (d .queue)
-    → 0 + cellsWaiting v s ≡ 0 + cellsWaiting v (put u (taken e) s) + 0
+    → 0 + cellsWaiting v s ≡ 0 + cellsWaiting v (withEntryOf u (taken e) s) + 0
 unfolding entryCells
 kept-cells v u s a d e f n h = same-cells _ _ (put-kept entryCells v u s a d e f n h)
 
 -- what waits on one name changes: by cells that come, or by cells that go
 changed-cells :
     (v u : ℕ) (s : State) → NamesUnique (s .entries) → (d e : Connection) → find u (s .entries) ≡ taken d → e .name ≡ d .name → (come go : ℕ)
-    → come + waiting (d .queue) ≡ go + waiting (e .queue) → cond (eqb u v) come 0 + cellsWaiting v s ≡ cond (eqb u v) go 0 + cellsWaiting v (put u (taken e) s)
+    → come + waiting (d .queue) ≡ go + waiting (e .queue) → cond (eqb u v) come 0 + cellsWaiting v s ≡ cond (eqb u v) go 0 + cellsWaiting v (withEntryOf u (taken e) s)
 unfolding entryCells
 changed-cells v u s a d e f n come go h = rw (put-read entryCells v u s a d e f n) (by (case u v))
   where
@@ -106,9 +106,9 @@ changed-cells v u s a d e f n come go h = rw (put-read entryCells v u s a d e f 
     by (other q) = rw (ne-eqb u v q)
 
 -- Open: nothing waits on a fresh connection.
-begun-cells : (v : ℕ) (s : State) (u t : ℕ) (p : Params) → Enters s u t p → cellsWaiting v (inserted (fresh u t p) s) ≡ cellsWaiting v s
+begun-cells : (v : ℕ) (s : State) (u t : ℕ) (p : Params) → OpenPassed s u t p → cellsWaiting v (withOpened (fresh u t p) s) ≡ cellsWaiting v s
 unfolding fresh entryCells
-begun-cells v s u t p g = inserted-read entryCells v s (fresh u t p) (g .new) (g .room) ∙ by (case u v)
+begun-cells v s u t p g = with-opened-read entryCells v s (fresh u t p) (g .new) (g .room) ∙ by (case u v)
   where
     by : Case u v → cond (eqb u v) 0 (entryCells (find v (s .entries))) ≡ entryCells (find v (s .entries))
     by (same q) = rw (eq-eqb u v q, ← q, g .new)
@@ -117,7 +117,7 @@ begun-cells v s u t p g = inserted-read entryCells v s (fresh u t p) (g .new) (g
 -- Close: what waited is what is answered.
 ended-cells :
     (v u : ℕ) (s : State) → NamesUnique (s .entries) → (d : Connection) → find u (s .entries) ≡ taken d
-    → 0 + cellsWaiting v s ≡ 0 + cellsWaiting v (put u free s) + cond (eqb u v) (waiting (d .queue)) 0
+    → 0 + cellsWaiting v s ≡ 0 + cellsWaiting v (withEntryOf u free s) + cond (eqb u v) (waiting (d .queue)) 0
 unfolding entryCells
 ended-cells v u s a d f = rw (freed-read entryCells v u s a) (by (case u v))
   where
@@ -126,8 +126,8 @@ ended-cells v u s a d f = rw (freed-read entryCells v u s a) (by (case u v))
     by (other q) = rw (ne-eqb u v q) (omega arith)
 
 -- Receive: an RM cell leaves the data that waits.
-work-cells : (level : ℕ) (o : List ℕ) (f : Fields) (c : Connection) → waiting (afterResourceCell level o f c .queue) ≡ waiting (c .queue)
-unfolding afterResourceCell afterBackwardCell afterForwardCell
+work-cells : (level : ℕ) (o : List ℕ) (f : Fields) (c : Connection) → waiting (afterRmCell level o f c .queue) ≡ waiting (c .queue)
+unfolding afterRmCell afterBackwardCell afterForwardCell
 work-cells level o f c = by (eqb (f .dir) 1)
   where
     by : (t : Bool) → waiting (cond t (afterBackwardCell f c) (afterForwardCell level o c) .queue) ≡ waiting (c .queue)
@@ -135,46 +135,46 @@ work-cells level o f c = by (eqb (f .dir) 1)
     by false = refl
 
 -- Slot: a data cell is one of those that waited.
-sent-cells : (k : Kind) (t : ℕ) (c : Connection) → (k ≡ Data → 0 < waiting (c .queue)) → 0 + waiting (c .queue) ≡ dataCells k + waiting (after k t c .queue)
-unfolding after sentForward sentTurned sentData dataCells
+sent-cells : (k : Kind) (t : ℕ) (c : Connection) → (k ≡ Data → 0 < waiting (c .queue)) → 0 + waiting (c .queue) ≡ dataIn k + waiting (after k t c .queue)
+unfolding after sentForward sentTurned sentData dataIn
 sent-cells Forward t c h = refl
 sent-cells Turned t c h = refl
 sent-cells Data t c h = let z = h refl in omega (arith, z)
 
 sent-balanced :
     (v : ℕ) (s : State) → NamesUnique (s .entries) → (t i u : ℕ) (b : Chosen t i u (s .entries)) → (k : Kind) (x : Option ℕ) → kindAt t (b .holder) ≡ k
-    → 0 + cellsWaiting v s ≡ cond (eqb u v) (dataCells k) 0 + cellsWaiting v (put u (taken (withServed x (after k t (b .holder)))) s) + 0
+    → 0 + cellsWaiting v s ≡ cond (eqb u v) (dataIn k) 0 + cellsWaiting v (withEntryOf u (taken (withServed x (after k t (b .holder)))) s) + 0
 unfolding withServed
 sent-balanced v s a t i u b k x q =
     omega (
       arith,
       cond-zero (eqb u v),
-      changed-cells v u s a (b .holder) (withServed x (after k t (b .holder))) (b .found) (after-same k t (b .holder) .name) 0 (dataCells k)
+      changed-cells v u s a (b .holder) (withServed x (after k t (b .holder))) (b .found) (after-same k t (b .holder) .name) 0 (dataIn k)
           (sent-cells k t (b .holder) (λ e. data-waits t (b .holder) i (b .readyAt) (b .due) (q ∙ e))),
     )
 
 -- Every effect.
 effect-balanced : (v : ℕ) {s : State} → WellFormed s → {c : Call} {o : Outcome} → Effect s c o → Balanced v s c o
-unfolding accept replay discard withLevel withMembers withOffer withoutOne idleStep sendStep sendFrom sendOutside withTime isAccepted offeredTo closedOn dataSlotOf closedCells offered afterDataCell withMade afterOutOfRate
+unfolding accept replay discard withLevel withMembers withOffer withoutOne idleStep sendStep sendFrom sendOutOfRate withTime isAccepted offeredTo closedOn dataSlotOf closedCells offered afterDataCell withMade afterOutOfRate
 effect-balanced v {s} w (refuses c n h) = refused-balanced v s c n
-effect-balanced v {s} w (begins a b t p g) = same-cells _ _ (begun-cells v s (pairName a b) t p g)
-effect-balanced v {s} w (ends a b d f) = ended-cells v (pairName a b) s (w .unique) d f
+effect-balanced v {s} w (opens a b t p g) = same-cells _ _ (begun-cells v s (addressName a b) t p g)
+effect-balanced v {s} w (closes a b d f) = ended-cells v (addressName a b) s (w .unique) d f
 effect-balanced v {s} w (offers a b n d f c h) =
-    omega (arith, cond-zero (eqb (pairName a b) v), changed-cells v (pairName a b) s (w .unique) d (offered n d) f refl n 0 (omega arith))
-effect-balanced v {s} w (marks o a b e u d r c z f) = kept-cells v u s (w .unique) d (afterDataCell e d) f refl refl
-effect-balanced v {s} w (works o q d r f) =
-    kept-cells v (cellName q) s (w .unique) d (afterResourceCell (s .level) o q d) f (work-same (s .level) o q d .name) (work-cells (s .level) o q d)
-effect-balanced v {s} w (levels l h) = same-cells _ _ refl
+    omega (arith, cond-zero (eqb (addressName a b) v), changed-cells v (addressName a b) s (w .unique) d (offered n d) f refl n 0 (omega arith))
+effect-balanced v {s} w (receivesData o a b e u d r c z f) = kept-cells v u s (w .unique) d (afterDataCell e d) f refl refl
+effect-balanced v {s} w (receivesRm o q d r f) =
+    kept-cells v (cellName q) s (w .unique) d (afterRmCell (s .level) o q d) f (work-same (s .level) o q d .name) (work-cells (s .level) o q d)
+effect-balanced v {s} w (setsLevel l h) = same-cells _ _ refl
 effect-balanced v {s} w (idles t room g b) = same-cells _ _ refl
 effect-balanced v {s} w (sends t room i n g b) = sent-balanced v (withTime t s) (w .unique) t i n b (kindAt t (b .holder)) _ refl
-effect-balanced v {s} w (makes a b t d f g h m) = kept-cells v (pairName a b) (withTime t s) (w .unique) d (withMade t (s .level) d) f refl refl
-effect-balanced v {s} w (leaves a b t room d f g h) = kept-cells v (pairName a b) (withTime t s) (w .unique) d (afterOutOfRate t d) f refl refl
-effect-balanced v {s} w (beginsPath a t p g) = same-cells _ _ (begun-cells v s (pairName a pathVci) t p g)
+effect-balanced v {s} w (makes a b t d f g h m) = kept-cells v (addressName a b) (withTime t s) (w .unique) d (withMade t (s .level) d) f refl refl
+effect-balanced v {s} w (sendsOutOfRate a b t room d f g h) = kept-cells v (addressName a b) (withTime t s) (w .unique) d (afterOutOfRate t d) f refl refl
+effect-balanced v {s} w (opensPath a t p g) = same-cells _ _ (begun-cells v s (addressName a pathVci) t p g)
 effect-balanced v {s} w (adds a b d f j) = same-cells _ _ refl
 effect-balanced v {s} w (offersMember a b n d f i h) =
-    omega (arith, cond-zero (eqb (pathOf (pairName a b)) v), changed-cells v (pathOf (pairName a b)) s (w .unique) d (offered n d) f refl n 0 (omega arith))
+    omega (arith, cond-zero (eqb (pathOf (addressName a b)) v), changed-cells v (pathOf (addressName a b)) s (w .unique) d (offered n d) f refl n 0 (omega arith))
 effect-balanced v {s} w (removes a b d f i) =
-    let x = pairName a b in
+    let x = addressName a b in
     let n = cellsOf x (s .members) in
     let e = changed-cells v (pathOf x) s (w .unique) d (withQueue d (dequeued n (d .queue))) f refl 0 n (omega (arith, member-waits s (w .unique) (w .members) x d f)) in
     omega (arith, cond-zero (eqb (pathOf x) v), e)

@@ -6,7 +6,7 @@ use mathlib.Core.List.{List, [], _∷_}
 use native.Mathlib.Nat.{le-refl}
 use native.Mathlib.Omega.{arith}
 use lib.ListN.{length, getD, set}
-use Rattle.model.specs.State.{State, Entry, free, position, holds, find, put}
+use Rattle.model.specs.State.{State, Entry, free, position, holds, find, withEntryOf}
 
 unfoldable pub count : (Entry → Bool) → List Entry → ℕ
 count f [] = 0
@@ -32,6 +32,6 @@ module _ (f : Entry → Bool) (none : f free ≡ false) (x : Entry) (fails : f x
       go true k = ap suc k
       go false k = k
 
-  pub count-put : (u : ℕ) (s : State) → f (find u (s .entries)) ≡ true → suc (count f (put u x s .entries)) ≡ count f (s .entries)
-  unfolding put find
+  pub count-put : (u : ℕ) (s : State) → f (find u (s .entries)) ≡ true → suc (count f (withEntryOf u x s .entries)) ≡ count f (s .entries)
+  unfolding withEntryOf find
   count-put u s e = count-set (s .entries) (position (holds u) (s .entries)) e

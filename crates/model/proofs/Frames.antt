@@ -8,7 +8,7 @@ use lib.Dec.{eqb}
 use lib.ListN.{length, getD, set}
 use borrow.Author.Tests.{ltb-true, eq-eqb, ne-eqb}
 use Rattle.connection.specs.declared.parts.Connection.{Connection}
-use Rattle.model.specs.State.{State, Entry, free, taken, position, isFree, holds, find, put, inserted, roomLeft}
+use Rattle.model.specs.State.{State, Entry, free, taken, position, isFree, holds, find, withEntryOf, withOpened, roomLeft}
 use Rattle.model.specs.Invariant.{OnEntry, Absent, NamesUnique}
 use Rattle.model.proofs.Entries.{each-set, entry-map, Case, same, other, case, find-name, find-absent, absent-find, find-other, find-same, taken-in, freed-absent, lowest-free}
 
@@ -32,8 +32,8 @@ set-read F v ss i d l a h = go (case (d .name) v)
 -- a connection in its own entry, read anew
 pub put-read :
     {A : Type 0} (F : Entry → A) (v u : ℕ) (s : State) → NamesUnique (s .entries) → (c d : Connection) → find u (s .entries) ≡ taken c → d .name ≡ c .name
-    → F (find v (put u (taken d) s .entries)) ≡ cond (eqb u v) (F (taken d)) (F (find v (s .entries)))
-unfolding put find
+    → F (find v (withEntryOf u (taken d) s .entries)) ≡ cond (eqb u v) (F (taken d)) (F (find v (s .entries)))
+unfolding withEntryOf find
 put-read F v u s a c d e p =
     let q = p ∙ name-of u s c e in
     rw (← q)
@@ -43,7 +43,7 @@ put-read F v u s a c d e p =
 -- a connection in its own entry, read as before
 pub put-kept :
     {A : Type 0} (F : Entry → A) (v u : ℕ) (s : State) → NamesUnique (s .entries) → (c d : Connection) → find u (s .entries) ≡ taken c → d .name ≡ c .name
-    → F (taken d) ≡ F (taken c) → F (find v (put u (taken d) s .entries)) ≡ F (find v (s .entries))
+    → F (taken d) ≡ F (taken c) → F (find v (withEntryOf u (taken d) s .entries)) ≡ F (find v (s .entries))
 put-kept F v u s a c d e p q = put-read F v u s a c d e p ∙ go (case u v)
   where
     go : Case u v → cond (eqb u v) (F (taken d)) (F (find v (s .entries))) ≡ F (find v (s .entries))
@@ -51,21 +51,21 @@ put-kept F v u s a c d e p q = put-read F v u s a c d e p ∙ go (case u v)
     go (other h) = rw (ne-eqb u v h)
 
 -- a new connection in the lowest free entry
-pub inserted-read :
+pub with-opened-read :
     {A : Type 0} (F : Entry → A) (v : ℕ) (s : State) (d : Connection) → find (d .name) (s .entries) ≡ free → roomLeft s ≡ true
-    → F (find v (inserted d s .entries)) ≡ cond (eqb (d .name) v) (F (taken d)) (F (find v (s .entries)))
-unfolding inserted roomLeft
-inserted-read F v s d e room =
+    → F (find v (withOpened d s .entries)) ≡ cond (eqb (d .name) v) (F (taken d)) (F (find v (s .entries)))
+unfolding withOpened roomLeft
+with-opened-read F v s d e room =
     set-read F v (s .entries) (position isFree (s .entries)) d (ltb-true _ _ room)
     (each-set (λ c. c .name ≢ d .name) (s .entries) (find-absent (d .name) (s .entries) e) (position isFree (s .entries)) free tt)
     (rw (lowest-free (s .entries)) tt)
 
 -- an entry made free
 pub freed-read :
-    {A : Type 0} (F : Entry → A) (v u : ℕ) (s : State) → NamesUnique (s .entries) → F (find v (put u free s .entries)) ≡ cond (eqb u v) (F free) (F (find v (s .entries)))
-unfolding put find
+    {A : Type 0} (F : Entry → A) (v u : ℕ) (s : State) → NamesUnique (s .entries) → F (find v (withEntryOf u free s .entries)) ≡ cond (eqb u v) (F free) (F (find v (s .entries)))
+unfolding withEntryOf find
 freed-read F v u s a = go (case u v)
   where
-    go : Case u v → F (find v (put u free s .entries)) ≡ cond (eqb u v) (F free) (F (find v (s .entries)))
-    go (same h) = rw (eq-eqb u v h, h) (ap F (absent-find v (put v free s .entries) (freed-absent v (s .entries) a)))
+    go : Case u v → F (find v (withEntryOf u free s .entries)) ≡ cond (eqb u v) (F free) (F (find v (s .entries)))
+    go (same h) = rw (eq-eqb u v h, h) (ap F (absent-find v (withEntryOf v free s .entries) (freed-absent v (s .entries) a)))
     go (other h) = rw (ne-eqb u v h) (ap F (find-other v (s .entries) (position (holds u) (s .entries)) free (named-other u v h (find u (s .entries)) (find-name u (s .entries))) tt))

@@ -7,28 +7,28 @@ use mathlib.Core.Option.{Option, none, some}
 use mathlib.Core.Bool.{cond}
 use lib.Dec.{eqb}
 use lib.ListN.{replicate}
-use Rattle.params.specs.declared.params.Params.{Params}
-use Rattle.cell.specs.Name.{pairName}
+use Rattle.rate_params.specs.declared.params.Params.{Params}
+use Rattle.cell.specs.Name.{addressName}
 use Rattle.cell.specs.Fields.{cellName}
-use Rattle.members.specs.Path.{pathVci, pathOf}
-use Rattle.members.specs.Members.{cellsOf}
+use Rattle.connection_members.specs.Path.{pathVci, pathOf}
+use Rattle.connection_members.specs.Members.{cellsOf}
 use Rattle.connection.specs.declared.parts.Connection.{Connection}
 use Rattle.connection.specs.Parts.{fresh, withQueue, dequeued}
 use Rattle.connection.specs.Making.{withMade}
-use Rattle.connection.specs.Receiving.{offered, afterDataCell, afterResourceCell}
+use Rattle.connection.specs.Receiving.{offered, afterDataCell, afterRmCell}
 use Rattle.connection.specs.Kind.{kindAt}
 use Rattle.connection.specs.Sending.{after, withServed}
 use Rattle.connection.specs.OutOfRate.{afterOutOfRate}
 use Rattle.connection.proofs.Keeps.{work-same, after-same}
-use Rattle.model.specs.State.{State, Entry, free, taken, capacity, empty, find, put, inserted, withTime, withLevel, withMembers}
+use Rattle.model.specs.State.{State, Entry, free, taken, capacity, empty, find, withEntryOf, withOpened, withTime, withLevel, withMembers}
 use Rattle.model.specs.Invariant.{NamesUnique, WellFormed}
 use Rattle.model.proofs.Entries.{absent-find, each-free}
-use Rattle.model.proofs.Frames.{put-kept, inserted-read, freed-read}
+use Rattle.model.proofs.Frames.{put-kept, with-opened-read, freed-read}
 use Rattle.model.proofs.Preserved.{empty-well-formed}
 use Rattle.model.specs.Call.{Call, opening, closing, receiving, offering, levelling, slot, making, outOfRate, openingPath, adding, offeringMember, removing, Outcome}
-use Rattle.model.specs.Step.{refuse, accept, replay, discard, withOffer, withoutOne, sendFrom, sendStep, sendOutside, idleStep, step}
-use Rattle.model.specs.Run.{final, isAccepted, given, givenFrom, paramsGiven}
-use Rattle.model.proofs.Effects.{Enters, Effect, refuses, begins, ends, offers, marks, works, levels, idles, sends, makes, leaves, beginsPath, adds, offersMember, removes, effect}
+use Rattle.model.specs.Step.{refuse, accept, replay, discard, withOffer, withoutOne, sendFrom, sendStep, sendOutOfRate, idleStep, step}
+use Rattle.model.specs.Run.{final, isAccepted, paramsAfter, givenFrom, paramsGiven}
+use Rattle.model.proofs.Effects.{OpenPassed, Effect, refuses, opens, closes, offers, receivesData, receivesRm, setsLevel, idles, sends, makes, sendsOutOfRate, opensPath, adds, offersMember, removes, effect}
 use Rattle.model.proofs.Reached.{step-well-formed}
 
 unfoldable pub entryParams : Entry → Option Params
@@ -39,8 +39,8 @@ abbrev pub paramsAt : ℕ → State → Option Params
 paramsAt v s = entryParams (find v (s .entries))
 
 -- a refusal gives and takes nothing
-refused-given : (v : ℕ) (c : Call) (s : State) (n : ℕ) (p : Option Params) → p ≡ given v c (isAccepted (refuse s n .answer)) p
-unfolding refuse given isAccepted
+refused-given : (v : ℕ) (c : Call) (s : State) (n : ℕ) (p : Option Params) → p ≡ paramsAfter v c (isAccepted (refuse s n .answer)) p
+unfolding refuse paramsAfter isAccepted
 refused-given v (opening a b t q) s n p = refl
 refused-given v (closing a b) s n p = refl
 refused-given v (receiving o) s n p = refl
@@ -55,47 +55,47 @@ refused-given v (offeringMember a b k) s n p = refl
 refused-given v (removing a b) s n p = refl
 
 begun-params :
-    (v : ℕ) (s : State) (u t : ℕ) (p : Params) → Enters s u t p → paramsAt v (inserted (fresh u t p) s) ≡ cond (eqb u v) (some p) (paramsAt v s)
+    (v : ℕ) (s : State) (u t : ℕ) (p : Params) → OpenPassed s u t p → paramsAt v (withOpened (fresh u t p) s) ≡ cond (eqb u v) (some p) (paramsAt v s)
 unfolding fresh entryParams
-begun-params v s u t p g = inserted-read entryParams v s (fresh u t p) (g .new) (g .room)
+begun-params v s u t p g = with-opened-read entryParams v s (fresh u t p) (g .new) (g .room)
 
-ended-params : (v u : ℕ) (s : State) → NamesUnique (s .entries) → paramsAt v (put u free s) ≡ cond (eqb u v) none (paramsAt v s)
+ended-params : (v u : ℕ) (s : State) → NamesUnique (s .entries) → paramsAt v (withEntryOf u free s) ≡ cond (eqb u v) none (paramsAt v s)
 unfolding entryParams
 ended-params v u s a = freed-read entryParams v u s a
 
 kept-params :
     (v u : ℕ) (s : State) → NamesUnique (s .entries) → (d e : Connection) → find u (s .entries) ≡ taken d → e .name ≡ d .name → e .rate .params ≡ d .rate .params
-    → paramsAt v (put u (taken e) s) ≡ paramsAt v s
+    → paramsAt v (withEntryOf u (taken e) s) ≡ paramsAt v s
 unfolding entryParams
 kept-params v u s a d e f n h = put-kept entryParams v u s a d e f n (ap some h)
 
-effect-given : (v : ℕ) {s : State} → NamesUnique (s .entries) → {c : Call} {o : Outcome} → Effect s c o → paramsAt v (o .state) ≡ given v c (isAccepted (o .answer)) (paramsAt v s)
-unfolding refuse accept replay discard withLevel withMembers idleStep sendStep sendFrom sendOutside withTime given isAccepted offered withOffer withoutOne afterDataCell withMade withServed afterOutOfRate
+effect-given : (v : ℕ) {s : State} → NamesUnique (s .entries) → {c : Call} {o : Outcome} → Effect s c o → paramsAt v (o .state) ≡ paramsAfter v c (isAccepted (o .answer)) (paramsAt v s)
+unfolding refuse accept replay discard withLevel withMembers idleStep sendStep sendFrom sendOutOfRate withTime paramsAfter isAccepted offered withOffer withoutOne afterDataCell withMade withServed afterOutOfRate
 effect-given v {s} u (refuses c n h) = refused-given v c s n (paramsAt v s)
-effect-given v {s} u (begins a b t p g) = begun-params v s (pairName a b) t p g
-effect-given v {s} u (ends a b d f) = ended-params v (pairName a b) s u
-effect-given v {s} u (offers a b n d f c h) = kept-params v (pairName a b) s u d (offered n d) f refl refl
-effect-given v {s} u (marks o a b e i d r c z f) = kept-params v i s u d (afterDataCell e d) f refl refl
-effect-given v {s} u (works o q d r f) =
+effect-given v {s} u (opens a b t p g) = begun-params v s (addressName a b) t p g
+effect-given v {s} u (closes a b d f) = ended-params v (addressName a b) s u
+effect-given v {s} u (offers a b n d f c h) = kept-params v (addressName a b) s u d (offered n d) f refl refl
+effect-given v {s} u (receivesData o a b e i d r c z f) = kept-params v i s u d (afterDataCell e d) f refl refl
+effect-given v {s} u (receivesRm o q d r f) =
     let same = work-same (s .level) o q d in
-    kept-params v (cellName q) s u d (afterResourceCell (s .level) o q d) f (same .name) (same .params)
-effect-given v {s} u (levels l h) = refl
+    kept-params v (cellName q) s u d (afterRmCell (s .level) o q d) f (same .name) (same .params)
+effect-given v {s} u (setsLevel l h) = refl
 effect-given v {s} u (idles t room g b) = refl
 effect-given v {s} u (sends t room i n g b) =
     let same = after-same (kindAt t (b .holder)) t (b .holder) in
     kept-params v n (withTime t s) u (b .holder) (withServed _ (after (kindAt t (b .holder)) t (b .holder))) (b .found) (same .name) (same .params)
-effect-given v {s} u (makes a b t d f g h m) = kept-params v (pairName a b) (withTime t s) u d (withMade t (s .level) d) f refl refl
-effect-given v {s} u (leaves a b t room d f g h) = kept-params v (pairName a b) (withTime t s) u d (afterOutOfRate t d) f refl refl
-effect-given v {s} u (beginsPath a t p g) = begun-params v s (pairName a pathVci) t p g
+effect-given v {s} u (makes a b t d f g h m) = kept-params v (addressName a b) (withTime t s) u d (withMade t (s .level) d) f refl refl
+effect-given v {s} u (sendsOutOfRate a b t room d f g h) = kept-params v (addressName a b) (withTime t s) u d (afterOutOfRate t d) f refl refl
+effect-given v {s} u (opensPath a t p g) = begun-params v s (addressName a pathVci) t p g
 effect-given v {s} u (adds a b d f j) = refl
-effect-given v {s} u (offersMember a b n d f i h) = kept-params v (pathOf (pairName a b)) s u d (offered n d) f refl refl
-effect-given v {s} u (removes a b d f i) = kept-params v (pathOf (pairName a b)) s u d (withQueue d (dequeued (cellsOf (pairName a b) (s .members)) (d .queue))) f refl refl
+effect-given v {s} u (offersMember a b n d f i h) = kept-params v (pathOf (addressName a b)) s u d (offered n d) f refl refl
+effect-given v {s} u (removes a b d f i) = kept-params v (pathOf (addressName a b)) s u d (withQueue d (dequeued (cellsOf (addressName a b) (s .members)) (d .queue))) f refl refl
 
 run-given : (v : ℕ) (s : State) → WellFormed s → (before : Option Params) → paramsAt v s ≡ before → (cs : List Call) → paramsAt v (final s cs) ≡ givenFrom v s before cs
 run-given v s w b e [] = e
 run-given v s w b e (c ∷ cs) =
-    run-given v (step s c .state) (step-well-formed w c) (given v c (isAccepted (step s c .answer)) b)
-    (effect-given v (w .unique) (effect s (w .unique) c) ∙ ap (given v c (isAccepted (step s c .answer))) e) cs
+    run-given v (step s c .state) (step-well-formed w c) (paramsAfter v c (isAccepted (step s c .answer)) b)
+    (effect-given v (w .unique) (effect s (w .unique) c) ∙ ap (paramsAfter v c (isAccepted (step s c .answer))) e) cs
 
 nothing-open : (v : ℕ) → paramsAt v empty ≡ none
 unfolding entryParams empty

@@ -10,20 +10,20 @@ use lib.Dec.{eqb}
 use lib.ListN.{replicate, length}
 use borrow.Author.Tests.{eqb-true, eqb-false, eq-eqb, ne-eqb, not-true}
 use Rattle.cell.specs.Name.{vciIn, noName}
-use Rattle.members.specs.Path.{isPath, firstVci, pathOf}
-use Rattle.members.specs.Members.{Member, memberCapacity, named, onPath, anyWhere, cellsWhere, isMember, cellsOf, pathCells, withMember, withoutMember, withoutPath, withCells}
-use Rattle.members.specs.Turn.{turn, afterServing}
-use Rattle.members.specs.Invariant.{ValidMembers}
-use Rattle.members.proofs.Names.{path-is-path}
-use Rattle.members.proofs.Lists.{without-member, without-one, without-path, with-member-any, with-member-cells, with-cells-any, with-cells-one, cells-on-path}
-use Rattle.members.proofs.Valid.{none-valid, without-valid, with-member-valid, with-cells-valid, cells-fit, path-cells-most}
-use Rattle.members.proofs.Turns.{turn-picks, turn-some, turn-none}
+use Rattle.connection_members.specs.Path.{isPath, firstVci, pathOf}
+use Rattle.connection_members.specs.Members.{Member, memberCapacity, named, onPath, anyWhere, cellsWhere, isMember, cellsOf, pathCells, withMember, withoutMember, withoutPath, withCells}
+use Rattle.connection_members.specs.Turn.{turn, afterServing}
+use Rattle.connection_members.specs.Invariant.{ValidMembers}
+use Rattle.connection_members.proofs.Names.{path-is-path}
+use Rattle.connection_members.proofs.Lists.{without-member, without-one, without-path, with-member-any, with-member-cells, with-cells-any, with-cells-one, cells-on-path}
+use Rattle.connection_members.proofs.Valid.{none-valid, without-valid, with-member-valid, with-cells-valid, cells-fit, path-cells-most}
+use Rattle.connection_members.proofs.Turns.{turn-picks, turn-some, turn-none}
 use Rattle.connection.specs.declared.parts.Connection.{Connection}
 use Rattle.connection.specs.Parts.{waiting}
-use Rattle.model.specs.State.{State, free, taken, capacity, isFree, find, put, inserted, roomLeft, entryCells}
+use Rattle.model.specs.State.{State, free, taken, capacity, isFree, find, withEntryOf, withOpened, roomLeft, entryCells}
 use Rattle.model.specs.Invariant.{NamesUnique, MembersOf}
 use Rattle.model.proofs.Entries.{Case, same, other, case, absent-find, each-free}
-use Rattle.model.proofs.Frames.{put-read, put-kept, inserted-read, freed-read}
+use Rattle.model.proofs.Frames.{put-read, put-kept, with-opened-read, freed-read}
 use Rattle.laws.proofs.Tests.{both}
 
 -- no member at all
@@ -42,7 +42,7 @@ module _ (s : State) (a : NamesUnique (s .entries)) {ms : List Member} (m : Memb
       (u : ℕ) (d e : Connection) → find u (s .entries) ≡ taken d → e .name ≡ d .name → (ns : List Member) → ValidMembers ns
       → ((y : ℕ) → isMember y ns ≡ true → isMember y ms ≡ true)
       → ((w : ℕ) → isPath w ≡ true → cond (eqb u w) (waiting (e .queue)) (pathCells w ms) ≡ pathCells w ns)
-      → MembersOf (put u (taken e) s .entries) ns
+      → MembersOf (withEntryOf u (taken e) s .entries) ns
   unfolding isFree entryCells
   changed-members u d e f n ns v among sums = record {
     valid = v;
@@ -59,7 +59,7 @@ module _ (s : State) (a : NamesUnique (s .entries)) {ms : List Member} (m : Memb
   -- what waits stays
   pub kept-members :
       (u : ℕ) (d e : Connection) → find u (s .entries) ≡ taken d → e .name ≡ d .name → waiting (e .queue) ≡ waiting (d .queue)
-      → MembersOf (put u (taken e) s .entries) ms
+      → MembersOf (withEntryOf u (taken e) s .entries) ms
   kept-members u d e f n q = changed-members u d e f n ms (m .valid) (λ y h. h) sums
     where
       sums : (w : ℕ) → isPath w ≡ true → cond (eqb u w) (waiting (e .queue)) (pathCells w ms) ≡ pathCells w ms
@@ -71,22 +71,22 @@ module _ (s : State) (a : NamesUnique (s .entries)) {ms : List Member} (m : Memb
 
   -- what waits on a channel changes, and no member with it
   pub channel-members :
-      (u : ℕ) (d e : Connection) → find u (s .entries) ≡ taken d → e .name ≡ d .name → isPath u ≡ false → MembersOf (put u (taken e) s .entries) ms
+      (u : ℕ) (d e : Connection) → find u (s .entries) ≡ taken d → e .name ≡ d .name → isPath u ≡ false → MembersOf (withEntryOf u (taken e) s .entries) ms
   channel-members u d e f n c = changed-members u d e f n ms (m .valid) (λ y h. h) sums
     where
       sums : (w : ℕ) → isPath w ≡ true → cond (eqb u w) (waiting (e .queue)) (pathCells w ms) ≡ pathCells w ms
       sums w p = rw (ne-eqb u w (λ z. true≢false (sym p ∙ ap isPath (sym z) ∙ c)))
 
   -- a new connection, on whose name no member stands and nothing waits
-  pub inserted-members :
+  pub with-opened-members :
       (d : Connection) → find (d .name) (s .entries) ≡ free → roomLeft s ≡ true → isMember (d .name) ms ≡ false → waiting (d .queue) ≡ 0
-      → MembersOf (inserted d s .entries) ms
+      → MembersOf (withOpened d s .entries) ms
   unfolding isFree entryCells
-  inserted-members d f room n q = record {
+  with-opened-members d f room n q = record {
     valid = m .valid;
-    onOpenPath = λ x h. inserted-read isFree (pathOf x) s d f room ∙ opens (eqb (d .name) (pathOf x)) (m .onOpenPath x h);
-    noChannel = λ x h. inserted-read isFree x s d f room ∙ ap (λ (b : Bool). cond b false (isFree (find x (s .entries)))) (ne-eqb (d .name) x (apart x h)) ∙ m .noChannel x h;
-    sum = λ w p. inserted-read entryCells w s d f room ∙ nothing (case (d .name) w) ∙ m .sum w p;
+    onOpenPath = λ x h. with-opened-read isFree (pathOf x) s d f room ∙ opens (eqb (d .name) (pathOf x)) (m .onOpenPath x h);
+    noChannel = λ x h. with-opened-read isFree x s d f room ∙ ap (λ (b : Bool). cond b false (isFree (find x (s .entries)))) (ne-eqb (d .name) x (apart x h)) ∙ m .noChannel x h;
+    sum = λ w p. with-opened-read entryCells w s d f room ∙ nothing (case (d .name) w) ∙ m .sum w p;
   }
     where
       opens : (b : Bool) {x : Bool} → x ≡ false → cond b false x ≡ false
@@ -101,7 +101,7 @@ module _ (s : State) (a : NamesUnique (s .entries)) {ms : List Member} (m : Memb
       nothing {w} (other z) = rw (ne-eqb (d .name) w z)
 
   -- a close takes a path's members with it
-  pub ended-members : (u : ℕ) → MembersOf (put u free s .entries) (withoutPath u ms)
+  pub ended-members : (u : ℕ) → MembersOf (withEntryOf u free s .entries) (withoutPath u ms)
   unfolding isFree entryCells
   ended-members u = record {
     valid = without-valid (onPath u) ms (m .valid);
@@ -144,7 +144,7 @@ module _ (s : State) (a : NamesUnique (s .entries)) {ms : List Member} (m : Memb
   -- as much as waits on the member more or less waits on its path
   pub stocked-members :
       (x : ℕ) (d e : Connection) → find (pathOf x) (s .entries) ≡ taken d → e .name ≡ d .name → isMember x ms ≡ true → (k : ℕ) → k ≤ 65535
-      → waiting (e .queue) + cellsOf x ms ≡ waiting (d .queue) + k → MembersOf (put (pathOf x) (taken e) s .entries) (withCells x k ms)
+      → waiting (e .queue) + cellsOf x ms ≡ waiting (d .queue) + k → MembersOf (withEntryOf (pathOf x) (taken e) s .entries) (withCells x k ms)
   stocked-members x d e f n i k fit q =
       changed-members (pathOf x) d e f n (withCells x k ms) (with-cells-valid x k ms (m .valid) fit) (λ y h. sym (with-cells-any (named y) x k ms) ∙ h) sums
     where
@@ -163,7 +163,7 @@ module _ (s : State) (a : NamesUnique (s .entries)) {ms : List Member} (m : Memb
 
   pub removed-members :
       (x : ℕ) (d e : Connection) → find (pathOf x) (s .entries) ≡ taken d → e .name ≡ d .name → waiting (e .queue) + cellsOf x ms ≡ waiting (d .queue)
-      → MembersOf (put (pathOf x) (taken e) s .entries) (withoutMember x ms)
+      → MembersOf (withEntryOf (pathOf x) (taken e) s .entries) (withoutMember x ms)
   removed-members x d e f n q =
       changed-members (pathOf x) d e f n (withoutMember x ms) (without-valid (named x) ms (m .valid)) (λ y h. both _ _ (sym (without-member y (named x) ms) ∙ h) .0) sums
     where
@@ -187,20 +187,20 @@ module _ (s : State) (a : NamesUnique (s .entries)) {ms : List Member} (m : Memb
   -- a data cell, of which one waited: the member's whose turn it is, if it is a path's
   pub served-members :
       (u q : ℕ) (d e : Connection) → find u (s .entries) ≡ taken d → e .name ≡ d .name → 0 < waiting (d .queue) → waiting (e .queue) + 1 ≡ waiting (d .queue)
-      → MembersOf (put u (taken e) s .entries) (afterServing (turn u q ms) ms)
+      → MembersOf (withEntryOf u (taken e) s .entries) (afterServing (turn u q ms) ms)
   unfolding afterServing
   served-members u q d e f n waits less = go (isPath u) refl (turn u q ms) refl
     where
       fewer : (c : ℕ) → 0 < c → waiting (e .queue) + c ≡ waiting (d .queue) + (c - 1)
       fewer c h = omega (arith, h, less)
 
-      go : (b : Bool) → isPath u ≡ b → (x : Option ℕ) → turn u q ms ≡ x → MembersOf (put u (taken e) s .entries) (afterServing x ms)
-      go false c x t = subst (λ y. MembersOf (put u (taken e) s .entries) (afterServing y ms)) (sym (turn-none u q ms c) ∙ t) (channel-members u d e f n c)
+      go : (b : Bool) → isPath u ≡ b → (x : Option ℕ) → turn u q ms ≡ x → MembersOf (withEntryOf u (taken e) s .entries) (afterServing x ms)
+      go false c x t = subst (λ y. MembersOf (withEntryOf u (taken e) s .entries) (afterServing y ms)) (sym (turn-none u q ms c) ∙ t) (channel-members u d e f n c)
       go true c none t = absurd (turn-some u q ms (omega (arith, waits, path-sum u d f c)) t)
       go true c (some x) t =
           let p = turn-picks u q ms x t in
           let g : find (pathOf x) (s .entries) ≡ taken d = ap (λ (v : ℕ). find v (s .entries)) (p .path) ∙ f in
-          subst (λ (v : ℕ). MembersOf (put v (taken e) s .entries) (withCells x (cellsOf x ms - 1) ms)) (p .path)
+          subst (λ (v : ℕ). MembersOf (withEntryOf v (taken e) s .entries) (withCells x (cellsOf x ms - 1) ms)) (p .path)
           (stocked-members x d e g n (p .member) (cellsOf x ms - 1) (omega (arith, cells-fit x ms (m .valid))) (fewer (cellsOf x ms) (p .some)))
 
   -- after a member's offer no more waits on its path than may wait on all members

@@ -13,8 +13,8 @@ use Rattle.connection.specs.declared.ready.Instant.the-variants.{Never, At}
 use Rattle.connection.specs.Ready.{readyInstant}
 use Rattle.model.specs.State.{Entry, free, taken, capacity}
 use Rattle.model.specs.Invariant.{Each, NamesUnique}
-use Rattle.model.specs.Choice.{noneReady, wins, winner, candidateFrom, Ahead, Chosen, Best}
-use Rattle.model.specs.Tournament.{levels, Lead, noLead, leads, winnerAt, inTime, leadInstant}
+use Rattle.model.specs.Winner.{noneReady, wins, winner, candidateFrom, Ahead, Chosen, Best}
+use Rattle.model.specs.Tournament.{levels, MatchWinner, noWinner, wonBy, winnerAt, inTime, winnerInstant}
 use Rattle.model.specs.Queries.{entryReady, earlier, earliest}
 use Rattle.model.proofs.Entries.{each-map, each-at}
 use Rattle.model.proofs.Winners.{ahead-instant, winner-best}
@@ -89,16 +89,16 @@ chosen-earliest t i v ss b =
     exactly Never p q = absurd q
     exactly (At j) p q = let z : j ≡ i = omega arith in ap At z
 
-pub root-earliest : (ss : List Entry) → length ss ≡ capacity → NamesUnique ss → earliest ss ≡ leadInstant (winnerAt ss levels 1)
-unfolding inTime candidateFrom leadInstant
+pub root-earliest : (ss : List Entry) → length ss ≡ capacity → NamesUnique ss → earliest ss ≡ winnerInstant (winnerAt ss levels 1)
+unfolding inTime candidateFrom winnerInstant
 root-earliest ss l u = go (winnerAt ss levels 1) (λ t. root-winner t ss l)
   where
     never : (r : Instant) → ((t : ℕ) → NotBefore (suc t) r) → r ≡ Never
     never Never h = refl
     never (At i) h = absurd (omega (arith, h i))
 
-    go : (a : Lead) → ((t : ℕ) → winner t ss ≡ inTime t a) → earliest ss ≡ leadInstant a
-    go noLead h = never (earliest ss) (λ t. later-earliest t ss (subst (Best t ss) (h t) (winner-best t ss u)))
-    go (leads i v x) h =
+    go : (a : MatchWinner) → ((t : ℕ) → winner t ss ≡ inTime t a) → earliest ss ≡ winnerInstant a
+    go noWinner h = never (earliest ss) (λ t. later-earliest t ss (subst (Best t ss) (h t) (winner-best t ss u)))
+    go (wonBy i v x) h =
         let won : winner i ss ≡ wins i v = h i ∙ rw (le-leb i i (le-refl i)) in
         chosen-earliest i i v ss (subst (Best i ss) won (winner-best i ss u))

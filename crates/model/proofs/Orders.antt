@@ -9,14 +9,14 @@ use native.Mathlib.Omega.{arith}
 use lib.Dec.{leb, ltb, eqb}
 use lib.ListN.{length}
 use borrow.Author.Tests.{leb-true, leb-false, ltb-true, ltb-false, eqb-true, eqb-false, not-true, not-false}
-use Rattle.params.specs.declared.params.Params.{Params}
+use Rattle.rate_params.specs.declared.params.Params.{Params}
 use Rattle.rate.specs.Units.{latestTime}
 use Rattle.cell.specs.declared.read.Reading.{Reading}
-use Rattle.cell.specs.declared.read.Reading.the-variants.{Refused as Unread, User, Resource}
-use Rattle.cell.specs.Name.{pairFits, pairName}
+use Rattle.cell.specs.declared.read.Reading.the-variants.{Refused as Unread, DataCell, RmCell}
+use Rattle.cell.specs.Name.{addressFits, addressName}
 use Rattle.cell.specs.Reading.{reading}
-use Rattle.members.specs.Path.{isPath}
-use Rattle.members.specs.Members.{isMember, cellsOf}
+use Rattle.connection_members.specs.Path.{isPath}
+use Rattle.connection_members.specs.Members.{isMember, cellsOf}
 use Rattle.connection.specs.declared.parts.Connection.{Connection}
 use Rattle.connection.specs.declared.ready.Instant.{Instant}
 use Rattle.connection.specs.declared.ready.Instant.the-variants.{Never, At}
@@ -25,11 +25,11 @@ use Rattle.connection.specs.Interval.{rested}
 use Rattle.laws.specs.Require.{require}
 use Rattle.laws.proofs.Tests.{both}
 use Rattle.model.specs.State.{State, Entry, free, taken, capacity, empty, position, isFree, find, entryCells, roomLeft}
-use Rattle.model.specs.Choice.{Winner, noneReady, wins}
+use Rattle.model.specs.Winner.{Winner, noneReady, wins}
 use Rattle.model.specs.Call.{Call, opening, closing, receiving, offering, levelling, slot, making, outOfRate, openingPath, adding, offeringMember, removing, Outcome, refusal}
-use Rattle.model.specs.Step.{refuse, accept, replay, discard, ofOpen, ofMember, admit, openStep, openPathStep, closeStep, offerStep, addStep, offerMemberStep, removeStep, dataCellStep, readStep, receiveStep, levelStep, sendFrom, sendStep, sendOutside, idleStep, serveEntry, serve, slotStep, makeStep, outOfRateStep, step}
+use Rattle.model.specs.Step.{refuse, accept, replay, discard, ofOpen, ofMember, openAddress, openStep, openPathStep, closeStep, offerStep, addStep, offerMemberStep, removeStep, dataCellStep, readStep, receiveStep, levelStep, sendFrom, sendStep, sendOutOfRate, idleStep, serveEntry, serve, slotStep, makeStep, outOfRateStep, step}
 use Rattle.model.specs.Run.{final}
-use Rattle.model.specs.Orders.{Asks, refused, passed, Accepts, accepted, openCount, lastMade, lastOutside, Rested, AdmitOrder, ReceiveOrder, OrderOf, RefusedInOrder}
+use Rattle.model.specs.Orders.{Asks, refused, passed, Accepts, accepted, openCount, lastMade, lastOutOfRate, Rested, OpenAddressOrder, ReceiveOrder, OrderOf, RefusedInOrder}
 use Rattle.model.proofs.Reached.{reached-well-formed}
 
 abbrev answered : Outcome → Option ℕ
@@ -92,9 +92,9 @@ and : {a b : Bool} {P Q : Type 0} → Decides a P → Decides b Q → Decides (a
 and {a = true} {b = b} d e = record { yes = λ q. (d .yes refl, e .yes q); no = λ q h. e .no q (h .1) }
 and {a = false} {b = b} d e = record { yes = λ q. absurd (true≢false (sym q)); no = λ q h. d .no refl (h .0) }
 
-within : (a b : ℕ) {t : Bool} {P : Type 0} → Decides t P → Decides (pairFits a b && t) ((a ≤ 255) × (b ≤ 65_535) × P)
+within : (a b : ℕ) {t : Bool} {P : Type 0} → Decides t P → Decides (addressFits a b && t) ((a ≤ 255) × (b ≤ 65_535) × P)
 within a b {t} d = record {
-  yes = λ q. let z = both (pairFits a b) t q in (let y = both (leb a 255) (leb b 65535) (z .0) in (leb-true _ _ (y .0), leb-true _ _ (y .1), d .yes (z .1)));
+  yes = λ q. let z = both (addressFits a b) t q in (let y = both (leb a 255) (leb b 65535) (z .0) in (leb-true _ _ (y .0), leb-true _ _ (y .1), d .yes (z .1)));
   no = λ q h. and (and (at-most a 255) (at-most b 65535)) d .no q ((h .0, h .1), h .2);
 }
 
@@ -131,9 +131,9 @@ discards : (n x : ℕ) (s r : State) → Accepts (answered (discard n x s r))
 unfolding discard refusal
 discards n x s r = accepted
 
-admit-order : (s : State) → length (s .entries) ≡ capacity → (a b t : ℕ) (p : Params) → AdmitOrder s a b t p (answered (admit s a b t p))
-unfolding admit
-admit-order s size a b t p =
+open-address-order : (s : State) → length (s .entries) ≡ capacity → (a b t : ℕ) (p : Params) → OpenAddressOrder s a b t p (answered (openAddress s a b t p))
+unfolding openAddress
+open-address-order s size a b t p =
     require-order s 19 _ (itself _) λ _.
     require-order s 7 _ (within a b (itself _)) λ _.
     require-order s 29 _ (itself _) λ _.
@@ -147,19 +147,19 @@ admit-order s size a b t p =
 
 member-order :
     (s : State) (a b : ℕ) (f : Connection → Outcome) (R : Option ℕ → Type 0) → ((c : Connection) → R (answered (f c)))
-    → Asks 11 (find (pairName a 6) (s .entries) ≢ free) (Asks 28 ((a ≤ 255) × (b ≤ 65_535) × (isMember (pairName a b) (s .members) ≡ true)) R) (answered (ofMember s a b f))
+    → Asks 11 (find (addressName a 6) (s .entries) ≢ free) (Asks 28 ((a ≤ 255) × (b ≤ 65_535) × (isMember (addressName a b) (s .members) ≡ true)) R) (answered (ofMember s a b f))
 unfolding ofMember
 member-order s a b f R h =
-    ofOpen-order s _ _ (λ _. Asks 28 ((a ≤ 255) × (b ≤ 65_535) × (isMember (pairName a b) (s .members) ≡ true)) R) λ c.
+    ofOpen-order s _ _ (λ _. Asks 28 ((a ≤ 255) × (b ≤ 65_535) × (isMember (addressName a b) (s .members) ≡ true)) R) λ c.
     require-order s 28 (f c) (within a b (itself _)) λ _. h c
 
 receive-order : (s : State) (o : List ℕ) (r : Reading) → ReceiveOrder s r (answered (readStep s o r))
 unfolding readStep dataCellStep refuse refusal
 receive-order s o (Unread n) = refl
-receive-order s o (User a b e) =
+receive-order s o (DataCell a b e) =
     require-order s 11 _ (negated _) λ _.
     ofOpen-order s _ _ (λ _. Accepts) λ c. replays _ s _
-receive-order s o (Resource f) = ofOpen-order s _ _ (λ _. Accepts) λ c. replays _ s _
+receive-order s o (RmCell f) = ofOpen-order s _ _ (λ _. Accepts) λ c. replays _ s _
 
 serves : (s : State) (t : ℕ) (w : Winner) → Accepts (answered (serve s t w))
 unfolding serve serveEntry idleStep refusal sendStep sendFrom
@@ -171,12 +171,12 @@ serves s t (wins i v) = entry (find v (s .entries))
     entry (taken c) = accepted
 
 order : (s : State) → length (s .entries) ≡ capacity → (c : Call) → OrderOf s c (answered (step s c))
-unfolding step openStep openPathStep closeStep offerStep addStep offerMemberStep removeStep receiveStep levelStep slotStep makeStep outOfRateStep accept sendOutside refusal entryCells
-order s size (opening a b t p) = require-order s 10 _ (at-most 32 b) λ _. admit-order s size a b t p
+unfolding step openStep openPathStep closeStep offerStep addStep offerMemberStep removeStep receiveStep levelStep slotStep makeStep outOfRateStep accept sendOutOfRate refusal entryCells
+order s size (opening a b t p) = require-order s 10 _ (at-most 32 b) λ _. open-address-order s size a b t p
 order s size (closing a b) = ofOpen-order s _ _ (λ _. Accepts) λ c. discards _ _ s _
 order s size (receiving o) = receive-order s o (reading o)
 order s size (offering a b n) =
-    ofOpen-order s _ _ (λ x. Asks 28 (isPath (pairName a b) ≡ false) (Asks 15 (entryCells x + n ≤ 65_535) Accepts)) λ c.
+    ofOpen-order s _ _ (λ x. Asks 28 (isPath (addressName a b) ≡ false) (Asks 15 (entryCells x + n ≤ 65_535) Accepts)) λ c.
     require-order s 28 _ (negated _) λ _.
     require-order s 15 _ (at-most (waiting (c .queue) + n) 65535) λ _. replays _ s _
 order s size (levelling l) = require-order s 9 _ (at-most l 2) λ _. accepted
@@ -193,19 +193,19 @@ order s size (making a b t) =
 order s size (outOfRate a b t room) =
     require-order s 1 _ (equal room 53) λ _.
     require-order s 8 _ (at-most t latestTime) λ _.
-    ofOpen-order s _ _ (λ x. Asks 14 (s .last ≤ t) (Asks 18 (Rested t (lastOutside x)) Accepts)) λ c.
+    ofOpen-order s _ _ (λ x. Asks 14 (s .last ≤ t) (Asks 18 (Rested t (lastOutOfRate x)) Accepts)) λ c.
     require-order s 14 _ (at-most (s .last) t) λ _.
-    require-order s 18 _ (in-time t (c .outside)) λ _. accepted
-order s size (openingPath a t p) = admit-order s size a 6 t p
+    require-order s 18 _ (in-time t (c .«out_of_rate»)) λ _. accepted
+order s size (openingPath a t p) = open-address-order s size a 6 t p
 order s size (adding a b) =
     require-order s 10 _ (at-most 32 b) λ _.
-    ofOpen-order s _ _ (λ _. Asks 12 (find (pairName a b) (s .entries) ≡ free) (Asks 27 (isMember (pairName a b) (s .members) ≡ false) (Asks 26 (length (s .members) < 256) Accepts))) λ c.
+    ofOpen-order s _ _ (λ _. Asks 12 (find (addressName a b) (s .entries) ≡ free) (Asks 27 (isMember (addressName a b) (s .members) ≡ false) (Asks 26 (length (s .members) < 256) Accepts))) λ c.
     require-order s 12 _ (not-open _) λ _.
     require-order s 27 _ (negated _) λ _.
     require-order s 26 _ (below (length (s .members)) 256) λ _. accepted
 order s size (offeringMember a b n) =
-    member-order s a b _ (Asks 15 (cellsOf (pairName a b) (s .members) + n ≤ 65_535) Accepts) λ c.
-    require-order s 15 _ (at-most (cellsOf (pairName a b) (s .members) + n) 65535) λ _. replays _ s _
+    member-order s a b _ (Asks 15 (cellsOf (addressName a b) (s .members) + n ≤ 65_535) Accepts) λ c.
+    require-order s 15 _ (at-most (cellsOf (addressName a b) (s .members) + n) 65535) λ _. replays _ s _
 order s size (removing a b) = member-order s a b _ Accepts λ c. discards _ _ s _
 
 pub refused-in-order : RefusedInOrder

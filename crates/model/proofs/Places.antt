@@ -17,8 +17,8 @@ use Rattle.connection.specs.declared.ready.Instant.the-variants.{Never, At}
 use Rattle.connection.specs.Ready.{readyInstant}
 use Rattle.model.specs.State.{Entry, free, taken, position, holds, capacity}
 use Rattle.model.specs.Invariant.{NamesUnique}
-use Rattle.model.specs.Choice.{isAhead}
-use Rattle.model.specs.Tournament.{levels, Lead, noLead, leads, instantLead, leafLead, first, neighbour, winnerAt, leadWord}
+use Rattle.model.specs.Winner.{isAhead}
+use Rattle.model.specs.Tournament.{levels, MatchWinner, noWinner, wonBy, instantWinner, leafWinner, first, neighbour, winnerAt, winnerWord}
 use Rattle.model.proofs.Entries.{entry-place, Case, same, other, case}
 use Rattle.model.proofs.Winners.{ahead-yes, ahead-no, ahead-anti}
 
@@ -70,23 +70,23 @@ stands-root {h} s = let z : h ≡ 0 = omega (arith, s .height) in let a = s .lea
 
 -- ---- where a lead comes from
 
-abbrev pub OnLead : (ℕ → ℕ → ℕ → Type 0) → Lead → Type 0
-OnLead P noLead = Unit
-OnLead P (leads i v x) = P i v x
+abbrev pub OnMatchWinner : (ℕ → ℕ → ℕ → Type 0) → MatchWinner → Type 0
+OnMatchWinner P noWinner = Unit
+OnMatchWinner P (wonBy i v x) = P i v x
 
-pub on-first : (P : ℕ → ℕ → ℕ → Type 0) (a b : Lead) → OnLead P a → OnLead P b → OnLead P (first a b)
+pub on-first : (P : ℕ → ℕ → ℕ → Type 0) (a b : MatchWinner) → OnMatchWinner P a → OnMatchWinner P b → OnMatchWinner P (first a b)
 unfolding first
-on-first P noLead b p q = q
-on-first P (leads i v x) noLead p q = p
-on-first P (leads i v x) (leads j w y) p q = go (isAhead i v j w)
+on-first P noWinner b p q = q
+on-first P (wonBy i v x) noWinner p q = p
+on-first P (wonBy i v x) (wonBy j w y) p q = go (isAhead i v j w)
   where
-    go : (t : Bool) → OnLead P (cond t (leads i v x) (leads j w y))
+    go : (t : Bool) → OnMatchWinner P (cond t (wonBy i v x) (wonBy j w y))
     go true = p
     go false = q
 
-pub on-map : (P Q : ℕ → ℕ → ℕ → Type 0) → ((i v x : ℕ) → P i v x → Q i v x) → (a : Lead) → OnLead P a → OnLead Q a
-on-map P Q f noLead h = tt
-on-map P Q f (leads i v x) h = f i v x h
+pub on-map : (P Q : ℕ → ℕ → ℕ → Type 0) → ((i v x : ℕ) → P i v x → Q i v x) → (a : MatchWinner) → OnMatchWinner P a → OnMatchWinner Q a
+on-map P Q f noWinner h = tt
+on-map P Q f (wonBy i v x) h = f i v x h
 
 -- the lead of instant i, name v and leaf x at a place: that of the connection in entry x, which stands below it
 pub record Comes (ss : List Entry) (d p i v x : ℕ) : Type 0 where
@@ -97,12 +97,12 @@ pub record Comes (ss : List Entry) (d p i v x : ℕ) : Type 0 where
   pub below : above d (capacity + x) ≡ p
   pub inside : x < capacity
 
-leaf-entry : (ss : List Entry) (p x : ℕ) → capacity + x ≡ p → x < capacity → (e : Entry) → getD ss x free ≡ e → OnLead (Comes ss 0 p) (leafLead x e)
-unfolding leafLead instantLead above
+leaf-entry : (ss : List Entry) (p x : ℕ) → capacity + x ≡ p → x < capacity → (e : Entry) → getD ss x free ≡ e → OnMatchWinner (Comes ss 0 p) (leafWinner x e)
+unfolding leafWinner instantWinner above
 leaf-entry ss p x q l free e = tt
 leaf-entry ss p x q l (taken c) e = go (readyInstant c) refl
   where
-    go : (r : Instant) → readyInstant c ≡ r → OnLead (Comes ss 0 p) (instantLead (c .name) x r)
+    go : (r : Instant) → readyInstant c ≡ r → OnMatchWinner (Comes ss 0 p) (instantWinner (c .name) x r)
     go Never z = tt
     go (At i) z = record { holder = c; here = e; readyAt = z; named = refl; below = q; inside = l }
 
@@ -123,16 +123,16 @@ even p = omega arith
 odd : (p : ℕ) → (2 * p + 1) / 2 ≡ p
 odd p = omega arith
 
-pub lead-entry : (ss : List Entry) {h : ℕ} (d p : ℕ) → Stands h d p → OnLead (Comes ss d p) (winnerAt ss d p)
+pub winner-entry : (ss : List Entry) {h : ℕ} (d p : ℕ) → Stands h d p → OnMatchWinner (Comes ss d p) (winnerAt ss d p)
 unfolding winnerAt
-lead-entry ss {h} zero p s =
+winner-entry ss {h} zero p s =
     let z : h ≡ levels = omega (arith, s .height) in
     let e : 2 ^ h ≡ capacity = ap (λ (n : ℕ). 2 ^ n) z in
     leaf-entry ss p (p - capacity) (omega (arith, s .least)) (omega (arith, s .least, s .most)) (getD ss (p - capacity) free) refl
-lead-entry ss (suc d) p s =
+winner-entry ss (suc d) p s =
     on-first (Comes ss (suc d) p) (winnerAt ss d (2 * p)) (winnerAt ss d (2 * p + 1))
-    (on-map _ _ (comes-up ss d (2 * p) p (even p)) (winnerAt ss d (2 * p)) (lead-entry ss d (2 * p) (lower (2 * p) s (even p))))
-    (on-map _ _ (comes-up ss d (2 * p + 1) p (odd p)) (winnerAt ss d (2 * p + 1)) (lead-entry ss d (2 * p + 1) (lower (2 * p + 1) s (odd p))))
+    (on-map _ _ (comes-up ss d (2 * p) p (even p)) (winnerAt ss d (2 * p)) (winner-entry ss d (2 * p) (lower (2 * p) s (even p))))
+    (on-map _ _ (comes-up ss d (2 * p + 1) p (odd p)) (winnerAt ss d (2 * p + 1)) (winner-entry ss d (2 * p + 1) (lower (2 * p + 1) s (odd p))))
 
 -- two leads of one name are of one entry
 one-entry : (ss : List Entry) → NamesUnique ss → {d e p q i j v w x y : ℕ} → Comes ss d p i v x → Comes ss e q j w y → v ≡ w → x ≡ y
@@ -141,17 +141,17 @@ one-entry ss u {x} {y} a b n =
 
 -- ---- a match has no order, where names differ
 
-abbrev Apart : Lead → Lead → Type 0
-Apart a b = OnLead (λ i v x. OnLead (λ j w y. v ≢ w) b) a
+abbrev Apart : MatchWinner → MatchWinner → Type 0
+Apart a b = OnMatchWinner (λ i v x. OnMatchWinner (λ j w y. v ≢ w) b) a
 
-first-comm : (a b : Lead) → Apart a b → first a b ≡ first b a
+first-comm : (a b : MatchWinner) → Apart a b → first a b ≡ first b a
 unfolding first
-first-comm noLead noLead n = refl
-first-comm noLead (leads j w y) n = refl
-first-comm (leads i v x) noLead n = refl
-first-comm (leads i v x) (leads j w y) n = go (isAhead i v j w) (isAhead j w i v) refl refl
+first-comm noWinner noWinner n = refl
+first-comm noWinner (wonBy j w y) n = refl
+first-comm (wonBy i v x) noWinner n = refl
+first-comm (wonBy i v x) (wonBy j w y) n = go (isAhead i v j w) (isAhead j w i v) refl refl
   where
-    go : (s t : Bool) → isAhead i v j w ≡ s → isAhead j w i v ≡ t → cond s (leads i v x) (leads j w y) ≡ cond t (leads j w y) (leads i v x)
+    go : (s t : Bool) → isAhead i v j w ≡ s → isAhead j w i v ≡ t → cond s (wonBy i v x) (wonBy j w y) ≡ cond t (wonBy j w y) (wonBy i v x)
     go true true p q = absurd (n (ahead-anti (ahead-yes i v j w p) (ahead-yes j w i v q)))
     go true false p q = refl
     go false true p q = refl
@@ -160,10 +160,10 @@ first-comm (leads i v x) (leads j w y) n = go (isAhead i v j w) (isAhead j w i v
 pub unlike : (q : ℕ) → q ≢ neighbour q
 unlike q e = omega arith
 
-apart : (ss : List Entry) → NamesUnique ss → (d p q : ℕ) → p ≢ q → (a b : Lead) → OnLead (Comes ss d p) a → OnLead (Comes ss d q) b → Apart a b
-apart ss u d p q n noLead b s t = tt
-apart ss u d p q n (leads i v x) noLead s t = tt
-apart ss u d p q n (leads i v x) (leads j w y) s t = λ e. n (sym (s .below) ∙ ap (λ (m : ℕ). above d (capacity + m)) (one-entry ss u s t e) ∙ t .below)
+apart : (ss : List Entry) → NamesUnique ss → (d p q : ℕ) → p ≢ q → (a b : MatchWinner) → OnMatchWinner (Comes ss d p) a → OnMatchWinner (Comes ss d q) b → Apart a b
+apart ss u d p q n noWinner b s t = tt
+apart ss u d p q n (wonBy i v x) noWinner s t = tt
+apart ss u d p q n (wonBy i v x) (wonBy j w y) s t = λ e. n (sym (s .below) ∙ ap (λ (m : ℕ). above d (capacity + m)) (one-entry ss u s t e) ∙ t .below)
 
 -- the match of a place, with the place first
 pub up : (ss : List Entry) → NamesUnique ss → (h d q : ℕ) → Stands (suc h) d q → winnerAt ss (suc d) (q / 2) ≡ first (winnerAt ss d q) (winnerAt ss d (neighbour q))
@@ -177,7 +177,7 @@ up ss u h d q s = go (eqb (q % 2) 0) refl
     go false e =
         let z = eqb-false (q % 2) 0 e in
         ap₂ (λ (m n : ℕ). first (winnerAt ss d m) (winnerAt ss d n)) {x = 2 * (q / 2)} {y = neighbour q} {u = 2 * (q / 2) + 1} {v = q} (omega (arith, z)) (omega (arith, z))
-        ∙ sym (first-comm (winnerAt ss d q) (winnerAt ss d (neighbour q)) (apart ss u d q (neighbour q) (unlike q) (winnerAt ss d q) (winnerAt ss d (neighbour q)) (lead-entry ss d q s) (lead-entry ss d (neighbour q) (aside q s))))
+        ∙ sym (first-comm (winnerAt ss d q) (winnerAt ss d (neighbour q)) (apart ss u d q (neighbour q) (unlike q) (winnerAt ss d q) (winnerAt ss d (neighbour q)) (winner-entry ss d q s) (winner-entry ss d (neighbour q) (aside q s))))
 
 -- ---- one leaf changes
 
@@ -205,7 +205,7 @@ module _ (ss : List Entry) (x : ℕ) (y : Entry) where
   off-path {h} zero p s n =
       let z : h ≡ levels = omega (arith, s .height) in
       let e : 2 ^ h ≡ capacity = ap (λ (n : ℕ). 2 ^ n) z in
-      ap (leafLead (p - capacity)) (getD-set-other ss x (p - capacity) y free (λ z. n (omega (arith, s .least))))
+      ap (leafWinner (p - capacity)) (getD-set-other ss x (p - capacity) y free (λ z. n (omega (arith, s .least))))
   off-path (suc d) p s n =
       ap₂ first (off-path d (2 * p) (lower (2 * p) s (even p)) (λ z. n (ap (λ (m : ℕ). m / 2) z ∙ even p)))
       (off-path d (2 * p + 1) (lower (2 * p + 1) s (odd p)) (λ z. n (ap (λ (m : ℕ). m / 2) z ∙ odd p)))
@@ -219,17 +219,17 @@ module _ (ss : List Entry) (x : ℕ) (y : Entry) where
       go (other z) = off-path d p s (λ f. z (sym a ∙ f))
 
   -- Two leads of one leaf, of the entries before and now, are one lead, if it is not the leaf that changed.
-  one-lead : (d p : ℕ) (a b : Lead) → OnLead (Comes ss d p) a → OnLead (Comes (set ss x y) d p) b → leadWord a ≡ leadWord b → leadWord b ≢ x + 1 → b ≡ a
-  unfolding leadWord
-  one-lead d p noLead noLead s t e n = refl
-  one-lead d p noLead (leads j w z) s t e n = absurd (omega (arith, e))
-  one-lead d p (leads i v u) noLead s t e n = absurd (omega (arith, e))
-  one-lead d p (leads i v u) (leads j w z) s t e n = whole (at-same j i (sym (t .readyAt) ∙ ap readyInstant one ∙ s .readyAt)) (sym (t .named) ∙ ap (λ (c : Connection). c .name) one ∙ s .named) (omega (arith, e))
+  one-winner : (d p : ℕ) (a b : MatchWinner) → OnMatchWinner (Comes ss d p) a → OnMatchWinner (Comes (set ss x y) d p) b → winnerWord a ≡ winnerWord b → winnerWord b ≢ x + 1 → b ≡ a
+  unfolding winnerWord
+  one-winner d p noWinner noWinner s t e n = refl
+  one-winner d p noWinner (wonBy j w z) s t e n = absurd (omega (arith, e))
+  one-winner d p (wonBy i v u) noWinner s t e n = absurd (omega (arith, e))
+  one-winner d p (wonBy i v u) (wonBy j w z) s t e n = whole (at-same j i (sym (t .readyAt) ∙ ap readyInstant one ∙ s .readyAt)) (sym (t .named) ∙ ap (λ (c : Connection). c .name) one ∙ s .named) (omega (arith, e))
     where
       at-same : (i j : ℕ) → At i ≡ At j → i ≡ j
       at-same i j e = cc
 
-      whole : {i j v w x y : ℕ} → i ≡ j → v ≡ w → x ≡ y → leads i v x ≡ leads j w y
+      whole : {i j v w x y : ℕ} → i ≡ j → v ≡ w → x ≡ y → wonBy i v x ≡ wonBy j w y
       whole p q r = rw (p, q, r)
 
       taken-same : (c d : Connection) → taken c ≡ taken d → c ≡ d
@@ -242,16 +242,16 @@ module _ (ss : List Entry) (x : ℕ) (y : Entry) where
       one = taken-same (t .holder) (s .holder) (sym (t .here) ∙ getD-set-other ss x z y free (λ q. n (omega arith)) ∙ ap (λ (m : ℕ). getD ss m free) (sym leaf) ∙ s .here)
 
   -- Where a replay may end: the winner's leaf, or the lack of one, is as before and is not the leaf that changed.
-  pub ended : {h : ℕ} (d p : ℕ) → Stands h d p → leadWord (winnerAt ss d p) ≡ leadWord (winnerAt (set ss x y) d p) → leadWord (winnerAt (set ss x y) d p) ≢ x + 1
+  pub ended : {h : ℕ} (d p : ℕ) → Stands h d p → winnerWord (winnerAt ss d p) ≡ winnerWord (winnerAt (set ss x y) d p) → winnerWord (winnerAt (set ss x y) d p) ≢ x + 1
       → winnerAt (set ss x y) d p ≡ winnerAt ss d p
-  ended d p s = one-lead d p (winnerAt ss d p) (winnerAt (set ss x y) d p) (lead-entry ss d p s) (lead-entry (set ss x y) d p s)
+  ended d p s = one-winner d p (winnerAt ss d p) (winnerAt (set ss x y) d p) (winner-entry ss d p s) (winner-entry (set ss x y) d p s)
 
   -- a leaf that leads as before
-  pub same-leaf : leafLead x y ≡ leafLead x (getD ss x free) → x < length ss → (d p : ℕ) → winnerAt (set ss x y) d p ≡ winnerAt ss d p
+  pub same-leaf : leafWinner x y ≡ leafWinner x (getD ss x free) → x < length ss → (d p : ℕ) → winnerAt (set ss x y) d p ≡ winnerAt ss d p
   unfolding winnerAt
   same-leaf e l zero p = go (case (p - capacity) x)
     where
-      go : Case (p - capacity) x → leafLead (p - capacity) (getD (set ss x y) (p - capacity) free) ≡ leafLead (p - capacity) (getD ss (p - capacity) free)
+      go : Case (p - capacity) x → leafWinner (p - capacity) (getD (set ss x y) (p - capacity) free) ≡ leafWinner (p - capacity) (getD ss (p - capacity) free)
       go (same z) = rw (z, getD-set-same ss x y free l) e
-      go (other z) = ap (leafLead (p - capacity)) (getD-set-other ss x (p - capacity) y free z)
+      go (other z) = ap (leafWinner (p - capacity)) (getD-set-other ss x (p - capacity) y free z)
   same-leaf e l (suc d) p = ap₂ first (same-leaf e l d (2 * p)) (same-leaf e l d (2 * p + 1))

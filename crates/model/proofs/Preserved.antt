@@ -6,11 +6,11 @@ use mathlib.Core.List.{List}
 use native.Mathlib.Omega.{arith}
 use lib.ListN.{length-set, length-replicate}
 use Rattle.rate.specs.Units.{latestTime}
-use Rattle.members.specs.Members.{Member}
+use Rattle.connection_members.specs.Members.{Member}
 use Rattle.connection.specs.declared.parts.Connection.{Connection}
 use Rattle.connection.specs.Invariant.{ValidAt}
 use Rattle.connection.proofs.Keeps.{valid-later}
-use Rattle.model.specs.State.{State, Entry, free, taken, capacity, empty, position, holds, isFree, find, put, inserted, withTime, withLevel, withMembers}
+use Rattle.model.specs.State.{State, Entry, free, taken, capacity, empty, position, holds, isFree, find, withEntryOf, withOpened, withTime, withLevel, withMembers}
 use Rattle.model.specs.Invariant.{OnEntry, MembersOf, WellFormed}
 use Rattle.model.proofs.Entries.{each-set, entry-map, each-map, each-free, unique-free, each-at, find-absent, unique-set, freed-absent}
 use Rattle.model.proofs.Members.{none-members}
@@ -22,8 +22,8 @@ valid-at {s} w u d e = each-at (ValidAt (s .last)) u (s .entries) d e (w .each)
 -- an entry and the members change together
 pub put-well-formed :
     {s : State} → WellFormed s → (v : ℕ) (x : Entry) → OnEntry (ValidAt (s .last)) x → OnEntry (λ c. c .name ≡ v) x → (ms : List Member)
-    → MembersOf (put v x s .entries) ms → WellFormed (withMembers ms (put v x s))
-unfolding put withMembers
+    → MembersOf (withEntryOf v x s .entries) ms → WellFormed (withMembers ms (withEntryOf v x s))
+unfolding withEntryOf withMembers
 put-well-formed {s} w v x p q ms m = record {
   levels = w .levels;
   timely = w .timely;
@@ -34,11 +34,11 @@ put-well-formed {s} w v x p q ms m = record {
   members = m;
 }
 
-pub inserted-well-formed :
-    {s : State} → WellFormed s → (c : Connection) → ValidAt (s .last) c → find (c .name) (s .entries) ≡ free → MembersOf (inserted c s .entries) (s .members)
-    → WellFormed (inserted c s)
-unfolding inserted
-inserted-well-formed {s} w c p e m = record {
+pub with-opened-well-formed :
+    {s : State} → WellFormed s → (c : Connection) → ValidAt (s .last) c → find (c .name) (s .entries) ≡ free → MembersOf (withOpened c s .entries) (s .members)
+    → WellFormed (withOpened c s)
+unfolding withOpened
+with-opened-well-formed {s} w c p e m = record {
   levels = w .levels;
   timely = w .timely;
   size = length-set (s .entries) (position isFree (s .entries)) (taken c) ∙ w .size;

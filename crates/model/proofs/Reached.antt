@@ -5,18 +5,18 @@ use mathlib.Core.Bool.{true, false, true≢false}
 use mathlib.Core.List.{List, [], _∷_}
 use mathlib.Core.Option.{none}
 use native.Mathlib.Omega.{arith}
-use Rattle.params.specs.declared.params.Params.{Params}
-use Rattle.cell.specs.Name.{noName, pairFits, pairName}
-use Rattle.cell.proofs.Names.{pair-out, pair-named}
+use Rattle.rate_params.specs.declared.params.Params.{Params}
+use Rattle.cell.specs.Name.{noName, addressFits, addressName}
+use Rattle.cell.proofs.Names.{pair-out, address-named}
 use Rattle.cell.specs.Fields.{cellName}
-use Rattle.members.specs.Path.{isPath, pathVci, pathOf}
-use Rattle.members.specs.Members.{Member, isMember, cellsOf, withMember}
-use Rattle.members.specs.Turn.{turn, afterServing, lastAfter}
-use Rattle.members.proofs.Names.{path-is-path}
+use Rattle.connection_members.specs.Path.{isPath, pathVci, pathOf}
+use Rattle.connection_members.specs.Members.{Member, isMember, cellsOf, withMember}
+use Rattle.connection_members.specs.Turn.{turn, afterServing, lastAfter}
+use Rattle.connection_members.proofs.Names.{path-is-path}
 use Rattle.connection.specs.declared.parts.Connection.{Connection}
 use Rattle.connection.specs.Parts.{fresh, waiting, withQueue, dequeued}
 use Rattle.connection.specs.Making.{withMade}
-use Rattle.connection.specs.Receiving.{offered, afterDataCell, afterResourceCell}
+use Rattle.connection.specs.Receiving.{offered, afterDataCell, afterRmCell}
 use Rattle.connection.specs.declared.kind.Kind.{Kind}
 use Rattle.connection.specs.declared.kind.Kind.the-variants.{Forward, Turned, Data}
 use Rattle.connection.specs.Kind.{kindAt}
@@ -25,46 +25,46 @@ use Rattle.connection.specs.OutOfRate.{afterOutOfRate}
 use Rattle.connection.specs.Invariant.{ValidAt}
 use Rattle.connection.proofs.Waited.{data-waits}
 use Rattle.connection.proofs.Keeps.{made-valid, out-of-rate-valid, fresh-valid, offered-valid, less-valid, served-same, served-valid, after-data-cell-valid, work-same, work-queue, work-valid, after-same, after-valid}
-use Rattle.model.specs.State.{State, Entry, free, taken, empty, find, put, inserted, withTime, withMembers}
+use Rattle.model.specs.State.{State, Entry, free, taken, empty, find, withEntryOf, withOpened, withTime, withMembers}
 use Rattle.model.specs.Invariant.{MembersOf, WellFormed}
-use Rattle.model.specs.Choice.{winner, Best}
+use Rattle.model.specs.Winner.{winner, Best}
 use Rattle.model.proofs.Frames.{name-of}
-use Rattle.model.proofs.Members.{kept-members, channel-members, inserted-members, ended-members, added-members, stocked-members, removed-members, member-waits, served-members, offered-most}
-use Rattle.model.proofs.Preserved.{valid-at, put-well-formed, inserted-well-formed, withTime-well-formed, withLevel-well-formed, withMembers-well-formed, empty-well-formed}
+use Rattle.model.proofs.Members.{kept-members, channel-members, with-opened-members, ended-members, added-members, stocked-members, removed-members, member-waits, served-members, offered-most}
+use Rattle.model.proofs.Preserved.{valid-at, put-well-formed, with-opened-well-formed, withTime-well-formed, withLevel-well-formed, withMembers-well-formed, empty-well-formed}
 use Rattle.model.proofs.Winners.{winner-best}
 use Rattle.model.specs.Call.{Call, Outcome}
-use Rattle.model.specs.Step.{refuse, accept, replay, discard, withOffer, withoutOne, sendFrom, sendStep, sendOutside, idleStep, step}
+use Rattle.model.specs.Step.{refuse, accept, replay, discard, withOffer, withoutOne, sendFrom, sendStep, sendOutOfRate, idleStep, step}
 use Rattle.model.specs.Run.{final}
-use Rattle.model.proofs.Effects.{Timely, Enters, Joins, Effect, refuses, begins, ends, offers, marks, works, levels, idles, sends, makes, leaves, beginsPath, adds, offersMember, removes, effect}
+use Rattle.model.proofs.Effects.{Timely, OpenPassed, AddPassed, Effect, refuses, opens, closes, offers, receivesData, receivesRm, setsLevel, idles, sends, makes, sendsOutOfRate, opensPath, adds, offersMember, removes, effect}
 
 fresh-empty : (u t : ℕ) (p : Params) → waiting (fresh u t p .queue) ≡ 0
 unfolding fresh
 fresh-empty u t p = refl
 
-begun-well-formed : {s : State} → WellFormed s → (u t : ℕ) (p : Params) → Enters s u t p → WellFormed (withTime t (inserted (fresh u t p) s))
-unfolding withTime inserted fresh
+begun-well-formed : {s : State} → WellFormed s → (u t : ℕ) (p : Params) → OpenPassed s u t p → WellFormed (withTime t (withOpened (fresh u t p) s))
+unfolding withTime withOpened fresh
 begun-well-formed {s} w u t p g =
-    inserted-well-formed (withTime-well-formed w t (g .timely .since) (g .timely .until)) (fresh u t p) (fresh-valid u t p (g .assigned) (g .coded) (g .fits) (g .tbe) (g .frtt)) (g .new)
-    (inserted-members s (w .unique) (w .members) (fresh u t p) (g .new) (g .room) (g .noMember) (fresh-empty u t p))
+    with-opened-well-formed (withTime-well-formed w t (g .timely .since) (g .timely .until)) (fresh u t p) (fresh-valid u t p (g .assigned) (g .coded) (g .fits) (g .tbe) (g .frtt)) (g .new)
+    (with-opened-members s (w .unique) (w .members) (fresh u t p) (g .new) (g .room) (g .noMember) (fresh-empty u t p))
 
 -- a connection that stays as it should be, and keeps its name
 changed-well-formed :
     {s : State} → WellFormed s → (u : ℕ) (d e : Connection) → find u (s .entries) ≡ taken d → e .name ≡ d .name → (ValidAt (s .last) d → ValidAt (s .last) e)
-    → (ms : List Member) → MembersOf (put u (taken e) s .entries) ms → WellFormed (withMembers ms (put u (taken e) s))
+    → (ms : List Member) → MembersOf (withEntryOf u (taken e) s .entries) ms → WellFormed (withMembers ms (withEntryOf u (taken e) s))
 changed-well-formed {s} w u d e f n h ms m = put-well-formed w u (taken e) (h (valid-at w u d f)) (n ∙ name-of u s d f) ms m
 
 -- and the data that waits on it
 kept-well-formed :
     {s : State} → WellFormed s → (u : ℕ) (d e : Connection) → find u (s .entries) ≡ taken d → e .name ≡ d .name → waiting (e .queue) ≡ waiting (d .queue)
-    → (ValidAt (s .last) d → ValidAt (s .last) e) → WellFormed (put u (taken e) s)
-unfolding put withMembers
+    → (ValidAt (s .last) d → ValidAt (s .last) e) → WellFormed (withEntryOf u (taken e) s)
+unfolding withEntryOf withMembers
 kept-well-formed {s} w u d e f n q h = changed-well-formed w u d e f n h (s .members) (kept-members s (w .unique) (w .members) u d e f n q)
 
 -- a channel's offer
 offered-well-formed :
     {s : State} → WellFormed s → (u n : ℕ) (d : Connection) → find u (s .entries) ≡ taken d → isPath u ≡ false → waiting (d .queue) + n ≤ 65535
-    → WellFormed (put u (taken (offered n d)) s)
-unfolding offered put withMembers
+    → WellFormed (withEntryOf u (taken (offered n d)) s)
+unfolding offered withEntryOf withMembers
 offered-well-formed {s} w u n d f c h =
     changed-well-formed w u d (offered n d) f refl (offered-valid n d (λ _. h) (omega (arith, h))) (s .members)
     (channel-members s (w .unique) (w .members) u d (offered n d) f refl c)
@@ -72,7 +72,7 @@ offered-well-formed {s} w u n d f c h =
 -- a slot's cell
 sent-members :
     {s : State} → WellFormed s → (t u : ℕ) (d : Connection) → find u (s .entries) ≡ taken d → (k : Kind) → (k ≡ Data → 0 < waiting (d .queue))
-    → MembersOf (put u (taken (withServed (memberServed k d (s .members)) (after k t d))) s .entries) (afterServing (memberServed k d (s .members)) (s .members))
+    → MembersOf (withEntryOf u (taken (withServed (memberServed k d (s .members)) (after k t d))) s .entries) (afterServing (memberServed k d (s .members)) (s .members))
 unfolding memberServed withServed afterServing lastAfter after sentForward sentTurned sentData
 sent-members {s} w t u d f Forward h = kept-members s (w .unique) (w .members) u d (withServed none (sentForward t d)) f refl refl
 sent-members {s} w t u d f Turned h = kept-members s (w .unique) (w .members) u d (withServed none (sentTurned t d)) f refl refl
@@ -80,7 +80,7 @@ sent-members {s} w t u d f Data h =
     let waits = h refl in
     let x = turn (d .name) (d .queue .served) (s .members) in
     let e = served-members s (w .unique) (w .members) (d .name) (d .queue .served) d (withServed x (sentData t d)) (ap (λ (v : ℕ). find v (s .entries)) (name-of u s d f) ∙ f) refl waits (omega (arith, waits)) in
-    subst (λ (v : ℕ). MembersOf (put v (taken (withServed x (sentData t d))) s .entries) (afterServing x (s .members))) (name-of u s d f) e
+    subst (λ (v : ℕ). MembersOf (withEntryOf v (taken (withServed x (sentData t d))) s .entries) (afterServing x (s .members))) (name-of u s d f) e
 
 sent-well-formed :
     {s : State} → WellFormed s → (t u : ℕ) → Timely s t → (d : Connection) → find u (s .entries) ≡ taken d → (k : Kind) → kindAt t d ≡ k → (k ≡ Data → 0 < waiting (d .queue))
@@ -102,13 +102,13 @@ unknown {s} w v h = go (find v (s .entries)) refl
 
 -- a new member's name has 24 bits, since its path is open
 joined :
-    {s : State} → WellFormed s → (a b : ℕ) (d : Connection) → find (pathOf (pairName a b)) (s .entries) ≡ taken d → Joins s b (pairName a b)
-    → MembersOf (s .entries) (withMember (pairName a b) (s .members))
+    {s : State} → WellFormed s → (a b : ℕ) (d : Connection) → find (pathOf (addressName a b)) (s .entries) ≡ taken d → AddPassed s b (addressName a b)
+    → MembersOf (s .entries) (withMember (addressName a b) (s .members))
 joined {s} w a b d f j =
-    added-members s (w .unique) (w .members) (pairName a b) d f coded (omega (arith, j .high, pair-named a b coded .vciBack)) (j .noChannel) (j .noMember) (j .room)
+    added-members s (w .unique) (w .members) (addressName a b) d f coded (omega (arith, j .high, address-named a b coded .vciBack)) (j .noChannel) (j .noMember) (j .room)
   where
-    coded : pairName a b < noName
-    coded = below (pairName a b) (name-of (pathOf (pairName a b)) s d f) (valid-at w (pathOf (pairName a b)) d f .0 .coded)
+    coded : addressName a b < noName
+    coded = below (addressName a b) (name-of (pathOf (addressName a b)) s d f) (valid-at w (pathOf (addressName a b)) d f .0 .coded)
       where
         below : (x : ℕ) → d .name ≡ pathOf x → d .name < noName → x < noName
         below x e h = omega arith
@@ -123,27 +123,27 @@ member-offered-well-formed {s} w x n d f i h =
     _ (stocked-members s (w .unique) (w .members) x d (offered n d) f refl i (cellsOf x (s .members) + n) h (omega arith))
 
 effect-well-formed : {s : State} → WellFormed s → {c : Call} {o : Outcome} → Effect s c o → WellFormed (o .state)
-unfolding refuse accept replay discard idleStep sendOutside afterDataCell withTime withMade afterOutOfRate withOffer withoutOne offered
+unfolding refuse accept replay discard idleStep sendOutOfRate afterDataCell withTime withMade afterOutOfRate withOffer withoutOne offered
 effect-well-formed w (refuses c n h) = w
-effect-well-formed w (begins a b t p g) = begun-well-formed w (pairName a b) t p g
-effect-well-formed {s} w (ends a b d f) = put-well-formed w (pairName a b) free tt tt _ (ended-members s (w .unique) (w .members) (pairName a b))
-effect-well-formed w (offers a b n d f c h) = offered-well-formed w (pairName a b) n d f c h
-effect-well-formed w (marks o a b e u d r c z f) = kept-well-formed w u d (afterDataCell e d) f refl refl (after-data-cell-valid e d)
-effect-well-formed {s} w (works o q d r f) =
-    kept-well-formed w (cellName q) d (afterResourceCell (s .level) o q d) f (work-same (s .level) o q d .name) (ap waiting (work-queue (s .level) o q d)) (work-valid (s .level) o q d)
-effect-well-formed w (levels l h) = withLevel-well-formed w l h
+effect-well-formed w (opens a b t p g) = begun-well-formed w (addressName a b) t p g
+effect-well-formed {s} w (closes a b d f) = put-well-formed w (addressName a b) free tt tt _ (ended-members s (w .unique) (w .members) (addressName a b))
+effect-well-formed w (offers a b n d f c h) = offered-well-formed w (addressName a b) n d f c h
+effect-well-formed w (receivesData o a b e u d r c z f) = kept-well-formed w u d (afterDataCell e d) f refl refl (after-data-cell-valid e d)
+effect-well-formed {s} w (receivesRm o q d r f) =
+    kept-well-formed w (cellName q) d (afterRmCell (s .level) o q d) f (work-same (s .level) o q d .name) (ap waiting (work-queue (s .level) o q d)) (work-valid (s .level) o q d)
+effect-well-formed w (setsLevel l h) = withLevel-well-formed w l h
 effect-well-formed w (idles t room g b) = withTime-well-formed w t (g .since) (g .until)
 effect-well-formed w (sends t room i u g b) =
     sent-well-formed w t u g (b .holder) (b .found) (kindAt t (b .holder)) refl (λ e. data-waits t (b .holder) i (b .readyAt) (b .due) e)
 effect-well-formed {s} w (makes a b t d f g h m) =
-    kept-well-formed (withTime-well-formed w t (g .since) (g .until)) (pairName a b) d (withMade t (s .level) d) f refl refl (made-valid t (s .level) d (w .levels))
-effect-well-formed w (leaves a b t room d f g h) =
-    kept-well-formed (withTime-well-formed w t (g .since) (g .until)) (pairName a b) d (afterOutOfRate t d) f refl refl (out-of-rate-valid t d)
-effect-well-formed w (beginsPath a t p g) = begun-well-formed w (pairName a pathVci) t p g
+    kept-well-formed (withTime-well-formed w t (g .since) (g .until)) (addressName a b) d (withMade t (s .level) d) f refl refl (made-valid t (s .level) d (w .levels))
+effect-well-formed w (sendsOutOfRate a b t room d f g h) =
+    kept-well-formed (withTime-well-formed w t (g .since) (g .until)) (addressName a b) d (afterOutOfRate t d) f refl refl (out-of-rate-valid t d)
+effect-well-formed w (opensPath a t p g) = begun-well-formed w (addressName a pathVci) t p g
 effect-well-formed {s} w (adds a b d f j) = withMembers-well-formed w _ (joined w a b d f j)
-effect-well-formed {s} w (offersMember a b n d f i h) = member-offered-well-formed w (pairName a b) n d f i h
+effect-well-formed {s} w (offersMember a b n d f i h) = member-offered-well-formed w (addressName a b) n d f i h
 effect-well-formed {s} w (removes a b d f i) =
-    let x = pairName a b in
+    let x = addressName a b in
     changed-well-formed w (pathOf x) d (withQueue d (dequeued (cellsOf x (s .members)) (d .queue))) f refl (less-valid (cellsOf x (s .members)) d) _
     (removed-members s (w .unique) (w .members) x d _ f refl (rest _ _ (member-waits s (w .unique) (w .members) x d f)))
   where
@@ -161,11 +161,11 @@ final-well-formed w (c ∷ cs) = final-well-formed (step-well-formed w c) cs
 pub reached-well-formed : (cs : List Call) → WellFormed (final empty cs)
 reached-well-formed = final-well-formed empty-well-formed
 
-pub reached-unknown : (cs : List Call) (a b : ℕ) → pairFits a b ≡ false → find (pairName a b) (final empty cs .entries) ≡ free
-reached-unknown cs a b e = unknown (reached-well-formed cs) (pairName a b) (omega (arith, pair-out a b e))
+pub reached-unknown : (cs : List Call) (a b : ℕ) → addressFits a b ≡ false → find (addressName a b) (final empty cs .entries) ≡ free
+reached-unknown cs a b e = unknown (reached-well-formed cs) (addressName a b) (omega (arith, pair-out a b e))
 
-pub reached-no-path : (cs : List Call) (a b : ℕ) → pairFits a b ≡ false → find (pathOf (pairName a b)) (final empty cs .entries) ≡ free
-reached-no-path cs a b e = unknown (reached-well-formed cs) (pathOf (pairName a b)) (omega (arith, pair-out a b e))
+pub reached-no-path : (cs : List Call) (a b : ℕ) → addressFits a b ≡ false → find (pathOf (addressName a b)) (final empty cs .entries) ≡ free
+reached-no-path cs a b e = unknown (reached-well-formed cs) (pathOf (addressName a b)) (omega (arith, pair-out a b e))
 
-pub reached-choice : (cs : List Call) (t : ℕ) → Best t (final empty cs .entries) (winner t (final empty cs .entries))
-reached-choice cs t = winner-best t (final empty cs .entries) (reached-well-formed cs .unique)
+pub reached-winner : (cs : List Call) (t : ℕ) → Best t (final empty cs .entries) (winner t (final empty cs .entries))
+reached-winner cs t = winner-best t (final empty cs .entries) (reached-well-formed cs .unique)

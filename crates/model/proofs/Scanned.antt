@@ -12,8 +12,8 @@ use Rattle.connection.specs.declared.ready.Instant.{Instant}
 use Rattle.connection.specs.declared.ready.Instant.the-variants.{Never, At}
 use Rattle.connection.specs.Ready.{readyInstant}
 use Rattle.model.specs.State.{Entry, free, taken, capacity}
-use Rattle.model.specs.Choice.{Winner, noneReady, wins, candidateFrom, candidate, isAhead, better, winner, Ahead}
-use Rattle.model.specs.Tournament.{levels, Lead, noLead, leads, instantLead, leafLead, first, winnerAt, inTime}
+use Rattle.model.specs.Winner.{Winner, noneReady, wins, candidateFrom, candidate, isAhead, better, winner, Ahead}
+use Rattle.model.specs.Tournament.{levels, MatchWinner, noWinner, wonBy, instantWinner, leafWinner, first, winnerAt, inTime}
 use Rattle.model.proofs.Winners.{ahead-trans, ahead-yes, ahead-no, ahead-anti, ahead-instant}
 
 none-better : (a : Winner) → better a noneReady ≡ a
@@ -40,14 +40,14 @@ better-assoc (wins i v) (wins j w) (wins k u) = go (isAhead i v j w) (isAhead j 
     go false false true e f g = rw (f, g) (one-winner (ahead-yes i v k u g) (ahead-trans (ahead-no j w k u f) (ahead-no i v j w e)))
     go false false false e f g = rw (f, g)
 
-time-first : (t : ℕ) (a b : Lead) → inTime t (first a b) ≡ better (inTime t a) (inTime t b)
+time-first : (t : ℕ) (a b : MatchWinner) → inTime t (first a b) ≡ better (inTime t a) (inTime t b)
 unfolding inTime first better candidateFrom
-time-first t noLead b = refl
-time-first t (leads i v x) noLead = sym (none-better (inTime t (leads i v x)))
-time-first t (leads i v x) (leads j w y) = go (isAhead i v j w) (leb i t) (leb j t) refl refl refl
+time-first t noWinner b = refl
+time-first t (wonBy i v x) noWinner = sym (none-better (inTime t (wonBy i v x)))
+time-first t (wonBy i v x) (wonBy j w y) = go (isAhead i v j w) (leb i t) (leb j t) refl refl refl
   where
     go : (p q r : Bool) → isAhead i v j w ≡ p → leb i t ≡ q → leb j t ≡ r
-        → inTime t (cond p (leads i v x) (leads j w y)) ≡ better (cond q (wins i v) noneReady) (cond r (wins j w) noneReady)
+        → inTime t (cond p (wonBy i v x) (wonBy j w y)) ≡ better (cond q (wins i v) noneReady) (cond r (wins j w) noneReady)
     go true true true e f g = rw (e, f)
     go true true false e f g = rw f
     go true false true e f g = absurd (omega (arith, ahead-instant (ahead-yes i v j w e), leb-false i t f, leb-true j t g))
@@ -57,12 +57,12 @@ time-first t (leads i v x) (leads j w y) = go (isAhead i v j w) (leb i t) (leb j
     go false false true e f g = rw g
     go false false false e f g = rw g
 
-time-leaf : (t x : ℕ) (e : Entry) → inTime t (leafLead x e) ≡ candidate t e
-unfolding inTime instantLead leafLead candidateFrom candidate
+time-leaf : (t x : ℕ) (e : Entry) → inTime t (leafWinner x e) ≡ candidate t e
+unfolding inTime instantWinner leafWinner candidateFrom candidate
 time-leaf t x free = refl
 time-leaf t x (taken c) = go (readyInstant c)
   where
-    go : (r : Instant) → inTime t (instantLead (c .name) x r) ≡ candidateFrom t (c .name) r
+    go : (r : Instant) → inTime t (instantWinner (c .name) x r) ≡ candidateFrom t (c .name) r
     go Never = refl
     go (At i) = refl
 

@@ -9,30 +9,30 @@ use Rattle.connection.specs.declared.kind.Kind.{Kind}
 use Rattle.connection.specs.Kind.{kindAt}
 use Rattle.connection.specs.Sending.{after, memberServed, withServed}
 use Rattle.connection.proofs.Keeps.{after-same}
-use Rattle.model.specs.State.{State, taken, empty, find, put, inserted, withTime, withLevel, withMembers}
+use Rattle.model.specs.State.{State, taken, empty, find, withEntryOf, withOpened, withTime, withLevel, withMembers}
 use Rattle.model.specs.Invariant.{NamesUnique}
 use Rattle.model.specs.Call.{Call, Outcome}
-use Rattle.model.specs.Step.{refuse, accept, replay, discard, withOffer, withoutOne, sendFrom, sendStep, sendOutside, idleStep, step}
+use Rattle.model.specs.Step.{refuse, accept, replay, discard, withOffer, withoutOne, sendFrom, sendStep, sendOutOfRate, idleStep, step}
 use Rattle.model.specs.Run.{final, isAccepted, entryRate}
 use Rattle.model.specs.Times.{timeAfter, TimesCount, RateStands, AnsweredRate}
-use Rattle.model.proofs.Effects.{Effect, refuses, begins, ends, offers, marks, works, levels, idles, sends, makes, leaves, beginsPath, adds, offersMember, removes, effect}
+use Rattle.model.proofs.Effects.{Effect, refuses, opens, closes, offers, receivesData, receivesRm, setsLevel, idles, sends, makes, sendsOutOfRate, opensPath, adds, offersMember, removes, effect}
 use Rattle.model.proofs.Frames.{put-read}
 use Rattle.model.proofs.Reached.{reached-well-formed}
 
 effect-time : {s : State} {c : Call} {o : Outcome} → Effect s c o → o .state .last ≡ cond (isAccepted (o .answer)) (timeAfter c (s .last)) (s .last)
-unfolding isAccepted refuse accept replay discard idleStep sendOutside sendStep sendFrom withOffer withoutOne put inserted withTime withLevel withMembers
+unfolding isAccepted refuse accept replay discard idleStep sendOutOfRate sendStep sendFrom withOffer withoutOne withEntryOf withOpened withTime withLevel withMembers
 effect-time (refuses c n h) = refl
-effect-time (begins a b t p g) = refl
-effect-time (ends a b d f) = refl
+effect-time (opens a b t p g) = refl
+effect-time (closes a b d f) = refl
 effect-time (offers a b n d f c h) = refl
-effect-time (marks o a b e u d r c z f) = refl
-effect-time (works o q d r f) = refl
-effect-time (levels l h) = refl
+effect-time (receivesData o a b e u d r c z f) = refl
+effect-time (receivesRm o q d r f) = refl
+effect-time (setsLevel l h) = refl
 effect-time (idles t room g b) = refl
 effect-time (sends t room i u g b) = refl
 effect-time (makes a b t d f g h m) = refl
-effect-time (leaves a b t room d f g h) = refl
-effect-time (beginsPath a t p g) = refl
+effect-time (sendsOutOfRate a b t room d f g h) = refl
+effect-time (opensPath a t p g) = refl
 effect-time (adds a b d f j) = refl
 effect-time (offersMember a b n d f i h) = refl
 effect-time (removes a b d f i) = refl
@@ -47,19 +47,19 @@ unfolding sendFrom withMembers entryRate withServed
 sent-rate s a t u d f k x = put-read entryRate u u s a d (withServed x (after k t d)) f (after-same k t d .name) ∙ rw (eq-eqb u u refl) refl
 
 effect-rate : {s : State} → NamesUnique (s .entries) → {c : Call} {o : Outcome} → Effect s c o → RateStands (o .answer) (o .state)
-unfolding refuse accept replay discard idleStep sendOutside sendStep withTime
+unfolding refuse accept replay discard idleStep sendOutOfRate sendStep withTime
 effect-rate a (refuses c n h) = tt
-effect-rate a (begins x y t p g) = tt
-effect-rate a (ends x y d f) = tt
+effect-rate a (opens x y t p g) = tt
+effect-rate a (closes x y d f) = tt
 effect-rate a (offers x y n d f c h) = tt
-effect-rate a (marks o x y e u d r c z f) = tt
-effect-rate a (works o q d r f) = tt
-effect-rate a (levels l h) = tt
+effect-rate a (receivesData o x y e u d r c z f) = tt
+effect-rate a (receivesRm o q d r f) = tt
+effect-rate a (setsLevel l h) = tt
 effect-rate a (idles t room g b) = tt
 effect-rate {s} a (sends t room i u g b) = sent-rate (withTime t s) a t u (b .holder) (b .found) (kindAt t (b .holder)) (memberServed (kindAt t (b .holder)) (b .holder) (s .members))
 effect-rate a (makes x y t d f g h m) = tt
-effect-rate a (leaves x y t room d f g h) = tt
-effect-rate a (beginsPath x t p g) = tt
+effect-rate a (sendsOutOfRate x y t room d f g h) = tt
+effect-rate a (opensPath x t p g) = tt
 effect-rate a (adds x y d f j) = tt
 effect-rate a (offersMember x y n d f i h) = tt
 effect-rate a (removes x y d f i) = tt

@@ -14,7 +14,7 @@ use Rattle.connection.specs.declared.ready.Instant.the-variants.{Never, At}
 use Rattle.connection.specs.Ready.{readyInstant}
 use Rattle.model.specs.State.{Entry, free, taken, find}
 use Rattle.model.specs.Invariant.{Absent, NamesUnique}
-use Rattle.model.specs.Choice.{Winner, noneReady, wins, candidateFrom, candidate, better, winner, Ahead, sooner, tied, Best}
+use Rattle.model.specs.Winner.{Winner, noneReady, wins, candidateFrom, candidate, better, winner, Ahead, sooner, tied, Best}
 use Rattle.model.proofs.Entries.{each-map, find-hit, find-past, absent-find, taken≢free}
 
 pub ahead-trans : {i v j w k x : ℕ} → Ahead i v j w → Ahead j w k x → Ahead i v k x

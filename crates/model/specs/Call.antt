@@ -2,14 +2,14 @@
 use Prim.Native.Nat.{ℕ}
 use mathlib.Core.List.{List}
 use mathlib.Core.Option.{Option, none, some}
-use Rattle.params.specs.declared.params.Params.{Params}
+use Rattle.rate_params.specs.declared.params.Params.{Params}
 use Rattle.connection.specs.declared.kind.Kind.{Kind}
 use Rattle.connection.specs.Sending.{Buffer}
 use Rattle.model.specs.State.{State}
 pub use Rattle.model.specs.declared.answer.Answer.{Answer}
 pub use Rattle.model.specs.declared.answer.Answer.the-variants.{Refused, Accepted, Closed, Idle, Sent}
 
--- Nothing bounds the arguments. What a lent buffer holds before a slot, or a cell outside the rate, is no argument, so room is its length.
+-- Nothing bounds the arguments. What a lent buffer holds before a slot, or an out-of-rate cell, is no argument, so room is its length.
 pub data Call : Type 0 where
   opening : (vpi vci time : ℕ) → Params → Call
   closing : (vpi vci : ℕ) → Call

@@ -5,8 +5,8 @@ use mathlib.Core.Path.{_≡_}
 use mathlib.Core.Bool.{Bool, cond, _&&_}
 use mathlib.Core.List.{List, [], _∷_}
 use lib.Dec.{eqb}
-use Rattle.cell.specs.Name.{pairName}
-use Rattle.members.specs.Path.{pathOf}
+use Rattle.cell.specs.Name.{addressName}
+use Rattle.connection_members.specs.Path.{pathOf}
 use Rattle.connection.specs.declared.kind.Kind.{Kind}
 use Rattle.connection.specs.declared.kind.Kind.the-variants.{Forward, Turned, Data}
 use Rattle.model.specs.State.{State, empty, find, entryCells}
@@ -19,20 +19,20 @@ unfoldable pub offeredTo : (v : ℕ) → Call → (accepted : Bool) → ℕ
 offeredTo v (opening vpi vci t p) a = 0
 offeredTo v (closing vpi vci) a = 0
 offeredTo v (receiving o) a = 0
-offeredTo v (offering vpi vci n) a = cond (a && eqb (pairName vpi vci) v) n 0
+offeredTo v (offering vpi vci n) a = cond (a && eqb (addressName vpi vci) v) n 0
 offeredTo v (levelling l) a = 0
 offeredTo v (slot t room) a = 0
 offeredTo v (making vpi vci t) a = 0
 offeredTo v (outOfRate vpi vci t room) a = 0
 offeredTo v (openingPath vpi t p) a = 0
 offeredTo v (adding vpi vci) a = 0
-offeredTo v (offeringMember vpi vci n) a = cond (a && eqb (pathOf (pairName vpi vci)) v) n 0
+offeredTo v (offeringMember vpi vci n) a = cond (a && eqb (pathOf (addressName vpi vci)) v) n 0
 offeredTo v (removing vpi vci) a = 0
 
 -- the cells that a close of v, or the removal of one of its members, answered
 unfoldable pub closedOn : (v : ℕ) → Call → (answered : ℕ) → ℕ
 closedOn v (opening vpi vci t p) n = 0
-closedOn v (closing vpi vci) n = cond (eqb (pairName vpi vci) v) n 0
+closedOn v (closing vpi vci) n = cond (eqb (addressName vpi vci) v) n 0
 closedOn v (receiving o) n = 0
 closedOn v (offering vpi vci k) n = 0
 closedOn v (levelling l) n = 0
@@ -42,13 +42,13 @@ closedOn v (outOfRate vpi vci t room) n = 0
 closedOn v (openingPath vpi t p) n = 0
 closedOn v (adding vpi vci) n = 0
 closedOn v (offeringMember vpi vci k) n = 0
-closedOn v (removing vpi vci) n = cond (eqb (pathOf (pairName vpi vci)) v) n 0
+closedOn v (removing vpi vci) n = cond (eqb (pathOf (addressName vpi vci)) v) n 0
 
 -- the data cells of a cell that a slot sends
-unfoldable pub dataCells : Kind → ℕ
-dataCells Forward = 0
-dataCells Turned = 0
-dataCells Data = 1
+unfoldable pub dataIn : Kind → ℕ
+dataIn Forward = 0
+dataIn Turned = 0
+dataIn Data = 1
 
 -- 1 for a slot that sent a data cell of v
 unfoldable pub dataSlotOf : (v : ℕ) → Answer → ℕ
@@ -56,7 +56,7 @@ dataSlotOf v (Refused n) = 0
 dataSlotOf v (Accepted n) = 0
 dataSlotOf v (Closed n k) = 0
 dataSlotOf v Idle = 0
-dataSlotOf v (Sent u x k a n) = cond (eqb u v) (dataCells k) 0
+dataSlotOf v (Sent u x k a n) = cond (eqb u v) (dataIn k) 0
 
 -- a sum over the calls of a list and their answers
 abbrev pub sumOver : (Call → Answer → ℕ) → State → List Call → ℕ

@@ -6,9 +6,9 @@ use mathlib.Core.Bool.{true, false}
 use mathlib.Core.List.{List, [], _∷_}
 use lib.ListN.{length}
 use Rattle.rate.specs.Units.{latestTime}
-use Rattle.members.specs.Path.{isPath, pathOf}
-use Rattle.members.specs.Members.{Member, isMember, pathCells}
-use Rattle.members.specs.Invariant.{ValidMembers}
+use Rattle.connection_members.specs.Path.{isPath, pathOf}
+use Rattle.connection_members.specs.Members.{Member, isMember, pathCells}
+use Rattle.connection_members.specs.Invariant.{ValidMembers}
 use Rattle.connection.specs.declared.parts.Connection.{Connection}
 use Rattle.connection.specs.Invariant.{ValidAt}
 use Rattle.model.specs.State.{State, Entry, free, taken, capacity, isFree, find, entryCells}

@@ -1,7 +1,7 @@
 -- The engine as documents 01 and 02 describe it, without a word of memory: read this first.
 -- The table, and the connection that a slot goes to:
 pub mod State
-pub mod Choice
+pub mod Winner
 -- The tournament that finds the winner, and the comparisons that a call makes in it:
 pub mod Tournament
 -- The calls, each with its refusals in order, and lists of calls:

@@ -5,9 +5,9 @@ use mathlib.Core.Bool.{Bool, true, false, cond, _&&_}
 use mathlib.Core.List.{List, [], _∷_}
 use mathlib.Core.Option.{Option, none, some}
 use lib.Dec.{eqb}
-use Rattle.params.specs.declared.params.Params.{Params}
-use Rattle.cell.specs.Name.{pairName}
-use Rattle.members.specs.Path.{pathVci}
+use Rattle.rate_params.specs.declared.params.Params.{Params}
+use Rattle.cell.specs.Name.{addressName}
+use Rattle.connection_members.specs.Path.{pathVci}
 use Rattle.model.specs.State.{State, Entry, free, taken, empty, find}
 use Rattle.model.specs.Call.{Call, opening, closing, receiving, offering, levelling, slot, making, outOfRate, openingPath, adding, offeringMember, removing, Answer, Refused, Accepted, Closed, Idle, Sent, Outcome}
 use Rattle.model.specs.Step.{step}
@@ -30,23 +30,23 @@ isAccepted Idle = true
 isAccepted (Sent v x k a n) = true
 
 -- the parameters under which a name is open: an accepted open gives them, an accepted close takes them away
-unfoldable pub given : ℕ → Call → (accepted : Bool) → Option Params → Option Params
-given v (opening vpi vci t p) a before = cond (a && eqb (pairName vpi vci) v) (some p) before
-given v (closing vpi vci) a before = cond (a && eqb (pairName vpi vci) v) none before
-given v (receiving o) a before = before
-given v (offering vpi vci n) a before = before
-given v (levelling l) a before = before
-given v (slot t room) a before = before
-given v (making vpi vci t) a before = before
-given v (outOfRate vpi vci t room) a before = before
-given v (openingPath vpi t p) a before = cond (a && eqb (pairName vpi pathVci) v) (some p) before
-given v (adding vpi vci) a before = before
-given v (offeringMember vpi vci n) a before = before
-given v (removing vpi vci) a before = before
+unfoldable pub paramsAfter : ℕ → Call → (accepted : Bool) → Option Params → Option Params
+paramsAfter v (opening vpi vci t p) a before = cond (a && eqb (addressName vpi vci) v) (some p) before
+paramsAfter v (closing vpi vci) a before = cond (a && eqb (addressName vpi vci) v) none before
+paramsAfter v (receiving o) a before = before
+paramsAfter v (offering vpi vci n) a before = before
+paramsAfter v (levelling l) a before = before
+paramsAfter v (slot t room) a before = before
+paramsAfter v (making vpi vci t) a before = before
+paramsAfter v (outOfRate vpi vci t room) a before = before
+paramsAfter v (openingPath vpi t p) a before = cond (a && eqb (addressName vpi pathVci) v) (some p) before
+paramsAfter v (adding vpi vci) a before = before
+paramsAfter v (offeringMember vpi vci n) a before = before
+paramsAfter v (removing vpi vci) a before = before
 
 abbrev pub givenFrom : ℕ → State → Option Params → List Call → Option Params
 givenFrom v s before [] = before
-givenFrom v s before (c ∷ cs) = givenFrom v (step s c .state) (given v c (isAccepted (step s c .answer)) before) cs
+givenFrom v s before (c ∷ cs) = givenFrom v (step s c .state) (paramsAfter v c (isAccepted (step s c .answer)) before) cs
 
 -- the parameters that the open of a name gave, after a list of calls from the empty table; none if the name is not open
 abbrev pub paramsGiven : ℕ → List Call → Option Params

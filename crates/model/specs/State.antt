@@ -1,10 +1,10 @@
--- The state of a table: the congestion level, the time of the last accepted open, slot, making or cell outside the rate, the entries, and the members of all paths. (Document 01, first paragraph and "The lists of demand 3"; document 02, L13.)
+-- The state of a table: the congestion level, the time of the last accepted open, slot, making or out-of-rate cell, the entries, and the members of all paths. (Document 01, first paragraph and "The lists of demand 3"; document 02, L13.)
 use Prim.Native.Nat.{ℕ, suc}
 use mathlib.Core.Bool.{Bool, true, false, cond}
 use mathlib.Core.List.{List, [], _∷_}
 use lib.Dec.{ltb, eqb}
 use lib.ListN.{length, getD, set, replicate}
-use Rattle.members.specs.Members.{Member}
+use Rattle.connection_members.specs.Members.{Member}
 use Rattle.connection.specs.declared.parts.Connection.{Connection}
 use Rattle.connection.specs.Parts.{waiting}
 
@@ -48,17 +48,17 @@ abbrev pub leafOf : ℕ → State → ℕ
 leafOf v s = position (holds v) (s .entries)
 
 -- the entry of a name is given this content
-unfoldable pub put : ℕ → Entry → State → State
-put v x s = record { level = s .level; last = s .last; entries = set (s .entries) (position (holds v) (s .entries)) x; members = s .members }
+unfoldable pub withEntryOf : ℕ → Entry → State → State
+withEntryOf v x s = record { level = s .level; last = s .last; entries = set (s .entries) (position (holds v) (s .entries)) x; members = s .members }
 
 -- a connection takes the lowest free entry
-unfoldable pub inserted : Connection → State → State
-inserted c s = record { level = s .level; last = s .last; entries = set (s .entries) (position isFree (s .entries)) (taken c); members = s .members }
+unfoldable pub withOpened : Connection → State → State
+withOpened c s = record { level = s .level; last = s .last; entries = set (s .entries) (position isFree (s .entries)) (taken c); members = s .members }
 
 unfoldable pub roomLeft : State → Bool
 roomLeft s = ltb (position isFree (s .entries)) (length (s .entries))
 
--- the time of an accepted open, slot, making or cell outside the rate
+-- the time of an accepted open, slot, making or out-of-rate cell
 unfoldable pub withTime : ℕ → State → State
 withTime t s = record { level = s .level; last = t; entries = s .entries; members = s .members }
 

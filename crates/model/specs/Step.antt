@@ -5,29 +5,29 @@ use mathlib.Core.List.{List}
 use mathlib.Core.Option.{Option, none, some}
 use lib.Dec.{leb, ltb, eqb}
 use lib.ListN.{length}
-use Rattle.params.specs.declared.params.Params.{Params}
+use Rattle.rate_params.specs.declared.params.Params.{Params}
 use Rattle.rate.specs.Units.{latestTime}
 use Rattle.rate.specs.Code.{codesClear}
-use Rattle.params.specs.Params.{paramsFit, tbeFits, frttFits}
+use Rattle.rate_params.specs.Params.{paramsFit, tbeFits, frttFits}
 use Rattle.cell.specs.declared.read.Reading.{Reading}
-use Rattle.cell.specs.declared.read.Reading.the-variants.{Refused as Unread, User, Resource}
-use Rattle.cell.specs.Name.{pairFits, pairName}
+use Rattle.cell.specs.declared.read.Reading.the-variants.{Refused as Unread, DataCell, RmCell}
+use Rattle.cell.specs.Name.{addressFits, addressName}
 use Rattle.cell.specs.Fields.{cellName}
 use Rattle.cell.specs.Reading.{reading}
-use Rattle.members.specs.Path.{isPath, pathVci, firstVci, pathOf}
-use Rattle.members.specs.Members.{memberCapacity, isMember, cellsOf, withMember, withoutMember, withoutPath, withCells, owner}
-use Rattle.members.specs.Turn.{afterServing}
+use Rattle.connection_members.specs.Path.{isPath, pathVci, firstVci, pathOf}
+use Rattle.connection_members.specs.Members.{memberCapacity, isMember, cellsOf, withMember, withoutMember, withoutPath, withCells, owner}
+use Rattle.connection_members.specs.Turn.{afterServing}
 use Rattle.connection.specs.declared.parts.Connection.{Connection}
 use Rattle.connection.specs.declared.kind.Kind.{Kind}
 use Rattle.connection.specs.Parts.{fresh, waiting, withQueue, dequeued}
-use Rattle.connection.specs.Receiving.{offered, afterDataCell, afterResourceCell}
+use Rattle.connection.specs.Receiving.{offered, afterDataCell, afterRmCell}
 use Rattle.connection.specs.Interval.{rested}
 use Rattle.connection.specs.Making.{withMade}
 use Rattle.connection.specs.Kind.{kindAt}
-use Rattle.connection.specs.Sending.{untouched, written, after, memberServed, withServed, bufferAfter}
+use Rattle.connection.specs.Sending.{untouched, written, after, memberServed, withServed, bufferSent}
 use Rattle.connection.specs.OutOfRate.{afterOutOfRate, outOfRateCell}
-use Rattle.model.specs.State.{State, Entry, free, taken, position, isFree, find, leafOf, put, inserted, roomLeft, withTime, withLevel, withMembers}
-use Rattle.model.specs.Choice.{Winner, noneReady, wins, winner}
+use Rattle.model.specs.State.{State, Entry, free, taken, position, isFree, find, leafOf, withEntryOf, withOpened, roomLeft, withTime, withLevel, withMembers}
+use Rattle.model.specs.Winner.{Winner, noneReady, wins, winner}
 use Rattle.model.specs.Tournament.{replayed}
 use Rattle.model.specs.Call.{Call, opening, closing, receiving, offering, levelling, slot, making, outOfRate, openingPath, adding, offeringMember, removing, Refused, Accepted, Closed, Idle, Sent, Outcome}
 use Rattle.laws.specs.Require.{require}
@@ -53,31 +53,31 @@ ofOpen s free f = refuse s 11
 ofOpen s (taken c) f = f c
 
 -- What every open refuses: 19, 7, which judges the initial rate as given, 29, 30, 8, 12, 27, 13, 14. 27 is a member's pair, so that a path's name never meets it. (Document 02, L13 and L14.)
-unfoldable pub admit : State → (vpi vci time : ℕ) → Params → Outcome
-admit s vpi vci t p =
+unfoldable pub openAddress : State → (vpi vci time : ℕ) → Params → Outcome
+openAddress s vpi vci t p =
     require (refuse s 19) (codesClear (p .pcr) (p .mcr) (p .icr))
-    (require (refuse s 7) (pairFits vpi vci && paramsFit p)
+    (require (refuse s 7) (addressFits vpi vci && paramsFit p)
     (require (refuse s 29) (tbeFits p)
     (require (refuse s 30) (frttFits p)
     (require (refuse s 8) (leb t latestTime)
-    (require (refuse s 12) (isFree (find (pairName vpi vci) (s .entries)))
-    (require (refuse s 27) (not (isMember (pairName vpi vci) (s .members)))
+    (require (refuse s 12) (isFree (find (addressName vpi vci) (s .entries)))
+    (require (refuse s 27) (not (isMember (addressName vpi vci) (s .members)))
     (require (refuse s 13) (roomLeft s)
     (require (refuse s 14) (leb (s .last) t)
-    (replay (position isFree (s .entries)) s (withTime t (inserted (fresh (pairName vpi vci) t p) s)))))))))))
+    (replay (position isFree (s .entries)) s (withTime t (withOpened (fresh (addressName vpi vci) t p) s)))))))))))
 
 -- Opening a channel: 10 before all that, which looks at the VCI alone.
 unfoldable pub openStep : State → (vpi vci time : ℕ) → Params → Outcome
-openStep s vpi vci t p = require (refuse s 10) (leb firstVci vci) (admit s vpi vci t p)
+openStep s vpi vci t p = require (refuse s 10) (leb firstVci vci) (openAddress s vpi vci t p)
 
 -- Opening the path of a VPI: without 10. (Document 02, L13.)
 unfoldable pub openPathStep : State → (vpi time : ℕ) → Params → Outcome
-openPathStep s vpi t p = admit s vpi pathVci t p
+openPathStep s vpi t p = openAddress s vpi pathVci t p
 
 -- Close: 11. All that waits on the connection goes with it, and the answer counts the data cells; a path's members go too.
 unfoldable pub closeStep : State → (name : ℕ) → Outcome
 closeStep s v =
-    ofOpen s (find v (s .entries)) λ c. discard (waiting (c .queue)) (leafOf v s) s (withMembers (withoutPath v (s .members)) (put v free s))
+    ofOpen s (find v (s .entries)) λ c. discard (waiting (c .queue)) (leafOf v s) s (withMembers (withoutPath v (s .members)) (withEntryOf v free s))
 
 -- Offer: 11, 28 on a path's own name, 15.
 unfoldable pub offerStep : State → (name cells : ℕ) → Outcome
@@ -85,36 +85,36 @@ offerStep s v n =
     ofOpen s (find v (s .entries)) λ c.
     require (refuse s 28) (not (isPath v))
     (require (refuse s 15) (leb (waiting (c .queue) + n) 65535)
-    (replay (leafOf v s) s (put v (taken (offered n c)) s)))
+    (replay (leafOf v s) s (withEntryOf v (taken (offered n c)) s)))
 
 -- The calls on the members of paths. (Document 02, L13.)
 -- n more cells wait on the member x, and so on its path; and the member x goes with its cells
 unfoldable pub withOffer : (x n : ℕ) → Connection → State → State
-withOffer x n c s = withMembers (withCells x (cellsOf x (s .members) + n) (s .members)) (put (pathOf x) (taken (offered n c)) s)
+withOffer x n c s = withMembers (withCells x (cellsOf x (s .members) + n) (s .members)) (withEntryOf (pathOf x) (taken (offered n c)) s)
 
 unfoldable pub withoutOne : (x : ℕ) → Connection → State → State
 withoutOne x c s =
-    withMembers (withoutMember x (s .members)) (put (pathOf x) (taken (withQueue c (dequeued (cellsOf x (s .members)) (c .queue)))) s)
+    withMembers (withoutMember x (s .members)) (withEntryOf (pathOf x) (taken (withQueue c (dequeued (cellsOf x (s .members)) (c .queue)))) s)
 
 -- Adding: 10, which looks at the VCI alone, 11, 12, 27, 26. It replays no match.
 unfoldable pub addStep : State → (vpi vci : ℕ) → Outcome
 addStep s vpi vci =
     require (refuse s 10) (leb firstVci vci)
-    (ofOpen s (find (pathOf (pairName vpi vci)) (s .entries)) λ c.
-    require (refuse s 12) (isFree (find (pairName vpi vci) (s .entries)))
-    (require (refuse s 27) (not (isMember (pairName vpi vci) (s .members)))
+    (ofOpen s (find (pathOf (addressName vpi vci)) (s .entries)) λ c.
+    require (refuse s 12) (isFree (find (addressName vpi vci) (s .entries)))
+    (require (refuse s 27) (not (isMember (addressName vpi vci) (s .members)))
     (require (refuse s 26) (ltb (length (s .members)) memberCapacity)
-    (accept 0 (withMembers (withMember (pairName vpi vci) (s .members)) s)))))
+    (accept 0 (withMembers (withMember (addressName vpi vci) (s .members)) s)))))
 
 -- the rest on a member's path: 11 if the VPI has no open path, 28 if the pair is no member, and with a VCI over 65,535 it is none
 unfoldable pub ofMember : State → (vpi vci : ℕ) → (Connection → Outcome) → Outcome
 ofMember s vpi vci f =
-    ofOpen s (find (pairName vpi pathVci) (s .entries)) λ c. require (refuse s 28) (pairFits vpi vci && isMember (pairName vpi vci) (s .members)) (f c)
+    ofOpen s (find (addressName vpi pathVci) (s .entries)) λ c. require (refuse s 28) (addressFits vpi vci && isMember (addressName vpi vci) (s .members)) (f c)
 
 -- A member's offer: 11, 28, 15, which looks at that member alone.
 unfoldable pub offerMemberStep : State → (vpi vci cells : ℕ) → Outcome
 offerMemberStep s vpi vci n =
-    let x = pairName vpi vci in
+    let x = addressName vpi vci in
     ofMember s vpi vci λ c.
     require (refuse s 15) (leb (cellsOf x (s .members) + n) 65535)
     (replay (leafOf (pathOf x) s) s (withOffer x n c s))
@@ -122,7 +122,7 @@ offerMemberStep s vpi vci n =
 -- Removing: 11, 28. It answers like a close.
 unfoldable pub removeStep : State → (vpi vci : ℕ) → Outcome
 removeStep s vpi vci =
-    let x = pairName vpi vci in
+    let x = addressName vpi vci in
     ofMember s vpi vci λ c. discard (cellsOf x (s .members)) (leafOf (pathOf x) s) s (withoutOne x c s)
 
 -- a data cell: its EFCI is its channel's, or that of the path that it is a member of; 11 on a path's own name (document 02, L13)
@@ -130,14 +130,14 @@ unfoldable pub dataCellStep : State → (name : ℕ) → (efci : Bool) → Outco
 dataCellStep s x e =
     require (refuse s 11) (not (isPath x))
     (ofOpen s (find (owner x (s .members)) (s .entries)) λ c.
-    replay (leafOf (owner x (s .members)) s) s (put (owner x (s .members)) (taken (afterDataCell e c)) s))
+    replay (leafOf (owner x (s .members)) s) s (withEntryOf (owner x (s .members)) (taken (afterDataCell e c)) s))
 
 -- Receive: the refusals of reading, then 11.
 unfoldable pub readStep : State → List ℕ → Reading → Outcome
 readStep s o (Unread n) = refuse s n
-readStep s o (User vpi vci e) = dataCellStep s (pairName vpi vci) e
-readStep s o (Resource f) =
-    ofOpen s (find (cellName f) (s .entries)) λ c. replay (leafOf (cellName f) s) s (put (cellName f) (taken (afterResourceCell (s .level) o f c)) s)
+readStep s o (DataCell vpi vci e) = dataCellStep s (addressName vpi vci) e
+readStep s o (RmCell f) =
+    ofOpen s (find (cellName f) (s .entries)) λ c. replay (leafOf (cellName f) s) s (withEntryOf (cellName f) (taken (afterRmCell (s .level) o f c)) s)
 
 unfoldable pub receiveStep : State → List ℕ → Outcome
 receiveStep s o = readStep s o (reading o)
@@ -154,19 +154,19 @@ nameAnswered v (some x) = x
 -- a slot's cell of this kind, from the connection c of the name v and, of a path's data, from this member
 unfoldable pub sendFrom : State → (t v : ℕ) → Connection → Kind → (member : Option ℕ) → Outcome
 sendFrom s t v c k x =
-    let r = put v (taken (withServed x (after k t c))) s in
+    let r = withEntryOf v (taken (withServed x (after k t c))) s in
     record {
       state = withMembers (afterServing x (s .members)) r;
       answer = Sent v (nameAnswered v x) k (after k t c .rate .acr) (replayed (leafOf v s) (s .entries) (r .entries));
-      buffer = bufferAfter k c (after k t c);
+      buffer = bufferSent k c (after k t c);
     }
 
 unfoldable pub sendStep : State → (t v : ℕ) → Connection → Kind → Outcome
 sendStep s t v c k = sendFrom s t v c k (memberServed k c (s .members))
 
--- a cell outside the rate at t, from the connection c of the name v
-unfoldable pub sendOutside : State → (t v : ℕ) → Connection → Outcome
-sendOutside s t v c = record { state = put v (taken (afterOutOfRate t c)) s; answer = Accepted 0; buffer = written (outOfRateCell c) }
+-- an out-of-rate cell at t, from the connection c of the name v
+unfoldable pub sendOutOfRate : State → (t v : ℕ) → Connection → Outcome
+sendOutOfRate s t v c = record { state = withEntryOf v (taken (afterOutOfRate t c)) s; answer = Accepted 0; buffer = written (outOfRateCell c) }
 
 unfoldable pub idleStep : State → Outcome
 idleStep s = record { state = s; answer = Idle; buffer = untouched }
@@ -195,28 +195,28 @@ makeStep s v t =
     require (refuse s 14) (leb (s .last) t)
     (require (refuse s 16) (ltb 0 (s .level))
     (require (refuse s 17) (rested t (c .destination .made .last))
-    (replay (leafOf v s) s (put v (taken (withMade t (s .level) c)) (withTime t s))))))
+    (replay (leafOf v s) s (withEntryOf v (taken (withMade t (s .level) c)) (withTime t s))))))
 
--- A forward cell outside the rate: 1, 8, 11, 14, 18. Its time counts as a slot's does, and it replays no match. (Document 02, L5.)
+-- An out-of-rate forward cell: 1, 8, 11, 14, 18. Its time counts as a slot's does, and it replays no match. (Document 02, L5.)
 unfoldable pub outOfRateStep : State → (name time room : ℕ) → Outcome
 outOfRateStep s v t room =
     require (refuse s 1) (eqb room 53)
     (require (refuse s 8) (leb t latestTime)
     (ofOpen s (find v (s .entries)) λ c.
     require (refuse s 14) (leb (s .last) t)
-    (require (refuse s 18) (rested t (c .outside))
-    (sendOutside (withTime t s) t v c))))
+    (require (refuse s 18) (rested t (c .«out_of_rate»))
+    (sendOutOfRate (withTime t s) t v c))))
 
 -- a pair outside the ranges makes no connection's name, so that it meets 11 (document 02, L6); a member's offer and removal look for the path by its VPI
 unfoldable pub step : State → Call → Outcome
 step s (opening vpi vci t p) = openStep s vpi vci t p
-step s (closing vpi vci) = closeStep s (pairName vpi vci)
+step s (closing vpi vci) = closeStep s (addressName vpi vci)
 step s (receiving o) = receiveStep s o
-step s (offering vpi vci n) = offerStep s (pairName vpi vci) n
+step s (offering vpi vci n) = offerStep s (addressName vpi vci) n
 step s (levelling l) = levelStep s l
 step s (slot t room) = slotStep s t room
-step s (making vpi vci t) = makeStep s (pairName vpi vci) t
-step s (outOfRate vpi vci t room) = outOfRateStep s (pairName vpi vci) t room
+step s (making vpi vci t) = makeStep s (addressName vpi vci) t
+step s (outOfRate vpi vci t room) = outOfRateStep s (addressName vpi vci) t room
 step s (openingPath vpi t p) = openPathStep s vpi t p
 step s (adding vpi vci) = addStep s vpi vci
 step s (offeringMember vpi vci n) = offerMemberStep s vpi vci n

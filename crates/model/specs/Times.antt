@@ -1,4 +1,4 @@
--- Whose time counts for refusal 14: that of every accepted open, slot, making and cell outside the rate, an idle slot's too, and of no other call; a refused one leaves it.
+-- Whose time counts for refusal 14: that of every accepted open, slot, making and out-of-rate cell, an idle slot's too, and of no other call; a refused one leaves it.
 -- And what rate a slot answers: the one that is then read. (Document 01, "Slots" and "Refused because of the state"; document 02, L1, L5 and L13.)
 use Prim.Native.Nat.{ℕ}
 use mathlib.Core.Path.{_≡_}

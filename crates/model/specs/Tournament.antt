@@ -9,59 +9,59 @@ use Rattle.connection.specs.declared.ready.Instant.{Instant}
 use Rattle.connection.specs.declared.ready.Instant.the-variants.{Never, At}
 use Rattle.connection.specs.Ready.{readyInstant}
 use Rattle.model.specs.State.{Entry, free, taken, capacity}
-use Rattle.model.specs.Choice.{Winner, noneReady, candidateFrom, isAhead}
+use Rattle.model.specs.Winner.{Winner, noneReady, candidateFrom, isAhead}
 
 -- the levels above the leaves: 2 ^ levels is the capacity
 abbrev pub levels : ℕ
 levels = 10
 
 -- the winner of a match: none, where no leaf below it is ever ready, or one leaf, with its ready instant and its name
-pub data Lead : Type 0 where
-  noLead : Lead
-  leads : (instant name leaf : ℕ) → Lead
+pub data MatchWinner : Type 0 where
+  noWinner : MatchWinner
+  wonBy : (instant name leaf : ℕ) → MatchWinner
 
 -- a leaf that is empty or never ready wins no match
-unfoldable pub instantLead : (name leaf : ℕ) → Instant → Lead
-instantLead v x Never = noLead
-instantLead v x (At i) = leads i v x
+unfoldable pub instantWinner : (name leaf : ℕ) → Instant → MatchWinner
+instantWinner v x Never = noWinner
+instantWinner v x (At i) = wonBy i v x
 
-unfoldable pub leafLead : (leaf : ℕ) → Entry → Lead
-leafLead x free = noLead
-leafLead x (taken c) = instantLead (c .name) x (readyInstant c)
+unfoldable pub leafWinner : (leaf : ℕ) → Entry → MatchWinner
+leafWinner x free = noWinner
+leafWinner x (taken c) = instantWinner (c .name) x (readyInstant c)
 
 -- a match: the earlier instant wins, ties to the lower name
-unfoldable pub first : Lead → Lead → Lead
-first noLead b = b
-first (leads i v x) noLead = leads i v x
-first (leads i v x) (leads j w y) = cond (isAhead i v j w) (leads i v x) (leads j w y)
+unfoldable pub first : MatchWinner → MatchWinner → MatchWinner
+first noWinner b = b
+first (wonBy i v x) noWinner = wonBy i v x
+first (wonBy i v x) (wonBy j w y) = cond (isAhead i v j w) (wonBy i v x) (wonBy j w y)
 
 -- the winner at a place, so many levels above the leaves
-unfoldable pub winnerAt : List Entry → (level place : ℕ) → Lead
-winnerAt ss zero p = leafLead (p - capacity) (getD ss (p - capacity) free)
+unfoldable pub winnerAt : List Entry → (level place : ℕ) → MatchWinner
+winnerAt ss zero p = leafWinner (p - capacity) (getD ss (p - capacity) free)
 winnerAt ss (suc d) p = first (winnerAt ss d (2 * p)) (winnerAt ss d (2 * p + 1))
 
 -- that winner as the winner of a slot at t
-unfoldable pub inTime : (t : ℕ) → Lead → Winner
-inTime t noLead = noneReady
-inTime t (leads i v x) = candidateFrom t v (At i)
+unfoldable pub inTime : (t : ℕ) → MatchWinner → Winner
+inTime t noWinner = noneReady
+inTime t (wonBy i v x) = candidateFrom t v (At i)
 
 -- its ready instant
-unfoldable pub leadInstant : Lead → Instant
-leadInstant noLead = Never
-leadInstant (leads i v x) = At i
+unfoldable pub winnerInstant : MatchWinner → Instant
+winnerInstant noWinner = Never
+winnerInstant (wonBy i v x) = At i
 
 -- the other place of a place's match
 abbrev pub neighbour : (place : ℕ) → ℕ
 neighbour p = p + 1 - 2 * (p % 2)
 
 -- the winner's leaf plus 1; 0 if there is none
-unfoldable pub leadWord : Lead → ℕ
-leadWord noLead = 0
-leadWord (leads i v x) = x + 1
+unfoldable pub winnerWord : MatchWinner → ℕ
+winnerWord noWinner = 0
+winnerWord (wonBy i v x) = x + 1
 
 -- whether a replay of leaf x ends at a level: the winner, or the lack of one, is as before and is not that leaf
-unfoldable pub ends : (leaf : ℕ) (before after : Lead) → Bool
-ends x a b = eqb (leadWord a) (leadWord b) && not (eqb (leadWord b) (x + 1))
+unfoldable pub ends : (leaf : ℕ) (before after : MatchWinner) → Bool
+ends x a b = eqb (winnerWord a) (winnerWord b) && not (eqb (winnerWord b) (x + 1))
 
 -- the levels replayed from a place on, with so many left
 unfoldable pub replayedFrom : (leaf : ℕ) (before after : List Entry) (level place left : ℕ) → ℕ

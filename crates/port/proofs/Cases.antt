@@ -18,40 +18,40 @@ use Rattle.cell.specs.Header.{typeOf}
 use Rattle.cell.specs.Reading.{reading}
 use Rattle.cell.specs.declared.fields.Fields.{Fields}
 use Rattle.cell.specs.declared.read.Reading.{Reading}
-use Rattle.cell.specs.declared.read.Reading.the-variants.{Refused, User, Resource}
+use Rattle.cell.specs.declared.read.Reading.the-variants.{Refused, DataCell, RmCell}
 use Rattle.cell.proofs.Readings.{HeaderMeets, RestMeets}
-use Rattle.share.specs.Share.{fairShare}
-use Rattle.share.specs.declared.share.FairShare.{FairShare}
-use Rattle.share.specs.declared.share.FairShare.the-variants.{Refused as Unshared, NoLimit, Limit}
+use Rattle.port_share.specs.Share.{fairShare}
+use Rattle.port_share.specs.declared.share.FairShare.{FairShare}
+use Rattle.port_share.specs.declared.share.FairShare.the-variants.{Refused as Unshared, NoLimit, Limit}
 use Rattle.port.specs.Limit.{passed, refusalOf, heldEr, withEr, held, limit}
 use Rattle.port.specs.Port.{portBy, port}
-use Rattle.port.specs.Judged.{Judged}
+use Rattle.port.specs.RefusedAsRead.{RefusedAsRead}
 
 -- ---- the number of its refusal
 module _ (o : List ℕ) where
   module _ {first : ℕ} (h : HeaderMeets o first) where
-    pub judged-first : (first ≡ 0 → ⊥) → Judged o first
-    judged-first n = record { refused = h .refused; size = λ z. absurd (n z); user = λ z. absurd (n z); resource = λ z. absurd (n z) }
+    pub judged-first : (first ≡ 0 → ⊥) → RefusedAsRead o first
+    judged-first n = record { refused = h .refused; size = λ z. absurd (n z); dataCell = λ z. absurd (n z); rm = λ z. absurd (n z) }
 
     module _ (z : first ≡ 0) where
-      pub judged-user : leb (typeOf o) 3 ≡ true → Judged o 0
-      judged-user t =
-          record { refused = λ n. absurd (n refl); size = λ _. h .size z; user = λ _. h .user z; resource = λ _ f. absurd (true≢false (sym t ∙ f)) }
+      pub judged-data : leb (typeOf o) 3 ≡ true → RefusedAsRead o 0
+      judged-data t =
+          record { refused = λ n. absurd (n refl); size = λ _. h .size z; dataCell = λ _. h .dataCell z; rm = λ _ f. absurd (true≢false (sym t ∙ f)) }
 
-      pub judged-rest : leb (typeOf o) 3 ≡ false → {n : ℕ} → RestMeets o n → Judged o n
+      pub judged-rest : leb (typeOf o) 3 ≡ false → {n : ℕ} → RestMeets o n → RefusedAsRead o n
       judged-rest f r = record {
-        refused = λ n. h .resource z f ∙ r .refused n;
+        refused = λ n. h .rm z f ∙ r .refused n;
         size = λ _. h .size z;
-        user = λ _ t. absurd (true≢false (sym t ∙ f));
-        resource = λ e _. h .resource z f ∙ r .taken e;
+        dataCell = λ _ t. absurd (true≢false (sym t ∙ f));
+        rm = λ e _. h .rm z f ∙ r .taken e;
       }
 
-  pub judged-number : {n : ℕ} → Judged o n → n ≡ refusalOf (reading o)
+  pub judged-number : {n : ℕ} → RefusedAsRead o n → n ≡ refusalOf (reading o)
   judged-number {n} j = by-cases (ℕ-discrete n 0) (λ z. z ∙ sym (zero (leb (typeOf o) 3) refl z)) (λ z. sym (ap refusalOf (j .refused z)))
     where
       zero : (b : Bool) → leb (typeOf o) 3 ≡ b → n ≡ 0 → refusalOf (reading o) ≡ 0
-      zero true e z = ap refusalOf (j .user z e)
-      zero false e z = ap refusalOf (j .resource z e)
+      zero true e z = ap refusalOf (j .dataCell z e)
+      zero false e z = ap refusalOf (j .rm z e)
 
 -- ---- a cell held to a rate, by what is read
 module _ (rate : ℕ) (o : List ℕ) where
@@ -62,16 +62,16 @@ module _ (rate : ℕ) (o : List ℕ) where
   unfolding held
   limit-refused e = by-reading e
 
-  pub limit-user : {vpi vci : ℕ} {efci : Bool} → reading o ≡ User vpi vci efci → passed 0 o ≡ limit rate o
+  pub limit-data : {vpi vci : ℕ} {efci : Bool} → reading o ≡ DataCell vpi vci efci → passed 0 o ≡ limit rate o
   unfolding held
-  limit-user e = by-reading e
+  limit-data e = by-reading e
 
-  pub limit-forward : {f : Fields} → reading o ≡ Resource f → (f .dir ≡ 1 → ⊥) → passed 0 o ≡ limit rate o
+  pub limit-forward : {f : Fields} → reading o ≡ RmCell f → (f .dir ≡ 1 → ⊥) → passed 0 o ≡ limit rate o
   unfolding held
   limit-forward {f} e d =
       ap (λ (b : Bool). passed 0 (cond b (take 5 o ++ withEr (heldEr rate (f .er)) (payload o)) o)) (sym (ne-eqb _ _ d)) ∙ by-reading e
 
-  pub limit-backward : {f : Fields} {code : ℕ} {new : List ℕ} → reading o ≡ Resource f → f .dir ≡ 1 → code ≡ heldEr rate (f .er)
+  pub limit-backward : {f : Fields} {code : ℕ} {new : List ℕ} → reading o ≡ RmCell f → f .dir ≡ 1 → code ≡ heldEr rate (f .er)
       → new ≡ take 5 o ++ withEr code (payload o) → passed 0 new ≡ limit rate o
   unfolding held
   limit-backward {f} e d c n =
@@ -102,7 +102,7 @@ module _ (capacity : ℕ) (ds o : List ℕ) where
   unfolding portBy
   port-refused e f = by-share e f
 
-  pub port-unlimited : {n : ℕ} {x : FairShare} → x ≡ fairShare capacity ds → x ≡ NoLimit → Judged o n → passed n o ≡ port capacity ds o
+  pub port-unlimited : {n : ℕ} {x : FairShare} → x ≡ fairShare capacity ds → x ≡ NoLimit → RefusedAsRead o n → passed n o ≡ port capacity ds o
   unfolding portBy
   port-unlimited e f j = ap (λ (n : ℕ). passed n o) (judged-number o j) ∙ by-share e f
 

@@ -10,32 +10,32 @@ use Rattle.rate.specs.Code.{rateOf}
 use Rattle.cell.specs.Reading.{reading}
 use Rattle.cell.specs.declared.fields.Fields.{Fields}
 use Rattle.cell.specs.declared.read.Reading.{Reading}
-use Rattle.cell.specs.declared.read.Reading.the-variants.{Refused, User, Resource}
-use Rattle.share.specs.Demands.{plainSum}
-use Rattle.share.specs.Share.{fairShare}
-use Rattle.share.specs.Held.{HeldTo}
-use Rattle.share.specs.declared.share.FairShare.{FairShare}
-use Rattle.share.specs.declared.share.FairShare.the-variants.{Refused as Unshared, NoLimit, Limit}
-use Rattle.share.proofs.Greatest.{refusal-number}
-use Rattle.share.proofs.Held.{held-fits}
-use Rattle.port.specs.Limit.{Passed, heldEr, limit}
+use Rattle.cell.specs.declared.read.Reading.the-variants.{Refused, DataCell, RmCell}
+use Rattle.port_share.specs.Demands.{plainSum}
+use Rattle.port_share.specs.Share.{fairShare}
+use Rattle.port_share.specs.Held.{HeldTo}
+use Rattle.port_share.specs.declared.share.FairShare.{FairShare}
+use Rattle.port_share.specs.declared.share.FairShare.the-variants.{Refused as Unshared, NoLimit, Limit}
+use Rattle.port_share.proofs.Greatest.{refusal-number}
+use Rattle.port_share.proofs.Held.{held-fits}
+use Rattle.port.specs.Limit.{Forwarded, heldEr, limit}
 use Rattle.port.specs.Port.{portBy, port}
 use Rattle.port.specs.Limited.{Limited, NoneAbove}
 use Rattle.port.specs.Followed.{Follows, CapacityKept}
-use Rattle.port.proofs.Cases.{limit-refused, limit-user, limit-forward}
+use Rattle.port.proofs.Cases.{limit-refused, limit-data, limit-forward}
 use Rattle.port.proofs.Limited.{backward-limited}
 
 -- a cell that stays as it is is read as before
-same-read : {o : List ℕ} {n : ℕ} {p : Passed} {r : Reading} → record { refusal = n; cell = o } ≡ p → reading (p .cell) ≡ r → reading o ≡ r
-same-read e h = ap (λ (q : Passed). reading (q .cell)) e ∙ h
+same-read : {o : List ℕ} {n : ℕ} {p : Forwarded} {r : Reading} → record { refusal = n; cell = o } ≡ p → reading (p .cell) ≡ r → reading o ≡ r
+same-read e h = ap (λ (q : Forwarded). reading (q .cell)) e ∙ h
 
 pub none-above : NoneAbove
 none-above rate o f h b = go (reading o) refl
   where
     go : (r : Reading) → reading o ≡ r → rateOf (f .er) ≤ rate
     go (Refused n) e = let q = same-read (limit-refused rate o e) h in let z : _≡_ {A = ℕ} 0 1 = cc in absurd (omega arith)
-    go (User vpi vci efci) e = let q = same-read (limit-user rate o e) h in let z : _≡_ {A = ℕ} 0 1 = cc in absurd (omega arith)
-    go (Resource g) e =
+    go (DataCell vpi vci efci) e = let q = same-read (limit-data rate o e) h in let z : _≡_ {A = ℕ} 0 1 = cc in absurd (omega arith)
+    go (RmCell g) e =
         by-cases (ℕ-discrete (g .dir) 1)
         (λ d. let l : Limited rate o g = backward-limited rate o g e d in
         let q : heldEr rate (g .er) ≡ f .er = er-of (sym (l .fields) ∙ h) in
@@ -43,10 +43,10 @@ none-above rate o f h b = go (reading o) refl
         omega (arith, l .greatest .notAbove))
         (λ d. let q : g ≡ f = fields-of (sym e ∙ same-read (limit-forward rate o e d) h) in absurd (d (ap (λ (k : Fields). k .dir) q ∙ b)))
       where
-        fields-of : {u v : Fields} → Resource u ≡ Resource v → u ≡ v
+        fields-of : {u v : Fields} → RmCell u ≡ RmCell v → u ≡ v
         fields-of e = cc
 
-        er-of : {u v : Fields} → Resource u ≡ Resource v → u .er ≡ v .er
+        er-of : {u v : Fields} → RmCell u ≡ RmCell v → u .er ≡ v .er
         er-of e = ap (λ (k : Fields). k .er) (fields-of e)
 
 -- ---- one rate for each demand
@@ -63,7 +63,7 @@ told : (capacity : ℕ) (ds : List ℕ) (s : ℕ) → fairShare capacity ds ≡ 
 unfolding portBy
 told capacity ds s e d r h =
     let p : port capacity ds (h .cell) ≡ limit s (h .cell) = ap (λ (a : FairShare). portBy a (h .cell)) e in
-    let q : reading (limit s (h .cell) .cell) ≡ Resource (h .fields) = subst (λ (x : Passed). reading (x .cell) ≡ Resource (h .fields)) p (h .passedOn) in
+    let q : reading (limit s (h .cell) .cell) ≡ RmCell (h .fields) = subst (λ (x : Forwarded). reading (x .cell) ≡ RmCell (h .fields)) p (h .passedOn) in
     record { demanded = h .demanded; limited = omega (arith, h .obeyed, none-above s (h .cell) (h .fields) q (h .backward)) }
 
 pub capacity-kept : CapacityKept

@@ -7,20 +7,20 @@ use native.Mathlib.Omega.{arith}
 use borrow.Author.Tests.{eq-eqb, lt-ltb}
 use lib.ListN.{length, getD, take}
 use lib.Seq.{length-take-le, take-at}
-use Rattle.crc.specs.Checks.{payloadCheck}
-use Rattle.rate.specs.Code.{reservedClear, codesClear, rateOf, Greatest}
+use Rattle.cell_crc.specs.Checks.{payloadCheck}
+use Rattle.rate.specs.Code.{reservedClear, codesClear, rateOf, GreatestCode}
 use Rattle.rate.proofs.Codes.{code-greatest}
 use Rattle.cell.specs.Octets.{octet, pair, payload}
 use Rattle.cell.specs.Header.{vpiOf, vciOf, headerRight, typeOf}
 use Rattle.cell.specs.Fields.{fieldsOf, ratesClear, withCrc, crcRight}
 use Rattle.cell.specs.Reading.{reading}
-use Rattle.cell.specs.Admitted.{Admissible, userCell, rmCell, Admitted}
+use Rattle.cell.specs.Admitted.{Admissible, dataCell, rmCell, Admitted}
 use Rattle.cell.specs.declared.fields.Fields.{Fields}
-use Rattle.cell.specs.declared.read.Reading.the-variants.{Resource}
-use Rattle.cell.proofs.Admits.{taken-admitted, resource-received}
-use Rattle.cell.proofs.Readings.{takes-user, takes-rest, takes-fields}
+use Rattle.cell.specs.declared.read.Reading.the-variants.{RmCell}
+use Rattle.cell.proofs.Admits.{taken-admitted, rm-received}
+use Rattle.cell.proofs.Readings.{takes-data, takes-rest, takes-fields}
 use Rattle.cell.proofs.WithCrc.{withCrc-size, withCrc-at, withCrc-six, withCrc-right}
-use Rattle.port.specs.Limit.{Passed, passed, heldEr, withEr, limit}
+use Rattle.port.specs.Limit.{Forwarded, passed, heldEr, withEr, limit}
 use Rattle.port.specs.Limited.{fieldsWithEr, SameButEr, BackwardLimited}
 use Rattle.port.proofs.Octets.{Opened, opened, open-up}
 use Rattle.port.proofs.Cases.{er-le, er-fifteen, limit-backward}
@@ -31,7 +31,7 @@ pub record Headed (o : List ℕ) : Type 0 where
   pub header : headerRight o ≡ true
   pub type : typeOf o ≡ 6
 
-pub headed : (o : List ℕ) (f : Fields) → reading o ≡ Resource f → Headed o
+pub headed : (o : List ℕ) (f : Fields) → reading o ≡ RmCell f → Headed o
 unfolding headerRight
 headed o f g = record { header = right; type = of (admitted .kind) }
   where
@@ -42,7 +42,7 @@ headed o f g = record { header = right; type = of (admitted .kind) }
     right = eq-eqb _ _ (admitted .check)
 
     of : Admissible o → typeOf o ≡ 6
-    of (userCell t) = let u = takes-user o (admitted .size) right t in let z : _≡_ {A = ℕ} 0 1 = cc in absurd (omega arith)
+    of (dataCell t) = let u = takes-data o (admitted .size) right t in let z : _≡_ {A = ℕ} 0 1 = cc in absurd (omega arith)
     of (rmCell t w p r) = t
 
 -- ---- a cell that is taken apart, with another ER
@@ -119,25 +119,25 @@ module _ (a b c d e p m x y : ℕ) (r : List ℕ) (n : length r ≡ 44) (code : 
       let er : pair 8 new ≡ code = omega (arith, pair-at 2 (omega arith)) in
       rw (er, pair-at 4 (omega arith), pair-at 6 (omega arith), lt-ltb code 32768 h) (both (reservedClear (pair 8 old)) (reservedClear (pair 10 old) && reservedClear (pair 12 old)) g .1)
 
-  new-read : (f : Fields) → code < 32768 → reading old ≡ Resource f → reading new ≡ Resource (fieldsWithEr code f)
+  new-read : (f : Fields) → code < 32768 → reading old ≡ RmCell f → reading new ≡ RmCell (fieldsWithEr code f)
   unfolding headerRight crcRight
   new-read f h g =
       let s : Headed old = headed old f g in
-      sym (takes-fields new (eq-eqb _ _ (withCrc-right bare bare-size)) (new-at 0 (omega arith) ∙ resource-received old f g .protocol) (new-clear h (resource-received old f g .clear))
+      sym (takes-fields new (eq-eqb _ _ (withCrc-right bare bare-size)) (new-at 0 (omega arith) ∙ rm-received old f g .protocol) (new-clear h (rm-received old f g .clear))
       ∙ takes-rest new new-size (s .header) (s .type))
-      ∙ ap Resource (new-fields h ∙ ap (fieldsWithEr code) (sym (resource-received old f g .fields)))
+      ∙ ap RmCell (new-fields h ∙ ap (fieldsWithEr code) (sym (rm-received old f g .fields)))
 
 -- ---- any cell
-in-cell : {o : List ℕ} → Opened o → (code : ℕ) (f : Fields) → code < 32768 → reading o ≡ Resource f
-    → (reading (take 5 o ++ withEr code (payload o)) ≡ Resource (fieldsWithEr code f)) × SameButEr o (take 5 o ++ withEr code (payload o))
+in-cell : {o : List ℕ} → Opened o → (code : ℕ) (f : Fields) → code < 32768 → reading o ≡ RmCell f
+    → (reading (take 5 o ++ withEr code (payload o)) ≡ RmCell (fieldsWithEr code f)) × SameButEr o (take 5 o ++ withEr code (payload o))
 unfolding withEr
 in-cell (opened a b c d e p m x y r n) code f h g = (new-read a b c d e p m x y r n code f h g, new-same a b c d e p m x y r n code)
 
 pub backward-limited : BackwardLimited
 backward-limited rate o f g d = record {
-  accepted = ap (λ (q : Passed). q .refusal) (sym made);
-  fields = subst (λ (q : Passed). reading (q .cell) ≡ Resource (fieldsWithEr code f)) made (new .0);
-  octets = subst (λ (q : Passed). SameButEr o (q .cell)) made (new .1);
+  accepted = ap (λ (q : Forwarded). q .refusal) (sym made);
+  fields = subst (λ (q : Forwarded). reading (q .cell) ≡ RmCell (fieldsWithEr code f)) made (new .0);
+  octets = subst (λ (q : Forwarded). SameButEr o (q .cell)) made (new .1);
   greatest = greatest;
   kept = λ h. omega (arith, greatest .notAbove, greatest .greatest (f .er) (omega arith));
 }
@@ -145,11 +145,11 @@ backward-limited rate o f g d = record {
     code : ℕ
     code = heldEr rate (f .er)
 
-    new : (reading (take 5 o ++ withEr code (payload o)) ≡ Resource (fieldsWithEr code f)) × SameButEr o (take 5 o ++ withEr code (payload o))
-    new = in-cell (open-up o (resource-received o f g .size)) code f (er-fifteen rate (f .er)) g
+    new : (reading (take 5 o ++ withEr code (payload o)) ≡ RmCell (fieldsWithEr code f)) × SameButEr o (take 5 o ++ withEr code (payload o))
+    new = in-cell (open-up o (rm-received o f g .size)) code f (er-fifteen rate (f .er)) g
 
     made : passed 0 (take 5 o ++ withEr code (payload o)) ≡ limit rate o
     made = limit-backward rate o g d refl refl
 
-    greatest : Greatest (min (rateOf (f .er)) rate) code
+    greatest : GreatestCode (min (rateOf (f .er)) rate) code
     greatest = code-greatest (min (rateOf (f .er)) rate) (er-le rate (f .er))

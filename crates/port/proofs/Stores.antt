@@ -6,13 +6,13 @@ use native.Mathlib.Omega.{arith}
 use lib.Bits.{bitXor}
 use lib.ListN.{length, getD, take, set, drop-of-length-le}
 use lib.Seq.{sets-eq}
-use Rattle.crc.specs.Checks.{payloadCheck}
-use Rattle.crc.specs.Payload.{octetsOf}
+use Rattle.cell_crc.specs.Checks.{payloadCheck}
+use Rattle.cell_crc.specs.Payload.{octetsOf}
 use Rattle.cell.specs.Octets.{octet, pair, payload, AreOctets}
 use Rattle.cell.specs.Fields.{withCrc}
 use Rattle.cell.proofs.OctetLists.{octets-cons, octets-drop}
 use Rattle.port.specs.Limit.{withEr}
-use Rattle.port.specs.Judged.{erAlone}
+use Rattle.port.specs.RefusedAsRead.{erAlone}
 use Rattle.port.proofs.Octets.{Opened, opened, open-up}
 use Rattle.port.proofs.Differences.{difference, check-changed, high-changed, low-changed}
 

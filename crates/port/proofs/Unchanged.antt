@@ -8,18 +8,18 @@ use native.Mathlib.Omega.{arith}
 use Rattle.cell.specs.Reading.{reading}
 use Rattle.cell.specs.Admitted.{Taken}
 use Rattle.cell.specs.declared.read.Reading.{Reading}
-use Rattle.cell.specs.declared.read.Reading.the-variants.{Refused, User, Resource}
+use Rattle.cell.specs.declared.read.Reading.the-variants.{Refused, DataCell, RmCell}
 use Rattle.cell.proofs.Admits.{taken-admitted}
 use Rattle.cell.proofs.Readings.{refusal-number}
-use Rattle.share.specs.Share.{fairShare}
-use Rattle.share.specs.declared.share.FairShare.{FairShare}
-use Rattle.share.specs.declared.share.FairShare.the-variants.{Refused as Unshared, NoLimit, Limit}
-use Rattle.share.proofs.Greatest.{refusal-number as share-number}
+use Rattle.port_share.specs.Share.{fairShare}
+use Rattle.port_share.specs.declared.share.FairShare.{FairShare}
+use Rattle.port_share.specs.declared.share.FairShare.the-variants.{Refused as Unshared, NoLimit, Limit}
+use Rattle.port_share.proofs.Greatest.{refusal-number as share-number}
 use Rattle.port.specs.Limit.{passed, refusalOf, limit}
 use Rattle.port.specs.Port.{portBy, port}
 use Rattle.port.specs.Limited.{Limited}
 use Rattle.port.specs.Unchanged.{Whole, OthersUnchanged}
-use Rattle.port.proofs.Cases.{limit-refused, limit-user, limit-forward}
+use Rattle.port.proofs.Cases.{limit-refused, limit-data, limit-forward}
 use Rattle.port.proofs.Limited.{backward-limited}
 
 -- what is read and is no refusal is taken
@@ -36,8 +36,8 @@ whole-limit rate o = go (reading o) refl
     go : (r : Reading) → reading o ≡ r → Whole o (limit rate o)
     go (Refused n) e =
         subst (Whole o) (limit-refused rate o e) (record { refused = λ _. refl; admitted = λ z. absurd (omega (arith, refusal-number o n e)) })
-    go (User vpi vci efci) e = subst (Whole o) (limit-user rate o e) (left o (ap refusalOf e))
-    go (Resource f) e =
+    go (DataCell vpi vci efci) e = subst (Whole o) (limit-data rate o e) (left o (ap refusalOf e))
+    go (RmCell f) e =
         by-cases (ℕ-discrete (f .dir) 1)
         (λ d. let l : Limited rate o f = backward-limited rate o f e d in
         record {
@@ -58,7 +58,7 @@ unlimited capacity ds o e = ap (λ (a : FairShare). portBy a o .cell) e
 
 pub others-unchanged : OthersUnchanged
 others-unchanged = record {
-  userData = λ rate o vpi vci efci e. sym (limit-user rate o e);
+  dataOnPath = λ rate o vpi vci efci e. sym (limit-data rate o e);
   forward = λ rate o f e d. sym (limit-forward rate o e d);
   unlimited = unlimited;
   held = whole-limit;

@@ -5,8 +5,8 @@ use mathlib.Core.List.{List, Forall₂}
 use Rattle.rate.specs.Code.{rateOf}
 use Rattle.cell.specs.Reading.{reading}
 use Rattle.cell.specs.declared.fields.Fields.{Fields}
-use Rattle.cell.specs.declared.read.Reading.the-variants.{Resource}
-use Rattle.share.specs.Demands.{plainSum}
+use Rattle.cell.specs.declared.read.Reading.the-variants.{RmCell}
+use Rattle.port_share.specs.Demands.{plainSum}
 use Rattle.port.specs.Port.{port}
 
 -- a connection's rate is not above its demand, nor above the ER of some backward cell that the port let pass with these demands
@@ -14,7 +14,7 @@ pub record Follows (capacity : ℕ) (ds : List ℕ) (demand rate : ℕ) : Type 0
   pub cell : List ℕ
   pub fields : Fields
   pub accepted : port capacity ds cell .refusal ≡ 0
-  pub passedOn : reading (port capacity ds cell .cell) ≡ Resource fields
+  pub passedOn : reading (port capacity ds cell .cell) ≡ RmCell fields
   pub backward : fields .dir ≡ 1
   pub demanded : rate ≤ demand
   pub obeyed : rate ≤ rateOf (fields .er)

@@ -2,7 +2,7 @@
 pub mod Limit
 pub mod Port
 -- For the code's own functions:
-pub mod Judged
+pub mod RefusedAsRead
 -- What is claimed: what a limited cell says and what it keeps; which cells stay as they are; and that connections that follow the port stay within its capacity.
 pub mod Limited
 pub mod Unchanged

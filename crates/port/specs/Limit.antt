@@ -9,20 +9,20 @@ use Rattle.cell.specs.Octets.{two, payload}
 use Rattle.cell.specs.Fields.{withCrc}
 use Rattle.cell.specs.Reading.{reading}
 use Rattle.cell.specs.declared.read.Reading.{Reading}
-use Rattle.cell.specs.declared.read.Reading.the-variants.{Refused, User, Resource}
+use Rattle.cell.specs.declared.read.Reading.the-variants.{Refused, DataCell, RmCell}
 
 -- what a call answers and leaves: the number of its refusal, 0 if it was accepted, and the octets of the cell
-pub record Passed : Type 0 where
+pub record Forwarded : Type 0 where
   pub refusal : ℕ
   pub cell : List ℕ
 
-abbrev pub passed : (refusal : ℕ) (cell : List ℕ) → Passed
+abbrev pub passed : (refusal : ℕ) (cell : List ℕ) → Forwarded
 passed n o = record { refusal = n; cell = o }
 
 abbrev pub refusalOf : Reading → ℕ
 refusalOf (Refused n) = n
-refusalOf (User vpi vci efci) = 0
-refusalOf (Resource f) = 0
+refusalOf (DataCell vpi vci efci) = 0
+refusalOf (RmCell f) = 0
 
 -- the code of the lesser of ER and the rate; so a code of rate 0 with other bits set becomes 0x0000, whatever the rate
 abbrev pub heldEr : (rate er : ℕ) → ℕ
@@ -35,8 +35,8 @@ withEr code p = withCrc (take 2 p ++ (two code ++ drop 4 p))
 -- a backward cell, DIR 1, has its ER held to the rate; every other cell passes as it is
 unfoldable pub held : (rate : ℕ) → List ℕ → Reading → List ℕ
 held rate o (Refused n) = o
-held rate o (User vpi vci efci) = o
-held rate o (Resource f) = cond (eqb (f .dir) 1) (take 5 o ++ withEr (heldEr rate (f .er)) (payload o)) o
+held rate o (DataCell vpi vci efci) = o
+held rate o (RmCell f) = cond (eqb (f .dir) 1) (take 5 o ++ withEr (heldEr rate (f .er)) (payload o)) o
 
-abbrev pub limit : (rate : ℕ) → List ℕ → Passed
+abbrev pub limit : (rate : ℕ) → List ℕ → Forwarded
 limit rate o = passed (refusalOf (reading o)) (held rate o (reading o))

@@ -3,11 +3,11 @@ use Prim.Native.Nat.{ℕ, _/_, _≤_, min}
 use mathlib.Core.Path.{_≡_}
 use mathlib.Core.List.{List}
 use lib.ListN.{take, drop}
-use Rattle.rate.specs.Code.{rateOf, Greatest}
+use Rattle.rate.specs.Code.{rateOf, GreatestCode}
 use Rattle.cell.specs.Octets.{octet}
 use Rattle.cell.specs.Reading.{reading}
 use Rattle.cell.specs.declared.fields.Fields.{Fields}
-use Rattle.cell.specs.declared.read.Reading.the-variants.{Resource}
+use Rattle.cell.specs.declared.read.Reading.the-variants.{RmCell}
 use Rattle.port.specs.Limit.{heldEr, limit}
 
 -- these fields, with another ER
@@ -36,15 +36,15 @@ pub record SameButEr (before after : List ℕ) : Type 0 where
 pub record Limited (rate : ℕ) (o : List ℕ) (f : Fields) : Type 0 where
   pub accepted : limit rate o .refusal ≡ 0
   -- it is a cell with right checks, since it is read, and reads as before but for ER
-  pub fields : reading (limit rate o .cell) ≡ Resource (fieldsWithEr (heldEr rate (f .er)) f)
+  pub fields : reading (limit rate o .cell) ≡ RmCell (fieldsWithEr (heldEr rate (f .er)) f)
   pub octets : SameButEr o (limit rate o .cell)
   -- ER has the greatest code rate that is not above the lesser of the two; where ER was not above the rate, it keeps its own
-  pub greatest : Greatest (min (rateOf (f .er)) rate) (heldEr rate (f .er))
+  pub greatest : GreatestCode (min (rateOf (f .er)) rate) (heldEr rate (f .er))
   pub kept : rateOf (f .er) ≤ rate → rateOf (heldEr rate (f .er)) ≡ rateOf (f .er)
 
 abbrev pub BackwardLimited : Type 0
-BackwardLimited = (rate : ℕ) (o : List ℕ) (f : Fields) → reading o ≡ Resource f → f .dir ≡ 1 → Limited rate o f
+BackwardLimited = (rate : ℕ) (o : List ℕ) (f : Fields) → reading o ≡ RmCell f → f .dir ≡ 1 → Limited rate o f
 
 -- no backward cell leaves with an ER above the rate
 abbrev pub NoneAbove : Type 0
-NoneAbove = (rate : ℕ) (o : List ℕ) (f : Fields) → reading (limit rate o .cell) ≡ Resource f → f .dir ≡ 1 → rateOf (f .er) ≤ rate
+NoneAbove = (rate : ℕ) (o : List ℕ) (f : Fields) → reading (limit rate o .cell) ≡ RmCell f → f .dir ≡ 1 → rateOf (f .er) ≤ rate

@@ -3,13 +3,13 @@ ghost use mathlib.Core.Path.{_≡_};
 ghost use mathlib.Core.List.{_++_};
 ghost use Prim.Native.Nat.{_+_, _*_, _%_, _≤_, _<_};
 ghost use lib.ListN.{length, take};
-ghost use Rattle.crc.specs.Checks.{payloadCheck};
-ghost use Rattle.crc.specs.Payload.{octetsOf};
+ghost use Rattle.cell_crc.specs.Checks.{payloadCheck};
+ghost use Rattle.cell_crc.specs.Payload.{octetsOf};
 ghost use Rattle.cell.specs.Octets.{pair, payload};
 ghost use Rattle.port.specs.Limit.{withEr};
-ghost use Rattle.port.specs.Judged.{erAlone};
-use crc::crc10::crc10;
-use crc::payload::Payload;
+ghost use Rattle.port.specs.RefusedAsRead.{erAlone};
+use cell_crc::crc10::crc10;
+use cell_crc::payload::Payload;
 
 // The CRC-10 of a payload with no bits set but these, in the two octets of ER.
 fn er_check(high: u8, low: u8) -> u64

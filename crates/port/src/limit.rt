@@ -1,19 +1,19 @@
 // A passing cell held to a rate (document 02, L10).
 ghost use mathlib.Core.Path.{_≡_};
 ghost use Rattle.port.specs.Limit.{passed, limit};
-ghost use Rattle.port.specs.Judged.{Judged};
+ghost use Rattle.port.specs.RefusedAsRead.{RefusedAsRead};
 use crate::er::put_er;
+use cell_read::fields::fields_of;
+use cell_read::read::header_refusal;
+use cell_read::read::is_data;
+use cell_read::read::rm_refusal;
+use port_share::pass::lesser;
 use rate::code::code_or_zero;
 use rate::code::rate_of;
-use reading::fields::fields_of;
-use reading::read::header_refusal;
-use reading::read::is_data;
-use reading::read::resource_refusal;
-use share::pass::lesser;
 
 // The refusal that reading the cell meets; 0 if none.
 pub fn refusal(cell: &[u8]) -> u32
-    ensures { λ n. ⌜ Judged (now (cell .entry)) n ⌝ }
+    ensures { λ n. ⌜ RefusedAsRead (now (cell .entry)) n ⌝ }
 {
     let first = header_refusal(cell);
     if first != 0 {
@@ -22,7 +22,7 @@ pub fn refusal(cell: &[u8]) -> u32
     if is_data(cell) {
         return 0;
     }
-    resource_refusal(cell)
+    rm_refusal(cell)
 }
 
 // The rate is any number: one above the largest rate lowers no ER.

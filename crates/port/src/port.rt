@@ -4,8 +4,8 @@ ghost use Rattle.port.specs.Limit.{passed};
 ghost use Rattle.port.specs.Port.{port};
 use crate::limit::limit;
 use crate::limit::refusal;
-use share::share::FairShare;
-use share::share::fair_share;
+use port_share::share::FairShare;
+use port_share::share::fair_share;
 
 // Refusals 21, 22, and then those of reading a cell.
 pub fn port(capacity: u64, demands: &[u64], cell: &mut [u8]) -> u32

@@ -9,7 +9,7 @@ use native.Mathlib.Decide.{decLt}
 use lib.Dec.{leb, eqb}
 use lib.Pow.{pow-pos, pow-mono, shr-mono}
 use borrow.Author.Tests.{leb-true, leb-false, eqb-true, eq-eqb, lt-ltb}
-use Rattle.rate.specs.Code.{reservedClear, codesClear, rateOf, codeBelow, codeOf, Greatest}
+use Rattle.rate.specs.Code.{reservedClear, codesClear, rateOf, codeBelow, codeOf, GreatestCode}
 use Rattle.rate.specs.Units.{largestRate}
 use Rattle.rate.proofs.Octaves.{Octave, octave, codeIn, code-octave, code-none}
 
@@ -63,7 +63,7 @@ none-under : (x : ℕ) → x < 512 → (r : ℕ) → Parts r → r ≤ x → r �
 none-under x u r (nil z) h = z
 none-under x u r (parts e y _ a b z) h = omega (arith, mul-le-mul (pow-pos e) a)
 
-greatest-none : (x : ℕ) → x < 512 → Greatest x 0
+greatest-none : (x : ℕ) → x < 512 → GreatestCode x 0
 unfolding rateOf
 greatest-none x u = record {
   notAbove = omega arith;
@@ -71,7 +71,7 @@ greatest-none x u = record {
   fifteen = omega arith;
 }
 
-pub greatest-in : (x e : ℕ) → e < 32 → Octave e x → Greatest x (codeIn e x)
+pub greatest-in : (x e : ℕ) → e < 32 → Octave e x → GreatestCode x (codeIn e x)
 greatest-in x e h o = record {
   notAbove = rw rate (mul-div-le x (2 ^ e));
   greatest = λ k g. rw rate (under x e o (rateOf k) (rate-has k) g);
@@ -81,19 +81,19 @@ greatest-in x e h o = record {
     rate : rateOf (codeIn e x) ≡ 2 ^ e * (x / 2 ^ e)
     rate = rate-parts e (x / 2 ^ e - 512) h (omega (arith, o .high)) ∙ ap (λ y. 2 ^ e * y) (omega (arith, o .low))
 
-greatest-below : (n x : ℕ) → n ≤ 32 → x < 512 * 2 ^ n → Greatest x (codeBelow n x)
+greatest-below : (n x : ℕ) → n ≤ 32 → x < 512 * 2 ^ n → GreatestCode x (codeBelow n x)
 unfolding codeBelow
 greatest-below zero x h u = greatest-none x u
 greatest-below (suc e) x h u = go (λ l. greatest-below e x (omega arith) l) (leb (512 * 2 ^ e) x) refl
   where
     go :
-        (x < 512 * 2 ^ e → Greatest x (codeBelow e x)) → (b : Bool) → leb (512 * 2 ^ e) x ≡ b
-        → Greatest x (cond b (codeIn e x) (codeBelow e x))
+        (x < 512 * 2 ^ e → GreatestCode x (codeBelow e x)) → (b : Bool) → leb (512 * 2 ^ e) x ≡ b
+        → GreatestCode x (cond b (codeIn e x) (codeBelow e x))
     go k true p = greatest-in x e h (octave e x (leb-true _ _ p) u)
     go k false p = k (leb-false _ _ p)
 
 -- the code of a rate has the greatest code rate not above it
-pub code-greatest : (x : ℕ) → x ≤ largestRate → Greatest x (codeOf x)
+pub code-greatest : (x : ℕ) → x ≤ largestRate → GreatestCode x (codeOf x)
 unfolding codeOf
 code-greatest x h = greatest-below 32 x (le-refl 32) (omega arith)
 

@@ -35,7 +35,7 @@ unfoldable pub coded : ℕ → Coded
 coded x = cond (leb x largestRate) (Code (codeOf x)) (Refused 9)
 
 -- what document 01 asks of the code of x: no code has a higher rate that is not above x, and bit 15 is 0
-pub record Greatest (x code : ℕ) : Type 0 where
+pub record GreatestCode (x code : ℕ) : Type 0 where
   pub notAbove : rateOf code ≤ x
   pub greatest : (k : ℕ) → rateOf k ≤ x → rateOf k ≤ rateOf code
   pub fifteen : code < 32768

@@ -2,6 +2,7 @@
 ghost use mathlib.Core.Path.{_≡_};
 ghost use Rattle.rate.specs.Code.{reservedClear, codesClear, rateOf, codeOrZero, coded};
 use crate::units::LARGEST_RATE;
+use laws::refusals::REFUSED_TOO_LARGE;
 
 // A rate's code, or the number of the refusal.
 pub enum Coded {
@@ -54,7 +55,7 @@ pub fn code_of(rate: u64) -> Coded
     ensures { λ r. ⌜ r ≡ coded rate ⌝ }
 {
     if LARGEST_RATE < rate {
-        return Coded::Refused(9);
+        return Coded::Refused(REFUSED_TOO_LARGE);
     }
     Coded::Code(code_or_zero(rate))
 }

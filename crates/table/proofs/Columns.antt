@@ -8,10 +8,10 @@ use lib.Seq.{drop-append-add}
 use Rattle.laws.specs.Blocks.{flat, put}
 use Rattle.laws.proofs.Blocks.{length-flat, drop-flat, part-flat, put-flat}
 use Rattle.model.specs.State.{Entry, free, taken, capacity}
-use Rattle.table.specs.Layout.{nameOf, keyOf, liveOf, fixedOf, namesFrom, keysFrom, liveFrom, liveWidth, fixedFrom, fixedWidth}
+use Rattle.table.specs.Layout.{nameWords, keyOf, liveOf, fixedOf, namesFrom, keysFrom, liveFrom, liveWidth, fixedFrom, fixedWidth}
 
 -- Each column has one width.
-pub name-wide : (x : Entry) → length (nameOf x) ≡ 1
+pub name-wide : (x : Entry) → length (nameWords x) ≡ 1
 name-wide free = refl
 name-wide (taken c) = refl
 
@@ -42,7 +42,7 @@ module _ (f : Entry → List ℕ) (w : ℕ) (wide : (x : Entry) → length (f x)
 
 -- The words with the four columns of four rows of entries, behind a header and before what is behind them: a store changes one column at a time.
 abbrev pub mixed : (h : List ℕ) (k n l m : List Entry) (t : List ℕ) → List ℕ
-mixed h k n l m t = h ++ (flat keyOf k ++ (flat nameOf n ++ (flat liveOf l ++ (flat fixedOf m ++ t))))
+mixed h k n l m t = h ++ (flat keyOf k ++ (flat nameWords n ++ (flat liveOf l ++ (flat fixedOf m ++ t))))
 
 sized : (f : Entry → List ℕ) (w : ℕ) → ((x : Entry) → length (f x) ≡ w) → (ss : List Entry) → length ss ≡ capacity → length (flat f ss) ≡ capacity * w
 sized f w wide ss e = length-flat f w wide ss ∙ ap (λ (x : ℕ). x * w) e
@@ -52,12 +52,12 @@ abbrev toKeys : (h : List ℕ) (k : List Entry) → List ℕ
 toKeys h k = h ++ flat keyOf k
 
 abbrev toNames : (h : List ℕ) (k n : List Entry) → List ℕ
-toNames h k n = h ++ (flat keyOf k ++ flat nameOf n)
+toNames h k n = h ++ (flat keyOf k ++ flat nameWords n)
 
 abbrev toLives : (h : List ℕ) (k n l : List Entry) → List ℕ
-toLives h k n l = h ++ (flat keyOf k ++ (flat nameOf n ++ flat liveOf l))
+toLives h k n l = h ++ (flat keyOf k ++ (flat nameWords n ++ flat liveOf l))
 
-name-split : (h : List ℕ) (k n l m : List Entry) (t : List ℕ) → mixed h k n l m t ≡ toKeys h k ++ (flat nameOf n ++ (flat liveOf l ++ (flat fixedOf m ++ t)))
+name-split : (h : List ℕ) (k n l m : List Entry) (t : List ℕ) → mixed h k n l m t ≡ toKeys h k ++ (flat nameWords n ++ (flat liveOf l ++ (flat fixedOf m ++ t)))
 name-split h k n l m t = simp append-assoc
 
 live-split : (h : List ℕ) (k n l m : List Entry) (t : List ℕ) → mixed h k n l m t ≡ toNames h k n ++ (flat liveOf l ++ (flat fixedOf m ++ t))
@@ -85,33 +85,33 @@ module _ (h : List ℕ) (k n l m : List Entry) (t : List ℕ) (r : Rows h k n l 
   before-live =
       omega (
         arith,
-        length-append h (flat keyOf k ++ flat nameOf n),
-        length-append (flat keyOf k) (flat nameOf n),
+        length-append h (flat keyOf k ++ flat nameWords n),
+        length-append (flat keyOf k) (flat nameWords n),
         r .heads,
         sized keyOf 1 key-wide k (r .keys),
-        sized nameOf 1 name-wide n (r .names),
+        sized nameWords 1 name-wide n (r .names),
       )
 
   at-fixed : length (toLives h k n l) + i * fixedWidth ≡ fixedFrom + i * fixedWidth
   at-fixed =
       omega (
         arith,
-        length-append h (flat keyOf k ++ (flat nameOf n ++ flat liveOf l)),
-        length-append (flat keyOf k) (flat nameOf n ++ flat liveOf l),
-        length-append (flat nameOf n) (flat liveOf l),
+        length-append h (flat keyOf k ++ (flat nameWords n ++ flat liveOf l)),
+        length-append (flat keyOf k) (flat nameWords n ++ flat liveOf l),
+        length-append (flat nameWords n) (flat liveOf l),
         r .heads,
         sized keyOf 1 key-wide k (r .keys),
-        sized nameOf 1 name-wide n (r .names),
+        sized nameWords 1 name-wide n (r .names),
         sized liveOf liveWidth live-wide l (r .lives),
       )
 
   pub set-key : (x : Entry) → put (mixed h k n l m t) (keysFrom + i) (keyOf x) ≡ mixed h (set k i x) n l m t
-  set-key x = replace keyOf 1 key-wide h (flat nameOf n ++ (flat liveOf l ++ (flat fixedOf m ++ t))) i (keysFrom + i) at-key k x (omega (arith, r .keys))
+  set-key x = replace keyOf 1 key-wide h (flat nameWords n ++ (flat liveOf l ++ (flat fixedOf m ++ t))) i (keysFrom + i) at-key k x (omega (arith, r .keys))
 
-  pub set-name : (x : Entry) → put (mixed h k n l m t) (namesFrom + i) (nameOf x) ≡ mixed h k (set n i x) l m t
+  pub set-name : (x : Entry) → put (mixed h k n l m t) (namesFrom + i) (nameWords x) ≡ mixed h k (set n i x) l m t
   set-name x =
-      ap (λ (y : List ℕ). put y (namesFrom + i) (nameOf x)) (name-split h k n l m t)
-      ∙ replace nameOf 1 name-wide (toKeys h k) (flat liveOf l ++ (flat fixedOf m ++ t)) i (namesFrom + i) at-name n x (omega (arith, r .names))
+      ap (λ (y : List ℕ). put y (namesFrom + i) (nameWords x)) (name-split h k n l m t)
+      ∙ replace nameWords 1 name-wide (toKeys h k) (flat liveOf l ++ (flat fixedOf m ++ t)) i (namesFrom + i) at-name n x (omega (arith, r .names))
       ∙ sym (name-split h k (set n i x) l m t)
 
   -- a part of an entry's live words: those behind p
@@ -134,13 +134,13 @@ module _ (h : List ℕ) (k n l m : List Entry) (t : List ℕ) (r : Rows h k n l 
       ∙ replace fixedOf fixedWidth fixed-wide (toLives h k n l) t i (fixedFrom + i * fixedWidth) at-fixed m x (omega (arith, r .fixeds))
       ∙ sym (fixed-split h k n l (set m i x) t)
 
-  pub get-key : drop (keysFrom + i) (mixed h k n l m t) ≡ keyOf (getD k i free) ++ (flat keyOf (drop (suc i) k) ++ (flat nameOf n ++ (flat liveOf l ++ (flat fixedOf m ++ t))))
-  get-key = read keyOf 1 key-wide h (flat nameOf n ++ (flat liveOf l ++ (flat fixedOf m ++ t))) i (keysFrom + i) at-key k (omega (arith, r .keys))
+  pub get-key : drop (keysFrom + i) (mixed h k n l m t) ≡ keyOf (getD k i free) ++ (flat keyOf (drop (suc i) k) ++ (flat nameWords n ++ (flat liveOf l ++ (flat fixedOf m ++ t))))
+  get-key = read keyOf 1 key-wide h (flat nameWords n ++ (flat liveOf l ++ (flat fixedOf m ++ t))) i (keysFrom + i) at-key k (omega (arith, r .keys))
 
-  pub get-name : drop (namesFrom + i) (mixed h k n l m t) ≡ nameOf (getD n i free) ++ (flat nameOf (drop (suc i) n) ++ (flat liveOf l ++ (flat fixedOf m ++ t)))
+  pub get-name : drop (namesFrom + i) (mixed h k n l m t) ≡ nameWords (getD n i free) ++ (flat nameWords (drop (suc i) n) ++ (flat liveOf l ++ (flat fixedOf m ++ t)))
   get-name =
       ap (λ (y : List ℕ). drop (namesFrom + i) y) (name-split h k n l m t)
-      ∙ read nameOf 1 name-wide (toKeys h k) (flat liveOf l ++ (flat fixedOf m ++ t)) i (namesFrom + i) at-name n (omega (arith, r .names))
+      ∙ read nameWords 1 name-wide (toKeys h k) (flat liveOf l ++ (flat fixedOf m ++ t)) i (namesFrom + i) at-name n (omega (arith, r .names))
 
   pub get-live : drop (liveFrom + i * liveWidth) (mixed h k n l m t) ≡ liveOf (getD l i free) ++ (flat liveOf (drop (suc i) l) ++ (flat fixedOf m ++ t))
   get-live =

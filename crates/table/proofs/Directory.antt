@@ -7,26 +7,26 @@ use lib.Dec.{ltb}
 use lib.ListN.{length, getD, set, replicate}
 use Rattle.connection.specs.declared.parts.Connection.{Connection}
 use Rattle.model.specs.State.{Entry, free, taken}
-use Rattle.table.specs.Layout.{directory, directoryWord, directoryWords, insertFalling, sortFalling}
+use Rattle.table.specs.Layout.{directory, directoryWord, directoryWords, insertDescending, sortDescending}
 
 pub length-words : (k : ℕ) (ss : List Entry) → length (directoryWords k ss) ≡ length ss
 unfolding directoryWords
 length-words k [] = refl
 length-words k (s ∷ ss) = ap suc (length-words (suc k) ss)
 
-length-insert : (x : ℕ) (ys : List ℕ) → length (insertFalling x ys) ≡ suc (length ys)
-unfolding insertFalling
+length-insert : (x : ℕ) (ys : List ℕ) → length (insertDescending x ys) ≡ suc (length ys)
+unfolding insertDescending
 length-insert x [] = refl
 length-insert x (y ∷ ys) = go (ltb x y) (length-insert x ys)
   where
-    go : (b : Bool) → length (insertFalling x ys) ≡ suc (length ys) → length (cond b (y ∷ insertFalling x ys) (x ∷ y ∷ ys)) ≡ suc (suc (length ys))
+    go : (b : Bool) → length (insertDescending x ys) ≡ suc (length ys) → length (cond b (y ∷ insertDescending x ys) (x ∷ y ∷ ys)) ≡ suc (suc (length ys))
     go true h = ap suc h
     go false h = refl
 
-length-sort : (xs : List ℕ) → length (sortFalling xs) ≡ length xs
-unfolding sortFalling
+length-sort : (xs : List ℕ) → length (sortDescending xs) ≡ length xs
+unfolding sortDescending
 length-sort [] = refl
-length-sort (x ∷ xs) = length-insert x (sortFalling xs) ∙ ap suc (length-sort xs)
+length-sort (x ∷ xs) = length-insert x (sortDescending xs) ∙ ap suc (length-sort xs)
 
 pub length-directory : (ss : List Entry) → length (directory ss) ≡ length ss
 length-directory ss = length-sort (directoryWords 0 ss) ∙ length-words 0 ss
@@ -38,18 +38,18 @@ unfolding directoryWords directoryWord
 words-free k zero = refl
 words-free k (suc n) = ap (λ (l : List ℕ). 0 ∷ l) (words-free (suc k) n)
 
-insert-zeros : (n : ℕ) → insertFalling 0 (replicate n 0) ≡ replicate (suc n) 0
-unfolding insertFalling
+insert-zeros : (n : ℕ) → insertDescending 0 (replicate n 0) ≡ replicate (suc n) 0
+unfolding insertDescending
 insert-zeros zero = refl
 insert-zeros (suc n) = refl
 
-sort-zeros : (n : ℕ) → sortFalling (replicate n 0) ≡ replicate n 0
-unfolding sortFalling
+sort-zeros : (n : ℕ) → sortDescending (replicate n 0) ≡ replicate n 0
+unfolding sortDescending
 sort-zeros zero = refl
-sort-zeros (suc n) = ap (insertFalling 0) (sort-zeros n) ∙ insert-zeros n
+sort-zeros (suc n) = ap (insertDescending 0) (sort-zeros n) ∙ insert-zeros n
 
 pub directory-free : (n : ℕ) → directory (replicate n free) ≡ replicate n 0
-directory-free n = ap sortFalling (words-free 0 n) ∙ sort-zeros n
+directory-free n = ap sortDescending (words-free 0 n) ∙ sort-zeros n
 
 -- ---- an entry whose connection keeps its name
 
@@ -60,4 +60,4 @@ words-same k (s ∷ ss) zero c d e p = rw (e, p) refl
 words-same k (s ∷ ss) (suc i) c d e p = ap (λ (l : List ℕ). directoryWord k s ∷ l) (words-same (suc k) ss i c d e p)
 
 pub directory-same : (ss : List Entry) (i : ℕ) (c d : Connection) → getD ss i free ≡ taken c → d .name ≡ c .name → directory (set ss i (taken d)) ≡ directory ss
-directory-same ss i c d e p = ap sortFalling (words-same 0 ss i c d e p)
+directory-same ss i c d e p = ap sortDescending (words-same 0 ss i c d e p)

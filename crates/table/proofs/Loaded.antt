@@ -11,9 +11,9 @@ use lib.ListN.{getD, drop}
 use lib.Pow.{pow-mono}
 use lib.Seq.{getD-drop}
 use Rattle.rate.specs.Units.{latestTime}
-use Rattle.params.specs.Params.{nrm}
-use Rattle.params.specs.Ranges.{Fits, SetupFits}
-use Rattle.params.proofs.Ranges.{fits, setup-fits}
+use Rattle.rate_params.specs.Params.{nrm}
+use Rattle.rate_params.specs.Ranges.{Fits, SetupFits}
+use Rattle.rate_params.proofs.Ranges.{fits, setup-fits}
 use Rattle.cell.specs.Name.{noName}
 use Rattle.connection.specs.declared.parts.Pace.{Pace}
 use Rattle.connection.specs.declared.parts.Pace.the-variants.{Unsent, Running}
@@ -25,7 +25,7 @@ use Rattle.connection.specs.declared.parts.Made.{Made}
 use Rattle.connection.specs.declared.ready.Instant.{Instant}
 use Rattle.connection.specs.declared.ready.Instant.the-variants.{Never, At}
 use Rattle.connection.specs.Invariant.{ValidAt, PaceFits, NotAfter, MadeValidAt, QueueFits}
-use Rattle.connection.specs.Range.{InRange, PaceInRange, HasRoom, InstantInRange}
+use Rattle.connection.specs.Range.{InRange, PaceInRange, CountHasRoom, InstantInRange}
 use Rattle.connection.proofs.Reached.{in-range}
 use Rattle.table.specs.Layout.{paceTag, paceSent, paceForward, paceK, waitTag, waitingPayload, queueWord, liveWords, fixedWords, liveFrom, liveWidth, instantWord}
 use Rattle.table.specs.Loading.{paceOf, waitingOf, queueOf, paramsAt, connectionFrom, connectionAt, instantOf}
@@ -108,12 +108,12 @@ words-back now c s t l h =
       mod-eq-of-lt (r .trm),
       params-back c t (fits (c .rate .params) (h .0 .fits)) (setup-fits (c .rate .params) (h .0 .tbe) (h .0 .frtt)),
       pace-back now (nrm (c .rate .params)) (c .pace) (pow-mono (fits (c .rate .params) (h .0 .fits) .nMost)) (h .0 .paced) (r .pace),
-      narrow (c .unacked) (omega (arith, h .1 .counted)),
+      narrow (c .unanswered) (omega (arith, h .1 .counted)),
       queue-back (c .name) (c .queue) (h .4),
       efci-back (c .destination .efci) (c .destination .turned),
       turned-back (c .destination .efci) (c .destination .turned),
       made-back now (c .destination .made) l (h .2),
-      instant-back now (c .outside) l (h .3),
+      instant-back now (c .«out_of_rate») l (h .3),
     )
 
 -- words further on in a list
@@ -121,13 +121,13 @@ pub from-drop : (n : ℕ) (l : List ℕ) (a : ℕ) (m : List ℕ) (b : ℕ) → 
 from-drop n l a m b = simp (getD-drop, add-assoc, add-zero)
 
 -- Whatever the words are, what is loaded lies in range, with room for one more cell.
-pace-ranged : (tag sent forward k : ℕ) → PaceInRange (paceOf tag sent forward k) × HasRoom (paceOf tag sent forward k)
+pace-ranged : (tag sent forward k : ℕ) → PaceInRange (paceOf tag sent forward k) × CountHasRoom (paceOf tag sent forward k)
 pace-ranged tag sent forward k = go (eqb tag 0)
   where
     p : Bool → Pace
     p b = cond b Unsent (Running (sent % 2 ^ 63) (forward % 2 ^ 63) (k % 32768) (eqb tag 2))
 
-    go : (b : Bool) → PaceInRange (p b) × HasRoom (p b)
+    go : (b : Bool) → PaceInRange (p b) × CountHasRoom (p b)
     go true = (tt, tt)
     go false = ((omega arith, omega arith, omega arith), omega arith)
 
@@ -143,11 +143,11 @@ load-ranged l i = record {
   opened = omega arith;
   trm = omega arith;
   made = instant-ranged (getD l (liveFrom + i * liveWidth + 16 + 1) 0);
-  outside = instant-ranged (getD l (liveFrom + i * liveWidth + 18) 0);
+  «out_of_rate» = instant-ranged (getD l (liveFrom + i * liveWidth + 18) 0);
   pace = pace-ranged (getD l (liveFrom + i * liveWidth + 3) 0) (getD l (liveFrom + i * liveWidth + 3 + 1) 0) (getD l (liveFrom + i * liveWidth + 3 + 2) 0) (getD l (liveFrom + i * liveWidth + 3 + 3) 0) .0;
 }
 
-pub load-room : (l : List ℕ) (i : ℕ) → HasRoom (connectionAt l i .pace)
+pub load-room : (l : List ℕ) (i : ℕ) → CountHasRoom (connectionAt l i .pace)
 load-room l i =
     pace-ranged (getD l (liveFrom + i * liveWidth + 3) 0) (getD l (liveFrom + i * liveWidth + 3 + 1) 0) (getD l (liveFrom + i * liveWidth + 3 + 2) 0) (getD l (liveFrom + i * liveWidth + 3 + 3) 0) .1
 

@@ -10,7 +10,7 @@ use lib.ListN.{length, getD, set, replicate}
 use borrow.Author.Tests.{leb-true, leb-false, le-leb, lt-leb}
 use Rattle.laws.proofs.Rows.{length-row, row-same, row-zeros}
 use Rattle.model.specs.State.{Entry, free, capacity}
-use Rattle.model.specs.Tournament.{levels, noLead, leafLead, first, winnerAt, leadWord}
+use Rattle.model.specs.Tournament.{levels, noWinner, leafWinner, first, winnerAt, winnerWord}
 use Rattle.model.proofs.Places.{Stands, lower, upper, even, same-leaf}
 use Rattle.table.specs.Layout.{height, nodeWord, nodes}
 
@@ -76,37 +76,37 @@ pub node-zero : (ss : List Entry) → nodeWord ss 0 ≡ 0
 unfolding nodeWord
 node-zero ss = refl
 
-pub node-at : (ss : List Entry) (p : ℕ) {h d : ℕ} → Stands h d p → nodeWord ss p ≡ leadWord (winnerAt ss d p)
+pub node-at : (ss : List Entry) (p : ℕ) {h d : ℕ} → Stands h d p → nodeWord ss p ≡ winnerWord (winnerAt ss d p)
 unfolding nodeWord
 node-at ss zero {h} s = absurd (omega (arith, s .least, pow-le-pow-right {n = 2} (omega arith) {i = 0} {j = h} (omega arith)))
-node-at ss (suc p) {h} {d} s = ap (λ (e : ℕ). leadWord (winnerAt ss e (suc p))) (height-at levels d (omega (arith, s .height)) s)
+node-at ss (suc p) {h} {d} s = ap (λ (e : ℕ). winnerWord (winnerAt ss e (suc p))) (height-at levels d (omega (arith, s .height)) s)
 
 -- ---- one leaf changes
 
 node-same : (ss rs : List Entry) → ((d p : ℕ) → winnerAt rs d p ≡ winnerAt ss d p) → (p : ℕ) → nodeWord rs p ≡ nodeWord ss p
 unfolding nodeWord
 node-same ss rs e zero = refl
-node-same ss rs e (suc p) = ap leadWord (e (height levels (suc p)) (suc p))
+node-same ss rs e (suc p) = ap winnerWord (e (height levels (suc p)) (suc p))
 
 -- a leaf that leads as before
-pub nodes-same : (ss : List Entry) (i : ℕ) (x : Entry) → i < length ss → leafLead i x ≡ leafLead i (getD ss i free) → nodes (set ss i x) ≡ nodes ss
+pub nodes-same : (ss : List Entry) (i : ℕ) (x : Entry) → i < length ss → leafWinner i x ≡ leafWinner i (getD ss i free) → nodes (set ss i x) ≡ nodes ss
 nodes-same ss i x l e = row-same (nodeWord (set ss i x)) (nodeWord ss) 0 capacity (λ j _ _. node-same ss (set ss i x) (same-leaf ss i x e l) j)
 
 -- an empty table has no winner
-none-leads : (n d p : ℕ) → winnerAt (replicate n free) d p ≡ noLead
-unfolding winnerAt first leafLead
-none-leads n zero p = ap (leafLead (p - capacity)) (all-free n (p - capacity))
+none-won : (n d p : ℕ) → winnerAt (replicate n free) d p ≡ noWinner
+unfolding winnerAt first leafWinner
+none-won n zero p = ap (leafWinner (p - capacity)) (all-free n (p - capacity))
   where
     all-free : (n k : ℕ) → getD (replicate n free) k free ≡ free
     all-free zero k = refl
     all-free (suc n) zero = refl
     all-free (suc n) (suc k) = all-free n k
-none-leads n (suc d) p = rw (none-leads n d (2 * p), none-leads n d (2 * p + 1))
+none-won n (suc d) p = rw (none-won n d (2 * p), none-won n d (2 * p + 1))
 
 none-word : (n p : ℕ) → nodeWord (replicate n free) p ≡ 0
-unfolding nodeWord leadWord
+unfolding nodeWord winnerWord
 none-word n zero = refl
-none-word n (suc p) = ap leadWord (none-leads n (height levels (suc p)) (suc p))
+none-word n (suc p) = ap winnerWord (none-won n (height levels (suc p)) (suc p))
 
 pub nodes-free : (n : ℕ) → nodes (replicate n free) ≡ replicate capacity 0
 nodes-free n = row-zeros (nodeWord (replicate n free)) 0 capacity (none-word n)

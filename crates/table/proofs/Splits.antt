@@ -4,7 +4,7 @@ use mathlib.Core.Path.{_≡_, refl, _∙_}
 use mathlib.Core.List.{List, [], _∷_, _++_, append-assoc}
 use native.Mathlib.Omega.{arith}
 use lib.ListN.{length, length-append}
-use Rattle.members.specs.Members.{Member}
+use Rattle.connection_members.specs.Members.{Member}
 use Rattle.model.specs.State.{State, Entry, capacity}
 use Rattle.table.specs.Layout.{tableWords, words, used, directory, nodes, columns, groups, directoryFrom, nodesFrom, keysFrom}
 use Rattle.table.proofs.Used.{length-used}

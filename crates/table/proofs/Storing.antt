@@ -8,9 +8,9 @@ use Rattle.laws.specs.Blocks.{put}
 use Rattle.laws.proofs.Blocks.{put-append}
 use Rattle.connection.specs.declared.parts.Connection.{Connection}
 use Rattle.connection.specs.Ready.{readyInstant}
-use Rattle.table.specs.Layout.{key, instantWord, outsideWords, outsideFrom, keyOf, nameOf, liveOf, fixedOf, sourceWords, destinationWords, sideWords, liveWords, namesFrom, keysFrom, liveFrom, liveWidth, destinationFrom, fixedFrom, fixedWidth}
+use Rattle.table.specs.Layout.{key, instantWord, outOfRateWords, outOfRateFrom, keyOf, nameWords, liveOf, fixedOf, sourceWords, destinationWords, sideWords, liveWords, namesFrom, keysFrom, liveFrom, liveWidth, destinationFrom, fixedFrom, fixedWidth}
 use Rattle.model.specs.State.{Entry}
-use Rattle.table.specs.Storing.{outsideUpdated, given}
+use Rattle.table.specs.Storing.{outOfRateUpdated, entryStored}
 
 -- the key behind what was put
 pub keyed : (l m : List ℕ) (p i k : ℕ) (v : List ℕ) (c : Connection) → m ≡ put l p v → k ≡ key (readyInstant c) → set m (keysFrom + i) k ≡ set (put l p v) (keysFrom + i) (key (readyInstant c))
@@ -27,13 +27,13 @@ sides-by l m n i c e f =
     at : destinationFrom + i * liveWidth ≡ liveFrom + i * liveWidth + 9
     at = omega arith
 
--- and the last cell outside the rate
-pub live-by : (l m n : List ℕ) (i : ℕ) (c : Connection) → m ≡ put l (liveFrom + i * liveWidth) (sideWords c) → n ≡ outsideUpdated m i (c .outside) → n ≡ put l (liveFrom + i * liveWidth) (liveWords c)
+-- and the last out-of-rate cell
+pub live-by : (l m n : List ℕ) (i : ℕ) (c : Connection) → m ≡ put l (liveFrom + i * liveWidth) (sideWords c) → n ≡ outOfRateUpdated m i (c .«out_of_rate») → n ≡ put l (liveFrom + i * liveWidth) (liveWords c)
 live-by l m n i c e f =
-    f ∙ ap (λ (x : List ℕ). outsideUpdated x i (c .outside)) e ∙ ap (λ (p : ℕ). set (put l (liveFrom + i * liveWidth) (sideWords c)) p (instantWord (c .outside))) behind
-    ∙ put-append l (liveFrom + i * liveWidth) (sideWords c) (outsideWords c)
+    f ∙ ap (λ (x : List ℕ). outOfRateUpdated x i (c .«out_of_rate»)) e ∙ ap (λ (p : ℕ). set (put l (liveFrom + i * liveWidth) (sideWords c)) p (instantWord (c .«out_of_rate»))) behind
+    ∙ put-append l (liveFrom + i * liveWidth) (sideWords c) (outOfRateWords c)
   where
-    behind : outsideFrom + i * liveWidth ≡ liveFrom + i * liveWidth + 18
+    behind : outOfRateFrom + i * liveWidth ≡ liveFrom + i * liveWidth + 18
     behind = omega arith
 
 pub cleared-live-by : (l m : List ℕ) (b : ℕ) → m ≡ put l b (replicate fixedWidth 0) → set (set (set (set (set (set (set m (b + 12) 0) (b + 13) 0) (b + 14) 0) (b + 15) 0) (b + 16) 0) (b + 17) 0) (b + 18) 0 ≡ put l b (replicate liveWidth 0)
@@ -42,6 +42,6 @@ cleared-live-by l m b e = ap (λ (x : List ℕ). set (set (set (set (set (set (s
 -- the whole entry, one column after the other
 pub given-by :
     (l m n : List ℕ) (i : ℕ) (x : Entry) → m ≡ put (put l (liveFrom + i * liveWidth) (liveOf x)) (keysFrom + i) (keyOf x) → n ≡ put m (fixedFrom + i * fixedWidth) (fixedOf x)
-    → put n (namesFrom + i) (nameOf x) ≡ given l i x
+    → put n (namesFrom + i) (nameWords x) ≡ entryStored l i x
 given-by l m n i x e f =
-    ap (λ (y : List ℕ). put y (namesFrom + i) (nameOf x)) (f ∙ ap (λ (y : List ℕ). put y (fixedFrom + i * fixedWidth) (fixedOf x)) e)
+    ap (λ (y : List ℕ). put y (namesFrom + i) (nameWords x)) (f ∙ ap (λ (y : List ℕ). put y (fixedFrom + i * fixedWidth) (fixedOf x)) e)

@@ -16,12 +16,12 @@ use Rattle.connection.specs.declared.ready.Instant.{Instant}
 use Rattle.connection.specs.declared.parts.Waiting.{Waiting}
 use Rattle.connection.specs.Ready.{readyInstant}
 use Rattle.connection.specs.Invariant.{ValidAt}
-use Rattle.members.specs.Members.{memberCapacity}
+use Rattle.connection_members.specs.Members.{memberCapacity}
 use Rattle.model.specs.State.{State, Entry, free, taken, empty, capacity}
-use Rattle.model.specs.Tournament.{instantLead, leafLead}
-use Rattle.table.specs.Layout.{nameOf, keyOf, liveOf, fixedOf, destinationTag, waitingPayload, payloadWords, madeWords, outsideWords, instantWord, key, sourceWords, destinationWords, sideWords, liveWords, fixedWords, columns, isTaken, used, directory, nodes, tableWords, packed, memberWords, words, lastAt, groups, namesFrom, keysFrom, liveFrom, liveWidth, fixedFrom, fixedWidth, size}
+use Rattle.model.specs.Tournament.{instantWinner, leafWinner}
+use Rattle.table.specs.Layout.{nameWords, keyOf, liveOf, fixedOf, destinationTag, waitingPayload, payloadWords, madeWords, outOfRateWords, instantWord, key, sourceWords, destinationWords, sideWords, liveWords, fixedWords, columns, isTaken, used, directory, nodes, tableWords, packed, memberWords, words, lastAt, groups, namesFrom, keysFrom, liveFrom, liveWidth, fixedFrom, fixedWidth, size}
 use Rattle.table.specs.Loading.{connectionFrom, connectionAt}
-use Rattle.table.specs.Storing.{sourceUpdated, destinationUpdated, efciUpdated, outsideUpdated, updated, given}
+use Rattle.table.specs.Storing.{sourceUpdated, destinationUpdated, efciUpdated, outOfRateUpdated, updated, entryStored}
 use Rattle.table.proofs.Loaded.{words-back, from-drop}
 use Rattle.table.proofs.Columns.{name-wide, key-wide, fixed-wide, live-wide, mixed, Rows, set-name, set-key, set-part, set-live, set-fixed, get-name, get-key, get-live, get-fixed}
 use Rattle.table.proofs.Used.{used-free, used-same}
@@ -35,9 +35,9 @@ unfolding words
 last-at s e = ap (λ (x : List ℕ). getD x lastAt 0) e
 
 -- an entry's lead follows from its name and its ready instant
-pub lead-same : (i : ℕ) (c d : Connection) → d .name ≡ c .name → readyInstant d ≡ readyInstant c → leafLead i (taken d) ≡ leafLead i (taken c)
-unfolding leafLead
-lead-same i c d p r = ap₂ (λ (v : ℕ) (x : Instant). instantLead v i x) p r
+pub winner-same : (i : ℕ) (c d : Connection) → d .name ≡ c .name → readyInstant d ≡ readyInstant c → leafWinner i (taken d) ≡ leafWinner i (taken c)
+unfolding leafWinner
+winner-same i c d p r = ap₂ (λ (v : ℕ) (x : Instant). instantWinner v i x) p r
 
 -- the word of an entry in the column of names: 0 if it is free
 abbrev pub number : Entry → ℕ
@@ -48,7 +48,7 @@ abbrev pub keyNumber : Entry → ℕ
 keyNumber free = 0
 keyNumber (taken c) = key (readyInstant c)
 
-first-name : (x : Entry) (t : List ℕ) → getD (nameOf x ++ t) 0 0 ≡ number x
+first-name : (x : Entry) (t : List ℕ) → getD (nameWords x ++ t) 0 0 ≡ number x
 first-name free t = refl
 first-name (taken c) t = refl
 
@@ -128,15 +128,15 @@ module _ (s : State) (g : length (s .entries) ≡ capacity) (i : ℕ) (h : i < c
     fixed-in : put (mixed (header s) xs (s .entries) xs (s .entries) (memberWords (s .members))) (fixedFrom + i * fixedWidth) (fixedOf x) ≡ mixed (header s) xs (s .entries) xs xs (memberWords (s .members))
     fixed-in = set-fixed (header s) xs (s .entries) xs (s .entries) (memberWords (s .members)) (rows xs (s .entries) xs (s .entries) (long x) g (long x) g) i h x
 
-    name-in : put (mixed (header s) xs (s .entries) xs xs (memberWords (s .members))) (namesFrom + i) (nameOf x) ≡ header s ++ columns xs (s .members)
+    name-in : put (mixed (header s) xs (s .entries) xs xs (memberWords (s .members))) (namesFrom + i) (nameWords x) ≡ header s ++ columns xs (s .members)
     name-in = set-name (header s) xs (s .entries) xs xs (memberWords (s .members)) (rows xs (s .entries) xs xs (long x) g (long x) (long x)) i h x
 
     -- the whole entry
-    pub given-in : given (words s) i x ≡ columnsOf xs
+    pub given-in : entryStored (words s) i x ≡ columnsOf xs
     given-in =
-        ap (λ (y : List ℕ). put (put (put y (keysFrom + i) (keyOf x)) (fixedFrom + i * fixedWidth) (fixedOf x)) (namesFrom + i) (nameOf x)) live-in
-        ∙ ap (λ (y : List ℕ). put (put y (fixedFrom + i * fixedWidth) (fixedOf x)) (namesFrom + i) (nameOf x)) key-in
-        ∙ ap (λ (y : List ℕ). put y (namesFrom + i) (nameOf x)) fixed-in
+        ap (λ (y : List ℕ). put (put (put y (keysFrom + i) (keyOf x)) (fixedFrom + i * fixedWidth) (fixedOf x)) (namesFrom + i) (nameWords x)) live-in
+        ∙ ap (λ (y : List ℕ). put (put y (fixedFrom + i * fixedWidth) (fixedOf x)) (namesFrom + i) (nameWords x)) key-in
+        ∙ ap (λ (y : List ℕ). put y (namesFrom + i) (nameWords x)) fixed-in
         ∙ name-in
         ∙ to-columns xs
 
@@ -148,8 +148,8 @@ module _ (s : State) (g : length (s .entries) ≡ capacity) (i : ℕ) (h : i < c
     kept : mixed (header s) ys (s .entries) ys (s .entries) (memberWords (s .members)) ≡ columnsOf ys
     kept =
         ap (λ (y : List ℕ). header s ++ (flat keyOf ys ++ (y ++ (flat liveOf ys ++ (flat fixedOf (s .entries) ++ memberWords (s .members))))))
-        (sym (flat-same nameOf 1 name-wide (s .entries) i (taken d) free inside (ap (λ (v : ℕ). v ∷ []) p ∙ ap nameOf (sym e))))
-        ∙ ap (λ (y : List ℕ). header s ++ (flat keyOf ys ++ (flat nameOf ys ++ (flat liveOf ys ++ (y ++ memberWords (s .members))))))
+        (sym (flat-same nameWords 1 name-wide (s .entries) i (taken d) free inside (ap (λ (v : ℕ). v ∷ []) p ∙ ap nameWords (sym e))))
+        ∙ ap (λ (y : List ℕ). header s ++ (flat keyOf ys ++ (flat nameWords ys ++ (flat liveOf ys ++ (y ++ memberWords (s .members))))))
         (sym (flat-same fixedOf fixedWidth fixed-wide (s .entries) i (taken d) free inside (q ∙ ap fixedOf (sym e))))
         ∙ to-columns ys
 
@@ -160,17 +160,17 @@ module _ (s : State) (g : length (s .entries) ≡ capacity) (i : ℕ) (h : i < c
     part-at k o v z a b l =
         ap (λ (y : List ℕ). set y (keysFrom + i) (key (readyInstant d))) (part-in (taken d) k o v z (ap liveOf e ∙ a) b l) ∙ key-in (taken d) ∙ kept
 
-    pub update-in : d .outside ≡ c .outside → updated (words s) i d ≡ columnsOf ys
-    update-in o = part-at [] (sideWords c) (sideWords d) (outsideWords c) refl (ap (λ (z : Instant). sideWords d ++ (instantWord z ∷ [])) o) refl
+    pub update-in : d .«out_of_rate» ≡ c .«out_of_rate» → updated (words s) i d ≡ columnsOf ys
+    update-in o = part-at [] (sideWords c) (sideWords d) (outOfRateWords c) refl (ap (λ (z : Instant). sideWords d ++ (instantWord z ∷ [])) o) refl
 
-    pub source-in : d .destination ≡ c .destination → d .outside ≡ c .outside → sourceUpdated (words s) i d ≡ columnsOf ys
+    pub source-in : d .destination ≡ c .destination → d .«out_of_rate» ≡ c .«out_of_rate» → sourceUpdated (words s) i d ≡ columnsOf ys
     source-in b o =
-        part-at [] (sourceWords c) (sourceWords d) (destinationWords (c .destination) ++ outsideWords c) refl
+        part-at [] (sourceWords c) (sourceWords d) (destinationWords (c .destination) ++ outOfRateWords c) refl
         (ap₂ (λ (y : Destination) (z : Instant). sourceWords d ++ (destinationWords y ++ (instantWord z ∷ []))) b o) refl
 
-    pub destination-in : sourceWords d ≡ sourceWords c → d .outside ≡ c .outside → destinationUpdated (words s) i d ≡ columnsOf ys
+    pub destination-in : sourceWords d ≡ sourceWords c → d .«out_of_rate» ≡ c .«out_of_rate» → destinationUpdated (words s) i d ≡ columnsOf ys
     destination-in f o =
-        part-at (sourceWords c) (destinationWords (c .destination)) (destinationWords (d .destination)) (outsideWords c) refl
+        part-at (sourceWords c) (destinationWords (c .destination)) (destinationWords (d .destination)) (outOfRateWords c) refl
         (ap₂ (λ (y : List ℕ) (z : Instant). y ++ (destinationWords (d .destination) ++ (instantWord z ∷ []))) f o) refl
 
     -- A part of the live words that moves no ready instant: the key is already there, no winner changes, and the words are those of the state with the entry changed.
@@ -180,33 +180,33 @@ module _ (s : State) (g : length (s .entries) ≡ capacity) (i : ℕ) (h : i < c
     unfolding words isTaken
     silent-at k o v z a b l r =
         part-in (taken d) k o v z (ap liveOf e ∙ a) b l
-        ∙ ap (λ (y : List ℕ). header s ++ (y ++ (flat nameOf (s .entries) ++ (flat liveOf ys ++ (flat fixedOf (s .entries) ++ memberWords (s .members))))))
+        ∙ ap (λ (y : List ℕ). header s ++ (y ++ (flat nameWords (s .entries) ++ (flat liveOf ys ++ (flat fixedOf (s .entries) ++ memberWords (s .members))))))
         (sym (flat-same keyOf 1 key-wide (s .entries) i (taken d) free inside (ap (λ (x : Instant). key x ∷ []) r ∙ ap keyOf (sym e))))
         ∙ kept
         ∙ ap (λ (y : List ℕ). tableWords (s .level) (s .last) y (directory (s .entries)) (nodes (s .entries)) ys (s .members)) (sym (used-same (s .entries) i (taken d) (sym (ap isTaken e))))
         ∙ ap (λ (y : List ℕ). tableWords (s .level) (s .last) (used ys) y (nodes (s .entries)) ys (s .members)) (sym (directory-same (s .entries) i c d e p))
-        ∙ ap (λ (y : List ℕ). tableWords (s .level) (s .last) (used ys) (directory ys) y ys (s .members)) (sym (nodes-same (s .entries) i (taken d) inside (lead-same i c d p r ∙ ap (leafLead i) (sym e))))
+        ∙ ap (λ (y : List ℕ). tableWords (s .level) (s .last) (used ys) (directory ys) y ys (s .members)) (sym (nodes-same (s .entries) i (taken d) inside (winner-same i c d p r ∙ ap (leafWinner i) (sym e))))
 
     pub efci-at :
-        sourceWords d ≡ sourceWords c → d .destination .turned ≡ c .destination .turned → d .destination .made ≡ c .destination .made → d .outside ≡ c .outside → readyInstant d ≡ readyInstant c
+        sourceWords d ≡ sourceWords c → d .destination .turned ≡ c .destination .turned → d .destination .made ≡ c .destination .made → d .«out_of_rate» ≡ c .«out_of_rate» → readyInstant d ≡ readyInstant c
         → efciUpdated (words s) i (d .destination) ≡ words (with (taken d))
     efci-at f t m o =
         silent-at (sourceWords c) (destinationTag (c .destination) ∷ []) (destinationTag (d .destination) ∷ [])
-        ((payloadWords (waitingPayload (c .destination .turned)) ++ madeWords (c .destination .made)) ++ outsideWords c) refl
+        ((payloadWords (waitingPayload (c .destination .turned)) ++ madeWords (c .destination .made)) ++ outOfRateWords c) refl
         (ap₂ (λ (y : List ℕ) (x : Instant). y ++ (destinationWords (d .destination) ++ (instantWord x ∷ []))) f o
-        ∙ ap₂ (λ (y : Waiting) (z : Made). sourceWords c ++ (destinationTag (d .destination) ∷ ((payloadWords (waitingPayload y) ++ madeWords z) ++ outsideWords c))) t m) refl
+        ∙ ap₂ (λ (y : Waiting) (z : Made). sourceWords c ++ (destinationTag (d .destination) ∷ ((payloadWords (waitingPayload y) ++ madeWords z) ++ outOfRateWords c))) t m) refl
 
-    pub outside-at : sourceWords d ≡ sourceWords c → d .destination ≡ c .destination → readyInstant d ≡ readyInstant c → outsideUpdated (words s) i (d .outside) ≡ words (with (taken d))
-    outside-at f b =
-        silent-at (sourceWords c ++ destinationWords (c .destination)) (outsideWords c) (outsideWords d) [] refl
-        (ap₂ (λ (y : List ℕ) (z : Destination). y ++ (destinationWords z ++ outsideWords d)) f b) refl
+    pub out-of-rate-at : sourceWords d ≡ sourceWords c → d .destination ≡ c .destination → readyInstant d ≡ readyInstant c → outOfRateUpdated (words s) i (d .«out_of_rate») ≡ words (with (taken d))
+    out-of-rate-at f b =
+        silent-at (sourceWords c ++ destinationWords (c .destination)) (outOfRateWords c) (outOfRateWords d) [] refl
+        (ap₂ (λ (y : List ℕ) (z : Destination). y ++ (destinationWords z ++ outOfRateWords d)) f b) refl
 
 -- the empty table is all zero
 zeros : (n j k : ℕ) → n * 1 + (n * 1 + (n * liveWidth + (n * fixedWidth + j))) ≡ k
-    → flat keyOf (replicate n free) ++ (flat nameOf (replicate n free) ++ (flat liveOf (replicate n free) ++ (flat fixedOf (replicate n free) ++ replicate j 0))) ≡ replicate k 0
+    → flat keyOf (replicate n free) ++ (flat nameWords (replicate n free) ++ (flat liveOf (replicate n free) ++ (flat fixedOf (replicate n free) ++ replicate j 0))) ≡ replicate k 0
 zeros n j k e =
     rw (
-      flat-zeros nameOf 1 name-wide free refl n,
+      flat-zeros nameWords 1 name-wide free refl n,
       flat-zeros keyOf 1 key-wide free refl n,
       flat-zeros liveOf liveWidth live-wide free refl n,
       flat-zeros fixedOf fixedWidth fixed-wide free refl n,

@@ -7,10 +7,10 @@ use mathlib.Core.Bool.{Bool, true, false, cond}
 use mathlib.Core.List.{List, [], _∷_, _++_}
 use lib.Dec.{leb, ltb}
 use lib.ListN.{length, take, drop, replicate}
-use Rattle.params.specs.declared.params.Params.{Params}
+use Rattle.rate_params.specs.declared.params.Params.{Params}
 use Rattle.laws.specs.Blocks.{flat}
 use Rattle.laws.specs.Rows.{row}
-use Rattle.crc.specs.declared.payload.Payload.{Payload}
+use Rattle.cell_crc.specs.declared.payload.Payload.{Payload}
 use Rattle.connection.specs.declared.parts.Pace.{Pace}
 use Rattle.connection.specs.declared.parts.Pace.the-variants.{Unsent, Running}
 use Rattle.connection.specs.declared.parts.Queue.{Queue}
@@ -23,9 +23,9 @@ use Rattle.connection.specs.declared.ready.Instant.{Instant}
 use Rattle.connection.specs.declared.ready.Instant.the-variants.{Never, At}
 use Rattle.connection.specs.Ready.{readyInstant}
 use Rattle.cell.specs.Name.{noName}
-use Rattle.members.specs.Members.{Member, memberCapacity}
+use Rattle.connection_members.specs.Members.{Member, memberCapacity}
 use Rattle.model.specs.State.{State, Entry, free, taken, capacity}
-use Rattle.model.specs.Tournament.{levels, winnerAt, leadWord}
+use Rattle.model.specs.Tournament.{levels, winnerAt, winnerWord}
 
 -- Where they stand: in the header the level, the last accepted time, the bits of the entries in use, 64 in a word, the directory of names and the
 -- winners; behind them a word that is always 0, the key of no entry, so that the key of a winner's word w stands at noKeyAt + w;
@@ -72,8 +72,8 @@ liveWidth = sourceWidth + destinationWidth + 1
 abbrev pub destinationFrom : ℕ
 destinationFrom = liveFrom + sourceWidth
 
-abbrev pub outsideFrom : ℕ
-outsideFrom = destinationFrom + destinationWidth
+abbrev pub outOfRateFrom : ℕ
+outOfRateFrom = destinationFrom + destinationWidth
 
 abbrev pub fixedFrom : ℕ
 fixedFrom = liveFrom + capacity * liveWidth
@@ -130,10 +130,10 @@ queueWord l = l .served * 2 ^ 32 + l .cells
 -- what moves while a connection is open: the words of its source, the last of them those of its change, then those of its destination
 abbrev pub sourceWords : Connection → List ℕ
 sourceWords c =
-    c .rate .acr ∷ c .unacked ∷ queueWord (c .queue) ∷ paceTag (c .pace) ∷ paceSent (c .pace) ∷ paceForward (c .pace) ∷ paceK (c .pace)
+    c .rate .acr ∷ c .unanswered ∷ queueWord (c .queue) ∷ paceTag (c .pace) ∷ paceSent (c .pace) ∷ paceForward (c .pace) ∷ paceK (c .pace)
     ∷ c .change .before ∷ c .change .after ∷ []
 
--- the last making, or the last cell outside the rate: 0 if there was none, else its instant plus 1
+-- the last making, or the last out-of-rate cell: 0 if there was none, else its instant plus 1
 abbrev pub instantWord : Instant → ℕ
 instantWord Never = 0
 instantWord (At i) = i + 1
@@ -144,15 +144,15 @@ madeWords m = m .level ∷ instantWord (m .last) ∷ []
 abbrev pub destinationWords : Destination → List ℕ
 destinationWords d = destinationTag d ∷ (payloadWords (waitingPayload (d .turned)) ++ madeWords (d .made))
 
--- behind them the last cell outside the rate
-abbrev pub outsideWords : Connection → List ℕ
-outsideWords c = instantWord (c .outside) ∷ []
+-- behind them the last out-of-rate cell
+abbrev pub outOfRateWords : Connection → List ℕ
+outOfRateWords c = instantWord (c .«out_of_rate») ∷ []
 
 abbrev pub sideWords : Connection → List ℕ
 sideWords c = sourceWords c ++ destinationWords (c .destination)
 
 abbrev pub liveWords : Connection → List ℕ
-liveWords c = sideWords c ++ outsideWords c
+liveWords c = sideWords c ++ outOfRateWords c
 
 -- TBE and FRTT, in one word (document 02, L14)
 abbrev pub setupWord : Params → ℕ
@@ -170,9 +170,9 @@ key Never = 0
 key (At i) = 2 ^ 64 - 1 - i
 
 -- the four columns; a free entry has 0 everywhere
-abbrev pub nameOf : Entry → List ℕ
-nameOf free = 0 ∷ []
-nameOf (taken c) = c .name ∷ []
+abbrev pub nameWords : Entry → List ℕ
+nameWords free = 0 ∷ []
+nameWords (taken c) = c .name ∷ []
 
 abbrev pub keyOf : Entry → List ℕ
 keyOf free = 0 ∷ []
@@ -199,7 +199,7 @@ memberWords ms = packed ms ++ replicate (memberCapacity - length ms) 0
 
 -- the columns, and behind them the members
 abbrev pub columns : List Entry → List Member → List ℕ
-columns ss ms = flat keyOf ss ++ (flat nameOf ss ++ (flat liveOf ss ++ (flat fixedOf ss ++ memberWords ms)))
+columns ss ms = flat keyOf ss ++ (flat nameWords ss ++ (flat liveOf ss ++ (flat fixedOf ss ++ memberWords ms)))
 
 -- the entries at which a test passes, one bit each, that of entry 0 lowest
 unfoldable pub bitmap : (Entry → Bool) → List Entry → ℕ
@@ -226,16 +226,16 @@ unfoldable pub directoryWords : (entry : ℕ) → List Entry → List ℕ
 directoryWords i [] = []
 directoryWords i (s ∷ ss) = directoryWord i s ∷ directoryWords (suc i) ss
 
-unfoldable pub insertFalling : ℕ → List ℕ → List ℕ
-insertFalling x [] = x ∷ []
-insertFalling x (y ∷ ys) = cond (ltb x y) (y ∷ insertFalling x ys) (x ∷ y ∷ ys)
+unfoldable pub insertDescending : ℕ → List ℕ → List ℕ
+insertDescending x [] = x ∷ []
+insertDescending x (y ∷ ys) = cond (ltb x y) (y ∷ insertDescending x ys) (x ∷ y ∷ ys)
 
-unfoldable pub sortFalling : List ℕ → List ℕ
-sortFalling [] = []
-sortFalling (x ∷ xs) = insertFalling x (sortFalling xs)
+unfoldable pub sortDescending : List ℕ → List ℕ
+sortDescending [] = []
+sortDescending (x ∷ xs) = insertDescending x (sortDescending xs)
 
 abbrev pub directory : List Entry → List ℕ
-directory ss = sortFalling (directoryWords 0 ss)
+directory ss = sortDescending (directoryWords 0 ss)
 
 -- The winners: word p is that of place p; how many levels a place stands above the leaves is how often it doubles before it reaches them.
 unfoldable pub height : (most place : ℕ) → ℕ
@@ -244,7 +244,7 @@ height (suc n) p = cond (leb capacity p) 0 (suc (height n (2 * p)))
 
 unfoldable pub nodeWord : List Entry → (place : ℕ) → ℕ
 nodeWord ss zero = 0
-nodeWord ss (suc p) = leadWord (winnerAt ss (height levels (suc p)) (suc p))
+nodeWord ss (suc p) = winnerWord (winnerAt ss (height levels (suc p)) (suc p))
 
 abbrev pub nodes : List Entry → List ℕ
 nodes ss = row (nodeWord ss) 0 capacity

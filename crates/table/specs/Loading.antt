@@ -5,8 +5,8 @@ use mathlib.Core.Bool.{cond}
 use mathlib.Core.List.{List}
 use lib.Dec.{ltb, eqb}
 use lib.ListN.{getD}
-use Rattle.params.specs.declared.params.Params.{Params}
-use Rattle.crc.specs.declared.payload.Payload.{Payload}
+use Rattle.rate_params.specs.declared.params.Params.{Params}
+use Rattle.cell_crc.specs.declared.payload.Payload.{Payload}
 use Rattle.cell.specs.Name.{noName}
 use Rattle.connection.specs.declared.parts.Pace.{Pace}
 use Rattle.connection.specs.declared.parts.Pace.the-variants.{Unsent, Running}
@@ -67,11 +67,11 @@ connectionFrom name l a m b = record {
   trm = getD m (b + 1) 0 % 2 ^ 32;
   rate = record { acr = getD l a 0; params = paramsAt m (b + 2) };
   pace = paceAt l (a + 3);
-  unacked = getD l (a + 1) 0 % 2 ^ 32;
+  unanswered = getD l (a + 1) 0 % 2 ^ 32;
   queue = queueOf (getD l (a + 2) 0);
   change = changed (getD l (a + 7) 0) (getD l (a + 8) 0);
   destination = record { efci = eqb (getD l (a + 9) 0 % 2) 1; turned = waitingAt l (a + 9); made = madeAt l (a + 16) };
-  outside = instantOf (getD l (a + 18) 0);
+  «out_of_rate» = instantOf (getD l (a + 18) 0);
 }
 
 abbrev pub connectionAt : List ℕ → (entry : ℕ) → Connection

@@ -9,7 +9,7 @@ use Rattle.connection.specs.declared.parts.Connection.{Connection}
 use Rattle.connection.specs.declared.ready.Instant.{Instant}
 use Rattle.connection.specs.Ready.{readyInstant}
 use Rattle.model.specs.State.{Entry}
-use Rattle.table.specs.Layout.{destinationTag, key, sourceWords, destinationWords, sideWords, keyOf, nameOf, liveOf, fixedOf, usedFrom, namesFrom, keysFrom, liveFrom, liveWidth, destinationFrom, outsideFrom, instantWord, fixedFrom, fixedWidth}
+use Rattle.table.specs.Layout.{destinationTag, key, sourceWords, destinationWords, sideWords, keyOf, nameWords, liveOf, fixedOf, usedFrom, namesFrom, keysFrom, liveFrom, liveWidth, destinationFrom, outOfRateFrom, instantWord, fixedFrom, fixedWidth}
 
 -- a connection whose sending side has moved
 abbrev pub sourceUpdated : List ℕ → (entry : ℕ) → Connection → List ℕ
@@ -23,9 +23,9 @@ destinationUpdated l i c = set (put l (destinationFrom + i * liveWidth) (destina
 abbrev pub efciUpdated : List ℕ → (entry : ℕ) → Destination → List ℕ
 efciUpdated l i b = set l (destinationFrom + i * liveWidth) (destinationTag b)
 
--- a connection of which only the last cell outside the rate has moved
-abbrev pub outsideUpdated : List ℕ → (entry : ℕ) → Instant → List ℕ
-outsideUpdated l i o = set l (outsideFrom + i * liveWidth) (instantWord o)
+-- a connection of which only the last out-of-rate cell has moved
+abbrev pub outOfRateUpdated : List ℕ → (entry : ℕ) → Instant → List ℕ
+outOfRateUpdated l i o = set l (outOfRateFrom + i * liveWidth) (instantWord o)
 
 -- both sides
 abbrev pub updated : List ℕ → (entry : ℕ) → Connection → List ℕ
@@ -36,6 +36,6 @@ abbrev pub entryFlipped : List ℕ → (entry : ℕ) → List ℕ
 entryFlipped l i = set l (usedFrom + i / 64) (bitXor (getD l (usedFrom + i / 64) 0) (2 ^ (i % 64)))
 
 -- entry i is given this content in the columns
-abbrev pub given : List ℕ → (entry : ℕ) → Entry → List ℕ
-given l i x =
-    put (put (put (put l (liveFrom + i * liveWidth) (liveOf x)) (keysFrom + i) (keyOf x)) (fixedFrom + i * fixedWidth) (fixedOf x)) (namesFrom + i) (nameOf x)
+abbrev pub entryStored : List ℕ → (entry : ℕ) → Entry → List ℕ
+entryStored l i x =
+    put (put (put (put l (liveFrom + i * liveWidth) (liveOf x)) (keysFrom + i) (keyOf x)) (fixedFrom + i * fixedWidth) (fixedOf x)) (namesFrom + i) (nameWords x)

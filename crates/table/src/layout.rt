@@ -21,7 +21,7 @@ pub const NODES: usize = DIRECTORY + CAPACITY;
 
 pub const NO_KEY: usize = NODES + CAPACITY;
 
-// The columns, with one block an entry: ready keys, names, what moves while a connection is open (of its source, then of its destination, then the last cell outside the rate),
+// The columns, with one block an entry: ready keys, names, what moves while a connection is open (of its source, then of its destination, then the last out-of-rate cell),
 // what its open fixed.
 pub const KEYS: usize = NO_KEY + 1;
 
@@ -37,7 +37,7 @@ pub const LIVE_WIDTH: usize = SOURCE_WIDTH + DESTINATION_WIDTH + 1;
 
 pub const DESTINATION: usize = LIVE + SOURCE_WIDTH;
 
-pub const OUTSIDE: usize = DESTINATION + DESTINATION_WIDTH;
+pub const OUT_OF_RATE: usize = DESTINATION + DESTINATION_WIDTH;
 
 pub const FIXED: usize = LIVE + CAPACITY * LIVE_WIDTH;
 

@@ -1,6 +1,8 @@
 // A number in groups of seven bits, low group first; the top bit of an octet is 1 when more follow (document 02, L11).
 ghost use mathlib.Core.Path.{_≡_};
 ghost use Rattle.trace.specs.Numbers.{numberAt};
+use laws::refusals::REFUSED_TRACE_END;
+use laws::refusals::REFUSED_TRACE_NUMBER;
 
 pub enum Number {
     // The number, and the offset after its last octet.
@@ -19,13 +21,13 @@ pub fn number_at(octets: &[u8], offset: usize) -> Number
     let mut left: u32 = 9;
     while 0 < left {
         if octets.len() <= k {
-            return Number::Refused(24);
+            return Number::Refused(REFUSED_TRACE_END);
         }
         let b = octets[k] as u64;
         if b < 128 {
             if b == 0 {
                 if 1 < weight {
-                    return Number::Refused(23);
+                    return Number::Refused(REFUSED_TRACE_NUMBER);
                 }
             }
             return Number::Value(value + b * weight, k + 1);
@@ -36,11 +38,11 @@ pub fn number_at(octets: &[u8], offset: usize) -> Number
         left -= 1;
     }
     if octets.len() <= k {
-        return Number::Refused(24);
+        return Number::Refused(REFUSED_TRACE_END);
     }
     if octets[k] == 1 {
         Number::Value(value + weight, k + 1)
     } else {
-        Number::Refused(23)
+        Number::Refused(REFUSED_TRACE_NUMBER)
     }
 }

@@ -1,8 +1,8 @@
 use mathlib.Core.Path.{ap, _∙_}
-use Rattle.cell.specs.Fields.{resourceCell}
-use Rattle.cell.specs.Writing.{bufferAfter}
+use Rattle.cell.specs.Fields.{rmCell}
+use Rattle.cell.specs.Writing.{bufferWritten}
 use Rattle.cell.specs.declared.write.Written.{Written}
-use Rattle.answers.specs.Cells.{writeNumber}
+use Rattle.abr_answers.specs.Cells.{writeNumber}
 use borrow.Author.Needs.{needs}
 use Rattle.abr.proofs.cells.abr_write_rm.Statement.{statement}
 use Rattle.abr.proofs.cells.abr_write_rm.Tie as tie
@@ -12,7 +12,7 @@ returns c =
     let w = c .before .before .before in
     let a = w .before .before .before .args in (
       c .write-number .ensures ∙ ap writeNumber (w .write .ensures .0),
-      w .write .ensures .1 ∙ ap (λ (x : Written). bufferAfter x (resourceCell 0 (a .rm)) (a .cell .now)) (w .write .ensures .0),
+      w .write .ensures .1 ∙ ap (λ (x : Written). bufferWritten x (rmCell 0 (a .rm)) (a .cell .now)) (w .write .ensures .0),
     )
 
 pub abr-write-rm-spec : {M : Type 1} → statement M

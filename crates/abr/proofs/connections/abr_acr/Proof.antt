@@ -4,7 +4,7 @@ use Rattle.abr.proofs.connections.abr_acr.Statement.{statement}
 use Rattle.abr.proofs.connections.abr_acr.Tie as tie
 
 returns : tie.Need-returns
-returns c = acrs (c .before .before .pair-name .ensures) (c .acr-answer .ensures) (c .before .read-acr .ensures)
+returns c = acrs (c .before .before .address-name .ensures) (c .allowed-of .ensures) (c .before .read-acr .ensures)
 
 pub abr-acr-spec : {M : Type 1} → statement M
 abr-acr-spec = tie.close (tie.spec (λ c κs. search needs) (λ c κs. search needs) (λ c κs. search needs) returns)

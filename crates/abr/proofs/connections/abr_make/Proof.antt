@@ -8,7 +8,7 @@ returns : tie.Need-returns
 returns c =
     let k = c .before .before .before in
     let a = k .before .args in
-    answers (c .call-answer .ensures) (named (λ v s. makeStep s v (a .time)) (k .pair-name .ensures) (c .before .make .ensures))
+    answers (c .answer-of .ensures) (named (λ v s. makeStep s v (a .time)) (k .address-name .ensures) (c .before .make .ensures))
 
 pub abr-make-spec : {M : Type 1} → statement M
 abr-make-spec = tie.close (tie.spec (λ c κs. search needs) (λ c κs. search needs) (λ c κs. search needs) returns)

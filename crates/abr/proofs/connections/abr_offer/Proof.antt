@@ -8,7 +8,7 @@ returns : tie.Need-returns
 returns c =
     let k = c .before .before .before in
     let a = k .before .args in
-    answers (c .call-answer .ensures) (named (λ v s. offerStep s v (a .cells)) (k .pair-name .ensures) (c .before .offer .ensures))
+    answers (c .answer-of .ensures) (named (λ v s. offerStep s v (a .cells)) (k .address-name .ensures) (c .before .offer .ensures))
 
 pub abr-offer-spec : {M : Type 1} → statement M
 abr-offer-spec = tie.close (tie.spec (λ c κs. search needs) (λ c κs. search needs) (λ c κs. search needs) returns)

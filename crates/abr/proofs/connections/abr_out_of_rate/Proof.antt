@@ -10,8 +10,8 @@ returns c =
     let sent = c .before .before .before in
     let k = sent .before .before .before in
     let a = k .before .before .args in
-    numbers-writing (c .call-answer .ensures) (out-of-rate-alone (a .vpi) (a .vci) (a .time) (length (a .cell .now)))
-    (named-writing (λ v s. outOfRateStep s v (a .time) (length (a .cell .now))) (k .pair-name .ensures) (sent .out-of-rate .ensures))
+    numbers-writing (c .answer-of .ensures) (out-of-rate-alone (a .vpi) (a .vci) (a .time) (length (a .cell .now)))
+    (named-writing (λ v s. outOfRateStep s v (a .time) (length (a .cell .now))) (k .address-name .ensures) (sent .out-of-rate .ensures))
 
 pub abr-out-of-rate-spec : {M : Type 1} → statement M
 abr-out-of-rate-spec = tie.close (tie.spec (λ c κs. search needs) (λ c κs. search needs) (λ c κs. search needs) (λ c. search needs) returns)

@@ -4,7 +4,7 @@ use Rattle.abr.proofs.link.abr_set_level.Statement.{statement}
 use Rattle.abr.proofs.link.abr_set_level.Tie as tie
 
 returns : tie.Need-returns
-returns c = numbers (c .call-answer .ensures) (level-alone (c .before .before .before .args .level)) (c .before .set-level .ensures)
+returns c = numbers (c .answer-of .ensures) (level-alone (c .before .before .before .args .level)) (c .before .set-level .ensures)
 
 pub abr-set-level-spec : {M : Type 1} → statement M
 abr-set-level-spec = tie.close (tie.spec (λ c κs. search needs) (λ c κs. search needs) returns)

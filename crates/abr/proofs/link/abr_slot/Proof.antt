@@ -4,7 +4,7 @@ use Rattle.abr.proofs.link.abr_slot.Statement.{statement}
 use Rattle.abr.proofs.link.abr_slot.Tie as tie
 
 returns : tie.Need-returns
-returns c = slots (c .slot-answer .ensures) (c .before .before .before .slot .ensures)
+returns c = slots (c .sent-of .ensures) (c .before .before .before .slot .ensures)
 
 pub abr-slot-spec : {M : Type 1} → statement M
 abr-slot-spec = tie.close (tie.spec (λ c κs. search needs) (λ c κs. search needs) (λ c. search needs) returns)

@@ -4,7 +4,7 @@ use Rattle.abr.proofs.path.abr_add.Statement.{statement}
 use Rattle.abr.proofs.path.abr_add.Tie as tie
 
 returns : tie.Need-returns
-returns c = answers (c .call-answer .ensures) (c .before .add .ensures)
+returns c = answers (c .answer-of .ensures) (c .before .add .ensures)
 
 pub abr-add-spec : {M : Type 1} → statement M
 abr-add-spec = tie.close (tie.spec (λ c κs. search needs) (λ c κs. search needs) returns)

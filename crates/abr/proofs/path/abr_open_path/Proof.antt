@@ -4,7 +4,7 @@ use Rattle.abr.proofs.path.abr_open_path.Statement.{statement}
 use Rattle.abr.proofs.path.abr_open_path.Tie as tie
 
 returns : tie.Need-returns
-returns c = answers (c .call-answer .ensures) (c .before .open-path .ensures)
+returns c = answers (c .answer-of .ensures) (c .before .open-path .ensures)
 
 pub abr-open-path-spec : {M : Type 1} → statement M
 abr-open-path-spec = tie.close (tie.spec (λ c κs. search needs) (λ c κs. search needs) returns)

@@ -11,7 +11,7 @@ held : (c : tie.Start) → T (fits binary64 (c .args .rate))
 held c = subst T (sym (c .good .0 .1)) tt
 
 returns : tie.Need-returns
-returns c = imports (c .before .before .args .rate) (held (c .before .before)) (c .before .import .ensures) (c .import-answer .ensures)
+returns c = imports (c .before .before .args .rate) (held (c .before .before)) (c .before .import .ensures) (c .imported-of .ensures)
 
 pub abr-import-spec : {M : Type 1} → statement M
 abr-import-spec = tie.close (tie.spec (λ c κs. search needs) (λ c κs. search needs) returns)

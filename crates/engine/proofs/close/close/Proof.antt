@@ -1,7 +1,7 @@
 use Prim.Native.Nat.{_<_}
 use borrow.Author.Needs.{needs}
 use Rattle.model.specs.State.{capacity}
-use Rattle.engine.proofs.Outcomes.{refused-out, below, missing, standing}
+use Rattle.engine.proofs.Outcomes.{refused-out, below, missing, entry-located}
 use Rattle.engine.proofs.CallCases.{close-missing, close-out}
 use Rattle.engine.proofs.close.close.Statement.{statement}
 use Rattle.engine.proofs.close.close.Tie as tie
@@ -31,7 +31,7 @@ returns-2 c =
     let v = f .before .before .args .name in
     record {
       meets = λ s w e.
-          let p = standing s w e v (f .find .ensures) (i .i .given .1) in
+          let p = entry-located s w e v (f .find .ensures) (i .i .given .1) in
           close-out s w e (entry i) p (ld .load .ensures) (cl .clear .ensures) (c .remove-path .ensures);
     }
 

@@ -11,10 +11,10 @@ use Rattle.connection.proofs.Ranged.{made-ranged}
 use Rattle.model.specs.State.{State, capacity}
 use Rattle.model.specs.Invariant.{WellFormed}
 use Rattle.table.specs.Layout.{words}
-use Rattle.storing.specs.Updates.{Updates, DestinationMoved}
-use Rattle.names.specs.Finding.{Located}
-use Rattle.names.proofs.Found.{found-at}
-use Rattle.engine.proofs.Outcomes.{refused-out, level-of, below, missing, standing, ranged, loaded-is}
+use Rattle.table_store.specs.Updates.{Updates, DestinationMoved}
+use Rattle.table_names.specs.Finding.{Located}
+use Rattle.table_names.proofs.Found.{found-at}
+use Rattle.engine.proofs.Outcomes.{refused-out, level-of, below, missing, entry-located, ranged, loaded-is}
 use Rattle.table.proofs.Words.{last-at}
 use Rattle.engine.proofs.MakeCases.{make-late, make-missing, make-early, make-uncongested, make-soon, make-done, make-out}
 use Rattle.engine.proofs.make.make.Statement.{statement}
@@ -27,7 +27,7 @@ entry c = let f = c .before .before in let a = f .before .before .before .args i
 located :
     (c : tie.After-i) (s : State) → WellFormed s → let a = c .before .before .before .before .before .args in a .t .now ≡ words s
     → Located (s .entries) (a .name) (c .i .given .0 .0)
-located c s w e = let f = c .before .before in standing s w e (f .before .before .before .args .name) (f .find .ensures) (c .i .given .1)
+located c s w e = let f = c .before .before in entry-located s w e (f .before .before .before .args .name) (f .find .ensures) (c .i .given .1)
 
 -- where it was loaded: it lies in range
 in-range : (c : tie.After-load) → InRange (c .load .result)

@@ -4,8 +4,8 @@ use native.Mathlib.Omega.{arith}
 use borrow.Author.Needs.{needs}
 use Rattle.connection.specs.Range.{InRange}
 use Rattle.connection.proofs.Ranged.{offered-ranged}
-use Rattle.names.proofs.Found.{found-at}
-use Rattle.engine.proofs.Outcomes.{refused-out, below, missing, standing, ranged}
+use Rattle.table_names.proofs.Found.{found-at}
+use Rattle.engine.proofs.Outcomes.{refused-out, below, missing, entry-located, ranged}
 use Rattle.engine.proofs.Members.{is-path, no-path}
 use Rattle.engine.proofs.CallCases.{offer-missing, offer-path, offer-over, offer-done}
 use Rattle.engine.proofs.offer.offer.Statement.{statement}
@@ -32,7 +32,7 @@ returns-2 c =
     let st = f .before .before in
     record {
       meets = λ s w e.
-          let p = standing s w e (st .args .name) (f .find .ensures) (i .i .given .1) in
+          let p = entry-located s w e (st .args .name) (f .find .ensures) (i .i .given .1) in
           refused-out s 28 e (offer-path s (st .args .name) (st .args .cells) (p .holder) (found-at p) (is-path (st .args .name) (c .if1 .taken)));
     }
 
@@ -48,7 +48,7 @@ returns-3 c =
     let st = f .before .before in
     record {
       meets = λ s w e.
-          offer-over s w e (st .args .name) (st .args .cells) (i .i .given .0 .0) (entry i) (standing s w e (st .args .name) (f .find .ensures) (i .i .given .1))
+          offer-over s w e (st .args .name) (st .args .cells) (i .i .given .0 .0) (entry i) (entry-located s w e (st .args .name) (f .find .ensures) (i .i .given .1))
           (ld .load .result) (ld .load .ensures) (no-path (st .args .name) (e1 .if1 .left)) (omega (arith, c .if2 .taken));
     }
 
@@ -61,7 +61,7 @@ returns-4 c =
     let st = f .before .before in
     record {
       meets = λ s w e.
-          offer-over s w e (st .args .name) (st .args .cells) (i .i .given .0 .0) (entry i) (standing s w e (st .args .name) (f .find .ensures) (i .i .given .1))
+          offer-over s w e (st .args .name) (st .args .cells) (i .i .given .0 .0) (entry i) (entry-located s w e (st .args .name) (f .find .ensures) (i .i .given .1))
           (ld .load .result) (ld .load .ensures) (no-path (st .args .name) (e1 .if1 .left)) (omega (arith, c .if3 .taken, c .before .if2 .left));
     }
 
@@ -83,7 +83,7 @@ returns-5 c =
     let st = f .before .before in
     record {
       meets = λ s w e.
-          offer-done s w e (st .args .name) (st .args .cells) (i .i .given .0 .0) (entry i) (standing s w e (st .args .name) (f .find .ensures) (i .i .given .1))
+          offer-done s w e (st .args .name) (st .args .cells) (i .i .given .0 .0) (entry i) (entry-located s w e (st .args .name) (f .find .ensures) (i .i .given .1))
           (ld .load .result) (ld .load .ensures) (no-path (st .args .name) (e1 .if1 .left)) (o .offered .result) (o .offered .ensures) (c .update-source .ensures)
           (omega (arith, e2 .if3 .left, e2 .before .if2 .left));
     }

@@ -13,7 +13,7 @@ returns-2 : tie.Need-returns-2
 returns-2 c =
     let e1 = c .before .before in
     let a = e1 .before .args in
-    same-meets (λ s. open-high s (a .vpi) (a .vci) (a .time) (a .params) (e1 .if1 .left)) (c .admit .ensures)
+    same-meets (λ s. open-high s (a .vpi) (a .vci) (a .time) (a .params) (e1 .if1 .left)) (c .open-address .ensures)
 
 pub open-spec : {M : Type 1} → statement M
 open-spec = tie.close (tie.spec returns (λ c κs. search needs) returns-2)

@@ -3,10 +3,10 @@ use mathlib.Core.Path.{_≡_, sym, ap, _∙_}
 use lib.ListN.{length}
 use borrow.Author.Needs.{needs}
 use Rattle.cell.specs.Reading.{reading}
-use Rattle.cell.specs.declared.read.Reading.the-variants.{Resource}
-use Rattle.cell.proofs.Admits.{resource-received}
+use Rattle.cell.specs.declared.read.Reading.the-variants.{RmCell}
+use Rattle.cell.proofs.Admits.{rm-received}
 use Rattle.port.specs.Limit.{heldEr}
-use Rattle.port.proofs.Cases.{limit-refused, limit-user, limit-forward, limit-backward, er-is, er-fits}
+use Rattle.port.proofs.Cases.{limit-refused, limit-data, limit-forward, limit-backward, er-is, er-fits}
 use Rattle.port.proofs.limit.limit.Statement.{statement}
 use Rattle.port.proofs.limit.limit.Tie as tie
 
@@ -15,11 +15,11 @@ of-53 : (c : tie.Else1) → length (c .before .before .before .before .args .cel
 of-53 c = c .before .refusal .ensures .size (c .if1 .left)
 
 -- an RM cell with these fields
-fields : (c : tie.After-fields-of) → reading (c .before .before .before .before .before .before .before .before .before .args .cell .now) ≡ Resource (c .fields-of .result)
+fields : (c : tie.After-fields-of) → reading (c .before .before .before .before .before .before .before .before .before .args .cell .now) ≡ RmCell (c .fields-of .result)
 fields c =
     let d = c .before .before in
     let e = d .before .before .before in
-    e .before .refusal .ensures .resource (e .if1 .left) (sym (d .before .is-data .ensures) ∙ d .if2 .left) ∙ sym (ap Resource (c .fields-of .ensures))
+    e .before .refusal .ensures .rm (e .if1 .left) (sym (d .before .is-data .ensures) ∙ d .if2 .left) ∙ sym (ap RmCell (c .fields-of .ensures))
 
 -- the code that is written
 code : (c : tie.After-code-or-zero) → c .code-or-zero .result
@@ -36,7 +36,7 @@ returns-2 : tie.Need-returns-2
 returns-2 c =
     let d = c .before in
     let e = d .before .before in
-    limit-user _ _ (e .before .refusal .ensures .user (e .if1 .left) (sym (d .is-data .ensures) ∙ c .if2 .taken))
+    limit-data _ _ (e .before .refusal .ensures .dataCell (e .if1 .left) (sym (d .is-data .ensures) ∙ c .if2 .taken))
 
 fields-of-requires : tie.Need-fields-of-requires
 fields-of-requires c κs = of-53 (c .before .before .before .before)
@@ -48,7 +48,7 @@ put-er-requires : tie.Need-put-er-requires
 put-er-requires c κs =
     let f = c .before .before .before .before .before .before in
     let e = f .before .before .before .before .before in
-    (of-53 e, (er-fits _ (f .fields-of .result .er) (code c), resource-received _ (f .fields-of .result) (fields f) .check))
+    (of-53 e, (er-fits _ (f .fields-of .result .er) (code c), rm-received _ (f .fields-of .result) (fields f) .check))
 
 returns-4 : tie.Need-returns-4
 returns-4 c =

@@ -3,7 +3,7 @@ use mathlib.Core.Path.{_≡_, sym, _∙_}
 use lib.ListN.{length}
 use borrow.Author.Needs.{needs}
 use Rattle.cell.proofs.Readings.{HeaderMeets, header-meets, rest-meets}
-use Rattle.port.proofs.Cases.{judged-first, judged-user, judged-rest}
+use Rattle.port.proofs.Cases.{judged-first, judged-data, judged-rest}
 use Rattle.port.proofs.limit.refusal.Statement.{statement}
 use Rattle.port.proofs.limit.refusal.Tie as tie
 
@@ -24,16 +24,16 @@ is-data-requires c κs = of-53 c
 returns-2 : tie.Need-returns-2
 returns-2 c =
     let d = c .before in
-    judged-user _ (meets (d .before .before)) (d .before .if1 .left) (sym (d .is-data .ensures) ∙ c .if2 .taken)
+    judged-data _ (meets (d .before .before)) (d .before .if1 .left) (sym (d .is-data .ensures) ∙ c .if2 .taken)
 
-resource-refusal-requires : tie.Need-resource-refusal-requires
-resource-refusal-requires c κs = of-53 (c .before .before)
+rm-refusal-requires : tie.Need-rm-refusal-requires
+rm-refusal-requires c κs = of-53 (c .before .before)
 
 returns-3 : tie.Need-returns-3
 returns-3 c =
     let e = c .before in
     let d = e .before in
-    judged-rest _ (meets (d .before .before)) (d .before .if1 .left) (sym (d .is-data .ensures) ∙ e .if2 .left) (rest-meets _ _ (c .resource-refusal .ensures))
+    judged-rest _ (meets (d .before .before)) (d .before .if1 .left) (sym (d .is-data .ensures) ∙ e .if2 .left) (rest-meets _ _ (c .rm-refusal .ensures))
 
 pub refusal-spec : {M : Type 1} → statement M
-refusal-spec = tie.close (tie.spec (λ c κs. search needs) returns is-data-requires returns-2 resource-refusal-requires returns-3)
+refusal-spec = tie.close (tie.spec (λ c κs. search needs) returns is-data-requires returns-2 rm-refusal-requires returns-3)

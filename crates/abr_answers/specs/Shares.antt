@@ -1,0 +1,10 @@
+-- What the share of an explicit-rate port returns; a port's call returns and leaves what `Passed` says (port/Limit). (Document 02, L10.)
+use Rattle.port_share.specs.declared.share.FairShare.{FairShare}
+use Rattle.port_share.specs.declared.share.FairShare.the-variants.{Refused, NoLimit, Limit}
+pub use Rattle.abr_answers.specs.declared.shares.AbrShare.{AbrShare}
+
+-- the rate counts where limited is 1; without a limit it is 0
+abbrev pub shareOf : FairShare → AbrShare
+shareOf (Refused n) = record { refusal = n; limited = 0; rate = 0 }
+shareOf NoLimit = record { refusal = 0; limited = 0; rate = 0 }
+shareOf (Limit s) = record { refusal = 0; limited = 1; rate = s }

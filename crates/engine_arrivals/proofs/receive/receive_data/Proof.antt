@@ -1,0 +1,70 @@
+use Prim.Native.Nat.{ℕ, _<_}
+use mathlib.Core.Path.{_≡_, sym, ap, subst, _∙_}
+use mathlib.Core.Bool.{false}
+use borrow.Author.Needs.{needs}
+use Rattle.cell.specs.Name.{addressName}
+use Rattle.connection_members.specs.Path.{isPath}
+use Rattle.connection_members.specs.Members.{owner}
+use Rattle.model.specs.State.{capacity}
+use Rattle.table_names.specs.Finding.{FoundInRange, Names}
+use Rattle.engine.proofs.Outcomes.{refused-out}
+use Rattle.engine.proofs.Members.{is-path, no-path}
+use Rattle.engine_arrivals.specs.Owner.{FindsOwner}
+use Rattle.engine_arrivals.proofs.ReceiveCases.{data-on-path, data-missing, data-done}
+use Rattle.engine_arrivals.proofs.receive.receive_data.Statement.{statement}
+use Rattle.engine_arrivals.proofs.receive.receive_data.Tie as tie
+
+-- the name that was looked for is the pair's, and no path's
+finds : (c : tie.After-find-owner) → let a = c .before .before .before .before .args in FindsOwner (a .t .now) (addressName (a .vpi) (a .vci)) (c .find-owner .result)
+finds c = subst (λ (n : ℕ). FindsOwner (c .before .before .before .before .args .t .now) n (c .find-owner .result)) (c .before .before .before .address-name .ensures) (c .find-owner .ensures)
+
+channel : (c : tie.Else1) → let a = c .before .before .args in isPath (addressName (a .vpi) (a .vci)) ≡ false
+channel c = ap isPath (sym (c .before .address-name .ensures)) ∙ no-path (c .before .address-name .result) (c .if1 .left)
+
+-- the entry that was found is one
+entry : (c : tie.After-i) → c .i .given .0 .0 < capacity
+entry c = subst FoundInRange (c .i .given .1) (finds (c .before .before) .inside)
+
+returns : tie.Need-returns
+returns c =
+    let pn = c .before in
+    let a = pn .before .args in
+    record { meets = λ s w e. refused-out s 11 e (data-on-path s (a .vpi) (a .vci) (a .efci) (ap isPath (sym (pn .address-name .ensures)) ∙ is-path (pn .address-name .result) (c .if1 .taken))) }
+
+returns-2 : tie.Need-returns-2
+returns-2 c =
+    let f = c .before .before in
+    let e1 = f .before .before in
+    let a = e1 .before .before .args in
+    record {
+      meets = λ s w e.
+          refused-out s 11 e
+          (data-missing s (a .vpi) (a .vci) (a .efci) (channel e1) (subst (Names (owner (addressName (a .vpi) (a .vci)) (s .members)) (s .entries)) (c .enum-told .given .1) (finds f .is s w e)));
+    }
+
+load-requires : tie.Need-load-requires
+load-requires c κs = entry (c .before .before)
+
+levels-won-requires : tie.Need-levels-won-requires
+levels-won-requires c κs = entry (c .before .before .before .before .before .before)
+
+update-efci-requires : tie.Need-update-efci-requires
+update-efci-requires c κs = entry (c .before .before .before .before .before .before .before .before)
+
+returns-3 : tie.Need-returns-3
+returns-3 c =
+    let led = c .before .before in
+    let o = led .before .before .before in
+    let ld = o .before in
+    let i = ld .before .before .before in
+    let f = i .before .before in
+    let e1 = f .before .before in
+    let a = e1 .before .before .args in
+    record {
+      meets = λ s w e.
+          data-done s w e (a .vpi) (a .vci) (i .i .given .0 .0) (entry i) (subst (Names (owner (addressName (a .vpi) (a .vci)) (s .members)) (s .entries)) (i .i .given .1) (finds f .is s w e))
+          (ld .load .result) (ld .load .ensures) (o .after-data-cell .result) (channel e1) (c .update-efci .ensures) (led .levels-won .ensures) (a .efci) (o .after-data-cell .ensures);
+    }
+
+pub receive-data-spec : {M : Type 1} → statement M
+receive-data-spec = tie.close (tie.spec (λ c κs. search needs) returns (λ c κs. search needs) (λ c. search needs) (λ c. search needs) returns-2 load-requires (λ c κs. search needs) levels-won-requires update-efci-requires returns-3)

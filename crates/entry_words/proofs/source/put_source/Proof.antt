@@ -1,9 +1,0 @@
-use borrow.Author.Needs.{needs}
-use Rattle.entry_words.proofs.source.put_source.Statement.{statement}
-use Rattle.entry_words.proofs.source.put_source.Tie as tie
-
-returns : tie.Need-returns
-returns c = let p = c .before .before .before .pace-words .ensures in rw (p .0, p .1, p .2, p .3, c .queue-word .ensures)
-
-pub put-source-spec : {M : Type 1} → statement M
-put-source-spec = tie.close (tie.spec (λ c κs. search needs) (λ c. search needs) (λ c. search needs) (λ c. search needs) (λ c. search needs) (λ c. search needs) (λ c. search needs) (λ c. search needs) (λ c. search needs) (λ c. search needs) (λ c. search needs) (λ c. search needs) (λ c. search needs) (λ c. search needs) (λ c. search needs) (λ c. search needs) (λ c. search needs) (λ c. search needs) (λ c. search needs) (λ c. search needs) (λ c. search needs) (λ c. search needs) (λ c. search needs) (λ c. search needs) (λ c. search needs) (λ c. search needs) (λ c. search needs) (λ c. search needs) (λ c. search needs) returns)

@@ -1,6 +1,0 @@
-pub mod Falling
-pub mod Shifts
-pub mod Counts
-pub mod Halving
-pub mod Moves
-pub mod Runs

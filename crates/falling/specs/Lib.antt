@@ -1,2 +1,0 @@
-pub mod Falling
-pub mod Column

@@ -1,0 +1,82 @@
+-- The sums of the places passed, with those of the rest, are the sums of the list.
+use mathlib.Core.Path.{_≡_, sym}
+use Prim.Native.Nat.{_+_, _-_, _*_, _≤_}
+use native.Mathlib.Nat.{zero-add}
+use native.Mathlib.Omega.{arith}
+use lib.ListN.{length, drop}
+use borrow.Author.Needs.{needs}
+use Rattle.port_share.specs.Demands.{cutSum}
+use Rattle.port_share.specs.Above.{above}
+use Rattle.port_share.proofs.Places.{cut-next, above-next, cut-end, above-end}
+use Rattle.port_share.proofs.pass.pass.Statement.{statement}
+use Rattle.port_share.proofs.pass.pass.Tie as tie
+
+abbrev Inv-loop : tie.InvT-loop
+Inv-loop demands s sum₀ count₀ i₀ sum count i =
+    (cutSum s demands ≡ sum + cutSum s (drop i demands)) × ((above s demands ≡ count + above s (drop i demands))
+    × ((i ≤ length demands) × ((sum ≤ i * 2_196_875_771_904) × (count ≤ i))))
+
+abbrev μ-loop : tie.MeasureT-loop
+μ-loop demands s sum₀ count₀ i₀ sum count i = length demands - i
+
+loop-holds : tie.Need-loop-holds Inv-loop μ-loop
+loop-holds c = (sym (zero-add _), (sym (zero-add _), omega arith))
+
+mul-d : tie.Need-mul-d Inv-loop μ-loop
+mul-d c = search needs
+
+shared-slice-read-d : tie.Need-shared-slice-read-d Inv-loop μ-loop
+shared-slice-read-d c = search needs
+
+lesser-requires : tie.Need-lesser-requires Inv-loop μ-loop
+lesser-requires c κs = search needs
+
+add-sum : tie.Need-add-sum Inv-loop μ-loop
+add-sum c = search needs
+
+one-above-requires : tie.Need-one-above-requires Inv-loop μ-loop
+one-above-requires c κs = search needs
+
+add-count : tie.Need-add-count Inv-loop μ-loop
+add-count c = search needs
+
+add-i : tie.Need-add-i Inv-loop μ-loop
+add-i c = search needs
+
+loop-less : tie.Need-loop-less Inv-loop μ-loop
+loop-less c = search needs
+
+loop-again : tie.Need-loop-again Inv-loop μ-loop
+loop-again c =
+    let l = c .before .before .before .before .loop in
+    let a = c .before .before .before .before .before .before .args in (
+      cut-next (a .s) (a .demands .now) (l .i) (l .sum) (search needs) (c .before .lesser .ensures) (l .inv .0),
+      (
+        above-next (a .s) (a .demands .now) (l .i) (l .count) (search needs) (c .one-above .ensures .0) (l .inv .1 .0),
+        omega (arith, c .before .lesser .ensures),
+      ),
+    )
+
+returns : tie.Need-returns Inv-loop μ-loop
+returns c =
+    let l = c .before .loop in
+    let a = c .before .before .before .args in
+    (cut-end (a .s) (a .demands .now) (l .i) (search needs) (l .inv .0), above-end (a .s) (a .demands .now) (l .i) (search needs) (l .inv .1 .0))
+
+pub pass-spec : {M : Type 1} → statement M
+pass-spec =
+    tie.close
+    (tie.spec
+    Inv-loop
+    μ-loop
+    loop-holds
+    mul-d
+    shared-slice-read-d
+    lesser-requires
+    add-sum
+    one-above-requires
+    add-count
+    add-i
+    loop-less
+    loop-again
+    returns)

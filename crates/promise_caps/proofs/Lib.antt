@@ -1,0 +1,9 @@
+-- They hold.
+pub mod Counted
+pub mod Lists
+pub mod Lag
+pub mod Bounds
+pub mod Fixed
+pub mod Own
+pub mod Room
+pub mod Served

@@ -1,4 +1,0 @@
--- What slots and cells outside the rate do to the words of a table: one lemma for each way out.
-pub mod SendCases
-pub mod SlotCases
-pub mod OutOfRateCases

@@ -1,0 +1,6 @@
+pub mod Descending
+pub mod Shifts
+pub mod Counts
+pub mod Halving
+pub mod Moves
+pub mod Runs

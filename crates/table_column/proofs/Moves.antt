@@ -1,0 +1,225 @@
+-- The words of a column in a table that move up behind a new one, and those that move down behind one that leaves.
+use Prim.Native.Nat.{ℕ, suc, _+_, _-_, _≤_, _<_}
+use mathlib.Core.Path.{_≡_, sym, ap, _∙_}
+use mathlib.Core.List.{List, [], _∷_, _++_, append-assoc}
+use native.Mathlib.Omega.{arith}
+use lib.ListN.{length, getD, set, take, drop, length-append, length-drop, take-append-drop}
+use lib.Seq.{length-take-le, append-snoc, split-at, set-at, getD-at}
+use Rattle.table_column.specs.Descending.{atLeast, Descending, shifted, insertedAt, removedAt}
+use Rattle.table_column.specs.Column.{InColumn, AtLeast, Inserts, RemovesWord}
+use Rattle.table_column.proofs.Shifts.{descending-drop, inserted-split, shifted-zeros, removed-split, snoc-zeros}
+
+-- ---- a word of the column, read and stored
+
+inner : (h a b t : List ℕ) (x : ℕ) → h ++ ((a ++ (x ∷ b)) ++ t) ≡ (h ++ a) ++ (x ∷ (b ++ t))
+inner h a b t x = ap (λ (m : List ℕ). h ++ m) (append-assoc a (x ∷ b) t) ∙ sym (append-assoc h a (x ∷ (b ++ t)))
+
+module _ (from : ℕ) (h a b t : List ℕ) (x i : ℕ) (head : length h ≡ from) (place : length a ≡ i) where
+  before-size : length (h ++ a) ≡ from + i
+  before-size = omega (arith, length-append h a, head, place)
+
+  pub read-at : getD (h ++ ((a ++ (x ∷ b)) ++ t)) (from + i) 0 ≡ x
+  read-at = ap (λ (m : List ℕ). getD m (from + i) 0) (inner h a b t x) ∙ getD-at (h ++ a) x (b ++ t) 0 (from + i) before-size
+
+  pub store-at : (v : ℕ) → set (h ++ ((a ++ (x ∷ b)) ++ t)) (from + i) v ≡ h ++ ((a ++ (v ∷ b)) ++ t)
+  store-at v =
+      ap (λ (m : List ℕ). set m (from + i) v) (inner h a b t x) ∙ set-at (h ++ a) x (b ++ t) v (from + i) before-size ∙ sym (inner h a b t v)
+
+-- the words before word i + 1
+pub length-next : (a : List ℕ) (x i : ℕ) → length a ≡ i → length (a ++ (x ∷ [])) ≡ i + 1
+length-next a x i e = omega (arith, length-append a (x ∷ []), e)
+
+-- ---- a word enters
+
+-- of a column ds: the words done have moved, and `moved` is to stand before the rest
+record Entering (len w : ℕ) (h ds t l : List ℕ) (i moved : ℕ) (done rest : List ℕ) : Type 0 where
+  now-is : l ≡ h ++ ((done ++ rest) ++ t)
+  place : length done ≡ i
+  size : length rest + i ≡ len
+  falls : Descending rest
+  whole : insertedAt (atLeast w ds) w ds ≡ done ++ shifted moved rest
+
+record Entered (len w : ℕ) (h ds t l : List ℕ) (i moved : ℕ) : Type 0 where
+  done : List ℕ
+  rest : List ℕ
+  is : Entering len w h ds t l i moved done rest
+
+pub record Inserting (from len w : ℕ) (start l : List ℕ) (i moved : ℕ) : Type 0 where
+  pub inside : i ≤ len
+  are : (h ds t : List ℕ) → InColumn from len start h ds t → atLeast w ds < len → Entered len w h ds t l i moved
+
+pub inserting-start : (from len : ℕ) (l : List ℕ) (w i : ℕ) → AtLeast from len l w i → Inserting from len w l l i w
+inserting-start from len l w i a = record {
+  inside = omega (arith, a .inside);
+  are = λ h ds t d k.
+      let e : i ≡ atLeast w ds = omega (arith, a .is h ds t d, k) in
+      let n : i ≤ length ds = omega (arith, a .inside, d .2) in
+      record {
+        done = take i ds;
+        rest = drop i ds;
+        is = record {
+          now-is = d .0 ∙ ap (λ (m : List ℕ). h ++ (m ++ t)) (sym (take-append-drop i ds));
+          place = length-take-le i ds n;
+          size = omega (arith, length-drop i ds, n, d .2);
+          falls = descending-drop i ds (d .3);
+          whole = ap (λ (p : ℕ). insertedAt p w ds) (sym e) ∙ inserted-split i w ds n;
+        };
+      };
+}
+
+module _ (from len w : ℕ) (h ds t l : List ℕ) (i moved : ℕ) (head : length h ≡ from) where
+  entering-next : (done rest : List ℕ) → Entering len w h ds t l i moved done rest → i < len
+      → Entered len w h ds t (set l (from + i) moved) (i + 1) (getD l (from + i) 0)
+  unfolding shifted
+  entering-next done [] e k = absurd (omega (arith, e .size, k))
+  entering-next done (x ∷ xs) e k =
+      let r : getD l (from + i) 0 ≡ x = ap (λ (m : List ℕ). getD m (from + i) 0) (e .now-is) ∙ read-at from h done xs t x i head (e .place) in
+      record {
+        done = done ++ (moved ∷ []);
+        rest = xs;
+        is = record {
+          now-is =
+              ap (λ (m : List ℕ). set m (from + i) moved) (e .now-is) ∙ store-at from h done xs t x i head (e .place) moved
+              ∙ ap (λ (m : List ℕ). h ++ (m ++ t)) (sym (append-snoc done moved xs));
+          place = length-next done moved i (e .place);
+          size = omega (arith, e .size);
+          falls = e .falls .1;
+          whole = e .whole ∙ sym (append-snoc done moved (shifted x xs)) ∙ ap (λ (m : ℕ). (done ++ (moved ∷ [])) ++ shifted m xs) (sym r);
+        };
+      }
+
+  -- what was read is 0, and so are the words behind it
+  entering-zero : (done rest : List ℕ) → Entering len w h ds t l i moved done rest → i < len → getD l (from + i) 0 ≡ 0
+      → set l (from + i) moved ≡ h ++ (insertedAt (atLeast w ds) w ds ++ t)
+  unfolding shifted
+  entering-zero done [] e k z = absurd (omega (arith, e .size, k))
+  entering-zero done (x ∷ xs) e k z =
+      let r : x ≡ 0 = sym (ap (λ (m : List ℕ). getD m (from + i) 0) (e .now-is) ∙ read-at from h done xs t x i head (e .place)) ∙ z in
+      ap (λ (m : List ℕ). set m (from + i) moved) (e .now-is) ∙ store-at from h done xs t x i head (e .place) moved
+      ∙ ap (λ (m : List ℕ). h ++ ((done ++ (moved ∷ m)) ++ t)) (sym (ap (λ (m : ℕ). shifted m xs) r ∙ shifted-zeros xs (e .falls .1) (omega (arith, e .falls .0, r))))
+      ∙ ap (λ (m : List ℕ). h ++ (m ++ t)) (sym (e .whole))
+
+  entering-end : (done rest : List ℕ) → Entering len w h ds t l i moved done rest → len ≤ i → l ≡ h ++ (insertedAt (atLeast w ds) w ds ++ t)
+  unfolding shifted
+  entering-end done [] e k = e .now-is ∙ ap (λ (m : List ℕ). h ++ (m ++ t)) (sym (e .whole))
+  entering-end done (x ∷ xs) e k = absurd (omega (arith, e .size, k))
+
+module _ (from len w : ℕ) (start l : List ℕ) (i moved : ℕ) (b : Inserting from len w start l i moved) where
+  pub inserting-next : i < len → Inserting from len w start (set l (from + i) moved) (i + 1) (getD l (from + i) 0)
+  inserting-next k = record {
+    inside = omega (arith, k);
+    are = λ h ds t d m. let e : Entered len w h ds t l i moved = b .are h ds t d m in entering-next from len w h ds t l i moved (d .1) (e .done) (e .rest) (e .is) k;
+  }
+
+  pub inserting-zero : i < len → getD l (from + i) 0 ≡ 0 → Inserts from len w start (set l (from + i) moved)
+  inserting-zero k z = record {
+    is = λ h ds t d m. let e : Entered len w h ds t l i moved = b .are h ds t d m in entering-zero from len w h ds t l i moved (d .1) (e .done) (e .rest) (e .is) k z;
+  }
+
+  pub inserting-end : len ≤ i → Inserts from len w start l
+  inserting-end k = record {
+    is = λ h ds t d m. let e : Entered len w h ds t l i moved = b .are h ds t d m in entering-end from len w h ds t l i moved (d .1) (e .done) (e .rest) (e .is) k;
+  }
+
+-- ---- a word leaves
+
+-- of a column ds: the words done have moved, and the rest is to stand where `old` stands
+record Leaving (len w : ℕ) (h ds t l : List ℕ) (i : ℕ) (done : List ℕ) (old : ℕ) (rest : List ℕ) : Type 0 where
+  now-is : l ≡ h ++ ((done ++ (old ∷ rest)) ++ t)
+  place : length done ≡ i
+  size : length rest + i + 1 ≡ len
+  falls : Descending rest
+  whole : removedAt (atLeast w ds) ds ≡ done ++ (rest ++ (0 ∷ []))
+
+record Left (len w : ℕ) (h ds t l : List ℕ) (i : ℕ) : Type 0 where
+  done : List ℕ
+  old : ℕ
+  rest : List ℕ
+  is : Leaving len w h ds t l i done old rest
+
+pub record Removing (from len w : ℕ) (start l : List ℕ) (i : ℕ) : Type 0 where
+  pub inside : i < len
+  are : (h ds t : List ℕ) → InColumn from len start h ds t → atLeast w ds < len → Left len w h ds t l i
+
+pub removing-start : (from len : ℕ) (l : List ℕ) (w i : ℕ) → AtLeast from len l w i → Removing from len w l l i
+removing-start from len l w i a = record {
+  inside = a .inside;
+  are = λ h ds t d k.
+      let e : i ≡ atLeast w ds = omega (arith, a .is h ds t d, k) in
+      let n : i < length ds = omega (arith, a .inside, d .2) in
+      record {
+        done = take i ds;
+        old = getD ds i 0;
+        rest = drop (suc i) ds;
+        is = record {
+          now-is = d .0 ∙ ap (λ (m : List ℕ). h ++ (m ++ t)) (split-at ds i 0 n);
+          place = length-take-le i ds (omega (arith, n));
+          size = omega (arith, length-drop (suc i) ds, n, d .2);
+          falls = descending-drop (suc i) ds (d .3);
+          whole = ap (λ (p : ℕ). removedAt p ds) (sym e) ∙ removed-split i ds n;
+        };
+      };
+}
+
+module _ (from len w : ℕ) (h ds t l : List ℕ) (i : ℕ) (head : length h ≡ from) where
+  -- the word behind it
+  behind : (done : List ℕ) (old x : ℕ) (xs : List ℕ) → Leaving len w h ds t l i done old (x ∷ xs) → getD l (from + (i + 1)) 0 ≡ x
+  behind done old x xs e =
+      ap (λ (m : List ℕ). getD m (from + (i + 1)) 0) (e .now-is ∙ ap (λ (m : List ℕ). h ++ (m ++ t)) (sym (append-snoc done old (x ∷ xs))))
+      ∙ read-at from h (done ++ (old ∷ [])) xs t x (i + 1) head (length-next done old i (e .place))
+
+  -- is stored over it
+  moves : (done : List ℕ) (old x : ℕ) (xs : List ℕ) → Leaving len w h ds t l i done old (x ∷ xs)
+      → set l (from + i) (getD l (from + (i + 1)) 0) ≡ h ++ ((done ++ (x ∷ x ∷ xs)) ++ t)
+  moves done old x xs e =
+      ap (set l (from + i)) (behind done old x xs e) ∙ ap (λ (m : List ℕ). set m (from + i) x) (e .now-is) ∙ store-at from h done (x ∷ xs) t old i head (e .place) x
+
+  leaving-next : (done : List ℕ) (old : ℕ) (rest : List ℕ) → Leaving len w h ds t l i done old rest → i + 1 < len
+      → Left len w h ds t (set l (from + i) (getD l (from + (i + 1)) 0)) (i + 1)
+  leaving-next done old [] e k = absurd (omega (arith, e .size, k))
+  leaving-next done old (x ∷ xs) e k = record {
+    done = done ++ (x ∷ []);
+    old = x;
+    rest = xs;
+    is = record {
+      now-is = moves done old x xs e ∙ ap (λ (m : List ℕ). h ++ (m ++ t)) (sym (append-snoc done x (x ∷ xs)));
+      place = length-next done x i (e .place);
+      size = omega (arith, e .size);
+      falls = e .falls .1;
+      whole = e .whole ∙ sym (append-snoc done x (xs ++ (0 ∷ [])));
+    };
+  }
+
+  -- it is 0, and so are the words behind it
+  leaving-zero : (done : List ℕ) (old : ℕ) (rest : List ℕ) → Leaving len w h ds t l i done old rest → i + 1 < len → getD l (from + (i + 1)) 0 ≡ 0
+      → set l (from + i) (getD l (from + (i + 1)) 0) ≡ h ++ (removedAt (atLeast w ds) ds ++ t)
+  leaving-zero done old [] e k z = absurd (omega (arith, e .size, k))
+  leaving-zero done old (x ∷ xs) e k z =
+      let r : x ≡ 0 = sym (behind done old x xs e) ∙ z in
+      moves done old x xs e
+      ∙ ap (λ (m : List ℕ). h ++ ((done ++ (x ∷ m)) ++ t)) (ap (λ (m : ℕ). m ∷ xs) r ∙ sym (snoc-zeros xs (e .falls .1) (omega (arith, e .falls .0, r))))
+      ∙ ap (λ (m : List ℕ). h ++ (m ++ t)) (sym (e .whole))
+
+  leaving-end : (done : List ℕ) (old : ℕ) (rest : List ℕ) → Leaving len w h ds t l i done old rest → len ≤ i + 1
+      → set l (from + (len - 1)) 0 ≡ h ++ (removedAt (atLeast w ds) ds ++ t)
+  leaving-end done old (x ∷ xs) e k = absurd (omega (arith, e .size, k))
+  leaving-end done old [] e k =
+      ap (λ (m : List ℕ). set m (from + (len - 1)) 0) (e .now-is) ∙ store-at from h done [] t old (len - 1) head (omega (arith, e .place, e .size)) 0
+      ∙ ap (λ (m : List ℕ). h ++ (m ++ t)) (sym (e .whole))
+
+module _ (from len w : ℕ) (start l : List ℕ) (i : ℕ) (b : Removing from len w start l i) where
+  pub removing-next : i + 1 < len → Removing from len w start (set l (from + i) (getD l (from + (i + 1)) 0)) (i + 1)
+  removing-next k = record {
+    inside = k;
+    are = λ h ds t d m. let e : Left len w h ds t l i = b .are h ds t d m in leaving-next from len w h ds t l i (d .1) (e .done) (e .old) (e .rest) (e .is) k;
+  }
+
+  pub removing-zero : i + 1 < len → getD l (from + (i + 1)) 0 ≡ 0 → RemovesWord from len w start (set l (from + i) (getD l (from + (i + 1)) 0))
+  removing-zero k z = record {
+    is = λ h ds t d m. let e : Left len w h ds t l i = b .are h ds t d m in leaving-zero from len w h ds t l i (d .1) (e .done) (e .old) (e .rest) (e .is) k z;
+  }
+
+  pub removing-end : len ≤ i + 1 → RemovesWord from len w start (set l (from + (len - 1)) 0)
+  removing-end k = record {
+    is = λ h ds t d m. let e : Left len w h ds t l i = b .are h ds t d m in leaving-end from len w h ds t l i (d .1) (e .done) (e .old) (e .rest) (e .is) k;
+  }

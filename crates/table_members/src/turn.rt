@@ -1,0 +1,71 @@
+// Whose turn it is among the members of a path.
+ghost use Prim.Native.Nat.{_≤_, _<_};
+ghost use Rattle.cell.specs.Name.{noName};
+ghost use Rattle.table_members.specs.Words.{Next, Turns, Serves};
+use crate::find::word_limit;
+use connection_members::path::PATH_VCI;
+use table::layout::MEMBER_CAPACITY;
+use table::layout::MEMBERS;
+use table::layout::WORDS;
+use table_column::column::count;
+use table_column::column::count_up_to;
+use table_names::find::Found;
+
+// The first member with data from word `first` on whose name is below `top`.
+fn next(t: &[u64; WORDS], first: usize, top: u64) -> Found
+    requires { ⌜ top ≤ noName ⌝ }
+    ensures { λ r. ⌜ Next (now (t .entry)) first top r ⌝ }
+{
+    let low = word_limit(top);
+    let mut i = first;
+    while i < MEMBER_CAPACITY {
+        let word = t[MEMBERS + i];
+        if word < low {
+            return Found::Nothing;
+        }
+        if 0 < word % 65536 {
+            return Found::At(i);
+        }
+        i += 1;
+    }
+    Found::Nothing
+}
+
+// The first with data after the VCI served last, round to the lowest; of a channel's name there is none.
+pub fn turn(t: &[u64; WORDS], name: u32, last: u16) -> Found
+    ensures { λ r. ⌜ Turns (now (t .entry)) name last r ⌝ }
+{
+    if name % 65536 != PATH_VCI {
+        return Found::Nothing;
+    }
+    let first = (name / 65536 % 256) as u64 * 65536;
+    let top = first + 65536;
+    let after = count(
+        t,
+        MEMBERS,
+        MEMBER_CAPACITY,
+        word_limit(first + last as u64 + 1),
+    );
+    match next(t, after, top) {
+        Found::At(i) => Found::At(i),
+        Found::Nothing => next(
+            t,
+            count_up_to(t, MEMBERS, MEMBER_CAPACITY, after, word_limit(first)),
+            top,
+        ),
+    }
+}
+
+// One cell of the member whose turn it is goes; its name, or 0 if it is no member's turn.
+pub fn serve(t: &mut [u64; WORDS], name: u32, last: u16) -> u32
+    ensures { λ r. ⌜ Serves name last (now (t .entry)) (now (t .exit)) r ⌝ }
+{
+    match turn(t, name, last) {
+        Found::Nothing => 0,
+        Found::At(i) => {
+            let word = t[MEMBERS + i];
+            t[MEMBERS + i] = word - 1;
+            (16777216 - word / 65536 % 16777216) as u32
+        },
+    }
+}

@@ -1,0 +1,165 @@
+-- What a search in the words of a state that calls reach finds: the entry of a name, and the lowest free one.
+use Prim.Native.Nat.{ℕ, zero, suc, _+_, _-_, _*_, _/_, _%_, _≤_, _<_, min}
+use mathlib.Core.Path.{_≡_, refl, sym, ap, subst, _∙_}
+use mathlib.Core.Bool.{true}
+use mathlib.Core.List.{List, [], _∷_}
+use native.Mathlib.Nat.{not-suc-le-zero, le-of-suc-le-suc, zero-add}
+use native.Mathlib.Omega.{arith}
+use lib.Count.{trailingZeros}
+use lib.ListN.{length, getD}
+use borrow.Author.Tests.{lt-ltb, le-ltb}
+use Rattle.connection.specs.declared.parts.Connection.{Connection}
+use Rattle.model.specs.State.{State, Entry, free, taken, position, isFree, holds, find, roomLeft, capacity}
+use Rattle.model.specs.Invariant.{OnEntry, NamesUnique, WellFormed}
+use Rattle.table.specs.Layout.{words, used, bitmap, isTaken, group, directory, directoryWord, directoryWords, usedFrom, groups, directoryFrom}
+use Rattle.table_column.specs.Descending.{atLeast}
+use Rattle.table_column.specs.Column.{InColumn, AtLeast}
+use Rattle.table_names.specs.Finding.{Located, FindsName, FindsFree}
+use Rattle.table_names.specs.declared.find.Found.the-variants.{At, Nothing}
+use Rattle.model.proofs.Entries.{entry-place, find-name, taken-in}
+use Rattle.table.proofs.Directory.{length-words, length-directory}
+use Rattle.table.proofs.Splits.{length-before-directory, beforeDirectory, behindDirectory, directory-split}
+use Rattle.table.proofs.Used.{length-used, used-at, Past, past-start, past-full, past-vacant, past-all}
+use Rattle.table_column.proofs.Descending.{Reach, above, below, reach, Among, at-least-among, at-least-drops, at-least-most, at-least-in, at-least-out, at-least-self}
+use Rattle.table_names.proofs.Directories.{descending-directory, directory-count}
+use Rattle.table_column.proofs.Halving.{in-column}
+
+pub found-at : {ss : List Entry} {v i : ℕ} → (l : Located ss v i) → find v ss ≡ taken (l .holder)
+unfolding find
+found-at {ss} l = ap (λ (k : ℕ). getD ss k free) (l .place) ∙ l .here
+
+-- ---- the search for a name
+
+-- the directory in the words of a state
+pub in-state : (s : State) → WellFormed s → (l : List ℕ) → l ≡ words s
+    → InColumn directoryFrom capacity l (beforeDirectory s) (directory (s .entries)) (behindDirectory s)
+in-state s w l e = (e ∙ directory-split s, length-before-directory (s .level) (s .last) (used (s .entries)) (length-used (s .entries)), length-directory (s .entries) ∙ w .size, descending-directory (s .entries))
+
+words-at : (k : ℕ) (ss : List Entry) (j : ℕ) → j < length ss → getD (directoryWords k ss) j 0 ≡ directoryWord (k + j) (getD ss j free)
+unfolding directoryWords
+words-at k [] j h = absurd (not-suc-le-zero h)
+words-at k (s ∷ ss) zero h = ap (λ (n : ℕ). directoryWord n s) (omega arith)
+words-at k (s ∷ ss) (suc j) h = words-at (suc k) ss j (le-of-suc-le-suc h) ∙ ap (λ (n : ℕ). directoryWord n (getD ss j free)) (omega arith)
+
+-- a word of the directory is that of an entry
+entry-of : (ss : List Entry) (p : ℕ) → p < length ss → Among (getD (directory ss) p 0) (directoryWords 0 ss)
+entry-of ss p h =
+    let x : ℕ = getD (directory ss) p 0 in
+    let n : p < length (directory ss) = omega (arith, h, length-directory ss) in
+    at-least-among x (directoryWords 0 ss)
+    (omega (arith, at-least-self (directory ss) (descending-directory ss) p n, fewer (reach (suc p) (atLeast (suc x) (directory ss))), directory-count x ss, directory-count (suc x) ss))
+  where
+    fewer : Reach (suc p) (atLeast (suc (getD (directory ss) p 0)) (directory ss)) → atLeast (suc (getD (directory ss) p 0)) (directory ss) ≤ p
+    fewer (above q) = absurd (omega (arith, at-least-in (suc (getD (directory ss) p 0)) (directory ss) (descending-directory ss) p q))
+    fewer (below q) = omega (arith, q)
+
+-- word x, of entry j, has the name v
+module _ (ss : List Entry) (unique : NamesUnique ss) (v x : ℕ) (e : x / capacity ≡ v + 1) (j : ℕ) (inside : j < capacity) where
+  located : (y : Entry) → getD ss j free ≡ y → directoryWord j y ≡ x → Located ss v (x % capacity)
+  unfolding directoryWord
+  located free f q = absurd (omega (arith, q, e))
+  located (taken c) f q =
+      let n : c .name ≡ v = omega (arith, q, e, inside) in
+      let i : j ≡ x % capacity = omega (arith, q, e, inside) in
+      record {
+        holder = c;
+        here = ap (λ (k : ℕ). getD ss k free) (sym i) ∙ f;
+        named = n;
+        place = ap (λ (u : ℕ). position (holds u) ss) (sym n) ∙ entry-place ss unique j c f ∙ i;
+      }
+
+located-at : (ss : List Entry) → NamesUnique ss → length ss ≡ capacity → (v p : ℕ) → p < capacity → getD (directory ss) p 0 / capacity ≡ v + 1
+    → Located ss v (getD (directory ss) p 0 % capacity)
+located-at ss u n v p h e =
+    let m : Among (getD (directory ss) p 0) (directoryWords 0 ss) = entry-of ss p (omega (arith, h, n)) in
+    let i : m .place < length ss = omega (arith, m .inside, length-words 0 ss) in
+    located ss u v (getD (directory ss) p 0) e (m .place) (omega (arith, i, n)) (getD ss (m .place) free) refl
+    (ap (λ (k : ℕ). directoryWord k (getD ss (m .place) free)) (sym (zero-add (m .place))) ∙ sym (words-at 0 ss (m .place) i) ∙ m .is)
+
+-- the word of entry i stands first among those that are below those of higher names
+module _ (ss : List Entry) (i v : ℕ) (c : Connection) (here : getD ss i free ≡ taken c) (named : c .name ≡ v) (size : length ss ≡ capacity) where
+  first-below : (p : ℕ) → p ≡ min (atLeast ((v + 2) * capacity) (directory ss)) (capacity - 1) → getD (directory ss) p 0 / capacity ≡ v + 1
+  unfolding directoryWord
+  first-below p e =
+      let h : i < length ss = taken-in ss i c here in
+      let x : ℕ = (v + 1) * capacity + i in
+      let w : getD (directoryWords 0 ss) i 0 ≡ x =
+      words-at 0 ss i h ∙ ap (λ (k : ℕ). directoryWord k (getD ss i free)) (zero-add i) ∙ ap (directoryWord i) here ∙ ap (λ (u : ℕ). (u + 1) * capacity + i) named in
+      let d : atLeast ((v + 2) * capacity) (directoryWords 0 ss) < atLeast x (directoryWords 0 ss) =
+      subst (λ (y : ℕ). atLeast ((v + 2) * capacity) (directoryWords 0 ss) < atLeast y (directoryWords 0 ss)) w
+      (at-least-drops ((v + 2) * capacity) (directoryWords 0 ss) i (omega (arith, h, length-words 0 ss)) (omega (arith, w, h, size))) in
+      let q : p ≡ atLeast ((v + 2) * capacity) (directory ss) =
+      omega (arith, e, d, directory-count x ss, directory-count ((v + 2) * capacity) ss, at-least-most x (directory ss), length-directory ss, size) in
+      let lo : x ≤ getD (directory ss) p 0 =
+      at-least-in x (directory ss) (descending-directory ss) p (omega (arith, q, d, directory-count x ss, directory-count ((v + 2) * capacity) ss)) in
+      let hi : getD (directory ss) p 0 < (v + 2) * capacity =
+      at-least-out ((v + 2) * capacity) (directory ss) (descending-directory ss) p (omega (arith, q)) (omega (arith, e, length-directory ss, size)) in
+      omega (arith, lo, hi)
+
+module _ (l : List ℕ) (v p : ℕ) (a : AtLeast directoryFrom capacity l ((v + 2) * capacity) p) where
+  word-is : (s : State) → WellFormed s → l ≡ words s → getD l (directoryFrom + p) 0 ≡ getD (directory (s .entries)) p 0
+  word-is s w q = in-column directoryFrom capacity l (beforeDirectory s) (directory (s .entries)) (behindDirectory s) (in-state s w l q) p (a .inside)
+
+  place-is : (s : State) → WellFormed s → l ≡ words s → p ≡ min (atLeast ((v + 2) * capacity) (directory (s .entries))) (capacity - 1)
+  place-is s w q = a .is (beforeDirectory s) (directory (s .entries)) (behindDirectory s) (in-state s w l q)
+
+  pub found-here : getD l (directoryFrom + p) 0 / capacity ≡ v + 1 → FindsName l v (At (getD l (directoryFrom + p) 0 % capacity))
+  found-here e = record {
+    inside = omega arith;
+    is = λ s w q.
+        let x : getD l (directoryFrom + p) 0 ≡ getD (directory (s .entries)) p 0 = word-is s w q in
+        subst (λ (y : ℕ). Located (s .entries) v (y % capacity)) (sym x)
+        (located-at (s .entries) (w .unique) (w .size) v p (a .inside) (ap (λ (y : ℕ). y / capacity) (sym x) ∙ e));
+  }
+
+  pub found-nowhere : (getD l (directoryFrom + p) 0 / capacity ≡ v + 1 → ⊥) → FindsName l v Nothing
+  unfolding find
+  found-nowhere e = record { inside = tt; is = λ s w q. go s w q (find v (s .entries)) refl (find-name v (s .entries)) }
+    where
+      go : (s : State) → WellFormed s → l ≡ words s → (x : Entry) → find v (s .entries) ≡ x → OnEntry (λ c. c .name ≡ v) (find v (s .entries)) → find v (s .entries) ≡ free
+      go s w q free f n = f
+      go s w q (taken c) f n =
+          absurd (e (ap (λ (y : ℕ). y / capacity) (word-is s w q)
+          ∙ first-below (s .entries) (position (holds v) (s .entries)) v c f (subst (OnEntry (λ c. c .name ≡ v)) f n) (w .size) p (place-is s w q)))
+
+-- ---- the lowest free entry
+
+-- of the words of a state: the entries before group g are taken
+pub record Searched (l : List ℕ) (g : ℕ) : Type 0 where
+  pub inside : g ≤ groups
+  pub is : (s : State) → WellFormed s → l ≡ words s → Past (s .entries) g
+
+pub searched-start : (l : List ℕ) → Searched l 0
+searched-start l = record { inside = omega arith; is = λ s w q. past-start (s .entries) }
+
+module _ (l : List ℕ) (g : ℕ) (b : Searched l g) where
+  group-word : g < groups → (s : State) → l ≡ words s → (m : ℕ) → m ≡ 18446744073709551615 - getD l (usedFrom + g) 0
+      → m ≡ 18446744073709551615 - bitmap isTaken (group g (s .entries))
+  group-word h s q m e =
+      e ∙ ap (λ (x : ℕ). 18446744073709551615 - x) (ap (λ (x : List ℕ). getD x (usedFrom + g) 0) (q ∙ directory-split s) ∙ used-at (s .entries) g h (s .level) (s .last) _)
+
+  module _ (h : g < groups) (m : ℕ) (e : m ≡ 18446744073709551615 - getD l (usedFrom + g) 0) where
+    pub searched-next : m ≡ 0 → Searched l (g + 1)
+    searched-next z = record {
+      inside = omega (arith, h);
+      is = λ s w q. subst (Past (s .entries)) (omega arith) (past-full (s .entries) (w .size) g h (b .is s w q) (sym z ∙ group-word h s q m e));
+    }
+
+    pub searched-found : (i : ℕ) → i ≡ trailingZeros 64 m → i < 64 → FindsFree l (At (g * 64 + i))
+    searched-found i d k = record {
+      inside = omega (arith, h, k);
+      is = λ s w q. past-vacant (s .entries) (w .size) g h (b .is s w q) m (group-word h s q m e) (omega (arith, d, k)) ∙ ap (λ (n : ℕ). g * 64 + n) (sym d);
+    }
+
+  pub searched-none : groups ≤ g → FindsFree l Nothing
+  unfolding roomLeft
+  searched-none h = record {
+    inside = tt;
+    is = λ s w q.
+        let n : g ≡ groups = omega (arith, h, b .inside) in
+        le-ltb (position isFree (s .entries)) (length (s .entries)) (omega (arith, w .size, past-all (s .entries) (w .size) (subst (Past (s .entries)) n (b .is s w q))));
+  }
+
+pub room-at : (s : State) → WellFormed s → (i : ℕ) → i < capacity → position isFree (s .entries) ≡ i → roomLeft s ≡ true
+unfolding roomLeft
+room-at s w i h e = lt-ltb (position isFree (s .entries)) (length (s .entries)) (omega (arith, w .size))

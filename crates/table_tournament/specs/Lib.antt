@@ -1,0 +1,4 @@
+pub mod KeyedWinner
+pub mod Replaying
+pub mod SlotWinner
+pub mod Next

@@ -1,0 +1,32 @@
+-- What a replay of a leaf's matches makes of the winners in a table's words, and what it counts. (Document 02, L4.)
+use Prim.Native.Nat.{ℕ}
+use mathlib.Core.Path.{_≡_}
+use mathlib.Core.List.{List, _∷_, _++_}
+use lib.ListN.{length, set}
+use Rattle.laws.specs.Blocks.{flat}
+use Rattle.connection.specs.Range.{InstantBelow}
+use Rattle.connection.specs.Ready.{readyInstant}
+use Rattle.model.specs.State.{State, Entry, capacity}
+use Rattle.model.specs.Invariant.{Each, NamesUnique, WellFormed}
+use Rattle.model.specs.Tournament.{replayed}
+use Rattle.table.specs.Layout.{keyOf, nameWords, nodes, words, nodesFrom}
+
+-- the words of a table with these winners, keys and names
+abbrev pub withNodes : (front ns : List ℕ) (ss : List Entry) (tail : List ℕ) → List ℕ
+withNodes h ns ss t = h ++ (ns ++ (0 ∷ (flat keyOf ss ++ (flat nameWords ss ++ t))))
+
+-- entries that a tournament orders: no two have one name, and each ready instant fits its key
+pub record Playable (ss : List Entry) : Type 0 where
+  pub size : length ss ≡ capacity
+  pub unique : NamesUnique ss
+  pub below : Each (λ c. InstantBelow (readyInstant c)) ss
+
+-- Where the winners are still those of the entries before leaf x was given this content, they become those of the entries now; the rest of the words stays.
+pub record Replays (before after : List ℕ) (x n : ℕ) : Type 0 where
+  pub is :
+      (h : List ℕ) (ss : List Entry) (now : Entry) (t : List ℕ) → length h ≡ nodesFrom → Playable (set ss x now) → before ≡ withNodes h (nodes ss) (set ss x now) t
+      → (after ≡ withNodes h (nodes (set ss x now)) (set ss x now) t) × (n ≡ replayed x ss (set ss x now))
+
+-- of the words of a state: what a replay of a leaf counts that has not changed
+pub record CountsWon (l : List ℕ) (x n : ℕ) : Type 0 where
+  pub is : (s : State) → WellFormed s → l ≡ words s → n ≡ replayed x (s .entries) (s .entries)

@@ -1,8 +1,0 @@
--- The laws of the tournament in the words of a table.
-pub mod Orders
-pub mod Standings
-pub mod Stored
-pub mod Matches
-pub mod Midway
-pub mod Replaying
-pub mod Leading

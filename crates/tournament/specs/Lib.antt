@@ -1,4 +1,0 @@
-pub mod Standing
-pub mod Replaying
-pub mod Choosing
-pub mod Next
