@@ -95,8 +95,8 @@ extern "C" {
 
 /* ---- Version ------------------------------------------------------------ */
 
-/* 0.17.0: major, minor and patch number, eight bits each. */
-#define ABR_VERSION 0x001100u
+/* 0.18.0: major, minor and patch number, eight bits each. */
+#define ABR_VERSION 0x001200u
 
 /* The words of a table, which has 288,920 octets. */
 #define ABR_TABLE_WORDS 36115u

@@ -4,7 +4,7 @@
 #![allow(non_camel_case_types, missing_docs)]
 
 /// The version of the header: major, minor and patch number, eight bits each.
-pub const ABR_VERSION: u32 = 0x00_11_00;
+pub const ABR_VERSION: u32 = 0x00_12_00;
 
 /// The words of a table.
 pub const ABR_TABLE_WORDS: usize = 36_115;

@@ -15,30 +15,34 @@ use Rattle.model.specs.State.{State, Entry, free, taken, find}
 use Rattle.model.specs.declared.acr.Acr.{Acr}
 use Rattle.model.specs.declared.acr.Acr.the-variants.{Rate}
 use Rattle.model.specs.declared.answer.Answer.{Answer}
-use Rattle.engine.specs.Contract.{Meets, MeetsWriting, MeetsAcr}
-use Rattle.abr_answers.specs.declared.calls.AbrSent.{AbrSent}
+use Rattle.engine.specs.Contract.{Meets, MeetsWriting, MeetsReading, wholeAnswer}
 use Rattle.abr_answers.specs.declared.calls.AbrAllowed.{AbrAllowed}
 use Rattle.abr_answers.specs.declared.calls.AbrAnswer.{AbrAnswer}
-use Rattle.abr_answers.specs.declared.calls.AbrClosed.{AbrClosed}
-use Rattle.abr_answers.specs.Calls.{answerOf, closedOf, sentOf, allowedOf, ofRates}
-use Rattle.abr.specs.Contract.{ReturnsAnswer, ReturnsClosed, ReturnsRefusal, ReturnsRefusalWriting, ReturnsSent, ReturnsAllowed}
+use Rattle.abr_answers.specs.Calls.{answerOf, allowedOf, ofRates}
+use Rattle.abr.specs.Contract.{ReturnsRefusal, ReturnsRefusalWriting, ReturnsAllowed}
 
 -- a call on the name that was made of a pair
-pub named : (f : ℕ → State → Outcome) {n m : ℕ} {before after : List ℕ} {a : Answer} → n ≡ m → Meets (f n) before after a → Meets (f m) before after a
-named f {before = before} {after = after} {a = a} e h = subst (λ (v : ℕ). Meets (f v) before after a) e h
+pub named :
+    (f : ℕ → State → Outcome) {n m : ℕ} {before after : List ℕ} {a : Answer} → n ≡ m → Meets wholeAnswer (f n) before after a
+    → Meets wholeAnswer (f m) before after a
+named f {before = before} {after = after} {a = a} e h = subst (λ (v : ℕ). Meets wholeAnswer (f v) before after a) e h
 
 pub named-writing :
-    (f : ℕ → State → Outcome) {n m : ℕ} {before after : List ℕ} {a : Answer} {old new : List ℕ} → n ≡ m → MeetsWriting (f n) before after a old new
-    → MeetsWriting (f m) before after a old new
-named-writing f {before = before} {after = after} {a = a} {old = old} {new = new} e h = subst (λ (v : ℕ). MeetsWriting (f v) before after a old new) e h
+    (f : ℕ → State → Outcome) {n m : ℕ} {before after : List ℕ} {a : Answer} {old new : List ℕ} → n ≡ m → MeetsWriting wholeAnswer (f n) before after a old new
+    → MeetsWriting wholeAnswer (f m) before after a old new
+named-writing f {before = before} {after = after} {a = a} {old = old} {new = new} e h =
+    subst (λ (v : ℕ). MeetsWriting wholeAnswer (f v) before after a old new) e h
 
--- a call that returns its refusal and the comparisons it made
-pub answers : {f : State → Outcome} {before after : List ℕ} {a : Answer} {r : AbrAnswer} → r ≡ answerOf a → Meets f before after a → ReturnsAnswer f before after r
-answers e m = record { meets = λ s w b. let k = m .meets s w b in (k .0, e ∙ ap answerOf (k .1)) }
+-- what is returned of the answer
+pub returned :
+    {R : Type 0} {part : Answer → R} {f : State → Outcome} {before after : List ℕ} {a : Answer} {r : R} → r ≡ part a → Meets wholeAnswer f before after a
+    → Meets part f before after r
+returned {part = part} e m = record { meets = λ s w b. let k = m .meets s w b in (k .0, e ∙ ap part (k .1)) }
 
--- a close
-pub closed-by : {f : State → Outcome} {before after : List ℕ} {a : Answer} {r : AbrClosed} → r ≡ closedOf a → Meets f before after a → ReturnsClosed f before after r
-closed-by e m = record { meets = λ s w b. let k = m .meets s w b in (k .0, e ∙ ap closedOf (k .1)) }
+pub returned-writing :
+    {R : Type 0} {part : Answer → R} {f : State → Outcome} {before after : List ℕ} {a : Answer} {r : R} {old new : List ℕ} → r ≡ part a
+    → MeetsWriting wholeAnswer f before after a old new → MeetsWriting part f before after r old new
+returned-writing {part = part} e m = record { meets = λ s w b. let k = m .meets s w b in (k .0, e ∙ ap part (k .1), k .2) }
 
 -- a call that returns its refusal alone, of a definition that makes no comparisons
 alone : {a r c : AbrAnswer} → r ≡ a → a ≡ c → c .comparisons ≡ 0 → record { refusal = r .refusal; comparisons = 0 } ≡ c
@@ -47,14 +51,16 @@ alone e h z = rw (e, h, ← z)
 abbrev ComparesNone : (State → Outcome) → Type 0
 ComparesNone f = (s : State) → WellFormed s → answerOf (f s .answer) .comparisons ≡ 0
 
-pub numbers : {f : State → Outcome} {before after : List ℕ} {a : Answer} {r : AbrAnswer} → r ≡ answerOf a → ComparesNone f → Meets f before after a → ReturnsRefusal f before after (r .refusal)
-numbers e z m = record { meets = λ s w b. let k = m .meets s w b in (k .0, alone e (ap answerOf (k .1)) (z s w)) }
+pub refusal-returned :
+    {f : State → Outcome} {before after : List ℕ} {a : Answer} {r : AbrAnswer} → r ≡ answerOf a → ComparesNone f → Meets wholeAnswer f before after a
+    → ReturnsRefusal f before after (r .refusal)
+refusal-returned e z m = record { meets = λ s w b. let k = m .meets s w b in (k .0, alone e (ap answerOf (k .1)) (z s w)) }
 
 -- the same of a call that may write its buffer
-pub numbers-writing :
-    {f : State → Outcome} {before after : List ℕ} {a : Answer} {r : AbrAnswer} {old new : List ℕ} → r ≡ answerOf a → ComparesNone f → MeetsWriting f before after a old new
-    → ReturnsRefusalWriting f before after (r .refusal) old new
-numbers-writing e z m = record { meets = λ s w b. let k = m .meets s w b in (k .0, alone e (ap answerOf (k .1)) (z s w), k .2) }
+pub refusal-returned-writing :
+    {f : State → Outcome} {before after : List ℕ} {a : Answer} {r : AbrAnswer} {old new : List ℕ} → r ≡ answerOf a → ComparesNone f
+    → MeetsWriting wholeAnswer f before after a old new → ReturnsRefusalWriting f before after (r .refusal) old new
+refusal-returned-writing e z m = record { meets = λ s w b. let k = m .meets s w b in (k .0, alone e (ap answerOf (k .1)) (z s w), k .2) }
 
 -- setting the level and sending out of rate are such calls
 data Uncompared : Call → Type 0 where
@@ -76,12 +82,6 @@ pub out-of-rate-alone : (vpi vci t room : ℕ) → ComparesNone (λ s. outOfRate
 unfolding step
 out-of-rate-alone a b t room s w = effect-alone (outOfRateAlone a b t room) (effect s (w .unique) (outOfRate a b t room))
 
--- a slot
-pub slots :
-    {f : State → Outcome} {before after : List ℕ} {a : Answer} {r : AbrSent} {old new : List ℕ} → r ≡ sentOf a → MeetsWriting f before after a old new
-    → ReturnsSent f before after r old new
-slots e m = record { meets = λ s w b. let k = m .meets s w b in (k .0, e ∙ ap sentOf (k .1), k .2) }
-
 -- reading an ACR: the rates of a well-formed state are below 2^42
 entry-rates : (last : ℕ) (x : Entry) → OnEntry (ValidAt last) x → ofRates (entryAcr x) ≡ entryAcr x
 unfolding entryAcr
@@ -92,7 +92,7 @@ acr-rates : (s : State) → WellFormed s → (v : ℕ) → ofRates (acrOf s v) �
 unfolding acrOf
 acr-rates s w v = entry-rates (s .last) (find v (s .entries)) (find-each (ValidAt (s .last)) v (s .entries) (w .each))
 
-pub acrs : {n v : ℕ} {l : List ℕ} {a : Acr} {r : AbrAllowed} → n ≡ v → r ≡ allowedOf (ofRates a) → MeetsAcr n l a → ReturnsAllowed v l r
+pub acrs : {n v : ℕ} {l : List ℕ} {a : Acr} {r : AbrAllowed} → n ≡ v → r ≡ allowedOf (ofRates a) → MeetsReading (λ s. a ≡ acrOf s n) l → ReturnsAllowed v l r
 acrs {n} {l = l} {r = r} i e m =
     subst (λ (u : ℕ). ReturnsAllowed u l r) i
-    (record { meets = λ s w b. e ∙ ap (λ (a : Acr). allowedOf (ofRates a)) (m .answers s w b) ∙ ap allowedOf (acr-rates s w n) })
+    (record { meets = λ s w b. e ∙ ap (λ (a : Acr). allowedOf (ofRates a)) (m .meets s w b) ∙ ap allowedOf (acr-rates s w n) })

@@ -1,135 +1,89 @@
 -- Exported calls do what `run` says.
 use Prim.Native.Nat.{ℕ}
-use mathlib.Core.Path.{_≡_, refl, ap, _∙_}
+use mathlib.Core.Path.{_≡_, refl, ap, _∙_, subst}
 use mathlib.Core.List.{List, [], _∷_}
+use mathlib.Core.Option.{Option, none, some}
 use lib.ListN.{length}
-use Rattle.connection.specs.Sending.{Buffer, untouched}
+use Rattle.connection.specs.Slot.{Buffer, untouched}
 use Rattle.model.specs.State.{State, empty}
 use Rattle.model.specs.Invariant.{WellFormed}
 use Rattle.model.specs.Call.{Call, opening, closing, receiving, offering, levelling, slot, making, outOfRate, openingPath, adding, offeringMember, removing, Outcome, closedCells}
-use Rattle.model.specs.Step.{refuse, accept, replay, discard, idleStep, sendStep, sendFrom, sendOutOfRate, step}
+use Rattle.model.specs.Step.{refuse, accept, discard, idleStep, sendStep, sendFrom, sendOutOfRate, step}
 use Rattle.model.specs.Run.{run, final}
 use Rattle.model.proofs.Preserved.{empty-well-formed}
-use Rattle.model.proofs.Effects.{Effect, refuses, opens, closes, offers, receivesData, receivesRm, setsLevel, idles, sends, makes, sendsOutOfRate, opensPath, adds, offersMember, removes, effect}
 use Rattle.model.proofs.Reached.{step-well-formed, reached-well-formed}
+use Rattle.model.proofs.Shown.{Shown, refusing, accepting, discarding, idling, serving, servingOutOfRate, shown}
 use Rattle.table.specs.Layout.{words}
 use Rattle.table.proofs.Words.{empty-words}
 use Rattle.engine.specs.Contract.{bufferContent}
 use Rattle.abr_answers.specs.declared.calls.AbrAnswer.{AbrAnswer}
 use Rattle.abr_answers.specs.declared.calls.AbrClosed.{AbrClosed}
 use Rattle.abr_answers.specs.Calls.{refusalAlone, answerOf, closedOf, noCell, sentOf}
+use Rattle.model.specs.Aspects.{Lent, forSlot, forOutOfRate, notLent, lentOf, membersOf, discardsFrom}
 use Rattle.abr.specs.Exports.{Observation, noSlot, afterClose, Performs, abrOpen, abrClose, abrReceive, abrOffer, abrSetLevel, abrMake, abrOutOfRate, abrSlot, abrOpenPath, abrAdd, abrOfferMember, abrRemove, Transcript, ended, then, finalWords, zeros, Matches, AllMatch, neither, both, ExportsAreRun}
 
--- a call that is no slot
-abbrev NoSlot : Call → Type 0
-NoSlot (opening a b t p) = Unit
-NoSlot (closing a b) = Unit
-NoSlot (receiving o) = Unit
-NoSlot (offering a b n) = Unit
-NoSlot (levelling l) = Unit
-NoSlot (slot t room) = ⊥
-NoSlot (making a b t) = Unit
-NoSlot (outOfRate a b t room) = Unit
-NoSlot (openingPath a t p) = Unit
-NoSlot (adding a b) = Unit
-NoSlot (offeringMember a b n) = Unit
-NoSlot (removing a b) = Unit
+-- a call that is no slot, one that is lent no buffer, and one that discards no data cells
+abbrev NoSlot : Lent → Type 0
+NoSlot (forSlot t) = ⊥
+NoSlot (forOutOfRate v) = Unit
+NoSlot notLent = Unit
 
--- a call that is lent no buffer
-abbrev WithoutBuffer : Call → Type 0
-WithoutBuffer (opening a b t p) = Unit
-WithoutBuffer (closing a b) = Unit
-WithoutBuffer (receiving o) = Unit
-WithoutBuffer (offering a b n) = Unit
-WithoutBuffer (levelling l) = Unit
-WithoutBuffer (slot t room) = ⊥
-WithoutBuffer (making a b t) = Unit
-WithoutBuffer (outOfRate a b t room) = ⊥
-WithoutBuffer (openingPath a t p) = Unit
-WithoutBuffer (adding a b) = Unit
-WithoutBuffer (offeringMember a b n) = Unit
-WithoutBuffer (removing a b) = Unit
+abbrev WithoutBuffer : Lent → Type 0
+WithoutBuffer (forSlot t) = ⊥
+WithoutBuffer (forOutOfRate v) = ⊥
+WithoutBuffer notLent = Unit
 
--- a call that discards no data cells
-abbrev NoClose : Call → Type 0
-NoClose (opening a b t p) = Unit
-NoClose (closing a b) = ⊥
-NoClose (receiving o) = Unit
-NoClose (offering a b n) = Unit
-NoClose (levelling l) = Unit
-NoClose (slot t room) = Unit
-NoClose (making a b t) = Unit
-NoClose (outOfRate a b t room) = Unit
-NoClose (openingPath a t p) = Unit
-NoClose (adding a b) = Unit
-NoClose (offeringMember a b n) = Unit
-NoClose (removing a b) = ⊥
+abbrev NoDiscard : Option ℕ → Type 0
+NoDiscard none = Unit
+NoDiscard (some v) = ⊥
 
-effect-no-cells : {s : State} {c : Call} {o : Outcome} → Effect s c o → NoClose c → 0 ≡ closedCells (o .answer)
-unfolding refuse accept replay idleStep sendStep sendFrom sendOutOfRate closedCells
-effect-no-cells (refuses c n h) u = refl
-effect-no-cells (opens a b t p g) u = refl
-effect-no-cells (closes a b d f) u = absurd u
-effect-no-cells (offers a b n d f i h) u = refl
-effect-no-cells (receivesData o a b e v d r i z f) u = refl
-effect-no-cells (receivesRm o q d r f) u = refl
-effect-no-cells (setsLevel l h) u = refl
-effect-no-cells (idles t room g b) u = refl
-effect-no-cells (sends t room i v g b) u = refl
-effect-no-cells (makes a b t d f g h m) u = refl
-effect-no-cells (sendsOutOfRate a b t room d f g h) u = refl
-effect-no-cells (opensPath a t p g) u = refl
-effect-no-cells (adds a b d f j) u = refl
-effect-no-cells (offersMember a b n d f i h) u = refl
-effect-no-cells (removes a b d f i) u = absurd u
+shown-no-cells : {s : State} {c : Call} {o : Outcome} → Shown s c o → NoDiscard (discardsFrom (membersOf c)) → 0 ≡ closedCells (o .answer)
+unfolding refuse accept idleStep sendStep sendFrom sendOutOfRate closedCells
+shown-no-cells (refusing c n h) u = refl
+shown-no-cells (accepting c n r l g) u = refl
+shown-no-cells (discarding c n x v r l e g) u = absurd (subst NoDiscard e u)
+shown-no-cells (idling t room g) u = refl
+shown-no-cells (serving t room i v g b) u = refl
+shown-no-cells (servingOutOfRate a b t room d f g) u = refl
 
-no-cells : {s : State} → WellFormed s → (c : Call) → NoClose c → 0 ≡ closedCells (step s c .answer)
-no-cells {s} w c u = effect-no-cells (effect s (w .unique) c) u
+no-cells : {s : State} → WellFormed s → (c : Call) → NoDiscard (discardsFrom (membersOf c)) → 0 ≡ closedCells (step s c .answer)
+no-cells w c u = shown-no-cells (shown w c) u
 
 -- it writes none that it is not lent, and its answer is a refusal and comparisons alone
 pub record Plain (c : Call) (o : Outcome) : Type 0 where
-  pub buffer : WithoutBuffer c → o .buffer ≡ untouched
+  pub buffer : WithoutBuffer (lentOf c) → o .buffer ≡ untouched
   pub answer : noCell (answerOf (o .answer) .refusal) (answerOf (o .answer) .comparisons) ≡ sentOf (o .answer)
 
-effect-plain : {s : State} {c : Call} {o : Outcome} → Effect s c o → NoSlot c → Plain c o
-unfolding refuse accept replay discard sendOutOfRate
-effect-plain (refuses c n h) u = record { buffer = λ _. refl; answer = refl }
-effect-plain (opens a b t p g) u = record { buffer = λ _. refl; answer = refl }
-effect-plain (closes a b d f) u = record { buffer = λ _. refl; answer = refl }
-effect-plain (offers a b n d f i h) u = record { buffer = λ _. refl; answer = refl }
-effect-plain (receivesData o a b e v d r i z f) u = record { buffer = λ _. refl; answer = refl }
-effect-plain (receivesRm o q d r f) u = record { buffer = λ _. refl; answer = refl }
-effect-plain (setsLevel l h) u = record { buffer = λ _. refl; answer = refl }
-effect-plain (idles t room g b) u = absurd u
-effect-plain (sends t room i v g b) u = absurd u
-effect-plain (makes a b t d f g h m) u = record { buffer = λ _. refl; answer = refl }
-effect-plain (sendsOutOfRate a b t room d f g h) u = record { buffer = λ l. absurd l; answer = refl }
-effect-plain (opensPath a t p g) u = record { buffer = λ _. refl; answer = refl }
-effect-plain (adds a b d f j) u = record { buffer = λ _. refl; answer = refl }
-effect-plain (offersMember a b n d f i h) u = record { buffer = λ _. refl; answer = refl }
-effect-plain (removes a b d f i) u = record { buffer = λ _. refl; answer = refl }
+shown-plain : {s : State} {c : Call} {o : Outcome} → Shown s c o → NoSlot (lentOf c) → Plain c o
+unfolding refuse accept discard sendOutOfRate
+shown-plain (refusing c n h) u = record { buffer = λ _. refl; answer = refl }
+shown-plain (accepting c n r l g) u = record { buffer = λ _. refl; answer = refl }
+shown-plain (discarding c n x v r l e g) u = record { buffer = λ _. refl; answer = refl }
+shown-plain (idling t room g) u = absurd u
+shown-plain (serving t room i v g b) u = absurd u
+shown-plain (servingOutOfRate a b t room d f g) u = record { buffer = λ l. absurd l; answer = refl }
 
 nothing-written : (b : Buffer) → b ≡ untouched → [] ≡ bufferContent b []
 nothing-written b e = rw e refl
 
 -- what such a call returned is all of its answer
-returned-plain : {s : State} → WellFormed s → (c : Call) → NoSlot c → (r : AbrAnswer) → r ≡ answerOf (step s c .answer) → noCell (r .refusal) (r .comparisons) ≡ sentOf (step s c .answer)
-returned-plain {s} w c u r h = ap (λ (a : AbrAnswer). noCell (a .refusal) (a .comparisons)) h ∙ effect-plain (effect s (w .unique) c) u .answer
+returned-plain : {s : State} → WellFormed s → (c : Call) → NoSlot (lentOf c) → (r : AbrAnswer) → r ≡ answerOf (step s c .answer) → noCell (r .refusal) (r .comparisons) ≡ sentOf (step s c .answer)
+returned-plain {s} w c u r h = ap (λ (a : AbrAnswer). noCell (a .refusal) (a .comparisons)) h ∙ shown-plain (shown w c) u .answer
 
 plain-matches :
-    {s : State} → WellFormed s → (c : Call) → NoSlot c → WithoutBuffer c → NoClose c → (m : List ℕ) (r : AbrAnswer) → (m ≡ words (step s c .state)) × (r ≡ answerOf (step s c .answer))
+    {s : State} → WellFormed s → (c : Call) → NoSlot (lentOf c) → WithoutBuffer (lentOf c) → NoDiscard (discardsFrom (membersOf c)) → (m : List ℕ) (r : AbrAnswer) → (m ≡ words (step s c .state)) × (r ≡ answerOf (step s c .answer))
     → Matches (step s c) (noSlot m r)
 plain-matches {s} w c u b k m r h =
-    record { table = h .0; returned = returned-plain w c u r (h .1); cells = no-cells w c k; buffer = nothing-written (step s c .buffer) (effect-plain (effect s (w .unique) c) u .buffer b) }
+    record { table = h .0; returned = returned-plain w c u r (h .1); cells = no-cells w c k; buffer = nothing-written (step s c .buffer) (shown-plain (shown w c) u .buffer b) }
 
 discards-matches :
-    {s : State} → WellFormed s → (c : Call) → NoSlot c → WithoutBuffer c → (m : List ℕ) (r : AbrClosed) → (m ≡ words (step s c .state)) × (r ≡ closedOf (step s c .answer))
+    {s : State} → WellFormed s → (c : Call) → NoSlot (lentOf c) → WithoutBuffer (lentOf c) → (m : List ℕ) (r : AbrClosed) → (m ≡ words (step s c .state)) × (r ≡ closedOf (step s c .answer))
     → Matches (step s c) (afterClose m r)
 discards-matches {s} w c u b m r h = record {
   table = h .0;
   returned = returned-plain w c u (record { refusal = r .refusal; comparisons = r .comparisons }) (ap (λ (x : AbrClosed). record { refusal = x .refusal; comparisons = x .comparisons }) (h .1));
   cells = ap (λ (x : AbrClosed). x .cells) (h .1);
-  buffer = nothing-written (step s c .buffer) (effect-plain (effect s (w .unique) c) u .buffer b);
+  buffer = nothing-written (step s c .buffer) (shown-plain (shown w c) u .buffer b);
 }
 
 -- one call, on the words of any well-formed table

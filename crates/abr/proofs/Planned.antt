@@ -14,15 +14,16 @@ use Rattle.rate_doubles.specs.Import.{importOf}
 use Rattle.rate_doubles.specs.Exact.{IsSum, CodeUnder, ImportedExactly}
 use Rattle.rate_doubles.proofs.Exactness.{imports-exactly}
 use Rattle.model.specs.declared.contract.Contract.{Contract}
-use Rattle.engine.specs.Contract.{MeetsContract}
+use Rattle.model.specs.Queries.{contractOf}
+use Rattle.engine.specs.Contract.{MeetsReading}
 use Rattle.abr_answers.specs.declared.planning.AbrImported.{AbrImported}
 use Rattle.abr_answers.specs.Planning.{nil, ExportedAs, importedOf, Imports}
 use Rattle.abr.specs.Contract.{ReturnsContract}
 
 pub exports :
-    {n v : ℕ} {l : List ℕ} {c : Contract} {k : ℕ} {r : Exported} → n ≡ v → ExportedAs c k r → MeetsContract n l c → ReturnsContract v l k r
-exports {l = l} {k = k} {r = r} i e m =
-    subst (λ (u : ℕ). ReturnsContract u l k r) i (record { meets = λ s w b. subst (λ (c : Contract). ExportedAs c k r) (m .answers s w b) e })
+    {n v : ℕ} {l : List ℕ} {c : Contract} (k : ℕ) (r : Exported) → n ≡ v → ExportedAs c k r → MeetsReading (λ s. c ≡ contractOf s n) l → ReturnsContract v l k r
+exports {l = l} k r i e m =
+    subst (λ (u : ℕ). ReturnsContract u l k r) i (record { meets = λ s w b. subst (λ (c : Contract). ExportedAs c k r) (m .meets s w b) e })
 
 -- what is said of the enum, of the struct that is returned
 plus-nil : (x : Float) (rate : ℕ) → Equals x rate 512 → IsSum x rate nil

@@ -1,13 +1,12 @@
--- The contract of an export on the words of the lent table: the engine's own, with what C sees of the answer. (Document 01, "What the library commits to", 1.)
+-- The contract of an export, on the words of the lent table: the engine's own, with what C sees of the answer.
+-- (Document 01, "What the library commits to", 1.)
 use Prim.Native.Nat.{ℕ}
 use mathlib.Core.Path.{_≡_}
 use mathlib.Core.List.{List}
 use Rattle.model.specs.State.{State}
-use Rattle.model.specs.Invariant.{WellFormed}
 use Rattle.model.specs.Call.{Outcome}
 use Rattle.model.specs.Queries.{acrOf, contractOf}
-use Rattle.table.specs.Layout.{words}
-use Rattle.engine.specs.Contract.{bufferContent}
+use Rattle.engine.specs.Contract.{Meets, MeetsWriting, MeetsReading}
 use Rattle.abr_answers.specs.declared.calls.AbrSent.{AbrSent}
 use Rattle.abr_answers.specs.declared.calls.AbrAllowed.{AbrAllowed}
 use Rattle.abr_answers.specs.declared.calls.AbrAnswer.{AbrAnswer}
@@ -17,33 +16,29 @@ use Rattle.rate_doubles.specs.declared.export.Exported.{Exported}
 use Rattle.abr_answers.specs.Planning.{ExportedAs}
 
 -- a call that returns its refusal and the comparisons it made
-pub record ReturnsAnswer (f : State → Outcome) (before after : List ℕ) (r : AbrAnswer) : Type 0 where
-  pub meets : (s : State) → WellFormed s → before ≡ words s → (after ≡ words (f s .state)) × (r ≡ answerOf (f s .answer))
+abbrev pub ReturnsAnswer : (State → Outcome) → (before after : List ℕ) → AbrAnswer → Type 0
+ReturnsAnswer = Meets answerOf
 
--- a close or the removal of a member, which returns the data cells that waited besides (document 02, L12 and L13)
-pub record ReturnsClosed (f : State → Outcome) (before after : List ℕ) (r : AbrClosed) : Type 0 where
-  pub meets : (s : State) → WellFormed s → before ≡ words s → (after ≡ words (f s .state)) × (r ≡ closedOf (f s .answer))
+-- a close or the removal of a member, which also returns the data cells that waited (document 02, L12 and L13)
+abbrev pub ReturnsClosed : (State → Outcome) → (before after : List ℕ) → AbrClosed → Type 0
+ReturnsClosed = Meets closedOf
 
 -- a call that returns its refusal alone: it makes no comparisons
-pub record ReturnsRefusal (f : State → Outcome) (before after : List ℕ) (r : ℕ) : Type 0 where
-  pub meets : (s : State) → WellFormed s → before ≡ words s → (after ≡ words (f s .state)) × (refusalAlone r ≡ answerOf (f s .answer))
+abbrev pub ReturnsRefusal : (State → Outcome) → (before after : List ℕ) (refusal : ℕ) → Type 0
+ReturnsRefusal f before after n = Meets answerOf f before after (refusalAlone n)
 
 -- the same of a call that may write its buffer
-pub record ReturnsRefusalWriting (f : State → Outcome) (before after : List ℕ) (r : ℕ) (old new : List ℕ) : Type 0 where
-  pub meets :
-      (s : State) → WellFormed s → before ≡ words s
-      → (after ≡ words (f s .state)) × (refusalAlone r ≡ answerOf (f s .answer)) × (new ≡ bufferContent (f s .buffer) old)
+abbrev pub ReturnsRefusalWriting : (State → Outcome) → (before after : List ℕ) (refusal : ℕ) (old new : List ℕ) → Type 0
+ReturnsRefusalWriting f before after n = MeetsWriting answerOf f before after (refusalAlone n)
 
 -- a slot, with its buffer before and after
-pub record ReturnsSent (f : State → Outcome) (before after : List ℕ) (r : AbrSent) (old new : List ℕ) : Type 0 where
-  pub meets :
-      (s : State) → WellFormed s → before ≡ words s
-      → (after ≡ words (f s .state)) × (r ≡ sentOf (f s .answer)) × (new ≡ bufferContent (f s .buffer) old)
+abbrev pub ReturnsSent : (State → Outcome) → (before after : List ℕ) → AbrSent → (old new : List ℕ) → Type 0
+ReturnsSent = MeetsWriting sentOf
 
--- reading an ACR, which leaves the table
-pub record ReturnsAllowed (v : ℕ) (l : List ℕ) (r : AbrAllowed) : Type 0 where
-  pub meets : (s : State) → WellFormed s → l ≡ words s → r ≡ allowedOf (acrOf s v)
+-- reading an ACR
+abbrev pub ReturnsAllowed : (name : ℕ) (words : List ℕ) → AbrAllowed → Type 0
+ReturnsAllowed v l r = MeetsReading (λ s. r ≡ allowedOf (acrOf s v)) l
 
--- exporting a contract, which leaves the table and writes its refusal (document 02, L8)
-pub record ReturnsContract (v : ℕ) (l : List ℕ) (refusal : ℕ) (r : Exported) : Type 0 where
-  pub meets : (s : State) → WellFormed s → l ≡ words s → ExportedAs (contractOf s v) refusal r
+-- exporting a contract, which writes its refusal (document 02, L8)
+abbrev pub ReturnsContract : (name : ℕ) (words : List ℕ) (refusal : ℕ) → Exported → Type 0
+ReturnsContract v l n r = MeetsReading (λ s. ExportedAs (contractOf s v) n r) l

@@ -1,5 +1,5 @@
--- What lists of exported calls do to one lent table, as C sees it: numbers, structs, octets and words. (Document 01, "What the library commits to", 1, and
--- "The lists of demand 3"; document 02, L6, L12 and L13.)
+-- What lists of exported calls do to one lent table, as C sees it: numbers, structs, octets and words.
+-- (Document 01, "What the library commits to", 1, and "The lists of demand 3"; document 02, L6, L12 and L13.)
 use Prim.Native.Nat.{ℕ}
 use mathlib.Core.Path.{_≡_}
 use mathlib.Core.List.{List, [], _∷_}
@@ -25,7 +25,8 @@ use Rattle.rate_doubles.specs.declared.export.Exported.{Exported}
 use Rattle.abr_answers.specs.Planning.{ExportedAs}
 use Rattle.abr.specs.Contract.{ReturnsAnswer, ReturnsClosed, ReturnsRefusal, ReturnsRefusalWriting, ReturnsSent, ReturnsAllowed, ReturnsContract}
 
--- what a caller sees of one call: the words of the table after it, what it returned, with the data cells of a close or a removal, and the lent buffer before and after it
+-- What a caller sees of one call: the words of the table after it, what it returned (with the data cells of a close
+-- or a removal), and the lent buffer before and after it.
 pub record Observation : Type 0 where
   pub table : List ℕ
   pub returned : AbrSent
@@ -40,8 +41,9 @@ noSlot l r = record { table = l; returned = noCell (r .refusal) (r .comparisons)
 abbrev pub afterClose : (table : List ℕ) → AbrClosed → Observation
 afterClose l r = record { table = l; returned = noCell (r .refusal) (r .comparisons); cells = r .cells; old = []; new = [] }
 
--- One exported call on these words. What each case holds is the ensures of abr_open, abr_close, abr_receive, abr_offer, abr_set_level, abr_make, abr_out_of_rate, abr_slot, abr_open_path,
--- abr_add, abr_offer_member or abr_remove, so that every such call makes one of these.
+-- One exported call on these words. Each case holds the ensures of one export: abr_open, abr_close, abr_receive,
+-- abr_offer, abr_set_level, abr_make, abr_out_of_rate, abr_slot, abr_open_path, abr_add, abr_offer_member or
+-- abr_remove. So every such call makes one of these.
 pub data Performs : Call → (before : List ℕ) → Observation → Type 0 where
   abrOpen : {vpi vci t : ℕ} {p : Params} {l m : List ℕ} {r : AbrAnswer} → ReturnsAnswer (λ s. openStep s vpi vci t p) l m r → Performs (opening vpi vci t p) l (noSlot m r)
   abrClose : {vpi vci : ℕ} {l m : List ℕ} {r : AbrClosed} → ReturnsClosed (λ s. closeStep s (addressName vpi vci)) l m r → Performs (closing vpi vci) l (afterClose m r)

@@ -1,4 +1,5 @@
-// Rate codes and the house set, without a table (document 01, "Units and the 16-bit rate code" and "Opening"; document 02, L7).
+// Rate codes and the house set, without a table
+// (document 01, "Units and the 16-bit rate code" and "Opening"; document 02, L7).
 ghost use mathlib.Core.Path.{_≡_};
 ghost use Rattle.rate.specs.Code.{coded};
 ghost use Rattle.rate_params.specs.Params.{houseSet};
@@ -6,9 +7,8 @@ ghost use Rattle.abr_answers.specs.Codes.{codedOf, ratedOf};
 use abr_answers::codes::AbrCoded;
 use abr_answers::codes::AbrRated;
 use abr_answers::codes::coded_of;
+use abr_answers::codes::rated_of;
 use rate::code::code_of;
-use rate::code::rate_of;
-use rate::code::reserved_clear;
 use rate_params::params::Params;
 
 // Refusal 9.
@@ -24,22 +24,7 @@ pub extern "C" fn abr_code(rate: u64) -> AbrCoded
 pub extern "C" fn abr_rate(code: u32) -> AbrRated
     ensures { λ r. ⌜ r ≡ ratedOf code ⌝ }
 {
-    if 65535 < code {
-        return AbrRated {
-            refusal: 7,
-            rate: 0,
-        };
-    }
-    if !reserved_clear(code) {
-        return AbrRated {
-            refusal: 19,
-            rate: 0,
-        };
-    }
-    AbrRated {
-        refusal: 0,
-        rate: rate_of(code),
-    }
+    rated_of(code)
 }
 
 // The house set around three rate codes. Nothing is refused here: an open judges the result.

@@ -1,5 +1,5 @@
-// The C interface. Each export is one call of the engine, of the cell or of the rate; what it returns is the documents' number, or a struct with that number
-// first and zeros beside a refusal. include/abr.h is the header.
+// The C interface. Each export is one call of the engine, of the cell or of the rate. It returns the documents'
+// number, or a struct with that number first and with zeros beside a refusal. include/abr.h is the header.
 pub mod cells;
 pub mod codes;
 pub mod connections;

@@ -1,5 +1,5 @@
-// The calls on the link as a whole: received cells, the congestion level, slots, when the next slot can send and which time to pass to it (document 01, "Turning cells round" and "Slots";
-// document 02, L6).
+// The calls on the link as a whole: received cells, the congestion level, slots, when the next slot can send and
+// which time to pass to it (document 01, "Turning cells round" and "Slots"; document 02, L6).
 ghost use lib.ListN.{length};
 ghost use Rattle.model.specs.Step.{receiveStep, levelStep, slotStep};
 ghost use Rattle.table_tournament.specs.Next.{GivesNext, GivesSlotTime};

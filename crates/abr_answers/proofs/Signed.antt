@@ -1,4 +1,5 @@
--- A difference of two rates, as numbers of 64 bits with a sign: the two casts read back as the rates, and the difference is in range.
+-- A difference of two rates, as signed numbers of 64 bits. The two casts read back as the rates,
+-- and the difference is in range.
 use mathlib.Core.Path.{_≡_, sym, subst, _∙_}
 use Prim.Native.Nat.{ℕ, zero, suc, _-_, _%_, _<_, _^_}
 use mathlib.Core.Bool.{Bool, true, false, cond}

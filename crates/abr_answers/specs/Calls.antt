@@ -1,5 +1,6 @@
--- What the calls on a table return, for each case of their answers: the documents' number, 0 if there is no refusal, and zeros beside a refusal.
--- (Document 01, "Slots", "Refused because of the input" and "Refused because of the state"; document 02, L6, L9 and L12.)
+-- What the calls on a table return, for each case of their answers: the documents' number, or 0 if there is no
+-- refusal. Beside a refusal there are zeros. (Document 01, "Slots", "Refused because of the input" and
+-- "Refused because of the state"; document 02, L6, L9 and L12.)
 use Prim.Native.Nat.{ℕ}
 use lib.IntN.{pos}
 use Rattle.cell.specs.Name.{vpiIn, vciIn}
@@ -35,7 +36,8 @@ closedOf a = record { refusal = answerOf a .refusal; comparisons = answerOf a .c
 abbrev pub noCell : (refusal comparisons : ℕ) → AbrSent
 noCell n k = record { refusal = n; comparisons = k; kind = 0; vpi = 0; vci = 0; acr = 0 }
 
--- the name that the slot answers: of a data cell of a path the member's (document 02, L13); no slot answers Accepted or Closed
+-- The name that the slot answers. For a data cell of a path it is the member's (document 02, L13). No
+-- slot answers Accepted or Closed.
 abbrev pub sentOf : Answer → AbrSent
 sentOf (Refused n) = noCell n 0
 sentOf (Accepted n) = noCell 0 n

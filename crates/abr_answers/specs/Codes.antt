@@ -1,4 +1,5 @@
--- What coding a rate, and taking the rate of a code, return. (Document 01, "Units and the 16-bit rate code" and "Refused because of the input", 7 and 9; document 02, L7.)
+-- What coding a rate, and taking the rate of a code, return.
+-- (Document 01, "Units and the 16-bit rate code" and "Refused because of the input", 7 and 9; document 02, L7.)
 use Prim.Native.Nat.{ℕ}
 use lib.Dec.{leb}
 use Rattle.rate.specs.Code.{reservedClear, rateOf}

@@ -35,7 +35,8 @@ importedOf (Refused n) = record { refusal = n; code = 0; remainder = nil }
 importedOf (Exact code) = exactAnswer code
 importedOf (Below code y) = record { refusal = 0; code = code; remainder = y }
 
--- What importing x returns. Of a double that is not refused, the code's rate over 512 plus the remainder is x, with no rounding, and no other code comes nearer from below.
+-- What importing x returns. If x is not refused, the code's rate over 512 plus the remainder is x, with no
+-- rounding, and no other code comes nearer from below.
 pub record Imports (x : Float) (r : AbrImported) : Type 0 where
   pub is : r ≡ importedOf (importOf x)
   pub sum : r .refusal ≡ 0 → IsSum x (rateOf (r .code)) (r .remainder)

@@ -1,4 +1,5 @@
--- What the share of an explicit-rate port returns; a port's call returns and leaves what `Passed` says (port/Limit). (Document 02, L10.)
+-- What the share of an explicit-rate port returns. `Passed` (port/Limit) says what a port's call returns
+-- and leaves. (Document 02, L10.)
 use Rattle.port_share.specs.declared.share.FairShare.{FairShare}
 use Rattle.port_share.specs.declared.share.FairShare.the-variants.{Refused, NoLimit, Limit}
 pub use Rattle.abr_answers.specs.declared.shares.AbrShare.{AbrShare}

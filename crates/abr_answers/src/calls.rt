@@ -2,7 +2,9 @@
 ghost use mathlib.Core.Path.{_≡_};
 ghost use Rattle.abr_answers.specs.Calls.{answerOf, closedOf, allowedOf, ofRates, noCell, sentOf};
 ghost use Rattle.connection.specs.Kind.{kindNumber};
+use cell::name::VCIS;
 use connection::kind::Kind;
+use laws::refusals::REFUSED_NOT_OPEN;
 use model::acr::Acr;
 use model::answer::Answer;
 
@@ -108,7 +110,7 @@ pub fn allowed_of(a: Acr) -> AbrAllowed
 {
     match a {
         Acr::NotOpen => AbrAllowed {
-            refusal: 11,
+            refusal: REFUSED_NOT_OPEN,
             acr: 0,
             change: 0,
         },
@@ -176,8 +178,8 @@ pub fn sent_of(a: Answer) -> AbrSent
             refusal: 0,
             comparisons,
             kind: kind_number(kind),
-            vpi: name / 65536,
-            vci: name % 65536,
+            vpi: name / VCIS,
+            vci: name % VCIS,
             acr,
         },
     }

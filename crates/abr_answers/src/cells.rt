@@ -1,7 +1,7 @@
 // What writing and reading a cell return (document 01, "The cell, 53 octets"; document 02, L6).
 ghost use mathlib.Core.Path.{_≡_};
 ghost use mathlib.Core.Bool.{cond};
-ghost use Rattle.abr_answers.specs.Cells.{writeNumber, pairAlone, cellAnswerOf};
+ghost use Rattle.abr_answers.specs.Cells.{writtenOf, addressAlone, cellOf};
 use cell::fields::Fields;
 use cell::read::Reading;
 use cell::write::Written;
@@ -15,8 +15,8 @@ pub struct AbrCell {
     pub rm: Fields,
 }
 
-pub fn write_number(w: Written) -> u32
-    ensures { λ r. ⌜ r ≡ writeNumber w ⌝ }
+pub fn written_of(w: Written) -> u32
+    ensures { λ r. ⌜ r ≡ writtenOf w ⌝ }
 {
     match w {
         Written::Done => 0,
@@ -31,8 +31,8 @@ fn bit(b: bool) -> u32
 }
 
 // The fields of no RM cell, with this VPI and VCI.
-fn pair_alone(vpi: u32, vci: u32) -> Fields
-    ensures { λ f. ⌜ f ≡ pairAlone vpi vci ⌝ }
+fn address_alone(vpi: u32, vci: u32) -> Fields
+    ensures { λ f. ⌜ f ≡ addressAlone vpi vci ⌝ }
 {
     Fields {
         vpi,
@@ -50,21 +50,21 @@ fn pair_alone(vpi: u32, vci: u32) -> Fields
     }
 }
 
-pub fn cell_answer_of(a: Reading) -> AbrCell
-    ensures { λ r. ⌜ r ≡ cellAnswerOf a ⌝ }
+pub fn cell_of(a: Reading) -> AbrCell
+    ensures { λ r. ⌜ r ≡ cellOf a ⌝ }
 {
     match a {
         Reading::Refused(n) => AbrCell {
             refusal: n,
             kind: 0,
             efci: 0,
-            rm: pair_alone(0, 0),
+            rm: address_alone(0, 0),
         },
         Reading::DataCell { vpi, vci, efci } => AbrCell {
             refusal: 0,
             kind: 1,
             efci: bit(efci),
-            rm: pair_alone(vpi, vci),
+            rm: address_alone(vpi, vci),
         },
         Reading::RmCell(f) => AbrCell {
             refusal: 0,

@@ -1,6 +1,7 @@
 // What exporting a contract and importing a double return (document 02, L8).
 ghost use mathlib.Core.Path.{_≡_};
 ghost use Rattle.abr_answers.specs.Planning.{ExportedAs, importedOf};
+use laws::refusals::REFUSED_NOT_OPEN;
 use model::contract::Contract;
 use rate_doubles::export::Exported;
 use rate_doubles::export::export;
@@ -17,7 +18,7 @@ pub fn exported_of(c: Contract) -> AbrExported
 {
     match c {
         Contract::NotOpen => AbrExported {
-            refusal: 11,
+            refusal: REFUSED_NOT_OPEN,
             rates: Exported {
                 pcr: 0.0,
                 mcr: 0.0,

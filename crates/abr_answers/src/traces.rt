@@ -1,6 +1,6 @@
 // What the judge of a trace returns (document 02, L11).
 ghost use mathlib.Core.Path.{_≡_};
-ghost use Rattle.abr_answers.specs.Traces.{verdictAnswerOf};
+ghost use Rattle.abr_answers.specs.Traces.{judgedOf};
 use trace_judge::judge::Verdict;
 
 // rule 0: the trace passes, and cell is 0.
@@ -11,8 +11,8 @@ pub struct AbrVerdict {
     pub cell: u64,
 }
 
-pub fn verdict_answer_of(v: Verdict) -> AbrVerdict
-    ensures { λ r. ⌜ r ≡ verdictAnswerOf v ⌝ }
+pub fn judged_of(v: Verdict) -> AbrVerdict
+    ensures { λ r. ⌜ r ≡ judgedOf v ⌝ }
 {
     match v {
         Verdict::Refused(n) => AbrVerdict {

@@ -11,13 +11,15 @@ use Rattle.abr.specs.Contract.{ReturnsAllowed}
 use Rattle.abr.specs.Exports.{Observation, Transcript}
 use Rattle.abr_composed.specs.declared.Arguments.{Arguments}
 
--- the slot is passed the time that was asked for; it finds the lent buffer as it is at entry, the out-of-rate cell as the slot leaves it
+-- The slot is passed the time that was asked for. It finds the lent buffer as it is at entry. The out-of-rate cell
+-- finds it as the slot leaves it.
 abbrev pub eachCalls : Arguments → (passed : ℕ) (received old between : List ℕ) → List Call
 eachCalls a passed received old between =
     opening (a .vpi) (a .vci) (a .time) (a .params) ∷ offering (a .vpi) (a .vci) (a .cells) ∷ levelling (a .level) ∷ receiving received ∷ slot passed (length old)
     ∷ outOfRate (a .vpi) (a .vci) (a .time) (length between) ∷ making (a .vpi) (a .vci) (a .time) ∷ closing (a .vpi) (a .vci) ∷ []
 
--- what was observed of each call on the way; the next ready instant and the slot's time are asked for before the slot, the ACR is read before the close
+-- What was observed of each call on the way. The next ready instant and the slot's time are asked for before the
+-- slot. The ACR is read before the close.
 pub record EachCall (a : Arguments) (received before after : List ℕ) (r : AbrAllowed) (old new : List ℕ) : Type 0 where
   pub opened : Observation
   pub offered : Observation

@@ -1,4 +1,5 @@
--- The exported calls on a path and a member in a row are a trace, from the words at entry to the words at exit. (Document 02, L13.)
+-- The exported calls on a path and a member in a row are a trace, from the words at entry to the words at exit.
+-- (Document 02, L13.)
 use Prim.Native.Nat.{ℕ}
 use mathlib.Core.List.{List, [], _∷_}
 use Rattle.connection_members.specs.Path.{pathVci}

@@ -1,5 +1,5 @@
-// A contract exported and its peak imported again. It is here for its contract, as `each_call` is: what the two exports ensure is what the promise on planning
-// (exports/specs/Planning.antt) asks for.
+// A contract exported and its peak imported again. It is here for its contract, as `each_call` is. What the two
+// exports ensure is what the promise on planning (exports/specs/Planning.antt) asks for.
 ghost use Rattle.cell.specs.Name.{addressName};
 ghost use Rattle.abr_composed.specs.Planning.{PeakBack};
 use abr::planning::abr_export;

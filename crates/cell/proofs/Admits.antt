@@ -9,8 +9,8 @@ use lib.Dec.{eqb, leb}
 use lib.ListN.{length, length-drop}
 use lib.Seq.{getD-drop}
 use Rattle.cell_crc.specs.Checks.{payloadCheck}
-use Rattle.cell_crc.specs.Payload.{payloadOf}
-use Rattle.cell_crc.specs.declared.payload.Payload.{Payload}
+use Rattle.cell_payload.specs.Payload.{payloadOf}
+use Rattle.cell_payload.specs.declared.payload.Payload.{Payload}
 use Rattle.cell.specs.Octets.{octet, pair, payload, AreOctets}
 use Rattle.cell.specs.Header.{vpiOf, vciOf, typeOf, headerRight}
 use Rattle.cell.specs.Fields.{Fields, fieldsOf, ratesClear, crcRight, CrcMatches}
@@ -78,7 +78,8 @@ module _ (o : List ℕ) where
       refuted (dataRead u) = let z : _≡_ {A = ℕ} 0 1 = cc in omega arith
       refuted (rmRead w p r u) = let z : _≡_ {A = ℕ} 0 1 = cc in omega arith
 
-  -- a cell read as an RM cell is whole, has the right CRC-10, is of protocol 1 and has bit 15 clear in its rate codes, and the fields are its own
+  -- A cell read as an RM cell is whole, has the right CRC-10 and protocol 1, and has bit 15 clear in its rate
+  -- codes. The fields are its own.
   pub record Received (f : Fields) : Type 0 where
     pub size : length o ≡ 53
     pub check : pair 52 o % 1024 ≡ payloadCheck (payload o)

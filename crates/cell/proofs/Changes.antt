@@ -8,8 +8,8 @@ use lib.Bits.{bitXor, xor-block, xor-lt, xor-mod, xor-self, xor-zero-l, xor-zero
 use lib.Dec.{lit<}
 use lib.Pow.{pow-pos, split}
 use Rattle.cell_crc.specs.Checks.{payloadCheck}
-use Rattle.cell_crc.specs.Payload.{octetsOf, payloadOf}
-use Rattle.cell_crc.specs.declared.payload.Payload.{Payload}
+use Rattle.cell_payload.specs.Payload.{octetsOf, payloadOf}
+use Rattle.cell_payload.specs.declared.payload.Payload.{Payload}
 use Rattle.cell_crc.proofs.Xor.{xor-assoc}
 use Rattle.cell_crc.proofs.Check.{both, payload-both}
 use Rattle.cell_crc.proofs.Limbs.{Six}

@@ -1,4 +1,5 @@
--- The ranges of the fields that a cell can carry, as bounds: a call that writes others meets 7. (Document 01, "The cell, 53 octets"; document 02, L6 and L7.)
+-- The ranges of the fields that a cell can carry, as bounds. A call that writes other fields meets 7.
+-- (Document 01, "The cell, 53 octets"; document 02, L6 and L7.)
 use mathlib.Core.Path.{_≡_}
 use mathlib.Core.Bool.{true, _&&_, and-assoc}
 use Prim.Native.Nat.{_≤_}

@@ -1,4 +1,5 @@
--- A name and its pair: within the ranges each gives the other back, and numbers outside them make no name of another pair.
+-- A name and its pair. Within the ranges each gives the other back. Numbers outside the ranges do not
+-- make the name of another pair.
 use mathlib.Core.Path.{_≡_, refl, sym, _∙_}
 use mathlib.Core.Bool.{Bool, true, false, cond, _&&_, and-eq-true-iff}
 use Prim.Native.Nat.{ℕ, _≤_, _<_}

@@ -4,8 +4,8 @@ use Prim.Native.Nat.{ℕ, zero, suc, _<_}
 use native.Mathlib.Omega.{arith}
 use lib.Dec.{lit<}
 use lib.ListN.{getD, take, drop, replicate}
-use Rattle.cell_crc.specs.Payload.{wordOctets, octetsOf}
-use Rattle.cell_crc.specs.declared.payload.Payload.{Payload}
+use Rattle.cell_payload.specs.Payload.{wordOctets, octetsOf}
+use Rattle.cell_payload.specs.declared.payload.Payload.{Payload}
 use Rattle.cell.specs.Octets.{AreOctets}
 
 pub octets-nil : AreOctets []

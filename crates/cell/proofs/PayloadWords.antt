@@ -7,10 +7,10 @@ use native.Mathlib.Omega.{arith}
 use lib.Dec.{eqb}
 use lib.ListN.{drop}
 use Rattle.cell_crc.specs.Checks.{payloadCheck}
-use Rattle.cell_crc.specs.Payload.{wordOctets, octetsOf, wordAt, payloadOf}
-use Rattle.cell_crc.specs.declared.payload.Payload.{Payload}
+use Rattle.cell_payload.specs.Payload.{wordOctets, octetsOf, wordAt, payloadOf}
+use Rattle.cell_payload.specs.declared.payload.Payload.{Payload}
 use Rattle.cell_crc.proofs.Check.{payload-lt}
-use Rattle.cell_crc.proofs.Words.{payload-of-octets, octets-of-payload}
+use Rattle.cell_payload.proofs.Words.{payload-of-octets, octets-of-payload}
 use Rattle.cell.specs.Octets.{AreOctets}
 use Rattle.cell.specs.Fields.{Fields, body, withCrc}
 use Rattle.cell.specs.Turning.{turnedMarks, turnedPayload}

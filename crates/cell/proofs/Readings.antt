@@ -10,9 +10,9 @@ use lib.ListN.{length, getD, take, length-drop}
 use lib.Seq.{getD-drop}
 use Rattle.rate.specs.Code.{codesClear}
 use Rattle.cell_crc.specs.Checks.{headerCheck, payloadCheck}
-use Rattle.cell_crc.specs.Payload.{octetsOf, payloadOf}
-use Rattle.cell_crc.specs.declared.payload.Payload.{Payload}
-use Rattle.cell_crc.proofs.Words.{octets-of-payload}
+use Rattle.cell_payload.specs.Payload.{octetsOf, payloadOf}
+use Rattle.cell_payload.specs.declared.payload.Payload.{Payload}
+use Rattle.cell_payload.proofs.Words.{octets-of-payload}
 use Rattle.cell.specs.Octets.{octet, pair, payload, AreOctets}
 use Rattle.cell.proofs.OctetLists.{octets-drop}
 use Rattle.cell.specs.Header.{vpiOf, vciOf, typeOf, headerRight}

@@ -7,9 +7,9 @@ use lib.Dec.{lit<}
 use lib.ListN.{length, take, drop, set, replicate, drop-of-length-le}
 use lib.Seq.{sets, sets-eq}
 use Rattle.cell_crc.specs.Checks.{headerCheck}
-use Rattle.cell_crc.specs.Payload.{wordOctets, octetsOf}
-use Rattle.cell_crc.specs.declared.payload.Payload.{Payload}
-use Rattle.cell_crc.proofs.Words.{octets-of-payload}
+use Rattle.cell_payload.specs.Payload.{wordOctets, octetsOf}
+use Rattle.cell_payload.specs.declared.payload.Payload.{Payload}
+use Rattle.cell_payload.proofs.Words.{octets-of-payload}
 use Rattle.cell.specs.Octets.{AreOctets}
 use Rattle.cell.specs.Header.{firstFour, header}
 use Rattle.cell.proofs.OctetLists.{octets-nil, octets-cons, octets-append, octets-replicate}

@@ -7,8 +7,8 @@ use native.Mathlib.Omega.{arith}
 use lib.Dec.{eqb, lit≤}
 use lib.ListN.{length, getD, drop, length-drop}
 use lib.Seq.{getD-drop}
-use Rattle.cell_crc.specs.Payload.{payloadOf}
-use Rattle.cell_crc.proofs.Words.{octets-of-payload}
+use Rattle.cell_payload.specs.Payload.{payloadOf}
+use Rattle.cell_payload.proofs.Words.{octets-of-payload}
 use Rattle.cell.specs.Octets.{octet, pair, payload, AreOctets}
 use Rattle.cell.specs.Header.{vpiOf, vciOf, header}
 use Rattle.cell.specs.Fields.{Fields, fieldsOf, ratesClear, withCrc}
@@ -158,7 +158,7 @@ module _ (level : ℕ) (mark : Bool) (vpi vci : ℕ) (o : List ℕ) (n : length 
           let b : pair (i + 2) turned ≡ pair (i + 2) o = pairs (i + 2) (omega arith) (omega arith) in
           cc
 
-  -- the turned cell reads as the received one, but for the VPI, VCI, DIR, BN and the marks set here
+  -- the turned cell reads as the received one, except for VPI, VCI, DIR, BN and the marks set here
   pub turned-read : (f : Fields) → reading o ≡ RmCell f → vpi ≤ 255 → vci ≤ 65535 → reading turned ≡ RmCell (returned level mark vpi vci f)
   unfolding turnedPayload
   turned-read f e g l =

@@ -8,7 +8,7 @@ use borrow.Author.Tests.{eq-eqb}
 use lib.ListN.{length, getD, take, length-append, List·getD-append}
 use lib.Seq.{length-take-le, getD-take, getD-at, getD-append-add}
 use Rattle.cell_crc.specs.Checks.{headerCheck, payloadCheck}
-use Rattle.cell_crc.specs.Payload.{payloadOf}
+use Rattle.cell_payload.specs.Payload.{payloadOf}
 use Rattle.cell_crc.proofs.Octets.{header-lt}
 use Rattle.cell_crc.proofs.Check.{payload-lt, payload-own}
 use Rattle.cell.specs.Octets.{octet, AreOctets}

@@ -1,4 +1,5 @@
--- The fields of an RM cell, in its octets and out of them. (Document 01, "The cell, 53 octets"; document 02, L6 and L7; the ranges are those of refusal 7.)
+-- The fields of an RM cell, in its octets and out of them. The ranges are those of refusal 7.
+-- (Document 01, "The cell, 53 octets"; document 02, L6 and L7.)
 use Prim.Native.Nat.{ℕ, _+_, _*_, _/_, _%_}
 use mathlib.Core.Path.{_≡_}
 use mathlib.Core.Bool.{Bool, _&&_}
@@ -7,8 +8,8 @@ use lib.Dec.{leb, eqb}
 use lib.ListN.{getD, take, replicate}
 use Rattle.rate.specs.Code.{codesClear}
 use Rattle.cell_crc.specs.Checks.{payloadCheck}
-use Rattle.cell_crc.specs.Payload.{octetsOf}
-use Rattle.cell_crc.specs.declared.payload.Payload.{Payload}
+use Rattle.cell_payload.specs.Payload.{octetsOf}
+use Rattle.cell_payload.specs.declared.payload.Payload.{Payload}
 use Rattle.cell.specs.Octets.{octet, pair, two, payload}
 use Rattle.cell.specs.Header.{vpiOf, vciOf, header}
 use Rattle.cell.specs.Name.{addressName}

@@ -1,4 +1,5 @@
--- A cell's header of five octets: what its first four carry, and the check over them. (Document 01, "The cell, 53 octets"; document 02, L6.)
+-- A cell's header of five octets: what its first four carry, and the check over them.
+-- (Document 01, "The cell, 53 octets"; document 02, L6.)
 use Prim.Native.Nat.{ℕ, _+_, _*_, _/_, _%_}
 use mathlib.Core.Bool.{Bool}
 use mathlib.Core.List.{List, [], _∷_, _++_}

@@ -1,4 +1,5 @@
--- The cell, as document 01 sets it out, with the addresses of document 02, L6. Each file states one part of it; the code follows with the same names.
+-- The cell, as document 01 describes it, with the addresses of document 02, L6. Each file states one part. The
+-- code follows with the same names.
 pub mod Octets
 pub mod Name
 pub mod Header

@@ -1,4 +1,6 @@
--- What reading a cell gives. (Document 01, "The cell, 53 octets" and "Refused because of the input"; the orders: "Refused because of the state", without 3, which document 02, L6 withdrew, and with 19 of L7.)
+-- What reading a cell gives. (Document 01, "The cell, 53 octets" and "Refused because of the input".)
+-- The orders are those of "Refused because of the state", without 3, which
+-- document 02, L6 withdrew, and with 19 of L7.
 use Prim.Native.Nat.{ℕ, _/_, _%_}
 use mathlib.Core.Bool.{cond}
 use mathlib.Core.List.{List}
@@ -11,7 +13,8 @@ use Rattle.laws.specs.Require.{require}
 pub use Rattle.cell.specs.declared.read.Reading.{Reading}
 pub use Rattle.cell.specs.declared.read.Reading.the-variants.{Refused, DataCell, RmCell}
 
--- size, header check and payload type are judged first, the CRC-10, the protocol and the rate codes of RM cells (type 6) alone; a data cell (types 0 to 3) has its EFCI in the middle bit of its type
+-- Size, header check and payload type are judged first. The CRC-10, the protocol and the rate codes are judged for
+-- RM cells (type 6) only. A data cell (types 0 to 3) has its EFCI in the middle bit of its type.
 unfoldable pub reading : List ℕ → Reading
 reading o =
     require (Refused 1) (eqb (length o) 53)

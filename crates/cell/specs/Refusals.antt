@@ -1,4 +1,5 @@
--- For the code's own functions: the refusal that a cell's header meets, the one that the rest of an RM cell meets, and 0 for none.
+-- For the code's own functions: the refusal that a cell's header meets, and the one that the rest of
+-- an RM cell meets. 0 means none.
 use Prim.Native.Nat.{ℕ}
 use mathlib.Core.Bool.{cond, _||_}
 use mathlib.Core.List.{List}

@@ -24,7 +24,8 @@ returned level mark vpi vci f = record {
   sn = f .sn;
 }
 
--- the octets: of octet 7 RA and three reserved bits, octets 8 to 51 whole, the reserved octets among them, and the six reserved bits of octet 52
+-- the octets: RA and three reserved bits of octet 7; octets 8 to 51 whole, including the reserved octets;
+-- the six reserved bits of octet 52
 pub record Kept (received turned : List ℕ) : Type 0 where
   pub low : octet 7 turned % 16 ≡ octet 7 received % 16
   pub middle : (i : ℕ) → 8 ≤ i → i ≤ 51 → octet i turned ≡ octet i received

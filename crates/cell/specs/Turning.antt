@@ -4,13 +4,14 @@ use mathlib.Core.Bool.{Bool, cond, _||_}
 use mathlib.Core.List.{List, _∷_, _++_}
 use lib.Dec.{eqb}
 use lib.ListN.{getD, drop}
-use Rattle.cell_crc.specs.Payload.{octetsOf}
-use Rattle.cell_crc.specs.declared.payload.Payload.{Payload}
+use Rattle.cell_payload.specs.Payload.{octetsOf}
+use Rattle.cell_payload.specs.declared.payload.Payload.{Payload}
 use Rattle.cell.specs.Header.{header}
 use Rattle.cell.specs.Fields.{withCrc}
 
--- octet 7: DIR 1 and BN 0; CI 1 with a mark of the connection (the saved EFCI, or CI of the turned cell that is replaced) or at level 2, NI 1 at level 1;
--- every other bit as received, so that no mark is lost on the way
+-- Octet 7 has DIR 1 and BN 0. CI is 1 at level 2 or with a mark of the connection: the saved EFCI,
+-- or CI of the turned cell that is replaced. NI is 1 at level 1. Every other bit is as received, so
+-- that no mark is lost on the way.
 unfoldable pub turnedMarks : (level : ℕ) (mark : Bool) → ℕ → ℕ
 turnedMarks level mark x = 128 + cond (mark || eqb level 2) 1 (x / 32 % 2) * 32 + cond (eqb level 1) 1 (x / 16 % 2) * 16 + x % 16
 

@@ -1,4 +1,5 @@
--- What writing an RM cell answers, and what it leaves in the buffer. (Document 01, "The cell, 53 octets"; the order, 1 then 7: "Refused because of the state".)
+-- What writing an RM cell answers, and what it leaves in the buffer.
+-- (Document 01, "The cell, 53 octets"; the order, 1 then 7: "Refused because of the state".)
 use Prim.Native.Nat.{ℕ}
 use mathlib.Core.Bool.{cond}
 use mathlib.Core.List.{List}

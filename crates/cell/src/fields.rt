@@ -1,6 +1,9 @@
 // The fields of an RM cell (document 01, "The cell, 53 octets"; document 02, L6).
 ghost use mathlib.Core.Path.{_≡_};
 ghost use Rattle.cell.specs.Fields.{fieldsFit};
+use crate::name::VCI_MOST;
+use crate::name::VPI_MOST;
+use rate::code::CODE_MOST;
 
 #[repr(C)]
 pub struct Fields {
@@ -19,20 +22,21 @@ pub struct Fields {
 }
 
 impl Fields {
-    // Whether a cell can carry them: every range of the definition is tested, that of QL and SN too, which their type ensures.
+    // Whether a cell can carry them. Every range of the definition is tested, also that of QL
+    // and SN, which their type ensures.
     pub fn fits(self) -> bool
         ensures { λ r. ⌜ r ≡ fieldsFit self ⌝ }
     {
-        (self.vpi <= 255)
-            & (self.vci <= 65535)
+        (self.vpi <= VPI_MOST)
+            & (self.vci <= VCI_MOST)
             & (self.dir <= 1)
             & (self.bn <= 1)
             & (self.ci <= 1)
             & (self.ni <= 1)
             & (self.ra <= 1)
-            & (self.er <= 32767)
-            & (self.ccr <= 32767)
-            & (self.mcr <= 32767)
+            & (self.er <= CODE_MOST)
+            & (self.ccr <= CODE_MOST)
+            & (self.mcr <= CODE_MOST)
             & (self.ql <= 4294967295)
             & (self.sn <= 4294967295)
     }

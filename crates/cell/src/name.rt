@@ -2,6 +2,15 @@
 ghost use mathlib.Core.Path.{_≡_};
 ghost use Rattle.cell.specs.Name.{addressName};
 
+// The numbers of VPIs and of VCIs, and the highest of each.
+pub const VPIS: u32 = 256;
+
+pub const VCIS: u32 = 65536;
+
+pub const VPI_MOST: u32 = 255;
+
+pub const VCI_MOST: u32 = 65535;
+
 // One more than the greatest name: no connection has it.
 pub const NO_NAME: u32 = 16777216;
 
@@ -9,11 +18,11 @@ pub const NO_NAME: u32 = 16777216;
 pub fn address_name(vpi: u32, vci: u32) -> u32
     ensures { λ r. ⌜ r ≡ addressName vpi vci ⌝ }
 {
-    if vpi > 255 {
+    if vpi > VPI_MOST {
         return NO_NAME;
     }
-    if vci > 65535 {
+    if vci > VCI_MOST {
         return NO_NAME;
     }
-    vpi * 65536 + vci
+    vpi * VCIS + vci
 }

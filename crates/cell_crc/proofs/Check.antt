@@ -10,7 +10,8 @@ use lib.ListN.{length, getD, take, take-append-drop, drop-of-length-le}
 use lib.Seq.{drop-cons, length-take-le, take-append-add, take-at}
 use Rattle.cell_crc.specs.Remainder.{divide, remainder, bits, octetBits}
 use Rattle.cell_crc.specs.Checks.{payloadCheck}
-use Rattle.cell_crc.specs.Payload.{Payload, wordOctets, octetsOf}
+use Rattle.cell_payload.specs.declared.payload.Payload.{Payload}
+use Rattle.cell_payload.specs.Payload.{wordOctets, octetsOf}
 use Rattle.cell_crc.specs.Folding.{limbs, wide}
 use Rattle.cell_crc.proofs.Bits.{bits-append, bits-low, bits-part, bits-split, bits-zero, length-bits, octetBits-append, octets-binary, take-binary}
 use Rattle.cell_crc.proofs.Division.{remainder-lt}

@@ -8,7 +8,6 @@ pub mod Octets
 pub mod Factors
 pub mod Trinomial
 pub mod Parity
-pub mod Words
 pub mod Check
 pub mod Remains
 pub mod Limbs

@@ -41,7 +41,7 @@ step h l c i =
 step-lt : {l c : ℕ} (i : ℕ) → l < 2 ^ i → c < 2 ^ 64 → l * 2 ^ 64 + c < 2 ^ (i + 64)
 step-lt {l} {c} i hl hc = subst (λ (z : ℕ). l * 2 ^ 64 + c < z) (sym (pow-add 2 i 64)) (digits-lt hl hc)
 
--- a word more below a number in two parts, the higher of which takes the word's high bits in
+-- one more word below a number in two parts: the higher part takes in the word's high bits
 carry : (i j y r x d : ℕ) → j + i ≡ 64 → x ≡ y * 2 ^ i + r → x * 2 ^ 64 + d ≡ (y * 2 ^ 64 + (r * 2 ^ j + d / 2 ^ i)) * 2 ^ i + d % 2 ^ i
 carry i j y r x d e h =
     let u : ℕ = d / 2 ^ i in

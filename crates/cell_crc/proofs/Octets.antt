@@ -101,7 +101,8 @@ fold-keeps v h = swap 8 0x107 refl 16 8 8 v (times (v / 256)) refl (omega arith)
 fold-lt : (n v : ℕ) → 2 ^ 8 ≤ 2 ^ n → v / 256 * 4 < 2 ^ n → foldedOctet v < 2 ^ n
 fold-lt n v hn h = xor-lt n (v % 256) (times (v / 256)) (lt-of-lt-of-le (mod-lt v (pow-pos 8)) hn) (times-lt n (v / 256) h)
 
--- an octet times x^2 + x + 1, and the two bits that then stand above the octet times that again, is the remainder of the octet times x^8
+-- the remainder of an octet times x^8: the octet times x^2 + x + 1, and the two bits that are then above
+-- the octet times x^2 + x + 1 again
 product-lt : (b : ℕ) → b < 256 → times b < 2 ^ 10
 product-lt b h = times-lt 10 b (omega arith)
 

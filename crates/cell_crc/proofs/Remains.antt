@@ -1,4 +1,5 @@
--- The remainder is what remains: the polynomial times x ^ w is a multiple of the generator plus it, and it is below x ^ w.
+-- The remainder is what remains. A multiple of the generator plus it is the polynomial
+-- times x ^ w, and it is below x ^ w.
 use mathlib.Core.Path.{_≡_, refl, sym, ap, ap₂, _∙_, subst}
 use mathlib.Core.List.{List, [], _∷_, _++_}
 use Prim.Native.Nat.{ℕ, zero, suc, _+_, _*_, _/_, _^_, _<_}

@@ -1,8 +1,8 @@
--- What the code keeps while it folds a payload down to its CRC-10: its number, and that number's remainder by a factor of the generator.
--- (Document 01, "The cell, 53 octets".)
+-- What the code keeps while it folds a payload down to its CRC-10: the payload's number, and that number's
+-- remainder by a factor of the generator. (Document 01, "The cell, 53 octets".)
 use Prim.Native.Nat.{ℕ, _+_, _*_, _^_}
 use Rattle.cell_crc.specs.Remainder.{divide, bits}
-use Rattle.cell_crc.specs.declared.payload.Payload.{Payload}
+use Rattle.cell_payload.specs.declared.payload.Payload.{Payload}
 
 -- six words as one number of 384 bits
 abbrev pub limbs : (a b c d e f : ℕ) → ℕ

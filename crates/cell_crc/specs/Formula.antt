@@ -1,4 +1,5 @@
--- The formula for the remainder of an octet times x^8 in a header check: by the generator x^8 is x^2 + x + 1. (Document 01, "The cell, 53 octets"; document 02, L3.)
+-- The formula for the remainder of an octet times x^8 in a header check. By the generator, x^8 is x^2 + x + 1.
+-- (Document 01, "The cell, 53 octets"; document 02, L3.)
 use Prim.Native.Nat.{ℕ, _*_, _/_, _%_}
 use lib.Bits.{bitXor}
 

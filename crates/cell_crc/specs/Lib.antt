@@ -1,8 +1,7 @@
--- The two checks of a cell, from one definition of the remainder; and a payload's octets in words.
+-- The two checks of a cell, from one definition of the remainder.
 -- What document 01 says:
 pub mod Remainder
 pub mod Checks
-pub mod Payload
 -- That long division is the remainder:
 pub mod Multiple
 -- For the code's own functions:

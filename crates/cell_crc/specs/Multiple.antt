@@ -1,4 +1,5 @@
--- What makes a number a remainder, and sums of polynomials, in terms of their bits alone. (Document 01, "The cell, 53 octets".)
+-- What makes a number a remainder, and sums of polynomials, in terms of their bits alone.
+-- (Document 01, "The cell, 53 octets".)
 use mathlib.Core.Path.{_≡_}
 use mathlib.Core.List.{List, [], _∷_}
 use Prim.Native.Nat.{ℕ, _+_, _*_, _^_, _<_}

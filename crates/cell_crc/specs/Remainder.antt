@@ -1,13 +1,13 @@
 -- Remainders of polynomials over the two elements 0 and 1, by long division. (Document 01, "The cell, 53 octets".)
--- A polynomial of degree below n is a number below 2 ^ n, the bit of weight 2 ^ i being the coefficient of x ^ i; or it is the list of its
--- bits, high bits first. Sums and differences are exclusive-ors.
+-- A polynomial of degree below n is a number below 2 ^ n, or the list of its bits, high bits first. The bit of
+-- weight 2 ^ i is the coefficient of x ^ i. Sums and differences are exclusive-ors.
 use mathlib.Core.List.{List, [], _∷_, _++_}
 use Prim.Native.Nat.{ℕ, zero, suc, _+_, _*_, _/_, _%_, _^_}
 use lib.Bits.{bitXor}
 use lib.ListN.{replicate}
 
--- One step of a division by g, of degree w: the next bit b is brought down beside the remainder r; the quotient's next digit is the
--- coefficient of x ^ w that then stands there; that multiple of g is taken away.
+-- One step of a division by g, of degree w. The next bit b is brought down beside the remainder r. The quotient's
+-- next digit is the coefficient of x ^ w that is then there. That multiple of g is taken away.
 unfoldable pub bring : (w g r b : ℕ) → ℕ
 bring w g r b = bitXor (r * 2 + b) ((r * 2 + b) / 2 ^ w * g)
 

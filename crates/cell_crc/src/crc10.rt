@@ -1,14 +1,15 @@
 // The CRC-10 of a payload, without a table. (Document 01, "The cell, 53 octets".)
-// Its generator is (x^9 + x^4 + 1) (x + 1). By the first factor x^9 is x^4 + 1, so x^18 is x^8 + 1, and so on up to x^288, which is x^128 + 1: the bits of the
-// payload from x^288 on are added at x^128 and at 1, then those from x^144 on at x^64 and at 1, until nine bits are left. By the second factor the remainder
-// is the parity. The two make the remainder by the generator.
+// Its generator is (x^9 + x^4 + 1) (x + 1). By the first factor x^9 is x^4 + 1, so x^18 is x^8 + 1, and so on up to
+// x^288, which is x^128 + 1. So the payload's bits from x^288 on are added at x^128 and at 1. Then those from x^144
+// on are added at x^64 and at 1, until nine bits are left. By the second factor the remainder is the parity. The
+// two make the remainder by the generator.
 ghost use mathlib.Core.Path.{_≡_};
 ghost use Prim.Native.Nat.{_<_, _^_};
 ghost use Rattle.cell_crc.specs.Remainder.{bits, divide};
 ghost use Rattle.cell_crc.specs.Checks.{payloadCheck};
-ghost use Rattle.cell_crc.specs.Payload.{octetsOf};
+ghost use Rattle.cell_payload.specs.Payload.{octetsOf};
 ghost use Rattle.cell_crc.specs.Folding.{trinomial, wide};
-use crate::payload::Payload;
+use cell_payload::payload::Payload;
 
 // x^288 is x^128 + 1.
 fn fold288(p: Payload) -> Payload

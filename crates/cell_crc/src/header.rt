@@ -14,8 +14,9 @@ fn times(v: u16) -> u16
     v ^ (v * 2) ^ (v * 4)
 }
 
-// The remainder of an octet times x^8: the octet times x^2 + x + 1; then the two bits above the octet times x^2 + x + 1, added to the low eight. Both products
-// are made at once, of the octet and those two bits added.
+// The remainder of an octet times x^8: the octet times x^2 + x + 1; then the two bits above the
+// octet, times x^2 + x + 1, added to the low eight. Both products are made at once, from the sum
+// of the octet and those two bits.
 fn octet_remainder(b: u8) -> u8
     ensures { λ r. ⌜ r ≡ remainder 8 0x107 (bits 8 b) ⌝ }
 {
@@ -23,7 +24,8 @@ fn octet_remainder(b: u8) -> u8
     (times(b as u16 ^ above) % 256) as u8
 }
 
-// Octet 5 of a header, from octets 1 to 4: each octet is added to the remainder of those before it, and the sum goes up by x^8.
+// Octet 5 of a header, from octets 1 to 4. Each octet is added to the remainder of those before it,
+// and the sum is multiplied by x^8.
 pub fn header_check(a: u8, b: u8, c: u8, d: u8) -> u8
     ensures { λ r. ⌜ r ≡ headerCheck (a ∷ b ∷ c ∷ d ∷ []) ⌝ }
 {

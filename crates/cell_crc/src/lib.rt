@@ -1,4 +1,3 @@
-// The two checks of a cell, and a payload's 48 octets in six words.
+// The two checks of a cell: that of its header, and the CRC-10 of its payload.
 pub mod crc10;
 pub mod header;
-pub mod payload;

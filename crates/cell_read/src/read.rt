@@ -7,14 +7,16 @@ ghost use Rattle.cell.specs.Header.{typeOf, headerRight};
 ghost use Rattle.cell.specs.Fields.{crcRight};
 ghost use Rattle.cell.specs.Reading.{reading};
 ghost use Rattle.cell.specs.Refusals.{headerRefusal, restRefusal};
+ghost use Rattle.cell_read.specs.RefusedAsRead.{RefusedAsRead};
 use crate::fields::fields_of;
 use crate::fields::rates_clear;
 use crate::fields::vci_of;
 use crate::fields::vpi_of;
+use cell::octets::CELL_OCTETS;
 use cell::read::Reading;
 use cell_crc::crc10::crc10;
 use cell_crc::header::header_check;
-use cell_crc::payload::payload_at;
+use cell_payload::payload::payload_at;
 use laws::refusals::REFUSED_CRC;
 use laws::refusals::REFUSED_HEADER_CHECK;
 use laws::refusals::REFUSED_LENGTH;
@@ -43,7 +45,7 @@ fn crc_right(cell: &[u8]) -> bool
 pub fn header_refusal(cell: &[u8]) -> u32
     ensures { λ n. ⌜ n ≡ headerRefusal (now (cell .entry)) ⌝ }
 {
-    if cell.len() != 53 {
+    if cell.len() != CELL_OCTETS {
         return REFUSED_LENGTH;
     }
     if !header_right(cell) {
@@ -92,13 +94,27 @@ pub fn rm_refusal(cell: &[u8]) -> u32
     0
 }
 
+// The refusal that reading the cell meets; 0 if none.
+pub fn refusal(cell: &[u8]) -> u32
+    ensures { λ n. ⌜ RefusedAsRead (now (cell .entry)) n ⌝ }
+{
+    let first = header_refusal(cell);
+    if first != 0 {
+        return first;
+    }
+    if is_data(cell) {
+        return 0;
+    }
+    rm_refusal(cell)
+}
+
 // Reads any octets as a cell.
 pub fn read(cell: &[u8]) -> Reading
     ensures { λ r. ⌜ r ≡ reading (now (cell .entry)) ⌝ }
 {
-    let first = header_refusal(cell);
-    if first != 0 {
-        return Reading::Refused(first);
+    let refused = refusal(cell);
+    if refused != 0 {
+        return Reading::Refused(refused);
     }
     if is_data(cell) {
         return Reading::DataCell {
@@ -106,10 +122,6 @@ pub fn read(cell: &[u8]) -> Reading
             vci: vci_of(cell),
             efci: efci_of(cell),
         };
-    }
-    let second = rm_refusal(cell);
-    if second != 0 {
-        return Reading::Refused(second);
     }
     Reading::RmCell(fields_of(cell))
 }

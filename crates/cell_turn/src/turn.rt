@@ -2,11 +2,11 @@
 ghost use mathlib.Core.Path.{_≡_};
 ghost use mathlib.Core.Bool.{cond};
 ghost use Prim.Native.Nat.{_≤_, _<_, _%_};
-ghost use Rattle.cell_crc.specs.Payload.{octetsOf, payloadOf};
+ghost use Rattle.cell_payload.specs.Payload.{octetsOf, payloadOf};
 ghost use Rattle.cell_crc.specs.Checks.{payloadCheck};
 ghost use Rattle.cell.specs.Fields.{CrcMatches};
 ghost use Rattle.cell.specs.Turning.{turnedMarks, marksAlone, turnedPayload};
-use cell_crc::payload::Payload;
+use cell_payload::payload::Payload;
 
 // A bit that a mark sets; without the mark, the low bit of x.
 fn raised(mark: bool, x: u64) -> u64
@@ -27,7 +27,8 @@ fn turned_marks(level: u32, mark: bool, x: u64) -> u64
     128 + ci * 32 + ni * 16 + x % 16
 }
 
-// The CRC-10 of a payload with no bits set but these, the four high ones of octet 7: the remainders of x^375, x^374, x^373 and x^372.
+// The CRC-10 of a payload with only these bits set, the four high ones of octet 7: the remainders of
+// x^375, x^374, x^373 and x^372.
 fn marks_check(n: u64) -> u64
     requires { ⌜ n < 16 ⌝ }
     ensures { λ r. ⌜ (r ≡ payloadCheck (octetsOf (marksAlone n))) × (r < 1024) ⌝ }
@@ -35,8 +36,8 @@ fn marks_check(n: u64) -> u64
     (n / 8 * 0x18b) ^ (n / 4 % 2 * 0x3dc) ^ (n / 2 % 2 * 0x1ee) ^ (n % 2 * 0xf7)
 }
 
-// The payload to send back, from the received one. Octet 7 is the second of the first word. The CRC-10 is linear, so that what changes in octet 7 says what
-// changes in the CRC-10 received, which was found right.
+// The payload to send back, from the received one. Octet 7 is the second of the first word. The CRC-10 is linear.
+// So the change in octet 7 gives the change in the received CRC-10, which was found right.
 pub fn turn(p: Payload, level: u32, mark: bool) -> Payload
     requires { ⌜ CrcMatches p ⌝ }
     ensures { λ r. ⌜ r ≡ payloadOf (turnedPayload level mark (octetsOf p)) ⌝ }

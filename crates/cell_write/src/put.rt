@@ -4,10 +4,10 @@ ghost use mathlib.Core.List.{_++_, reverse};
 ghost use Prim.Native.Nat.{_≤_};
 ghost use lib.ListN.{length, take, drop};
 ghost use lib.Seq.{sets};
-ghost use Rattle.cell_crc.specs.Payload.{wordOctets, octetsOf};
+ghost use Rattle.cell_payload.specs.Payload.{wordOctets, octetsOf};
 ghost use Rattle.cell.specs.Header.{header};
 use cell_crc::header::header_check;
-use cell_crc::payload::Payload;
+use cell_payload::payload::Payload;
 
 // The octets of w in the other order. A processor that keeps a word's lowest octet first then stores the word at once.
 fn swapped(w: u64) -> u64

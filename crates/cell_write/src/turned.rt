@@ -4,7 +4,7 @@ ghost use lib.ListN.{length};
 ghost use Rattle.cell.specs.Turning.{turnedCell};
 use crate::put::put_header;
 use crate::put::put_payload;
-use cell_crc::payload::Payload;
+use cell_payload::payload::Payload;
 
 // The cell that carries a turned payload.
 pub fn put_turned(cell: &mut [u8], vpi: u32, vci: u32, p: Payload)

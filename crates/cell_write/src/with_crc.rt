@@ -1,9 +1,9 @@
 // The CRC-10 of a payload written new (document 01, "The cell, 53 octets").
 ghost use mathlib.Core.Path.{_≡_};
-ghost use Rattle.cell_crc.specs.Payload.{octetsOf, payloadOf};
+ghost use Rattle.cell_payload.specs.Payload.{octetsOf, payloadOf};
 ghost use Rattle.cell.specs.Fields.{withCrc, CrcMatches};
 use cell_crc::crc10::crc10;
-use cell_crc::payload::Payload;
+use cell_payload::payload::Payload;
 
 // The CRC-10 takes the low ten bits of the last word.
 pub fn with_crc(p: Payload) -> Payload

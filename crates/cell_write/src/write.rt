@@ -4,15 +4,16 @@ ghost use mathlib.Core.Bool.{true};
 ghost use mathlib.Core.List.{[], _∷_, _++_};
 ghost use Prim.Native.Nat.{_+_, _*_, _≤_, _<_};
 ghost use lib.ListN.{length};
-ghost use Rattle.cell_crc.specs.Payload.{payloadOf};
+ghost use Rattle.cell_payload.specs.Payload.{payloadOf};
 ghost use Rattle.cell.specs.Fields.{fieldsFit, body, rmCell};
 ghost use Rattle.cell.specs.Writing.{writing, bufferWritten};
 use crate::put::put_header;
 use crate::put::put_payload;
 use crate::with_crc::with_crc;
 use cell::fields::Fields;
+use cell::octets::CELL_OCTETS;
 use cell::write::Written;
-use cell_crc::payload::Payload;
+use cell_payload::payload::Payload;
 use laws::refusals::REFUSED_LENGTH;
 use laws::refusals::REFUSED_RANGE;
 
@@ -72,7 +73,7 @@ pub fn put_rm(cell: &mut [u8], clp: u32, f: Fields)
 pub fn write(cell: &mut [u8], f: Fields) -> Written
     ensures { λ r. ⌜ (r ≡ writing (length (now (cell .entry))) f) × (now (cell .exit) ≡ bufferWritten r (rmCell 0 f) (now (cell .entry))) ⌝ }
 {
-    if cell.len() != 53 {
+    if cell.len() != CELL_OCTETS {
         return Written::Refused(REFUSED_LENGTH);
     }
     if !f.fits() {

@@ -4,7 +4,7 @@ use Rattle.model.specs.State.{withLevel}
 use Rattle.model.specs.Tournament.{instantWinner, leafWinner, first, winnerAt, winnerWord, ends, replayedFrom, replayed}
 use Rattle.model.specs.Call.{comparisons}
 use Rattle.connection_members.specs.Members.{cellsWhere, without, withMember, withCells, owner}
-use Rattle.connection.specs.Receiving.{afterDataCell}
+use Rattle.connection.specs.Destination.{afterDataCell}
 use Rattle.model.specs.Step.{refuse, discard, openPathStep, closeStep, withOffer, withoutOne, addStep, ofMember, offerMemberStep, removeStep, dataCellStep, levelStep, idleStep}
 use Rattle.check_counts.specs.Counts.{Counts}
 use Rattle.check_examples.proofs.Witness.{computing}

@@ -1,5 +1,5 @@
--- The comparisons of single calls, computed from the empty table: 1 where the leaf wins nothing, up to the first match that it does not win, and 10 up to the root.
--- (Document 02, L4 and L13.)
+-- The comparisons of single calls, computed from the empty table: 1 where the leaf wins nothing; else up to the
+-- first match that it does not win; 10 up to the root. (Document 02, L4 and L13.)
 use Prim.Native.Nat.{ℕ}
 use mathlib.Core.Path.{_≡_}
 use mathlib.Core.List.{List, [], _∷_}
@@ -14,7 +14,8 @@ use Rattle.check_paths.specs.PathRefusals.{dataCell}
 abbrev pub counted : List Call → Call → ℕ
 counted cs c = comparisons (step (final empty cs) c .answer)
 
--- VPI 0; VCI 33 in leaf 0, then VCI 34 in leaf 1 and VCI 35 in leaf 2: opened at one time, so that the instants at which they become ready are tied
+-- VPI 0: VCI 33 in leaf 0, then VCI 34 in leaf 1 and VCI 35 in leaf 2. They open at one time, so the instants at
+-- which they become ready are tied.
 abbrev pub one : List Call
 one = opening 0 33 0 house ∷ []
 

@@ -2,10 +2,9 @@
 use mathlib.Core.Path.{refl}
 use Rattle.cell.specs.Turning.{turnedMarks, turnedPayload, turnedCell}
 use Rattle.connection.specs.Interval.{rested}
-use Rattle.connection.specs.Making.{withMade, madeFields}
-use Rattle.connection.specs.OutOfRate.{afterOutOfRate}
-use Rattle.connection.specs.Receiving.{waitingCi, markKept, afterForwardCell}
-use Rattle.connection.specs.Sending.{madeLeft, sentTurned, forwardFields, backwardCell, bufferSent}
+use Rattle.connection.specs.Source.{afterOutOfRate, forwardFields}
+use Rattle.connection.specs.Destination.{withMade, madeFields, waitingCi, markKept, afterForwardCell, madeLeft, sentTurned, backwardCell}
+use Rattle.connection.specs.Slot.{bufferSent}
 use Rattle.model.specs.State.{withLevel}
 use Rattle.connection_members.specs.Members.{without}
 use Rattle.model.specs.Step.{refuse, discard, closeStep, levelStep, makeStep, sendOutOfRate, outOfRateStep}

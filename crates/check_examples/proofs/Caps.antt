@@ -9,9 +9,11 @@ use Rattle.model.specs.State.{State, Entry, free, taken, find}
 use Rattle.model.specs.Queries.{entryReady, earlier, earliest, readyWord, nextReady}
 use Rattle.model.proofs.Entries.{each-free}
 use Rattle.laws.specs.All.{All}
-use Rattle.promise_delivery.specs.Calls.{sortOf, opensName, ifOpen, isIn}
+use Rattle.model.specs.Aspects.{sortOf}
+use Rattle.promise_delivery.specs.Calls.{opensName, ifOpen, isIn}
 use Rattle.promise_delivery.specs.Turns.{Turn, tableAt}
-use Rattle.promise_delivery.specs.Served.{NotCloser, WaitsAt}
+use Rattle.promise_service.specs.Progress.{NotCloser}
+use Rattle.promise_delivery.specs.Served.{WaitsAt}
 use Rattle.check_examples.proofs.Witness.{computing}
 use Rattle.check_examples.specs.Caps.{exampleNames, CapsExample}
 

@@ -1,8 +1,7 @@
 -- The lists that go beyond the promises on service, computed.
 use mathlib.Core.Path.{refl}
 use Rattle.cell.specs.Turning.{turnedMarks, turnedPayload}
-use Rattle.connection.specs.Receiving.{waitingCi, markKept, afterForwardCell}
-use Rattle.connection.specs.Sending.{madeLeft, sentTurned}
+use Rattle.connection.specs.Destination.{waitingCi, markKept, afterForwardCell, madeLeft, sentTurned}
 use Rattle.model.specs.Call.{goesTo, kindSent}
 use Rattle.connection_members.specs.Members.{without}
 use Rattle.model.specs.Step.{refuse, discard, closeStep, idleStep}

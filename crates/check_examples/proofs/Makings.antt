@@ -2,9 +2,8 @@
 use mathlib.Core.Path.{refl}
 use Rattle.cell.specs.Turning.{turnedMarks, turnedPayload, turnedCell}
 use Rattle.connection.specs.Interval.{rested}
-use Rattle.connection.specs.Making.{withMade, madeFields}
-use Rattle.connection.specs.Receiving.{waitingCi, markKept, afterForwardCell}
-use Rattle.connection.specs.Sending.{madeLeft, sentTurned, backwardCell, bufferSent}
+use Rattle.connection.specs.Destination.{withMade, madeFields, waitingCi, markKept, afterForwardCell, madeLeft, sentTurned, backwardCell}
+use Rattle.connection.specs.Slot.{bufferSent}
 use Rattle.model.specs.State.{withLevel}
 use Rattle.model.specs.Step.{refuse, levelStep, makeStep}
 use Rattle.check_examples.specs.Makings.{Makings}

@@ -1,8 +1,8 @@
 -- Sending out of rate, computed.
 use mathlib.Core.Path.{refl}
 use Rattle.connection.specs.Interval.{rested}
-use Rattle.connection.specs.OutOfRate.{afterOutOfRate, outOfRateCell}
-use Rattle.connection.specs.Sending.{forwardFields, bufferSent}
+use Rattle.connection.specs.Source.{afterOutOfRate, outOfRateCell, forwardFields}
+use Rattle.connection.specs.Slot.{bufferSent}
 use Rattle.connection_members.specs.Members.{without}
 use Rattle.model.specs.Step.{refuse, discard, closeStep, idleStep, sendOutOfRate, outOfRateStep}
 use Rattle.check_examples.specs.OutOfRateCalls.{OutOfRateCalls}

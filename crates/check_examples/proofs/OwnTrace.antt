@@ -4,9 +4,8 @@ use Rattle.trace.specs.Numbers.{readOn, written, writtenAll}
 use Rattle.trace_judge.specs.Rules.{withSent, tooSoon, brokenRule, judgedFrom}
 use Rattle.trace_judge.specs.Octets.{ranged, rateRead, kindRead, sinceRead, mostSince, prepended, recordThen, cellsParsed, verdictOf, trmRead, nRead}
 use Rattle.connection.specs.Interval.{rested}
-use Rattle.connection.specs.Making.{withMade}
-use Rattle.connection.specs.OutOfRate.{afterOutOfRate}
-use Rattle.connection.specs.Sending.{madeLeft, sentTurned}
+use Rattle.connection.specs.Source.{afterOutOfRate}
+use Rattle.connection.specs.Destination.{withMade, madeLeft, sentTurned}
 use Rattle.model.specs.State.{withLevel}
 use Rattle.model.specs.Step.{refuse, discard, closeStep, levelStep, idleStep, makeStep, sendOutOfRate, outOfRateStep}
 use Rattle.model.specs.Queries.{entryAcr, acrOf}

@@ -19,10 +19,13 @@ use Rattle.connection_members.specs.Path.{isPath}
 use Rattle.connection_members.specs.Members.{anyWhere}
 use Rattle.connection_members.specs.Turn.{firstFrom, orElse, turn, afterServing, lastAfter}
 use Rattle.connection.specs.Parts.{fresh}
-use Rattle.connection.specs.Receiving.{offered, afterBackwardCell, afterRmCell}
+use Rattle.connection.specs.Pace.{paced}
+use Rattle.connection.specs.Source.{offered, afterBackwardCell, movedBy, sentForward, sentData, withServed}
+use Rattle.connection.specs.Destination.{withMade, madeLeft, sentTurned}
+use Rattle.connection.specs.Received.{afterRmCell}
+use Rattle.connection.specs.Slot.{after, memberServed}
 use Rattle.connection.specs.Ready.{waits, backwardWaits, anyWaits, lastBefore, readyFrom, readyInstant}
 use Rattle.connection.specs.Kind.{isForward, isTurned, kindAt}
-use Rattle.connection.specs.Sending.{movedBy, paced, sentForward, sentData, after, memberServed, withServed}
 use Rattle.model.specs.State.{empty, position, isFree, holds, find, withEntryOf, withOpened, roomLeft, withTime, withMembers}
 use Rattle.model.specs.Winner.{candidateFrom, candidate, better, winner}
 use Rattle.model.specs.Call.{receiving, slot, goesTo}
@@ -34,8 +37,6 @@ use Rattle.check_examples.specs.Witness.{unmarked, congestedCell, pathUn
 use Rattle.laws.specs.Require.{require}
 use Rattle.connection_members.specs.Members.{cellsWhere, withMember, withCells}
 use Rattle.connection.specs.Interval.{rested}
-use Rattle.connection.specs.Making.{withMade}
-use Rattle.connection.specs.Sending.{madeLeft, sentTurned}
 use Rattle.model.specs.State.{withLevel}
 use Rattle.model.specs.Step.{openPathStep, withOffer, addStep, ofMember, offerMemberStep, levelStep, makeStep}
 

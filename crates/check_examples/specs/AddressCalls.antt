@@ -5,7 +5,7 @@ use mathlib.Core.List.{List, [], _∷_}
 use Rattle.cell.specs.Name.{addressName}
 use Rattle.cell.specs.Fields.{rmCell}
 use Rattle.connection.specs.declared.kind.Kind.the-variants.{Forward, Turned}
-use Rattle.connection.specs.Sending.{Buffer, written}
+use Rattle.connection.specs.Slot.{Buffer, written}
 use Rattle.model.specs.State.{empty}
 use Rattle.model.specs.Call.{Call, opening, closing, receiving, offering, levelling, slot, making, outOfRate}
 use Rattle.model.specs.declared.acr.Acr.the-variants.{NotOpen}

@@ -1,5 +1,7 @@
--- What is asked of turns can be met: two connections of 1,000 cells a second each, on a link with a slot every 400 microseconds, and a lag of a slot for each. The slot at 800 microseconds
--- is left out, as nothing is ready before 1,000; the next comes at 1,200. The second connection has its cells passed at the instants of the first, a gap apart, though its slots come later.
+-- What is asked of turns can be met. Two connections have 1,000 cells a second each, on a link with a slot every
+-- 400 microseconds, and a lag of a slot for each. The slot at 800 microseconds is left out, as nothing is ready
+-- before 1,000. The next comes at 1,200. The second connection's cells are passed at the instants of the first, a
+-- gap apart, though its slots come later.
 use Prim.Native.Nat.{ℕ}
 use mathlib.Core.Path.{_≡_}
 use mathlib.Core.List.{List, [], _∷_}

@@ -1,4 +1,5 @@
--- The data cells of one name through an open, offers, slots, a close and an open again, computed from the empty table. (Document 02, L12.)
+-- The data cells of one name through an open, offers, slots, a close and an open again, computed from the
+-- empty table. (Document 02, L12.)
 use mathlib.Core.Path.{_≡_}
 use mathlib.Core.List.{List, [], _∷_}
 use Rattle.connection.specs.declared.kind.Kind.the-variants.{Forward}

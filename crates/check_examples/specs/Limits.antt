@@ -1,4 +1,5 @@
--- What the promises on service leave out, and must: lists of calls, computed from the empty table, that go beyond each of them. (Document 01, "Slots"; source rule 3.)
+-- What the promises on service leave out, and must leave out. Lists of calls, computed from the empty table, go
+-- beyond each of them. (Document 01, "Slots"; source rule 3.)
 use Prim.Native.Nat.{ℕ}
 use mathlib.Core.Path.{_≡_}
 use mathlib.Core.List.{List, [], _∷_}

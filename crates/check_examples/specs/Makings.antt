@@ -4,7 +4,7 @@ use mathlib.Core.Path.{_≡_}
 use mathlib.Core.List.{List, [], _∷_}
 use Rattle.cell.specs.Fields.{rmCell}
 use Rattle.connection.specs.declared.kind.Kind.the-variants.{Forward, Turned}
-use Rattle.connection.specs.Sending.{Buffer, written}
+use Rattle.connection.specs.Slot.{Buffer, written}
 use Rattle.model.specs.State.{empty}
 use Rattle.model.specs.Call.{Call, opening, receiving, levelling, slot, making}
 use Rattle.model.specs.Step.{step}
@@ -27,7 +27,8 @@ rm dir bn ni er = rmCell 0 (record { vpi = 0; vci = 33; dir = dir; bn = bn; ci =
 abbrev pub relieved : List Call
 relieved = opening 0 33 0 house ∷ levelling 1 ∷ making 0 33 5 ∷ levelling 0 ∷ []
 
--- the level falls to 0, and a forward cell comes, so that a turned and a made cell wait; then the first cell, which is a forward one
+-- The level falls to 0 and a forward cell comes, so a turned and a made cell wait. Then the first
+-- cell goes, which is a forward one.
 abbrev pub bothWait : List Call
 bothWait = opening 0 33 0 house ∷ levelling 1 ∷ making 0 33 5 ∷ levelling 0 ∷ receiving (rm 0 0 0 0x4A00) ∷ slot 5 53 ∷ []
 
@@ -55,7 +56,8 @@ pub record Makings : Type 0 where
   pub notOpenEarlier : next made (making 0 34 4) ≡ refused 11
   pub earlierUncongested : next relieved (making 0 33 4) ≡ refused 14
   pub uncongestedSoon : next relieved (making 0 33 6) ≡ refused 16
-  -- its time counts for a slot; only a made cell waits, and the connection is ready from its opening on, with a forward cell first
+  -- Its time counts for a slot. Only a made cell waits. The connection is ready from its opening
+  -- on, with a forward cell first.
   pub slotEarlier : next made (slot 4 53) ≡ refused 14
   pub firstCell : next made (slot 5 53) ≡ sent 33 Forward 512_000
   -- the turned cell goes first, then the made one, with the mark of its making

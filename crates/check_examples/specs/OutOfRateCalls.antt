@@ -7,7 +7,7 @@ use Rattle.rate_params.specs.Params.{houseSet}
 use Rattle.rate.specs.Units.{latestTime}
 use Rattle.cell.specs.Fields.{rmCell}
 use Rattle.connection.specs.declared.kind.Kind.the-variants.{Forward, Data}
-use Rattle.connection.specs.Sending.{Buffer, written}
+use Rattle.connection.specs.Slot.{Buffer, written}
 use Rattle.model.specs.State.{empty}
 use Rattle.model.specs.Call.{Call, opening, closing, receiving, offering, slot, outOfRate}
 use Rattle.model.specs.Step.{step}
@@ -80,7 +80,8 @@ pub record OutOfRateCalls : Type 0 where
   pub earlierSoon : next left (outOfRate 0 33 4 53) ≡ refused 14
   -- its time counts for a slot
   pub slotEarlier : next left (slot 4 53) ≡ refused 14
-  -- at a rate of 0 no slot goes to VCI 33, though data waits; a backward cell raises it, the first cell takes the rate to ICR, which is 0, and the next one raises it again
+  -- At a rate of 0 no slot goes to VCI 33, though data waits. A backward cell raises the rate. The first cell takes
+  -- it to ICR, which is 0. The next backward cell raises it again.
   pub passedOver : next waiting33 (slot 5 53) ≡ idle
   pub firstCell : next raised33 (slot 5 53) ≡ sent 33 Forward 0
   pub firstWritten : step (final empty raised33) (slot 5 53) .buffer ≡ written (forward33 0 0x0000)

@@ -1,4 +1,5 @@
--- The trace of a connection, recorded from a list of calls, and traces of transmitters that do one thing otherwise. (Document 02, L11.)
+-- The trace of a connection, recorded from a list of calls, and traces of transmitters that do one thing
+-- differently. (Document 02, L11.)
 use Prim.Native.Nat.{ℕ}
 use mathlib.Core.Path.{_≡_}
 use mathlib.Core.Bool.{true}
@@ -25,8 +26,9 @@ slow = houseSet 0x53E8 0x4000 0x4A00
 abbrev pub idleFirst : List Call
 idleFirst = slot 0 53 ∷ []
 
--- After its opening at 1,000: a refused slot, a forward cell, an idle slot, a made cell, an out-of-rate cell, a backward cell that lowers the rate, and data;
--- two cells of VCI 34; a forward cell, since Trm has passed; the close, and a forward cell of the next opening.
+-- After its opening at 1,000: a refused slot, a forward cell, an idle slot, a made cell, an out-of-rate cell, a
+-- backward cell that lowers the rate, and data. Then two cells of VCI 34, and a forward cell, since Trm has passed.
+-- Then the close, and a forward cell of the next opening.
 abbrev pub mixed : List Call
 mixed =
     offering 0 33 9
@@ -50,7 +52,8 @@ mixed =
     ∷ slot 400_000_000 53
     ∷ []
 
--- ICR and MCR 0: a backward cell raises the rate to 32,000, the first cell takes it to 0, and until the next backward cell no slot goes to VCI 33
+-- ICR and MCR are 0. A backward cell raises the rate to 32,000, and the first cell takes it to 0. Until the next
+-- backward cell no slot goes to VCI 33.
 abbrev pub fromZero : List Call
 fromZero = offering 0 33 9 ∷ slot 4 53 ∷ receiving unmarked ∷ slot 5 53 ∷ slot 20_000_000 53 ∷ receiving unmarked ∷ slot 30_000_000 53 ∷ []
 

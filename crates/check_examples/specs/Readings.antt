@@ -1,4 +1,5 @@
--- What reading a cell answers, and writing one, computed where two refusals apply. (Document 01, "Refused because of the input" and "Refused because of the state"; document 02, L7.)
+-- What reading a cell and writing one answer, computed where two refusals apply.
+-- (Document 01, "Refused because of the input" and "Refused because of the state"; document 02, L7.)
 use Prim.Native.Nat.{ℕ, _+_, _*_}
 use mathlib.Core.Path.{_≡_}
 use mathlib.Core.Bool.{true, false}

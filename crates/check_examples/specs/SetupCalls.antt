@@ -38,7 +38,8 @@ pub record SetupCalls : Type 0 where
   -- CRM, rounded up
   pub crmOne : crm (setup 32 0) ≡ 1
   pub crmTwo : crm (setup 33 0) ≡ 2
-  -- the rate used: 512,000,000 × 1 / 33,000, rounded down; MCR where that would be 30; the ICR given without a round trip, and where TBE allows more
+  -- the rate used: 512,000,000 × 1 / 33,000, rounded down; MCR where that would be 30; the ICR given where there is
+  -- no round trip, and where TBE allows more
   pub lowered : initialUsed (setup 1 33_000) ≡ 15_515
   pub minimum : initialUsed (setup 1 16_700_000) ≡ 512
   pub noMinimum : initialUsed (withSetup (houseSet 0x53E8 0 0x4A00) 1 16_700_000) ≡ 30

@@ -1,4 +1,5 @@
--- The lines of document 01, "Checked values", that bear no star, in its order: each said of the calls that lead to it from the empty table.
+-- The lines of document 01, "Checked values", that have no star, in its order. Each is said of the calls that
+-- lead to it from the empty table.
 use Prim.Native.Nat.{ℕ, zero, suc, _+_}
 use mathlib.Core.Path.{_≡_}
 use mathlib.Core.List.{List, [], _∷_}
@@ -18,7 +19,7 @@ use Rattle.model.specs.Step.{step}
 use Rattle.model.specs.Run.{final}
 use Rattle.check_examples.specs.Witness.{unmarked}
 
--- an answer but for the comparisons that the call made, of which exports/specs/Comparisons.antt speaks
+-- an answer without the comparisons that the call made; exports/specs/Comparisons.antt is about those
 pub data Result : Type 0 where
   refused : ℕ → Result
   accepted : Result
@@ -54,15 +55,16 @@ abbrev pub slotsEach : (t n : ℕ) → List Call
 slotsEach t zero = []
 slotsEach t (suc n) = slot t 53 ∷ slotsEach (t + 1_000_000) n
 
--- The house set has Nrm 32, Trm 100,000,000 and ADTF 500,000,000. VCI 33 starts at its peak, 512,000, with a gap of a millisecond, and so
--- many data cells; then n slots from time 0 on, all its own.
+-- The house set has Nrm 32, Trm 100,000,000 and ADTF 500,000,000. VCI 33 starts at its peak, 512,000, with a gap of
+-- a millisecond and with this many data cells. Then come n slots from time 0 on, all its own.
 abbrev pub house : Params
 house = houseSet 0x53E8 0x4000 0x53E8
 
 abbrev pub busy : (cells n : ℕ) → List Call
 busy cells n = opening 0 33 0 house ∷ offering 0 33 cells ∷ slotsEach 0 n
 
--- VCI 33 starts at ICR 16,384 under the same peak; after its forward cell at 0 a backward cell without marks takes it to 48,384, above ICR; then two data cells
+-- VCI 33 starts at ICR 16,384 under the same peak. After its forward cell at 0, a backward cell without marks takes
+-- it to 48,384, above ICR. Then come two data cells.
 abbrev pub raised : List Call
 raised = opening 0 33 0 (houseSet 0x53E8 0x4000 0x4A00) ∷ offering 0 33 9 ∷ slot 0 53 ∷ receiving unmarked ∷ slot 40_000_000 53 ∷ slot 80_000_000 53 ∷ []
 

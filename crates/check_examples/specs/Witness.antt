@@ -1,4 +1,5 @@
--- The pairs of demand 3 are not empty: two lists that meet both of its conditions, in which a backward cell differs, and after it the rate. So do lists with a path, its member and a made cell, where the rate falls to 0.
+-- The pairs of demand 3 are not empty. Two lists meet both of its conditions, and differ in a backward cell and
+-- after it in the rate. So do lists with a path, its member and a made cell, where the rate falls to 0.
 use Prim.Native.Nat.{ℕ}
 use mathlib.Core.Path.{_≡_}
 use mathlib.Core.List.{List, [], _∷_, _++_}
@@ -34,7 +35,8 @@ pathUnmarked = backwardOctets 1 6 0 0x53E8
 abbrev pub pathStopped : List ℕ
 pathStopped = backwardOctets 1 6 1 0x0000
 
--- a path without a minimum, a member with data, a forward cell, a made cell that goes in the next slot, a channel, the backward cell, and a slot, which the channel has
+-- a path without a minimum, a member with data, a forward cell, a made cell that goes in the next slot, a channel,
+-- the backward cell, and a slot, which goes to the channel
 abbrev pub pathStart : List Call
 pathStart =
     openingPath 1 1000 (houseSet 0x53E8 0x0000 0x4A00) ∷ adding 1 40 ∷ offeringMember 1 40 9 ∷ slot 1000 53 ∷ levelling 2 ∷ making 1 6 2000 ∷ slot 34_000_000 53

@@ -3,9 +3,8 @@ use mathlib.Core.Path.{refl}
 use Rattle.connection_members.specs.Members.{cellsWhere, without, withMember, withCells, owner}
 use Rattle.cell.specs.Turning.{turnedMarks, turnedPayload, turnedCell}
 use Rattle.connection.specs.Interval.{rested}
-use Rattle.connection.specs.Making.{withMade}
-use Rattle.connection.specs.OutOfRate.{afterOutOfRate}
-use Rattle.connection.specs.Receiving.{afterDataCell, waitingCi, markKept, afterForwardCell}
+use Rattle.connection.specs.Source.{afterOutOfRate}
+use Rattle.connection.specs.Destination.{withMade, afterDataCell, waitingCi, markKept, afterForwardCell}
 use Rattle.model.specs.State.{withLevel}
 use Rattle.model.specs.Step.{refuse, discard, openPathStep, closeStep, withOffer, withoutOne, addStep, ofMember, offerMemberStep, removeStep, dataCellStep, levelStep, makeStep, sendOutOfRate, outOfRateStep}
 use Rattle.model.specs.Queries.{entryAcr, acrOf}

@@ -2,8 +2,8 @@
 use mathlib.Core.Path.{refl}
 use Rattle.connection_members.specs.Members.{cellsWhere, without, withMember, withCells, owner}
 use Rattle.cell.specs.Turning.{turnedMarks, turnedPayload, turnedCell}
-use Rattle.connection.specs.Receiving.{afterDataCell, waitingCi, markKept, afterForwardCell}
-use Rattle.connection.specs.Sending.{madeLeft, sentTurned, backwardCell, bufferSent}
+use Rattle.connection.specs.Destination.{afterDataCell, waitingCi, markKept, afterForwardCell, madeLeft, sentTurned, backwardCell}
+use Rattle.connection.specs.Slot.{bufferSent}
 use Rattle.model.specs.State.{entryCells}
 use Rattle.model.specs.Call.{closedCells}
 use Rattle.model.specs.Step.{refuse, discard, openPathStep, closeStep, withOffer, withoutOne, addStep, ofMember, offerMemberStep, removeStep, dataCellStep}

@@ -1,10 +1,11 @@
--- A path with three members: whose turn it is, what a removal and a close answer, and where its cells are counted, computed from the empty table. (Document 02, L13.)
+-- A path with three members: whose turn it is, what a removal and a close answer, and where its cells are counted.
+-- All is computed from the empty table. (Document 02, L13.)
 use Prim.Native.Nat.{ℕ}
 use mathlib.Core.Path.{_≡_}
 use mathlib.Core.List.{List, [], _∷_, _++_}
 use mathlib.Core.Option.{some}
 use Rattle.connection.specs.declared.kind.Kind.the-variants.{Forward, Turned, Data}
-use Rattle.connection.specs.Sending.{written}
+use Rattle.connection.specs.Slot.{written}
 use Rattle.model.specs.State.{empty}
 use Rattle.model.specs.Call.{Call, opening, closing, receiving, slot, openingPath, adding, offeringMember, removing, goesTo}
 use Rattle.model.specs.Step.{step}
@@ -13,7 +14,7 @@ use Rattle.model.specs.Conservation.{cellsOffered, dataSlots, cellsClosed, cell
 use Rattle.check_examples.specs.Unstarred.{accepted, closedWith, sent, next, slotsEach, house}
 use Rattle.check_paths.specs.PathRefusals.{dataCell, rmOnPath}
 
--- the path of VPI 1, whose name is 65,542; VCIs 60, 40 and 50, whose names are 65,596, 65,576 and 65,586, with so many cells each
+-- the path of VPI 1, named 65,542; VCIs 60, 40 and 50, named 65,596, 65,576 and 65,586, with this many cells each
 abbrev pub threeMembers : (a b c : ℕ) → List Call
 threeMembers a b c = openingPath 1 0 house ∷ adding 1 60 ∷ adding 1 40 ∷ adding 1 50 ∷ offeringMember 1 40 a ∷ offeringMember 1 50 b ∷ offeringMember 1 60 c ∷ []
 
@@ -47,7 +48,8 @@ pub record PathSlots : Type 0 where
   pub alone : next (afterMembers 0 0 2 2) (slot 2_000_000 53) ≡ sent 65_596 Data 512_000
   -- the connection that the slot goes to is the path
   pub goes : goesTo (step (final empty (afterMembers 2 2 2 1)) (slot 1_000_000 53) .answer) ≡ some 65_542
-  -- a removal answers what waited on the member, and the turn goes on from it; a close answers the sum, and the turn begins anew
+  -- A removal answers what waited on the member, and the turn goes on from it. A close answers the
+  -- sum, and the turn starts over.
   pub removal : next (afterMembers 2 2 2 3) (removing 1 50) ≡ closedWith 1
   pub goesOn : next (removed 2 2 2) (slot 3_000_000 53) ≡ sent 65_596 Data 512_000
   pub closed : next (afterMembers 2 3 4 2) (closing 1 6) ≡ closedWith 8

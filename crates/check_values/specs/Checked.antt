@@ -1,4 +1,5 @@
--- The starred lines of document 01, "Checked values", in its order: one table, each line an equation about the definitions.
+-- The starred lines of document 01, "Checked values", in its order, as one table. Each line is an
+-- equation about the definitions.
 use Prim.Native.Nat.{ℕ}
 use mathlib.Core.Path.{_≡_}
 use mathlib.Core.Bool.{true, false}
@@ -12,8 +13,8 @@ use Rattle.rate_moves.specs.declared.moves.Rate.{Rate}
 use Rattle.rate_moves.specs.Moves.{feedback}
 use Rattle.cell_crc.specs.Checks.{headerCheck}
 
--- A connection at this allowed rate, with this peak, MCR 512, and r and d 4 as in the house set. A line that names no peak has the
--- largest: with CI 1 the peak takes no part.
+-- A connection at this allowed rate, with this peak, MCR 512, and r and d 4 as in the house set. A line that names
+-- no peak has the largest: with CI 1 the peak is not used.
 abbrev pub atPeakOf : (pcr acr : ℕ) → Rate
 atPeakOf pcr acr = record { acr = acr; params = houseSet pcr 0x4000 0x4000 }
 

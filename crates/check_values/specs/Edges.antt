@@ -1,5 +1,6 @@
--- Numbers of document 01 that no list of calls tells from their neighbours: where coding refuses, Trm by number, and moves of the rate.
--- (Document 01, "Units and the 16-bit rate code", "Opening" and "Four moves of the allowed rate"; document 02, L14.)
+-- Numbers of document 01 that no list of calls distinguishes from their neighbours: where coding refuses, Trm by
+-- number, and moves of the rate. (Document 01, "Units and the 16-bit rate code", "Opening" and
+-- "Four moves of the allowed rate"; document 02, L14.)
 use Prim.Native.Nat.{ℕ, suc, _*_, _<_}
 use mathlib.Core.Path.{_≡_}
 use mathlib.Core.Bool.{true, false}

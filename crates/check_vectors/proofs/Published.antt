@@ -5,7 +5,7 @@ use mathlib.Core.List.{List, [], _∷_}
 use lib.Bits.{bitXor}
 use Rattle.cell_crc.specs.Remainder.{bring, divide, remainder, bits, octetBits}
 use Rattle.cell_crc.specs.Checks.{headerCheck, payloadCheck}
-use Rattle.cell_crc.specs.Payload.{octetsOf}
+use Rattle.cell_payload.specs.Payload.{octetsOf}
 use Rattle.check_vectors.specs.Message.{message}
 
 -- octets 5 to 8, behind the check x of those before; and octet 9 likewise

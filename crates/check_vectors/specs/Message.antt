@@ -1,4 +1,4 @@
--- The nine octets "123456789", of which catalogues of checks give the remainder: CRC-8/I-432-1 and CRC-10/ATM among them.
+-- The nine octets "123456789". Catalogues of checks give their remainder, CRC-8/I-432-1 and CRC-10/ATM among them.
 -- (Document 01, "What the library commits to", on the standards' published vectors.)
 use Prim.Native.Nat.{ℕ}
 use mathlib.Core.List.{List, [], _∷_}

@@ -32,7 +32,7 @@ pub fn reading(cell: &[u8]) {
     }
 }
 
-// Fields in which each differs from its neighbours, but for those given.
+// Fields that each differ from their neighbours, except for those given.
 pub fn sample(vpi: u32, vci: u32, ci: u32, er: u32) -> Fields {
     Fields {
         vpi,

@@ -1,10 +1,11 @@
-// Cells with octets changed (document 01, "The cell, 53 octets" and "Refused because of the input"; document 02, L6 and L7).
+// Cells with changed octets
+// (document 01, "The cell, 53 octets" and "Refused because of the input"; document 02, L6 and L7).
 ghost use mathlib.Core.Path.{_≡_};
 ghost use lib.ListN.{length};
 use crate::cells::reading;
 use crate::cells::sample;
 use cell_crc::header::header_check;
-use cell_crc::payload::payload_at;
+use cell_payload::payload::payload_at;
 use cell_write::put::put_payload;
 use cell_write::with_crc::with_crc;
 use cell_write::write::write;
@@ -25,8 +26,8 @@ fn with_right_crc(mut cell: [u8; 53]) {
     reading(&cell);
 }
 
-// The sample with another octet 4, and another octet at an index below 53: read with its checks as they were, then with octet 5 made right, then with the
-// CRC-10 made right too.
+// The sample with another octet 4, and another octet at an index below 53. It is read with its checks as they were,
+// then with octet 5 made right, then with the CRC-10 made right too.
 fn row(vci: u32, d: u8, index: usize, x: u8) {
     let mut cell = written(vci);
     cell[3] = d;
@@ -37,9 +38,10 @@ fn row(vci: u32, d: u8, index: usize, x: u8) {
     with_right_crc(cell);
 }
 
-// Octet 5, and an octet that it covers; VPI 1 and 128, which are read; payload types 4, 5 and 7; the first octet that the CRC-10 covers, which is the protocol, a middle one
-// and the last; bit 15 of ER, CCR and MCR; what is ignored when read: GFC, CLP, reserved bits of octet 7, octet 22, six bits of octet 52; data cells of payload
-// types 0 to 3, whatever octet 6 is.
+// Octet 5, and an octet that it covers. VPI 1 and 128, which are read. Payload types 4, 5 and 7.
+// The first octet that the CRC-10 covers (the protocol), a middle one and the last. Bit 15 of ER, CCR and MCR.
+// What is ignored when read: GFC, CLP, reserved bits of octet 7, octet 22, six bits of octet 52.
+// Data cells of payload types 0 to 3, whatever octet 6 is.
 pub fn show() {
     row(0x1234, 0x4c, 4, 0x00);
     row(0x1234, 0x4c, 0, 0x10);

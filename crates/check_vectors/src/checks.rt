@@ -6,10 +6,10 @@ ghost use Rattle.check_vectors.specs.Message.{message};
 use crate::print;
 use cell_crc::crc10::crc10;
 use cell_crc::header::header_check;
-use cell_crc::payload::Payload;
+use cell_payload::payload::Payload;
 
-// CRC-8/I-432-1 of the nine octets, four at a time. The exclusive-or with 0x55 is taken back between the steps; the remainder so far
-// goes into the next octet; and leading zero octets have no remainder.
+// CRC-8/I-432-1 of the nine octets, four at a time. Between the steps the exclusive-or with 0x55 is taken back. The
+// remainder so far goes into the next octet. Leading zero octets have no remainder.
 fn crc8_check() -> u8
     ensures { λ r. ⌜ (r ≡ bitXor (remainder 8 0x107 (octetBits message)) 0x55) × (r ≡ 0xA1) ⌝ }
 {
@@ -18,8 +18,8 @@ fn crc8_check() -> u8
     header_check(0, 0, 0, eight ^ b'9')
 }
 
-// CRC-10/ATM of the nine octets, as the last of a payload's 374 checked bits: ten places up in the last two words. The division
-// starts from 0, so the zero bits before them leave nothing.
+// CRC-10/ATM of the nine octets, as the last of a payload's 374 checked bits: ten places up in the last two words.
+// The division starts from 0, so the zero bits before them leave nothing.
 fn crc10_check() -> u64
     ensures { λ r. ⌜ (r ≡ remainder 10 0x633 (octetBits message)) × (r ≡ 0x199) ⌝ }
 {
@@ -33,7 +33,8 @@ fn crc10_check() -> u64
     })
 }
 
-// Octet 5 of the cell headers that ITU-T I.432 gives away: unassigned, idle, physical layer OAM F1 and F3; then the checks of the nine octets.
+// Octet 5 of the cell headers that ITU-T I.432 assigns: unassigned, idle, physical layer OAM F1 and F3. Then
+// the checks of the nine octets.
 pub fn show() {
     let unassigned = header_check(0, 0, 0, 0x00);
     let idle = header_check(0, 0, 0, 0x01);

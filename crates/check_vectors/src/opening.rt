@@ -3,7 +3,8 @@ use crate::print;
 use rate_params::params::Params;
 use rate_params::params::trm_time;
 
-// The rates of the three codes and the initial rate used; then the numbers and CRM, and whether an open takes TBE, FRTT and all the others.
+// The rates of the three codes and the initial rate used. Then the numbers and CRM, and whether an open
+// takes TBE, FRTT and all the others.
 fn row(p: Params) {
     print::rates(&[p.peak(), p.least(), p.initial(), p.initial_used()]);
     print::codes(&[p.n, p.r, p.d, p.c, p.tbe, p.frtt, p.adtf, p.trm, p.crm()]);
@@ -53,7 +54,8 @@ fn ranges() {
     numbers(5, 4, 4, 4, 50, 8);
 }
 
-// Both ends of TBE and FRTT and one step outside; CRM at 32 and at 33 cells; the initial rate rounded down, as given, and at MCR.
+// Both ends of TBE and FRTT, and one step outside. CRM at 32 and at 33 cells. The initial rate
+// rounded down, as given, and at MCR.
 fn setups() {
     setup(1, 16777215, 0);
     setup(8, 1, 16700000);
@@ -69,7 +71,8 @@ fn setups() {
     setup(32, 4294967295, 1);
 }
 
-// The house set with rates in order, MCR 0, ICR below MCR, PCR below ICR, and a code of more than 16 bits; the ranges; the eight times.
+// The house set with rates in order, MCR 0, ICR below MCR, PCR below ICR, and a code of more than 16 bits. Then
+// the ranges and the eight times.
 pub fn show() {
     row(Params::house(0x53e8, 0x4000, 0x4200));
     row(Params::house(0x53e8, 0x0000, 0x4200));

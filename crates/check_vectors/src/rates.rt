@@ -1,5 +1,5 @@
-// Rate codes, gaps and the four moves of the allowed rate (document 01, "Units and the 16-bit rate code", "Four moves of the allowed rate", "Slots" and
-// "Checked values").
+// Rate codes, gaps and the four moves of the allowed rate
+// (document 01, "Units and the 16-bit rate code", "Four moves of the allowed rate", "Slots" and "Checked values").
 use crate::print;
 use rate::code::Coded;
 use rate::code::code_of;
@@ -39,10 +39,12 @@ fn moved(acr: u64, passed: u64, c: u32, y: u32, pcr: u32, ci: bool, ni: bool, er
     );
 }
 
-// Codes: the checked values, the highest mantissa of a lower exponent, nz 0 under every other bit. Gaps: the checked values, the slowest and the fastest
-// rate. Rates: the checked values, both ends of the range and what lies above it.
-// Moves: the three checked values of feedback, the third at ADTF and one below CRM; past ADTF and at CRM, with CDF zero, and below ICR; where both cuts would
-// pass MCR; no mark, NI, NI with a lower ER, an ER below MCR, CI with NI.
+// Codes: the checked values, the highest mantissa of a lower exponent, nz 0 with every lower bit 1.
+// Gaps: the checked values, the slowest and the fastest rate.
+// Rates: the checked values, both ends of the range and what lies above it.
+// Moves: the three checked values of feedback, the third at ADTF and one below CRM. Past ADTF and at
+// CRM, with CDF zero, and below ICR. Where both cuts would pass MCR. No mark, NI, NI with a lower
+// ER, an ER below MCR, CI with NI.
 pub fn show() {
     coded(0x4000, 512000, 512000);
     coded(0x7fff, 1536, 1023);

@@ -1,12 +1,12 @@
 // Forward cells turned round (document 01, "Turning cells round" and "Traps in this trade"; document 02, L6).
 use crate::cells::reading;
-use cell_crc::payload::Payload;
+use cell_payload::payload::Payload;
 use cell_turn::turn::turn;
 use cell_write::turned::put_turned;
 use cell_write::with_crc::with_crc;
 
-// A forward cell with this octet 7, and ones wherever a bit is to stay: an odd reserved octet, the six reserved bits. It is turned at this level, with
-// this saved EFCI.
+// A forward cell with this octet 7, and with bits that are to stay: an unusual reserved octet, and ones in the six
+// reserved bits. It is turned at this level, with this saved EFCI.
 fn row(octet: u8, level: u32, efci: bool) {
     let p = Payload {
         a: 0x01007fff53e84000 + octet as u64 * 0x1000000000000,

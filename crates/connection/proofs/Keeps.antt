@@ -1,4 +1,4 @@
--- What each call makes of a connection keeps what the invariant says of it, and its name, opening time, Trm and parameters.
+-- Each call keeps what the invariant says of a connection, and its name, opening time, Trm and parameters.
 use Prim.Native.Nat.{ℕ, _+_, _-_, _*_, _≤_, _<_}
 use mathlib.Core.Path.{_≡_, refl, sym, ap, _∙_}
 use mathlib.Core.Logic.{_≢_}
@@ -24,12 +24,13 @@ use Rattle.connection_members.specs.Path.{isPath, firstVci}
 use Rattle.connection_members.specs.Members.{memberCapacity}
 use Rattle.connection_members.specs.Turn.{lastAfter}
 use Rattle.connection.specs.Parts.{Connection, Pace, Unsent, Running, Queue, waiting, dequeued, withQueue, fresh, Instant, Never, At, Waiting, Nothing, Cell, Made}
-use Rattle.connection.specs.Making.{withMade}
-use Rattle.connection.specs.Receiving.{offered, afterDataCell, afterBackwardCell, afterForwardCell, afterRmCell}
+use Rattle.connection.specs.Pace.{paced}
+use Rattle.connection.specs.Source.{offered, afterBackwardCell, movedBy, sentForward, sentData, withServed, afterOutOfRate}
+use Rattle.connection.specs.Destination.{withMade, afterDataCell, afterForwardCell, sentTurned, madeLeft}
+use Rattle.connection.specs.Received.{afterRmCell}
+use Rattle.connection.specs.Slot.{after}
 use Rattle.connection.specs.Ready.{lastBefore}
 use Rattle.connection.specs.Kind.{Kind, Forward, Turned, Data, isForward, isTurned, kindAt}
-use Rattle.connection.specs.Sending.{movedBy, paced, sentForward, sentTurned, sentData, after, withServed, madeLeft}
-use Rattle.connection.specs.OutOfRate.{afterOutOfRate}
 use Rattle.connection.specs.Invariant.{InBounds, PaceFits, ValidAt, MadeValidAt, NotAfter, QueueFits}
 
 -- The moves before a forward cell.

@@ -4,8 +4,10 @@ pub mod Ranged
 pub mod Reached
 pub mod ReadyCases
 pub mod KindCases
-pub mod SendCases
-pub mod ReceiveCases
+pub mod FieldsFit
+pub mod SourceCases
+pub mod DestinationCases
+pub mod SlotCases
 pub mod Turnings
 pub mod Keeps
 pub mod Readiness

@@ -1,17 +1,18 @@
--- What an open, an offer, a received cell, a making, a slot and an out-of-rate cell make of a connection in range is in range again.
+-- A connection in range is in range again after an open, an offer, a received cell, a making,
+-- a slot and an out-of-rate cell.
 use mathlib.Core.Bool.{Bool}
 use Prim.Native.Nat.{ℕ, _^_, _<_}
 use native.Mathlib.Omega.{arith}
 use Rattle.rate_params.specs.declared.params.Params.{Params}
 use Rattle.rate_params.proofs.Ranges.{trm-le}
-use Rattle.cell_crc.specs.declared.payload.Payload.{Payload}
+use Rattle.cell_payload.specs.declared.payload.Payload.{Payload}
 use Rattle.cell.specs.declared.fields.Fields.{Fields}
 use Rattle.connection.specs.Parts.{Connection, Pace, Unsent, Running, fresh, Waiting, Nothing, Cell, Made}
-use Rattle.connection.specs.Making.{withMade}
-use Rattle.connection.specs.Receiving.{offered, afterDataCell, afterBackwardCell, afterForwardPayload}
+use Rattle.connection.specs.Pace.{paced}
+use Rattle.connection.specs.Source.{offered, afterBackwardCell, sentForward, sentData, afterOutOfRate}
+use Rattle.connection.specs.Destination.{withMade, afterDataCell, afterForwardPayload, sentTurned, madeLeft}
+use Rattle.connection.specs.Slot.{after}
 use Rattle.connection.specs.Kind.{Kind, Forward, Turned, Data}
-use Rattle.connection.specs.Sending.{paced, sentForward, sentTurned, sentData, after, madeLeft}
-use Rattle.connection.specs.OutOfRate.{afterOutOfRate}
 use Rattle.connection.specs.Range.{PaceInRange, InRange, CountHasRoom, InstantInRange}
 
 pub fresh-ranged : (name time : ℕ) (p : Params) → time < 2 ^ 63 → InRange (fresh name time p)

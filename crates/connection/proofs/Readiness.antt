@@ -1,4 +1,5 @@
--- What a ready instant depends on: at an allowed rate of 0 a connection is never ready; at any other its pace decides. (Document 02, L5.)
+-- What a ready instant depends on. At an allowed rate of 0 a connection is never ready. At any other its
+-- pace decides. (Document 02, L5.)
 use Prim.Native.Nat.{ℕ, _<_}
 use mathlib.Core.Path.{_≡_, refl, ap, ap₂, _∙_}
 use mathlib.Core.Logic.{_≢_}
@@ -9,8 +10,7 @@ use lib.Dec.{eqb}
 use borrow.Author.Tests.{eq-eqb, ne-eqb, eqb-false}
 use Rattle.rate_moves.specs.declared.moves.Rate.{Rate}
 use Rattle.connection.specs.Parts.{Connection, Pace, Unsent, Running, waiting}
-use Rattle.connection.specs.Sending.{withServed}
-use Rattle.connection.specs.OutOfRate.{afterOutOfRate}
+use Rattle.connection.specs.Source.{withServed, afterOutOfRate}
 use Rattle.connection.specs.Ready.{Instant, Never, At, backwardWaits, anyWaits, lastBefore, readyFrom, readyInstant}
 
 module _ (c : Connection) where

@@ -8,7 +8,10 @@ use Rattle.rate.specs.Gap.{gap}
 use Rattle.connection.specs.Parts.{Connection, Pace, Unsent, Running}
 use Rattle.connection.specs.Ready.{Never, At, anyWaits, lastBefore, readyFrom, readyInstant}
 use Rattle.connection.specs.Kind.{Kind, Forward, Turned, Data, isForward, kindAt}
-use Rattle.connection.specs.Sending.{paced, sentForward, sentTurned, sentData, after}
+use Rattle.connection.specs.Pace.{paced}
+use Rattle.connection.specs.Source.{sentForward, sentData}
+use Rattle.connection.specs.Destination.{sentTurned}
+use Rattle.connection.specs.Slot.{after}
 use Rattle.connection.proofs.Readiness.{ready-some}
 use Rattle.connection.proofs.Keeps.{not-forward, turned≢forward, data≢forward}
 

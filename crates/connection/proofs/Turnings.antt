@@ -5,11 +5,11 @@ use Prim.Native.Nat.{ℕ, _<_}
 use native.Mathlib.Omega.{arith}
 use lib.ListN.{length, getD, drop, length-drop}
 use lib.Seq.{getD-drop}
-use Rattle.cell_crc.specs.Payload.{payloadOf}
-use Rattle.cell_crc.proofs.Words.{octets-of-payload}
+use Rattle.cell_payload.specs.Payload.{payloadOf}
+use Rattle.cell_payload.proofs.Words.{octets-of-payload}
 use Rattle.cell.specs.Octets.{payload}
 use Rattle.connection.specs.Parts.{Connection}
-use Rattle.connection.specs.Receiving.{afterForwardCell, afterForwardPayload}
+use Rattle.connection.specs.Destination.{afterForwardCell, afterForwardPayload}
 
 pub after-forward-cell-words :
     (level : ℕ) (o : List ℕ) (c : Connection) → length o ≡ 53 → ((i : ℕ) → getD o i 0 < 256) → afterForwardPayload level (payloadOf (payload o)) c ≡ afterForwardCell level o c

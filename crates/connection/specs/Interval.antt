@@ -1,4 +1,5 @@
--- The least time between two made cells of a connection, and between two of its out-of-rate cells. (Document 02, L1 and L5.)
+-- The least time between two made cells of a connection, and between two of its out-of-rate cells.
+-- (Document 02, L1 and L5.)
 use Prim.Native.Nat.{ℕ, _+_}
 use mathlib.Core.Bool.{Bool, true}
 use lib.Dec.{leb}

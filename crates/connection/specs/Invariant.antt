@@ -10,22 +10,23 @@ use Rattle.rate_moves.specs.Bounds.{Between, RateInBounds}
 use Rattle.cell.specs.Name.{vciIn, noName}
 use Rattle.connection_members.specs.Path.{isPath, firstVci}
 use Rattle.connection_members.specs.Members.{memberCapacity}
-use Rattle.connection.specs.Parts.{Connection, Pace, Unsent, Running, Queue, Change, Made, Instant, Never, At, waiting}
+use Rattle.connection.specs.Parts.{Connection, Pace, Unsent, Running, Queue, Change, Made, Instant, Never, At, waiting, waitingMost, unansweredMost}
 
--- whatever the time: the rate between its bounds, and so those before and after the last backward cell; Y within its own
+-- At any time the rate, and the rates before and after the last backward cell, are between
+-- its bounds. Y is within its own.
 pub record PartsInBounds (q : Rate) (y : ℕ) (x : Change) : Type 0 where
   pub rates : RateInBounds q
   pub before : Between (q .params) (x .before)
   pub after : Between (q .params) (x .after)
-  pub counted : y ≤ 8_388_608
+  pub counted : y ≤ unansweredMost
 
 abbrev pub InBounds : Connection → Type 0
 InBounds c = PartsInBounds (c .rate) (c .unanswered) (c .change)
 
--- the data of a channel is at most 65,535 cells, that of a path at most as much for each of its members (document 02, L13)
+-- A channel's data is at most 65,535 cells. A path's is at most as much for each of its members (document 02, L13).
 pub record QueueFits (name : ℕ) (l : Queue) : Type 0 where
-  pub channel : isPath name ≡ false → waiting l ≤ 65535
-  pub path : waiting l ≤ memberCapacity * 65535
+  pub channel : isPath name ≡ false → waiting l ≤ waitingMost
+  pub path : waiting l ≤ memberCapacity * waitingMost
   pub served : l .served ≤ 65535
 
 -- no cell was sent after now, no forward cell after the last cell, and k is below Nrm
@@ -33,7 +34,8 @@ abbrev pub PaceFits : (now nrm : ℕ) → Pace → Type 0
 PaceFits now n Unsent = Unit
 PaceFits now n (Running sent forward k turned) = (forward ≤ sent) × (sent ≤ now) × (k < n)
 
--- a connection's name, of 24 bits, with a path's VCI or one from 32 on, parameters and instants, at the time of the last accepted open, slot, making or out-of-rate cell
+-- A connection's name, parameters and instants, at the time of the last accepted open, slot, making or out-of-rate
+-- cell. The name has 24 bits, with a path's VCI or one from 32 on.
 pub record PartsValidAt (now name opened trm : ℕ) (p : Params) (pace : Pace) : Type 0 where
   pub assigned : isPath name ≡ false → firstVci ≤ vciIn name
   pub coded : name < noName

@@ -9,7 +9,8 @@ use Rattle.connection.specs.Ready.{backwardWaits}
 pub use Rattle.connection.specs.declared.kind.Kind.{Kind}
 pub use Rattle.connection.specs.declared.kind.Kind.the-variants.{Forward, Turned, Data}
 
--- The numbers of the kinds in a trace (document 02, L11). A slot returns the same: document 01 gives kinds no numbers, and a trace can then be recorded from slots.
+-- The numbers of the kinds in a trace (document 02, L11). A slot returns the same, since document 01 gives kinds no
+-- numbers. So a trace can be recorded from slots.
 abbrev pub kindNumber : Kind → ℕ
 kindNumber Forward = 1
 kindNumber Turned = 2

@@ -1,13 +1,14 @@
 -- One connection, as document 01 sets it out. Each file states one part of it; the code follows with the same names.
 pub mod Parts
 pub mod Change
-pub mod Receiving
+pub mod Pace
 pub mod Interval
-pub mod Making
+pub mod Source
+pub mod Destination
+pub mod Received
 pub mod Ready
 pub mod Kind
-pub mod Sending
-pub mod OutOfRate
+pub mod Slot
 -- What holds of every connection that calls made:
 pub mod Invariant
 -- For the code's own functions:

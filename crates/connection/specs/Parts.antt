@@ -1,4 +1,5 @@
--- A connection, its parts, and the same connection with one part changed. (Document 01, "Opening"; document 02, L9 and L13.)
+-- A connection, its parts, and the same connection with one part changed.
+-- (Document 01, "Opening"; document 02, L9 and L13.)
 use Prim.Native.Nat.{ℕ, _+_, _-_}
 use mathlib.Core.Bool.{false}
 use Rattle.rate_params.specs.declared.params.Params.{Params}
@@ -39,6 +40,13 @@ withDestination c b = record { name = c .name; opened = c .opened; trm = c .trm;
 abbrev pub withOutOfRate : Connection → Instant → Connection
 withOutOfRate c i = record { name = c .name; opened = c .opened; trm = c .trm; rate = c .rate; pace = c .pace; unanswered = c .unanswered; queue = c .queue; change = c .change; destination = c .destination; «out_of_rate» = i }
 
+-- the most data cells that wait on a channel or on a member (refusal 15), and the most that Y counts
+abbrev pub waitingMost : ℕ
+waitingMost = 65535
+
+abbrev pub unansweredMost : ℕ
+unansweredMost = 8_388_608
+
 -- the data cells that wait; n more; n less
 abbrev pub waiting : Queue → ℕ
 waiting l = l .cells
@@ -57,7 +65,8 @@ freshDestination = record { efci = false; turned = Nothing; made = record { leve
 abbrev pub changed : (before after : ℕ) → Change
 changed a b = record { before = a; after = b }
 
--- a connection as it starts: ACR = the ICR used, no cell sent, nothing waiting, Y = 0, no change by a backward cell (document 02, L9), no out-of-rate cell
+-- a connection as it starts: ACR is the ICR used, no cell sent, nothing waiting, Y = 0, no change by a backward
+-- cell (document 02, L9), no out-of-rate cell
 unfoldable pub fresh : (name time : ℕ) → Params → Connection
 fresh v t p = record {
   name = v;

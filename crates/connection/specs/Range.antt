@@ -1,5 +1,5 @@
--- Ranges in which a connection's instants and counts are added without wrapping. Every table's entry is read into them, whatever it holds,
--- and each connection in a table that calls made lies within them.
+-- Ranges in which a connection's instants and counts are added without wrapping. Every entry of a table is read
+-- into them, whatever it holds. Each connection in a table that calls made lies within them.
 use Prim.Native.Nat.{ℕ, _+_, _≤_, _<_, _^_}
 use mathlib.Core.Path.{_≡_}
 use mathlib.Core.Bool.{true}
@@ -9,7 +9,7 @@ use Rattle.cell.specs.declared.fields.Fields.{Fields}
 use Rattle.cell.specs.Name.{noName}
 use Rattle.cell.specs.Fields.{fieldsFit}
 use Rattle.connection.specs.Parts.{Connection, Pace, Unsent, Running, Instant, Never, At}
-use Rattle.connection.specs.Sending.{forwardFields}
+use Rattle.connection.specs.Source.{forwardFields}
 
 abbrev pub PaceInRange : Pace → Type 0
 PaceInRange Unsent = Unit
@@ -36,7 +36,7 @@ abbrev pub InstantBelow : Instant → Type 0
 InstantBelow Never = Unit
 InstantBelow (At i) = i < 2 ^ 63 + 2 ^ 40
 
--- the fields of a forward cell, where the allowed rate is a rate; and fields that a cell can carry, whatever stands there
+-- The fields of a forward cell, if the allowed rate is a rate. Whatever it is, a cell can carry the fields.
 pub record ForwardCarried (name : ℕ) (q : Rate) (f : Fields) : Type 0 where
   pub meant : q .acr ≤ largestRate → f ≡ forwardFields name q
   pub fits : name < noName → fieldsFit f ≡ true

@@ -24,8 +24,9 @@ anyWaits c = ltb 0 (waiting (c .queue)) || backwardWaits (c .destination)
 unfoldable pub lastBefore : Connection → ℕ → Bool
 lastBefore c k = eqb k (nrm (c .rate .params) - 1)
 
--- before the first cell, the opening time if anything waits; afterwards due, the last send plus the gap, if anything waits or k = Nrm − 1;
--- else, from k = 2 on, due but not before Trm after the last forward cell; else never
+-- Before the first cell: the opening time if anything waits. Afterwards: due, the last send plus
+-- the gap, if anything waits or k = Nrm − 1. Else, from k = 2 on: due, but not before Trm after the
+-- last forward cell. Else never.
 unfoldable pub readyFrom : Connection → Pace → Instant
 readyFrom c Unsent = cond (anyWaits c) (At (c .opened)) Never
 readyFrom c (Running sent forward k turned) =

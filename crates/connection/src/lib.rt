@@ -1,5 +1,8 @@
-// One connection by value: its parts, with the definitions and laws of what it sends and receives in specs/ and proofs/. The crates scheduling, sending
-// and receiving have the code.
+// One connection by value: its parts, and what its source and its destination share. The definitions and laws of what
+// it sends and receives are in specs/ and proofs/; the crates connection_source, connection_destination and
+// connection_slot have the code.
+pub mod interval;
 pub mod kind;
+pub mod pace;
 pub mod parts;
 pub mod ready;

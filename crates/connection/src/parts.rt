@@ -2,13 +2,13 @@
 ghost use mathlib.Core.Path.{_≡_};
 ghost use Rattle.connection.specs.Parts.{fresh, withRate, withPace, withUnanswered, withQueue, withChange, withDestination, withOutOfRate};
 use crate::ready::Instant;
-use cell_crc::payload::Payload;
+use cell_payload::payload::Payload;
 use rate_moves::moves::Rate;
 use rate_params::params::Params;
 use rate_params::params::trm_time;
 
-// The cells sent: none yet; or the instants of the last cell and of the last forward cell, the cells k since then, and whether a turned
-// or made cell is among them.
+// The cells sent: none yet; or the instants of the last cell and of the last forward cell, the cells k since then, and
+// whether a turned or made cell is among them.
 pub enum Pace {
     Unsent,
     Running {
@@ -19,13 +19,21 @@ pub enum Pace {
     },
 }
 
-// The data cells that wait: on a path those of all its members. Of a path also the VCI of the member that was served last, 0 before any (document 02, L13).
+// The most data cells that wait on a channel, or on a member of a path (refusal 15).
+pub const WAITING_MOST: u32 = 65535;
+
+// The most that the count Y comes to.
+pub const UNANSWERED_MOST: u32 = 8388608;
+
+// The data cells that wait: on a path those of all its members. Of a path also the VCI of the member that was served
+// last, 0 before any (document 02, L13).
 pub struct Queue {
     pub cells: u32,
     pub served: u32,
 }
 
-// The allowed rate before the last backward cell and after it; before the first one both are the initial rate used (document 02, L9 and L14).
+// The allowed rate before the last backward cell and after it; before the first one both are the initial rate used
+// (document 02, L9 and L14).
 pub struct Change {
     pub before: u64,
     pub after: u64,
@@ -37,22 +45,22 @@ pub enum Waiting {
     Cell(Payload),
 }
 
-// The backward cells that the connection makes itself (document 02, L1): the level at which the one that waits was made, 0 if none waits, and the instant of
-// the last making.
+// The backward cells that the connection makes itself (document 02, L1): the level at which the one that waits was
+// made, 0 if none waits, and the instant of the last making.
 pub struct Made {
     pub level: u32,
     pub last: Instant,
 }
 
-// What the receiving side keeps: the saved EFCI, the waiting turned cell, and the cells made.
+// What the destination keeps: the saved EFCI, the waiting turned cell, and the cells made.
 pub struct Destination {
     pub efci: bool,
     pub turned: Waiting,
     pub made: Made,
 }
 
-// trm is Trm in nanoseconds, looked up once, at the open; unanswered is the count Y; out_of_rate is the instant of the last out-of-rate forward cell (document 02,
-// L5).
+// trm is Trm in nanoseconds, looked up once, at the open; unanswered is the count Y; out_of_rate is the instant of the
+// last out-of-rate forward cell (document 02, L5).
 pub struct Connection {
     pub name: u32,
     pub opened: u64,

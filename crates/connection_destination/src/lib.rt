@@ -1,4 +1,4 @@
-// What an offer, the removal of a member, a received cell and a making make of a connection, and what a made cell carries.
-pub mod feedback;
+// The destination of a connection: the cells that it turns round, and those that it makes.
 pub mod make;
 pub mod receive;
+pub mod turned;

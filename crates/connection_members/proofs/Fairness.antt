@@ -69,7 +69,7 @@ order x y = go (leb y x) (leb x y) refl refl
 clash : (x y : ℕ) → x ≡ y → x < y → ⊥
 clash x y q k = omega arith
 
--- one turn, of two members a and b of which a is the lower: the last name served was q, and now x is
+-- one turn, for two members a and b, where a is the lower: the last name served was q, and now it is x
 data Phase (a b q : ℕ) : Option ℕ → Type 0 where
   phase : (x : ℕ) → turnOf a (some x) + ahead a b q ≡ turnOf b (some x) + ahead a b x → Phase a b q (some x)
 

@@ -1,5 +1,6 @@
--- The list of members: what adding, removing and filling do to its length and order, to who is in it and to what waits. One law each, over any test of names;
--- with a test of one name it speaks of a member, with a test of a path of all of the path's.
+-- The list of members: what adding, removing and filling do to its length and order, to who is in it and to what
+-- waits. There is one law each, over any test of names. With a test of one name it is about a member. With a test
+-- of a path it is about all of the path's.
 use Prim.Native.Nat.{ℕ, suc, _+_, _≤_, _<_}
 use mathlib.Core.Path.{_≡_, refl, sym, ap, subst, _∙_}
 use mathlib.Core.Logic.{_≢_}
@@ -59,7 +60,7 @@ named-all P (m ∷ ms) h = (
 abbrev pub Within : (f g : ℕ → Bool) → Type 0
 Within f g = (y : ℕ) → f y ≡ true → g y ≡ true
 
--- two tests of which not both pass
+-- two tests that do not both pass
 abbrev pub Apart : (f g : ℕ → Bool) → Type 0
 Apart f g = (y : ℕ) → f y ≡ true → g y ≡ false
 

@@ -15,8 +15,8 @@ unfoldable pub turnOf : (x : ℕ) → Option ℕ → ℕ
 turnOf x none = 0
 turnOf x (some y) = cond (eqb y x) 1 0
 
--- A stretch of data slots of a path, each with the members as they are at that slot: what waits and who is a member may change between them. How many of the
--- data cells are the member x's, if the VCI q was served last before them:
+-- A stretch of data slots of a path, each with the members as they are at that slot. What waits and who is a member
+-- may change between them. This counts the data cells of the member x, if the VCI q was served last before them.
 unfoldable pub timesServed : (path x last : ℕ) → List (List Member) → ℕ
 timesServed v x q [] = 0
 timesServed v x q (ms ∷ slots) = turnOf x (turn v q ms) + timesServed v x (lastAfter (turn v q ms) q) slots

@@ -1,5 +1,6 @@
--- The members of all paths of a table, in one list that rises by name: who is one, what waits, and what adding, removing and filling make of it. What
--- is said of one member and what is said of a path's members are one definition each, over a test of names. (Document 02, L13.)
+-- The members of all paths of a table, in one list that rises by name: who is one, what waits, and what adding,
+-- removing and filling make of it. Each definition is over a test of names, so that it serves one member and a
+-- path's members. (Document 02, L13.)
 use Prim.Native.Nat.{ℕ, _+_}
 use mathlib.Core.Bool.{Bool, false, cond, _||_}
 use mathlib.Core.List.{List, [], _∷_}

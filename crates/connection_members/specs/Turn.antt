@@ -16,8 +16,8 @@ unfoldable pub orElse : Option ℕ → Option ℕ → Option ℕ
 orElse none y = y
 orElse (some x) y = some x
 
--- the first with data after the last one served, in rising VCI, round to the lowest; `last` is the VCI served last, 0 before any, since members begin at 32.
--- On a name that is no path's there is none.
+-- The first with data after the last one served, in rising VCI, round to the lowest. `last` is the VCI served last.
+-- It is 0 before any, since members begin at 32. For a name that is no path's there is none.
 unfoldable pub turn : (path last : ℕ) → List Member → Option ℕ
 turn v q ms = orElse (firstFrom v (nameFrom (vpiIn v) q + 1) ms) (firstFrom v 0 ms)
 

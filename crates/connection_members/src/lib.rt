@@ -1,2 +1,3 @@
-// The members of paths: definitions in specs/, laws in proofs/, and two numbers for the code. (Document 02, L13.)
+// The members of paths (document 02, L13): definitions in specs/, laws in proofs/, and for the code two VCIs and the
+// name of a path.
 pub mod path;

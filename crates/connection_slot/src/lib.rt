@@ -1,3 +1,4 @@
-// When a connection may send, and what kind of cell it then sends.
+// When a connection may send, what kind of cell it then sends, and what that makes of it.
 pub mod kind;
 pub mod ready;
+pub mod slot;

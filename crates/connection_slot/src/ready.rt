@@ -1,6 +1,5 @@
 // When a connection may send (document 01, "Slots").
 ghost use mathlib.Core.Path.{_≡_};
-ghost use Prim.Native.Nat.{max};
 ghost use Rattle.connection.specs.Ready.{waits, backwardWaits, anyWaits, lastBefore, readyFrom, readyInstant};
 ghost use Rattle.connection.specs.Range.{InRange, InstantBelow};
 use connection::parts::Connection;
@@ -8,6 +7,7 @@ use connection::parts::Destination;
 use connection::parts::Pace;
 use connection::parts::Waiting;
 use connection::ready::Instant;
+use laws::arithmetic::higher;
 use rate::gap::gap;
 
 pub fn waits(w: Waiting) -> bool
@@ -50,12 +50,6 @@ pub fn last_before(c: Connection, k: u32) -> bool
     }
 }
 
-fn later(a: u64, b: u64) -> u64
-    ensures { λ r. ⌜ r ≡ max a b ⌝ }
-{
-    if a < b { b } else { a }
-}
-
 // Of a connection whose allowed rate is not 0.
 fn ready_from(c: Connection) -> Instant
     requires { ⌜ InRange c ⌝ }
@@ -86,7 +80,7 @@ fn ready_from(c: Connection) -> Instant
             if k < 2 {
                 return Instant::Never;
             }
-            Instant::At(later(due, forward + c.trm))
+            Instant::At(higher(due, forward + c.trm))
         }
     }
 }

@@ -1,6 +1,6 @@
 // Forward out-of-rate cells (document 02, L5).
 ghost use mathlib.Core.Path.{_≡_};
-ghost use Rattle.connection.specs.OutOfRate.{afterOutOfRate};
+ghost use Rattle.connection.specs.Source.{afterOutOfRate};
 use connection::parts::Connection;
 use connection::ready::Instant;
 

@@ -9,14 +9,14 @@ use Rattle.connection_members.specs.Path.{isPath}
 use Rattle.connection_members.specs.Members.{withoutPath}
 use Rattle.connection.specs.declared.parts.Connection.{Connection}
 use Rattle.connection.specs.Parts.{waiting}
-use Rattle.connection.specs.Receiving.{offered}
+use Rattle.connection.specs.Source.{offered}
 use Rattle.connection.proofs.Keeps.{KeepsIdentity}
 use Rattle.model.specs.State.{State, Entry, free, taken, find, leafOf, withEntryOf, withLevel, withMembers, capacity}
 use Rattle.model.specs.Invariant.{WellFormed}
 use Rattle.table.specs.Layout.{words}
 use Rattle.table.specs.Loading.{connectionAt}
-use Rattle.table_names.specs.declared.find.Found.{Found}
-use Rattle.table_names.specs.declared.find.Found.the-variants.{At, Nothing}
+use Rattle.table.specs.declared.found.Found.{Found}
+use Rattle.table.specs.declared.found.Found.the-variants.{At, Nothing}
 use Rattle.table_names.specs.Finding.{Located, FindsName}
 use Rattle.table_names.proofs.Found.{found-at}
 use Rattle.model.specs.declared.answer.Answer.the-variants.{Refused, Accepted, Closed}
@@ -67,14 +67,14 @@ close-out s w e {v} {i} h p {d} q u r =
 
 -- Reading what f takes out of the entry of a name: an ACR, or a contract's codes.
 pub reads-missing :
-    {A : Type 0} (f : Entry → A) (l : List ℕ) (v : ℕ) {r : Found} → FindsName l v r → r ≡ Nothing → MeetsReading (λ s. f (find v (s .entries))) l (f free)
-reads-missing f l v h q = record { answers = λ s w e. ap f (sym (missing s w e v h q)) }
+    {A : Type 0} (f : Entry → A) (l : List ℕ) (v : ℕ) {r : Found} → FindsName l v r → r ≡ Nothing → MeetsReading (λ s. f free ≡ f (find v (s .entries))) l
+reads-missing f l v h q = record { meets = λ s w e. ap f (sym (missing s w e v h q)) }
 
 pub reads-found :
     {A : Type 0} (f : Entry → A) (l : List ℕ) (v : ℕ) {r : Found} {i : ℕ} → FindsName l v r → r ≡ At i → {d : Connection} → d ≡ connectionAt l i
-    → MeetsReading (λ s. f (find v (s .entries))) l (f (taken d))
+    → MeetsReading (λ s. f (taken d) ≡ f (find v (s .entries))) l
 reads-found f l v h q k = record {
-  answers = λ s w e.
+  meets = λ s w e.
       let p = entry-located s w e v h q in
       ap (λ (x : Connection). f (taken x)) (loaded-is s w p e (below l v h q) k) ∙ ap f (sym (found-at p));
 }

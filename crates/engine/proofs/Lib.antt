@@ -3,4 +3,5 @@ pub mod Outcomes
 pub mod Members
 pub mod CallCases
 pub mod OpenCases
+pub mod TimedCases
 pub mod MakeCases

@@ -3,56 +3,68 @@ use Prim.Native.Nat.{ℕ, _≤_, _<_}
 use mathlib.Core.Path.{_≡_, refl, ap, subst, _∙_}
 use mathlib.Core.Bool.{true, false}
 use mathlib.Core.List.{List}
+use lib.Dec.{ltb}
 use lib.ListN.{set}
-use borrow.Author.Tests.{le-leb, lt-leb, lt-ltb, le-ltb}
+use borrow.Author.Tests.{lt-ltb, le-ltb}
 use Rattle.laws.specs.Require.{require}
-use Rattle.rate.specs.Units.{latestTime}
 use Rattle.cell.specs.Name.{vpiIn, vciIn}
 use Rattle.connection.specs.declared.parts.Connection.{Connection}
 use Rattle.connection.specs.Interval.{rested}
-use Rattle.connection.specs.Making.{withMade}
+use Rattle.connection.specs.Destination.{withMade}
 use Rattle.connection.proofs.Keeps.{made-same}
-use Rattle.model.specs.State.{State, free, taken, find, leafOf, withEntryOf, withTime}
+use Rattle.model.specs.State.{State, taken, leafOf, withEntryOf, withTime, capacity}
 use Rattle.model.specs.Invariant.{WellFormed}
-use Rattle.model.specs.Call.{making}
-use Rattle.model.specs.Step.{refuse, replay, ofOpen, makeStep, step}
+use Rattle.model.specs.Call.{making, Outcome}
+use Rattle.model.specs.Step.{refuse, replay, makeStep, step}
 use Rattle.model.specs.declared.answer.Answer.the-variants.{Accepted}
 use Rattle.table_store.specs.Updates.{Updates, DestinationMoved}
 use Rattle.table_tournament.specs.Replaying.{Playable}
 use Rattle.table.specs.Layout.{words, lastAt}
 use Rattle.table_names.specs.Finding.{Located}
-use Rattle.model.specs.State.{capacity}
 use Rattle.table_tournament.proofs.Orders.{ordered}
+use Rattle.engine.specs.Timed.{ofTimed, TimedAt}
 use Rattle.engine.proofs.Outcomes.{pair-of, replayed-out, replay-well-formed, time-word, later-put, put-at, put-becomes, same-fixed}
 
+-- what is left of making, on the connection of the name
+abbrev makeRest : State → (name time : ℕ) → Connection → Outcome
+makeRest s v t c =
+    require (refuse s 16) (ltb 0 (s .level))
+    (require (refuse s 17) (rested t (c .destination .made .last))
+    (replay (leafOf v s) s (withEntryOf v (taken (withMade t (s .level) c)) (withTime t s))))
+
 module _ (s : State) (v t : ℕ) where
-  pub make-late : latestTime < t → makeStep s v t ≡ refuse s 8
-  unfolding makeStep require
-  make-late h = rw (lt-leb t latestTime h)
+  pub make-timed : makeStep s v t ≡ ofTimed s v t (makeRest s v t)
+  unfolding makeStep
+  make-timed = refl
 
-  module _ (u : t ≤ latestTime) where
-    pub make-missing : find v (s .entries) ≡ free → makeStep s v t ≡ refuse s 11
-    unfolding makeStep require ofOpen
-    make-missing e = rw (le-leb t latestTime u, e)
+  module _ (c : Connection) where
+    uncongested : s .level ≤ 0 → makeRest s v t c ≡ refuse s 16
+    unfolding require
+    uncongested l = rw (le-ltb 0 (s .level) l)
 
-    module _ (c : Connection) (e : find v (s .entries) ≡ taken c) where
-      pub make-early : t < s .last → makeStep s v t ≡ refuse s 14
-      unfolding makeStep require ofOpen
-      make-early h = rw (le-leb t latestTime u, e, lt-leb (s .last) t h)
+    soon : 0 < s .level → rested t (c .destination .made .last) ≡ false → makeRest s v t c ≡ refuse s 17
+    unfolding require
+    soon l m = rw (lt-ltb 0 (s .level) l, m)
 
-      module _ (h : s .last ≤ t) where
-        pub make-uncongested : s .level ≤ 0 → makeStep s v t ≡ refuse s 16
-        unfolding makeStep require ofOpen
-        make-uncongested l = rw (le-leb t latestTime u, e, le-leb (s .last) t h, le-ltb 0 (s .level) l)
+    made :
+        0 < s .level → rested t (c .destination .made .last) ≡ true → makeRest s v t c ≡ replay (leafOf v s) s (withEntryOf v (taken (withMade t (s .level) c)) (withTime t s))
+    unfolding require
+    made l m = rw (lt-ltb 0 (s .level) l, m)
 
-        pub make-soon : 0 < s .level → rested t (c .destination .made .last) ≡ false → makeStep s v t ≡ refuse s 17
-        unfolding makeStep require ofOpen
-        make-soon l m = rw (le-leb t latestTime u, e, le-leb (s .last) t h, lt-ltb 0 (s .level) l, m)
+  module _ {i : ℕ} (k : TimedAt s v t i) where
+    rest-is : makeStep s v t ≡ makeRest s v t (k .located .holder)
+    rest-is = make-timed ∙ k .passes (makeRest s v t)
 
-        pub make-done :
-            0 < s .level → rested t (c .destination .made .last) ≡ true → makeStep s v t ≡ replay (leafOf v s) s (withEntryOf v (taken (withMade t (s .level) c)) (withTime t s))
-        unfolding makeStep require ofOpen
-        make-done l m = rw (le-leb t latestTime u, e, le-leb (s .last) t h, lt-ltb 0 (s .level) l, m)
+    pub make-uncongested : s .level ≤ 0 → makeStep s v t ≡ refuse s 16
+    make-uncongested l = rest-is ∙ uncongested (k .located .holder) l
+
+    pub make-soon : 0 < s .level → rested t (k .located .holder .destination .made .last) ≡ false → makeStep s v t ≡ refuse s 17
+    make-soon l m = rest-is ∙ soon (k .located .holder) l m
+
+    pub make-done :
+        0 < s .level → rested t (k .located .holder .destination .made .last) ≡ true
+        → makeStep s v t ≡ replay (leafOf v s) s (withEntryOf v (taken (withMade t (s .level) (k .located .holder))) (withTime t s))
+    make-done l m = rest-is ∙ made (k .located .holder) l m
 
 made-moved : (t level : ℕ) (c : Connection) → DestinationMoved c (withMade t level c)
 unfolding withMade

@@ -17,8 +17,8 @@ use Rattle.table.specs.Layout.{keyOf, nameWords, liveOf, fixedOf, liveWidth, fi
 use Rattle.table.proofs.Columns.{key-wide, name-wide, live-wide, fixed-wide}
 use Rattle.table.proofs.Splits.{header, length-header, header-split}
 use Rattle.table_store.specs.Updates.{Sized}
-use Rattle.table_names.specs.declared.find.Found.{Found}
-use Rattle.table_names.specs.declared.find.Found.the-variants.{At, Nothing}
+use Rattle.table.specs.declared.found.Found.{Found}
+use Rattle.table.specs.declared.found.Found.the-variants.{At, Nothing}
 use Rattle.table_members.specs.Place.{MemberAt}
 use Rattle.table_members.specs.Words.{WithMembers, MemberInRange, Named, FindsMember}
 

@@ -25,8 +25,8 @@ use Rattle.model.specs.State.{State, Entry, free, taken, find, withOpened, room
 use Rattle.model.specs.Invariant.{WellFormed}
 use Rattle.table.specs.Layout.{words, lastAt}
 use Rattle.table_names.specs.Finding.{FoundInRange, Vacant, FindsFree}
-use Rattle.table_names.specs.declared.find.Found.{Found}
-use Rattle.table_names.specs.declared.find.Found.the-variants.{At, Nothing}
+use Rattle.table.specs.declared.found.Found.{Found}
+use Rattle.table.specs.declared.found.Found.the-variants.{At, Nothing}
 use Rattle.model.proofs.Entries.{lowest-free, each-set, unique-set, find-absent}
 use Rattle.model.specs.Step.{refuse, replay, openAddress, openStep}
 use Rattle.model.specs.Tournament.{replayed}

@@ -11,8 +11,8 @@ use Rattle.connection.specs.Invariant.{ValidAt}
 use Rattle.connection.specs.Range.{InRange, CountHasRoom}
 use Rattle.connection.specs.Ready.{readyInstant}
 use Rattle.connection.proofs.Keeps.{KeepsIdentity}
-use Rattle.table_names.specs.declared.find.Found.{Found}
-use Rattle.table_names.specs.declared.find.Found.the-variants.{At, Nothing}
+use Rattle.table.specs.declared.found.Found.{Found}
+use Rattle.table.specs.declared.found.Found.the-variants.{At, Nothing}
 use Rattle.model.specs.State.{State, Entry, free, taken, find, leafOf, withEntryOf, position, holds, withTime, withLevel, capacity}
 use Rattle.model.specs.Invariant.{WellFormed, OnEntry}
 use Rattle.table.specs.Layout.{words, sourceWords, fixedWords, levelAt, lastAt}
@@ -29,13 +29,13 @@ use Rattle.model.specs.Step.{refuse, accept, replay, discard, step}
 use Rattle.model.specs.Tournament.{leafWinner, replayed}
 use Rattle.model.proofs.Replays.{replayed-same}
 use Rattle.model.proofs.Reached.{step-well-formed}
-use Rattle.engine.specs.Contract.{Meets}
+use Rattle.engine.specs.Contract.{Meets, wholeAnswer}
 use Rattle.table_store.specs.Updates.{Sized, EntryBecomes, Updates}
 use Rattle.table_tournament.specs.Replaying.{Playable, CountsWon}
 use Rattle.table_tournament.proofs.Orders.{entries-ordered}
 
 -- a call whose step is another's on every state
-pub same-meets : {f g : State → Outcome} {l m : List ℕ} {r : Answer} → ((s : State) → g s ≡ f s) → Meets f l m r → Meets g l m r
+pub same-meets : {f g : State → Outcome} {l m : List ℕ} {r : Answer} → ((s : State) → g s ≡ f s) → Meets wholeAnswer f l m r → Meets wholeAnswer g l m r
 same-meets h k = record { meets = λ s w e. rw (h s) (k .meets s w e) }
 
 -- The two plain ways out.
@@ -66,7 +66,7 @@ pub replay-well-formed : {s : State} → WellFormed s → (c : Call) (x : ℕ) (
 unfolding replay accept
 replay-well-formed w c x r q = subst (λ (o : Outcome). WellFormed (o .state)) q (step-well-formed w c)
 
--- with a valid connection in the entry of its name, or with none there, the entries are still those that a tournament orders
+-- with a valid connection in the entry of its name, or none there, a tournament still orders the entries
 pub put-ordered : {s : State} → WellFormed s → (v : ℕ) (x : Entry) → OnEntry (ValidAt (s .last)) x → OnEntry (λ c. c .name ≡ v) x → Playable (withEntryOf v x s .entries)
 unfolding withEntryOf
 put-ordered {s} w v x p q =

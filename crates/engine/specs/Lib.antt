@@ -1,2 +1,3 @@
 -- What each call on the words of a lent table must meet.
 pub mod Contract
+pub mod Timed

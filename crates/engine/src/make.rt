@@ -1,37 +1,30 @@
 // Making a backward cell (document 02, L1).
-ghost use Rattle.engine.specs.Contract.{Meets};
+ghost use Rattle.engine.specs.Contract.{Meets, wholeAnswer};
 ghost use Rattle.model.specs.Step.{makeStep};
+use crate::timed::timed_entry;
+use connection::interval::rested;
 use connection_destination::make::with_made;
-use connection_source::interval::rested;
 use laws::refusals::REFUSED_NOT_CONGESTED;
-use laws::refusals::REFUSED_NOT_OPEN;
-use laws::refusals::REFUSED_TIME;
-use laws::refusals::REFUSED_TIME_BACKWARD;
 use laws::refusals::REFUSED_TOO_SOON;
 use model::answer::Answer;
-use rate::units::LATEST_TIME;
+use table::layout::CAPACITY;
+use table::layout::HALF;
 use table::layout::LAST;
 use table::layout::LEVEL;
 use table::layout::WORDS;
-use table_load::load::load;
-use table_names::find::Found;
-use table_names::find::find;
+use table_entry::load::load;
 use table_store::store::update_destination;
 
 // Refusals 8, 11, 14, 16, 17.
 pub fn make(t: &mut [u64; WORDS], name: u32, time: u64) -> Answer
-    ensures { λ r. ⌜ Meets (λ s. makeStep s name time) (now (t .entry)) (now (t .exit)) r ⌝ }
+    ensures { λ r. ⌜ Meets wholeAnswer (λ s. makeStep s name time) (now (t .entry)) (now (t .exit)) r ⌝ }
 {
-    if LATEST_TIME < time {
-        return Answer::Refused(REFUSED_TIME);
+    let i = timed_entry(t, name, time);
+    if CAPACITY <= i {
+        let refusal = (i - CAPACITY) as u32;
+        return Answer::Refused(refusal);
     }
-    let Found::At(i) = find(t, name) else {
-        return Answer::Refused(REFUSED_NOT_OPEN);
-    };
-    if time < t[LAST] {
-        return Answer::Refused(REFUSED_TIME_BACKWARD);
-    }
-    let level = (t[LEVEL] % 4294967296) as u32;
+    let level = (t[LEVEL] % HALF) as u32;
     if level == 0 {
         return Answer::Refused(REFUSED_NOT_CONGESTED);
     }

@@ -4,7 +4,9 @@ ghost use mathlib.Core.Bool.{_&&_};
 ghost use Rattle.rate_params.specs.Params.{paramsFit};
 ghost use Rattle.cell.specs.Name.{addressFits};
 ghost use Rattle.model.specs.Step.{openAddress, openStep, openPathStep};
-ghost use Rattle.engine.specs.Contract.{Meets};
+ghost use Rattle.engine.specs.Contract.{Meets, wholeAnswer};
+use cell::name::VCI_MOST;
+use cell::name::VPI_MOST;
 use cell::name::address_name;
 use connection::parts::Connection;
 use connection_members::path::FIRST_VCI;
@@ -23,10 +25,10 @@ use model::answer::Answer;
 use rate::code::codes_clear;
 use rate::units::LATEST_TIME;
 use rate_params::params::Params;
+use table::found::Found;
 use table::layout::LAST;
 use table::layout::WORDS;
 use table_members::find::find as find_member;
-use table_names::find::Found;
 use table_names::find::find;
 use table_names::used::find_free;
 use table_store::store::store;
@@ -35,12 +37,12 @@ use table_store::store::store;
 fn in_range(vpi: u32, vci: u32, params: Params) -> bool
     ensures { λ b. ⌜ b ≡ (addressFits vpi vci && paramsFit params) ⌝ }
 {
-    vpi <= 255 && (vci <= 65535 && params.fits())
+    vpi <= VPI_MOST && (vci <= VCI_MOST && params.fits())
 }
 
 // What every open refuses: 19, 7, 29, 30, 8, 12, 27, 13, 14.
 fn open_address(t: &mut [u64; WORDS], vpi: u32, vci: u32, time: u64, params: Params) -> Answer
-    ensures { λ r. ⌜ Meets (λ s. openAddress s vpi vci time params) (now (t .entry)) (now (t .exit)) r ⌝ }
+    ensures { λ r. ⌜ Meets wholeAnswer (λ s. openAddress s vpi vci time params) (now (t .entry)) (now (t .exit)) r ⌝ }
 {
     if !codes_clear(params.pcr, params.mcr, params.icr) {
         return Answer::Refused(REFUSED_RESERVED_BIT);
@@ -77,7 +79,7 @@ fn open_address(t: &mut [u64; WORDS], vpi: u32, vci: u32, time: u64, params: Par
 
 // Opening a channel: 10 before all that, which looks at the VCI alone.
 pub fn open(t: &mut [u64; WORDS], vpi: u32, vci: u32, time: u64, params: Params) -> Answer
-    ensures { λ r. ⌜ Meets (λ s. openStep s vpi vci time params) (now (t .entry)) (now (t .exit)) r ⌝ }
+    ensures { λ r. ⌜ Meets wholeAnswer (λ s. openStep s vpi vci time params) (now (t .entry)) (now (t .exit)) r ⌝ }
 {
     if vci < FIRST_VCI {
         return Answer::Refused(REFUSED_LOW_VCI);
@@ -87,7 +89,7 @@ pub fn open(t: &mut [u64; WORDS], vpi: u32, vci: u32, time: u64, params: Params)
 
 // Opening the path of a VPI: without 10.
 pub fn open_path(t: &mut [u64; WORDS], vpi: u32, time: u64, params: Params) -> Answer
-    ensures { λ r. ⌜ Meets (λ s. openPathStep s vpi time params) (now (t .entry)) (now (t .exit)) r ⌝ }
+    ensures { λ r. ⌜ Meets wholeAnswer (λ s. openPathStep s vpi time params) (now (t .entry)) (now (t .exit)) r ⌝ }
 {
     open_address(t, vpi, PATH_VCI, time, params)
 }

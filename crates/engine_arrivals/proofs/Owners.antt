@@ -13,8 +13,8 @@ use Rattle.model.specs.Invariant.{WellFormed}
 use Rattle.model.proofs.Frames.{name-of}
 use Rattle.model.proofs.Preserved.{valid-at}
 use Rattle.table.specs.Layout.{words}
-use Rattle.table_names.specs.declared.find.Found.{Found}
-use Rattle.table_names.specs.declared.find.Found.the-variants.{At, Nothing}
+use Rattle.table.specs.declared.found.Found.{Found}
+use Rattle.table.specs.declared.found.Found.the-variants.{At, Nothing}
 use Rattle.table_names.specs.Finding.{Located, Names, FindsName}
 use Rattle.table_names.proofs.Found.{found-at}
 use Rattle.table_members.specs.Words.{FindsMember}

@@ -5,8 +5,8 @@ use mathlib.Core.Bool.{Bool, true, false}
 use mathlib.Core.List.{List, []}
 use lib.ListN.{length, getD}
 use borrow.Author.Tests.{eq-eqb, ne-eqb}
-use Rattle.cell_crc.specs.declared.payload.Payload.{Payload}
-use Rattle.cell_crc.specs.Payload.{payloadOf}
+use Rattle.cell_payload.specs.declared.payload.Payload.{Payload}
+use Rattle.cell_payload.specs.Payload.{payloadOf}
 use Rattle.cell.specs.declared.fields.Fields.{Fields}
 use Rattle.cell.specs.declared.read.Reading.the-variants.{Refused as Unread, DataCell, RmCell}
 use Rattle.cell.specs.Octets.{payload}
@@ -17,7 +17,9 @@ use Rattle.connection_members.specs.Path.{isPath}
 use Rattle.connection_members.specs.Members.{owner}
 use Rattle.laws.specs.Require.{require}
 use Rattle.connection.specs.declared.parts.Connection.{Connection}
-use Rattle.connection.specs.Receiving.{afterDataCell, afterBackwardCell, afterForwardCell, afterForwardPayload, afterRmCell}
+use Rattle.connection.specs.Source.{afterBackwardCell}
+use Rattle.connection.specs.Destination.{afterDataCell, afterForwardCell, afterForwardPayload}
+use Rattle.connection.specs.Received.{afterRmCell}
 use Rattle.connection.specs.Ready.{readyInstant}
 use Rattle.connection.proofs.Readiness.{ready-same}
 use Rattle.connection.proofs.Keeps.{KeepsIdentity, work-same, work-valid}

@@ -6,7 +6,7 @@ use Rattle.connection_members.specs.Members.{owner}
 use Rattle.model.specs.State.{State, free, find}
 use Rattle.model.specs.Invariant.{WellFormed}
 use Rattle.table.specs.Layout.{words}
-use Rattle.table_names.specs.declared.find.Found.{Found}
+use Rattle.table.specs.declared.found.Found.{Found}
 use Rattle.table_names.specs.Finding.{FoundInRange, Names}
 
 -- of any table an entry that it has; of the words of a state that of the channel or of the path

@@ -1,10 +1,10 @@
 // The connection that a pair's data cells belong to (document 02, L13).
 ghost use Rattle.engine_arrivals.specs.Owner.{FindsOwner, FindsPath};
 use cell::name::NO_NAME;
-use engine_paths::name::path_of;
+use connection_members::path::path_of;
+use table::found::Found;
 use table::layout::WORDS;
 use table_members::find::find as find_member;
-use table_names::find::Found;
 use table_names::find::find;
 
 // Of a pair that is no open connection's: the entry of the path whose member it is.

@@ -1,17 +1,19 @@
-// Receiving a cell (document 01, "Refused because of the input", "Four moves of the allowed rate" and "Turning cells round"; document 02, L13).
+// Receiving a cell (document 01, "Refused because of the input", "Four moves of the allowed rate" and
+// "Turning cells round"; document 02, L13).
 ghost use mathlib.Core.Path.{_≡_};
 ghost use mathlib.Core.List.{[]};
 ghost use lib.ListN.{length};
-ghost use Rattle.cell_crc.specs.Payload.{payloadOf};
+ghost use Rattle.cell_payload.specs.Payload.{payloadOf};
 ghost use Rattle.cell.specs.Fields.{CrcMatches};
 ghost use Rattle.cell.specs.Octets.{payload};
 ghost use Rattle.cell.specs.declared.read.Reading.the-variants.{DataCell, RmCell};
 ghost use Rattle.model.specs.Step.{readStep, receiveStep};
-ghost use Rattle.engine.specs.Contract.{Meets};
+ghost use Rattle.engine.specs.Contract.{Meets, wholeAnswer};
 use crate::owner::find_owner;
 use cell::fields::Fields;
+use cell::name::VCIS;
 use cell::name::address_name;
-use cell_crc::payload::payload_at;
+use cell_payload::payload::payload_at;
 use cell_read::fields::fields_of;
 use cell_read::fields::vci_of;
 use cell_read::fields::vpi_of;
@@ -19,16 +21,17 @@ use cell_read::read::efci_of;
 use cell_read::read::header_refusal;
 use cell_read::read::is_data;
 use cell_read::read::rm_refusal;
-use connection_destination::receive::after_backward_cell;
 use connection_destination::receive::after_data_cell;
 use connection_destination::receive::after_forward_payload;
 use connection_members::path::PATH_VCI;
+use connection_source::backward::after_backward_cell;
 use laws::refusals::REFUSED_NOT_OPEN;
 use model::answer::Answer;
+use table::found::Found;
+use table::layout::HALF;
 use table::layout::LEVEL;
 use table::layout::WORDS;
-use table_load::load::load;
-use table_names::find::Found;
+use table_entry::load::load;
 use table_names::find::find;
 use table_store::store::update_destination;
 use table_store::store::update_efci;
@@ -37,10 +40,10 @@ use table_tournament::replay::levels_won;
 
 // A data cell, whose octets no longer count: refusal 11, on a path's own name too.
 fn receive_data(t: &mut [u64; WORDS], vpi: u32, vci: u32, efci: bool) -> Answer
-    ensures { λ r. ⌜ Meets (λ s. readStep s [] (DataCell vpi vci efci)) (now (t .entry)) (now (t .exit)) r ⌝ }
+    ensures { λ r. ⌜ Meets wholeAnswer (λ s. readStep s [] (DataCell vpi vci efci)) (now (t .entry)) (now (t .exit)) r ⌝ }
 {
     let name = address_name(vpi, vci);
-    if name % 65536 == PATH_VCI {
+    if name % VCIS == PATH_VCI {
         return Answer::Refused(REFUSED_NOT_OPEN);
     }
     let Found::At(i) = find_owner(t, name) else {
@@ -57,7 +60,7 @@ fn receive_data(t: &mut [u64; WORDS], vpi: u32, vci: u32, efci: bool) -> Answer
 // An RM cell of these fields: a backward cell moves the rate, a forward one is turned round. Refusal 11.
 fn receive_rm(t: &mut [u64; WORDS], cell: &[u8], f: Fields) -> Answer
     requires { ⌜ (length (now cell) ≡ 53) × CrcMatches (payloadOf (payload (now cell))) ⌝ }
-    ensures { λ r. ⌜ Meets (λ s. readStep s (now (cell .entry)) (RmCell f)) (now (t .entry)) (now (t .exit)) r ⌝ }
+    ensures { λ r. ⌜ Meets wholeAnswer (λ s. readStep s (now (cell .entry)) (RmCell f)) (now (t .entry)) (now (t .exit)) r ⌝ }
 {
     let name = address_name(f.vpi, f.vci);
     let Found::At(i) = find(t, name) else {
@@ -69,15 +72,16 @@ fn receive_rm(t: &mut [u64; WORDS], cell: &[u8], f: Fields) -> Answer
         let comparisons = update_source(t, i, next);
         return Answer::Accepted { comparisons };
     }
-    let level = (t[LEVEL] % 4294967296) as u32;
+    let level = (t[LEVEL] % HALF) as u32;
     let next = after_forward_payload(level, payload_at(cell), c);
     let comparisons = update_destination(t, i, next);
     Answer::Accepted { comparisons }
 }
 
-// Refusals 1, 2, 4, then 5, 6 and 19 for RM cells, 11. The steps are those of `read`, taken one by one so that a data cell makes no fields.
+// Refusals 1, 2, 4, then 5, 6 and 19 for RM cells, 11. The steps are those of `refusal`, taken one by one: a data cell
+// makes no fields and does not pay for the check of an RM cell.
 pub fn receive(t: &mut [u64; WORDS], cell: &[u8]) -> Answer
-    ensures { λ r. ⌜ Meets (λ s. receiveStep s (now (cell .entry))) (now (t .entry)) (now (t .exit)) r ⌝ }
+    ensures { λ r. ⌜ Meets wholeAnswer (λ s. receiveStep s (now (cell .entry))) (now (t .entry)) (now (t .exit)) r ⌝ }
 {
     let first = header_refusal(cell);
     if first != 0 {

@@ -8,33 +8,32 @@ use lib.Dec.{ltb}
 use lib.ListN.{length}
 use borrow.Author.Tests.{le-leb, lt-leb}
 use Rattle.laws.specs.Require.{require}
-use Rattle.cell.specs.Name.{vciIn, noName, addressFits, addressName}
-use Rattle.cell.proofs.Names.{pair-out, address-lt}
-use Rattle.connection_members.specs.Path.{pathVci, firstVci, pathOf}
+use Rattle.cell.specs.Name.{vciIn, noName, addressName}
+use Rattle.connection_members.specs.Path.{firstVci, pathOf}
 use Rattle.connection_members.specs.Members.{Member, memberCapacity, isMember, cellsOf, withMember, withoutMember, withCells}
 use Rattle.connection_members.proofs.Names.{path-of-address}
 use Rattle.connection.specs.declared.parts.Connection.{Connection}
 use Rattle.connection.specs.Parts.{withQueue, dequeued}
 use Rattle.connection.specs.Range.{InRange}
-use Rattle.connection.specs.Receiving.{offered}
+use Rattle.connection.specs.Source.{offered}
 use Rattle.connection.proofs.Keeps.{KeepsIdentity}
 use Rattle.model.specs.State.{State, free, taken, isFree, find, leafOf, withEntryOf, withMembers, capacity}
 use Rattle.model.specs.Invariant.{WellFormed}
 use Rattle.model.specs.Call.{Call, offeringMember, removing, Outcome}
-use Rattle.model.specs.Step.{refuse, accept, replay, discard, ofOpen, withOffer, withoutOne, addStep, ofMember, offerMemberStep, removeStep, step}
+use Rattle.model.specs.Step.{refuse, accept, replay, discard, ofOpen, withOffer, withoutOne, addStep, offerMemberStep, removeStep, step}
 use Rattle.model.specs.declared.answer.Answer.the-variants.{Accepted, Closed}
 use Rattle.model.proofs.Reached.{step-well-formed}
 use Rattle.table.specs.Layout.{words}
 use Rattle.table.specs.Loading.{connectionAt}
 use Rattle.table_store.specs.Updates.{Updates, SourceMoved}
 use Rattle.table_names.specs.Finding.{Located}
-use Rattle.table_names.proofs.Found.{found-at}
 use Rattle.table_members.specs.Place.{MemberAt}
 use Rattle.table_members.specs.Words.{CellsAt, HasRoom, SetsCells, Adds, RemovesMember}
 use Rattle.table_tournament.proofs.Orders.{ordered}
 use Rattle.engine.proofs.Outcomes.{accepted-out, replayed-out, discarded-out, replay-well-formed, valid-in, loaded-is, updated-is}
 use Rattle.engine.proofs.Members.{front, with-members, members-changed}
 use Rattle.engine.proofs.CallCases.{offered-same, offered-moved}
+use Rattle.engine_paths.specs.Member.{OnPath}
 
 -- an open path's name has 24 bits, and so has its member's
 pub path-coded : (s : State) → WellFormed s → (x : ℕ) {i : ℕ} → Located (s .entries) (pathOf x) i → x < noName
@@ -45,8 +44,8 @@ path-coded s w x p = below x (subst (λ (v : ℕ). v < noName) (p .named) (valid
 
 -- what waits on a member that was found, and whether there is room for another
 module _ (s : State) (w : WellFormed s) {l : List ℕ} (e : l ≡ words s) where
-  pub cells-are : {x i n : ℕ} → MemberAt (s .members) x i → CellsAt l i n → n ≡ cellsOf x (s .members)
-  cells-are {x} at h = h .is (front s) (s .members) x (with-members s (w .size) (w .members .valid) e) at
+  pub waiting-is : {x i n : ℕ} → MemberAt (s .members) x i → CellsAt l i n → n ≡ cellsOf x (s .members)
+  waiting-is {x} at h = h .is (front s) (s .members) x (with-members s (w .size) (w .members .valid) e) at
 
   pub room-is : {r : Bool} → HasRoom l r → r ≡ ltb (length (s .members)) memberCapacity
   room-is h = h .is (front s) (s .members) (with-members s (w .size) (w .members .valid) e)
@@ -88,56 +87,21 @@ add-out s w e {x} high new room h q =
     accepted-out 0 (withMembers (withMember x (s .members)) s)
     (members-changed s (withMember x (s .members)) (h .is (front s) (s .members) (with-members s (w .size) (w .members .valid) e) high new room)) q
 
--- A call on a member, up to where the member is found.
-module _ (s : State) (a b : ℕ) (f : Connection → Outcome) where
-  pub path-closed : find (addressName a pathVci) (s .entries) ≡ free → ofMember s a b f ≡ refuse s 11
-  unfolding ofMember ofOpen
-  path-closed e = rw e
-
-  module _ (c : Connection) (e : find (addressName a pathVci) (s .entries) ≡ taken c) where
-    pub out-of-range : addressFits a b ≡ false → ofMember s a b f ≡ refuse s 28
-    unfolding ofMember ofOpen require
-    out-of-range k = rw (e, k)
-
-    module _ (k : addressFits a b ≡ true) where
-      pub not-added : isMember (addressName a b) (s .members) ≡ false → ofMember s a b f ≡ refuse s 28
-      unfolding ofMember ofOpen require
-      not-added m = rw (e, k, m)
-
-      on-member : isMember (addressName a b) (s .members) ≡ true → ofMember s a b f ≡ f c
-      unfolding ofMember ofOpen require
-      on-member m = rw (e, k, m)
-
--- whether a pair is within the ranges, from its name
-module _ (a b : ℕ) {x : ℕ} (q : x ≡ addressName a b) where
-  pub fits-of : x < noName → addressFits a b ≡ true
-  fits-of h = go (addressFits a b) refl
-    where
-      go : (k : Bool) → addressFits a b ≡ k → addressFits a b ≡ true
-      go true e = e
-      go false e = absurd (omega (arith, h, q, pair-out a b e))
-
-  pub unfit-of : noName ≤ x → addressFits a b ≡ false
-  unfit-of h = go (addressFits a b) refl
-    where
-      go : (k : Bool) → addressFits a b ≡ k → addressFits a b ≡ false
-      go true e = absurd (omega (arith, h, q, address-lt a b e))
-      go false e = e
-
-module _ (s : State) (a b : ℕ) (c : Connection) (e : find (addressName a pathVci) (s .entries) ≡ taken c) (k : addressFits a b ≡ true) (m : isMember (addressName a b) (s .members) ≡ true) where
+-- Offering to a member, and removing it.
+module _ (s : State) (a b : ℕ) {i j : ℕ} (p : OnPath s a b i j) where
   pub offer-over : (n : ℕ) → 65535 < cellsOf (addressName a b) (s .members) + n → offerMemberStep s a b n ≡ refuse s 15
   unfolding offerMemberStep require
-  offer-over n h = on-member s a b _ c e k m ∙ rw (lt-leb (cellsOf (addressName a b) (s .members) + n) 65535 h)
+  offer-over n h = p .passes _ ∙ rw (lt-leb (cellsOf (addressName a b) (s .members) + n) 65535 h)
 
   offer-done :
       (n : ℕ) → cellsOf (addressName a b) (s .members) + n ≤ 65535
-      → offerMemberStep s a b n ≡ replay (leafOf (pathOf (addressName a b)) s) s (withOffer (addressName a b) n c s)
+      → offerMemberStep s a b n ≡ replay (leafOf (pathOf (addressName a b)) s) s (withOffer (addressName a b) n (p .located .holder) s)
   unfolding offerMemberStep require
-  offer-done n h = on-member s a b _ c e k m ∙ rw (le-leb (cellsOf (addressName a b) (s .members) + n) 65535 h)
+  offer-done n h = p .passes _ ∙ rw (le-leb (cellsOf (addressName a b) (s .members) + n) 65535 h)
 
-  remove-done : removeStep s a b ≡ discard (cellsOf (addressName a b) (s .members)) (leafOf (pathOf (addressName a b)) s) s (withoutOne (addressName a b) c s)
+  remove-done : removeStep s a b ≡ discard (cellsOf (addressName a b) (s .members)) (leafOf (pathOf (addressName a b)) s) s (withoutOne (addressName a b) (p .located .holder) s)
   unfolding removeStep
-  remove-done = on-member s a b _ c e k m
+  remove-done = p .passes _
 
 discard-well-formed : {s : State} → WellFormed s → (c : Call) (k x : ℕ) (r : State) → step s c ≡ discard k x s r → WellFormed r
 unfolding discard
@@ -149,40 +113,41 @@ removed-same n c = record { name = refl; opened = refl; trm = refl; params = ref
 pub removed-ranged : (n : ℕ) (c : Connection) → InRange c → InRange (withQueue c (dequeued n (c .queue)))
 removed-ranged n c h = record { opened = h .opened; trm = h .trm; pace = h .pace; made = h .made; «out_of_rate» = h .«out_of_rate» }
 
-on-path : (s : State) (a b : ℕ) → addressFits a b ≡ true → {i : ℕ} → Located (s .entries) (addressName a pathVci) i → Located (s .entries) (pathOf (addressName a b)) i
-on-path s a b fits {i} p = subst (λ (v : ℕ). Located (s .entries) v i) (sym (path-of-address a b fits)) p
+on-path : (s : State) (a b : ℕ) {i j : ℕ} → OnPath s a b i j → Located (s .entries) (pathOf (addressName a b)) i
+on-path s a b {i} p = subst (λ (v : ℕ). Located (s .entries) v i) (sym (path-of-address a b (p .fits))) (p .located)
 
 -- the member's word is changed, then the path's entry
-module _ (s : State) (w : WellFormed s) {l k m : List ℕ} (e : l ≡ words s) (a b : ℕ) (fits : addressFits a b ≡ true) {i : ℕ} (p : Located (s .entries) (addressName a pathVci) i) (below : i < capacity) {d : Connection} (q : d ≡ connectionAt l i) where
+module _ (s : State) (w : WellFormed s) {l k m : List ℕ} (e : l ≡ words s) (a b : ℕ) {i j : ℕ} (p : OnPath s a b i j) (below : i < capacity) {d : Connection} (q : d ≡ connectionAt l i) where
   pub offer-out :
-      (n : ℕ) {c j : ℕ} → isMember (addressName a b) (s .members) ≡ true → cellsOf (addressName a b) (s .members) + n ≤ 65535 → MemberAt (s .members) (addressName a b) j
-      → SetsCells j (cellsOf (addressName a b) (s .members) + n) l k → Updates SourceMoved k m i (offered n d) c
-      → (m ≡ words (offerMemberStep s a b n .state)) × (Accepted c ≡ offerMemberStep s a b n .answer)
+      (n : ℕ) {c : ℕ} → cellsOf (addressName a b) (s .members) + n ≤ 65535 → SetsCells j (cellsOf (addressName a b) (s .members) + n) l k
+      → Updates SourceMoved k m i (offered n d) c → (m ≡ words (offerMemberStep s a b n .state)) × (Accepted c ≡ offerMemberStep s a b n .answer)
   unfolding step withOffer withMembers withEntryOf on-path
-  offer-out n {c} {j} member fit at set u =
+  offer-out n {c} fit set u =
       let x : ℕ = addressName a b in
       let ms : List Member = withCells x (cellsOf x (s .members) + n) (s .members) in
       let r : State = withMembers ms s in
-      let now : Connection = offered n (p .holder) in
-      let done = offer-done s a b (p .holder) (found-at p) fits member n fit in
-      let z = ordered (replay-well-formed w (offeringMember a b n) (leafOf (pathOf x) s) (withOffer x n (p .holder) s) done) in
-      let g : k ≡ words r = members-changed s ms (set .is (front s) (s .members) x (with-members s (w .size) (w .members .valid) e) at) in
-      replayed-out (leafOf (pathOf x) s) s (withOffer x n (p .holder) s)
-      (updated-is r (w .size) g (on-path s a b fits p) now (offered-same n (p .holder)) (subst (λ (y : Connection). Updates SourceMoved k m i (offered n y) c) (loaded-is s w p e below q) u) (offered-moved n (p .holder)) z) done
+      let path : Connection = p .located .holder in
+      let is : d ≡ path = loaded-is s w (p .located) e below q in
+      let done = offer-done s a b p n fit in
+      let z = ordered (replay-well-formed w (offeringMember a b n) (leafOf (pathOf x) s) (withOffer x n path s) done) in
+      let g : k ≡ words r = members-changed s ms (set .is (front s) (s .members) x (with-members s (w .size) (w .members .valid) e) (p .place)) in
+      replayed-out (leafOf (pathOf x) s) s (withOffer x n path s)
+      (updated-is r (w .size) g (on-path s a b p) (offered n path) (offered-same n path) (subst (λ (y : Connection). Updates SourceMoved k m i (offered n y) c) is u) (offered-moved n path) z) done
 
   pub remove-out :
-      {c : ℕ} → isMember (addressName a b) (s .members) ≡ true → RemovesMember (addressName a b) l k
-      → Updates SourceMoved k m i (withQueue d (dequeued (cellsOf (addressName a b) (s .members)) (d .queue))) c
+      {c : ℕ} → RemovesMember (addressName a b) l k → Updates SourceMoved k m i (withQueue d (dequeued (cellsOf (addressName a b) (s .members)) (d .queue))) c
       → (m ≡ words (removeStep s a b .state)) × (Closed c (cellsOf (addressName a b) (s .members)) ≡ removeStep s a b .answer)
   unfolding step withoutOne withMembers withEntryOf on-path
-  remove-out {c} member gone u =
+  remove-out {c} gone u =
       let x : ℕ = addressName a b in
       let n : ℕ = cellsOf x (s .members) in
       let ms : List Member = withoutMember x (s .members) in
       let r : State = withMembers ms s in
-      let now : Connection = withQueue (p .holder) (dequeued n (p .holder .queue)) in
-      let done = remove-done s a b (p .holder) (found-at p) fits member in
-      let z = ordered (discard-well-formed w (removing a b) n (leafOf (pathOf x) s) (withoutOne x (p .holder) s) done) in
-      let g : k ≡ words r = members-changed s ms (gone .is (front s) (s .members) (with-members s (w .size) (w .members .valid) e) member) in
-      discarded-out n (leafOf (pathOf x) s) s (withoutOne x (p .holder) s)
-      (updated-is r (w .size) g (on-path s a b fits p) now (removed-same n (p .holder)) (subst (λ (y : Connection). Updates SourceMoved k m i (withQueue y (dequeued n (y .queue))) c) (loaded-is s w p e below q) u) (refl, refl) z) done
+      let path : Connection = p .located .holder in
+      let is : d ≡ path = loaded-is s w (p .located) e below q in
+      let now : Connection = withQueue path (dequeued n (path .queue)) in
+      let done = remove-done s a b p in
+      let z = ordered (discard-well-formed w (removing a b) n (leafOf (pathOf x) s) (withoutOne x path s) done) in
+      let g : k ≡ words r = members-changed s ms (gone .is (front s) (s .members) (with-members s (w .size) (w .members .valid) e) (p .place .member)) in
+      discarded-out n (leafOf (pathOf x) s) s (withoutOne x path s)
+      (updated-is r (w .size) g (on-path s a b p) now (removed-same n path) (subst (λ (y : Connection). Updates SourceMoved k m i (withQueue y (dequeued n (y .queue))) c) is u) (refl, refl) z) done

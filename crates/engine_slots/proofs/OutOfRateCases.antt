@@ -1,28 +1,33 @@
 -- One lemma for each way out of sending an out-of-rate cell.
-use Prim.Native.Nat.{ℕ, _≤_, _<_}
+use Prim.Native.Nat.{ℕ, _<_}
 use mathlib.Core.Path.{_≡_, refl, ap, _∙_}
 use mathlib.Core.Bool.{true, false}
 use mathlib.Core.List.{List}
 use lib.ListN.{set}
-use borrow.Author.Tests.{le-leb, lt-leb, eq-eqb, ne-eqb}
+use borrow.Author.Tests.{eq-eqb, ne-eqb}
 use Rattle.laws.specs.Require.{require}
-use Rattle.rate.specs.Units.{latestTime}
 use Rattle.connection.specs.declared.parts.Connection.{Connection}
 use Rattle.connection.specs.Interval.{rested}
-use Rattle.connection.specs.OutOfRate.{afterOutOfRate, outOfRateCell}
+use Rattle.connection.specs.Source.{afterOutOfRate, outOfRateCell}
 use Rattle.connection.proofs.Keeps.{out-of-rate-same}
 use Rattle.connection.proofs.Readiness.{ready-out-of-rate}
 use Rattle.connection.proofs.Reached.{acr-is-rate}
-use Rattle.model.specs.State.{State, free, taken, find, withEntryOf, withTime, capacity}
+use Rattle.model.specs.State.{State, taken, withEntryOf, withTime, capacity}
 use Rattle.model.specs.Invariant.{WellFormed}
-use Rattle.model.specs.Step.{refuse, ofOpen, sendOutOfRate, outOfRateStep}
+use Rattle.model.specs.Call.{Outcome}
+use Rattle.model.specs.Step.{refuse, sendOutOfRate, outOfRateStep}
 use Rattle.model.specs.declared.answer.Answer.the-variants.{Accepted}
 use Rattle.table.specs.Layout.{words, sourceWords, lastAt}
 use Rattle.table.specs.Storing.{outOfRateUpdated}
 use Rattle.table_names.specs.Finding.{Located}
 use Rattle.engine.specs.Contract.{bufferContent}
+use Rattle.engine.specs.Timed.{ofTimed, TimedAt}
 use Rattle.engine_slots.specs.Slots.{ForwardIn}
 use Rattle.engine.proofs.Outcomes.{time-word, later-put, valid-in, out-of-rate-is}
+
+-- what is left of sending, on the connection of the name
+abbrev outOfRateRest : State → (name time : ℕ) → Connection → Outcome
+outOfRateRest s v t c = require (refuse s 18) (rested t (c .«out_of_rate»)) (sendOutOfRate (withTime t s) t v c)
 
 module _ (s : State) (v t room : ℕ) where
   pub out-of-rate-short : (room ≡ 53 → ⊥) → outOfRateStep s v t room ≡ refuse s 1
@@ -30,28 +35,21 @@ module _ (s : State) (v t room : ℕ) where
   out-of-rate-short h = rw (ne-eqb room 53 h)
 
   module _ (r : room ≡ 53) where
-    pub out-of-rate-late : latestTime < t → outOfRateStep s v t room ≡ refuse s 8
+    pub out-of-rate-timed : outOfRateStep s v t room ≡ ofTimed s v t (outOfRateRest s v t)
     unfolding outOfRateStep require
-    out-of-rate-late h = rw (eq-eqb room 53 r, lt-leb t latestTime h)
+    out-of-rate-timed = rw (eq-eqb room 53 r)
 
-    module _ (u : t ≤ latestTime) where
-      pub out-of-rate-missing : find v (s .entries) ≡ free → outOfRateStep s v t room ≡ refuse s 11
-      unfolding outOfRateStep require ofOpen
-      out-of-rate-missing e = rw (eq-eqb room 53 r, le-leb t latestTime u, e)
+    module _ {i : ℕ} (k : TimedAt s v t i) where
+      rest-is : outOfRateStep s v t room ≡ outOfRateRest s v t (k .located .holder)
+      rest-is = out-of-rate-timed ∙ k .passes (outOfRateRest s v t)
 
-      module _ (c : Connection) (e : find v (s .entries) ≡ taken c) where
-        pub out-of-rate-early : t < s .last → outOfRateStep s v t room ≡ refuse s 14
-        unfolding outOfRateStep require ofOpen
-        out-of-rate-early h = rw (eq-eqb room 53 r, le-leb t latestTime u, e, lt-leb (s .last) t h)
+      pub out-of-rate-soon : rested t (k .located .holder .«out_of_rate») ≡ false → outOfRateStep s v t room ≡ refuse s 18
+      unfolding require
+      out-of-rate-soon m = rest-is ∙ rw m
 
-        module _ (h : s .last ≤ t) where
-          pub out-of-rate-soon : rested t (c .«out_of_rate») ≡ false → outOfRateStep s v t room ≡ refuse s 18
-          unfolding outOfRateStep require ofOpen
-          out-of-rate-soon m = rw (eq-eqb room 53 r, le-leb t latestTime u, e, le-leb (s .last) t h, m)
-
-          pub out-of-rate-done : rested t (c .«out_of_rate») ≡ true → outOfRateStep s v t room ≡ sendOutOfRate (withTime t s) t v c
-          unfolding outOfRateStep require ofOpen
-          out-of-rate-done m = rw (eq-eqb room 53 r, le-leb t latestTime u, e, le-leb (s .last) t h, m)
+      pub out-of-rate-done : rested t (k .located .holder .«out_of_rate») ≡ true → outOfRateStep s v t room ≡ sendOutOfRate (withTime t s) t v (k .located .holder)
+      unfolding require
+      out-of-rate-done m = rest-is ∙ rw m
 
 -- nothing but its own instant has moved
 kept : (t : ℕ) (c : Connection) → (sourceWords (afterOutOfRate t c) ≡ sourceWords c) × (afterOutOfRate t c .destination ≡ c .destination)

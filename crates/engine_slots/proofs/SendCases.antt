@@ -17,7 +17,9 @@ use Rattle.connection.specs.Invariant.{ValidAt}
 use Rattle.connection.specs.Kind.{kindAt}
 use Rattle.connection.specs.Parts.{waiting}
 use Rattle.connection.specs.Range.{InRange}
-use Rattle.connection.specs.Sending.{after, sentForward, sentTurned, sentData, memberServed, withServed, bufferSent}
+use Rattle.connection.specs.Source.{sentForward, sentData, withServed}
+use Rattle.connection.specs.Destination.{sentTurned}
+use Rattle.connection.specs.Slot.{after, memberServed, bufferSent}
 use Rattle.connection.proofs.Keeps.{KeepsIdentity, after-same, after-valid, served-same, served-valid}
 use Rattle.connection.proofs.Reached.{acr-is-rate}
 use Rattle.model.specs.State.{State, free, taken, position, holds, leafOf, withEntryOf, withMembers, capacity}

@@ -13,7 +13,8 @@ use Rattle.connection.specs.Parts.{waiting}
 use Rattle.connection.specs.declared.kind.Kind.{Kind}
 use Rattle.connection.specs.declared.kind.Kind.the-variants.{Forward, Turned, Data}
 use Rattle.connection.specs.Kind.{kindAt}
-use Rattle.connection.specs.Sending.{forwardFields, backwardCell}
+use Rattle.connection.specs.Source.{forwardFields}
+use Rattle.connection.specs.Destination.{backwardCell}
 use Rattle.model.specs.State.{State, free, taken, position, holds}
 use Rattle.model.specs.Invariant.{WellFormed}
 use Rattle.table.specs.Layout.{words}

@@ -1,39 +1,32 @@
 // An out-of-rate forward cell (document 02, L5).
 ghost use lib.ListN.{length};
-ghost use Rattle.engine.specs.Contract.{MeetsWriting};
+ghost use Rattle.engine.specs.Contract.{MeetsWriting, wholeAnswer};
 ghost use Rattle.model.specs.Step.{outOfRateStep};
 use crate::send::put_forward;
-use connection_source::interval::rested;
+use cell::octets::CELL_OCTETS;
+use connection::interval::rested;
 use connection_source::out_of_rate::after_out_of_rate;
+use engine::timed::timed_entry;
 use laws::refusals::REFUSED_LENGTH;
-use laws::refusals::REFUSED_NOT_OPEN;
-use laws::refusals::REFUSED_TIME;
-use laws::refusals::REFUSED_TIME_BACKWARD;
 use laws::refusals::REFUSED_TOO_OFTEN;
 use model::answer::Answer;
-use rate::units::LATEST_TIME;
+use table::layout::CAPACITY;
 use table::layout::LAST;
 use table::layout::WORDS;
-use table_load::load::load;
-use table_names::find::Found;
-use table_names::find::find;
+use table_entry::load::load;
 use table_store::store::update_out_of_rate;
 
 // Refusals 1, 8, 11, 14, 18. It replays no match.
 pub fn out_of_rate(t: &mut [u64; WORDS], name: u32, time: u64, cell: &mut [u8]) -> Answer
-    ensures { λ r. ⌜ MeetsWriting (λ s. outOfRateStep s name time (length (now (cell .entry)))) (now (t .entry)) (now (t .exit)) r (now (cell .entry)) (now (cell .exit)) ⌝ }
+    ensures { λ r. ⌜ MeetsWriting wholeAnswer (λ s. outOfRateStep s name time (length (now (cell .entry)))) (now (t .entry)) (now (t .exit)) r (now (cell .entry)) (now (cell .exit)) ⌝ }
 {
-    if cell.len() != 53 {
+    if cell.len() != CELL_OCTETS {
         return Answer::Refused(REFUSED_LENGTH);
     }
-    if LATEST_TIME < time {
-        return Answer::Refused(REFUSED_TIME);
-    }
-    let Found::At(i) = find(t, name) else {
-        return Answer::Refused(REFUSED_NOT_OPEN);
-    };
-    if time < t[LAST] {
-        return Answer::Refused(REFUSED_TIME_BACKWARD);
+    let i = timed_entry(t, name, time);
+    if CAPACITY <= i {
+        let refusal = (i - CAPACITY) as u32;
+        return Answer::Refused(refusal);
     }
     let c = load(t, i);
     let last = c.out_of_rate;

@@ -1,14 +1,16 @@
-// A slot that goes to an entry: the cell that it sends, and what that makes of the entry (document 01, "Slots"; document 02, L13).
+// A slot that goes to an entry: the cell that it sends, and what that makes of the entry
+// (document 01, "Slots"; document 02, L13).
 ghost use mathlib.Core.Path.{_≡_};
 ghost use Prim.Native.Nat.{_≤_, _<_};
 ghost use lib.ListN.{length};
 ghost use Rattle.rate.specs.Units.{latestTime};
 ghost use Rattle.cell.specs.Name.{noName};
 ghost use Rattle.connection.specs.Range.{InRange};
-ghost use Rattle.connection.specs.Sending.{backwardCell};
+ghost use Rattle.connection.specs.Destination.{backwardCell};
 ghost use Rattle.engine_slots.specs.Slots.{ForwardIn, Carried, MovedBy, isMembers, Sends};
 ghost use Rattle.model.specs.State.{capacity};
 ghost use Rattle.table_store.specs.Updates.{Updates};
+use cell::name::VCIS;
 use cell_write::turned::put_turned;
 use cell_write::write::put_rm;
 use connection::kind::Kind;
@@ -17,14 +19,14 @@ use connection::parts::Waiting;
 use connection_destination::make::made_fields;
 use connection_members::path::PATH_VCI;
 use connection_slot::kind::kind_at;
-use connection_source::send::after;
-use connection_source::send::forward_fields;
-use connection_source::send::with_served;
+use connection_slot::slot::after;
+use connection_source::forward::forward_fields;
+use connection_source::queue::with_served;
 use model::answer::Answer;
 use rate_moves::moves::Rate;
 use rate_params::params::Params;
 use table::layout::WORDS;
-use table_load::load::load;
+use table_entry::load::load;
 use table_members::turn::serve;
 use table_store::store::update;
 use table_store::store::update_source;
@@ -36,7 +38,7 @@ fn put_backward(cell: &mut [u8], name: u32, params: Params, w: Waiting, level: u
 {
     match w {
         Waiting::Nothing => put_rm(cell, 0, made_fields(name, params, level)),
-        Waiting::Cell(p) => put_turned(cell, name / 65536, name % 65536, p),
+        Waiting::Cell(p) => put_turned(cell, name / VCIS, name % VCIS, p),
     }
 }
 
@@ -88,11 +90,12 @@ fn of_member(kind: Kind, name: u32) -> bool
     match kind {
         Kind::Forward => false,
         Kind::Turned => false,
-        Kind::Data => name % 65536 == PATH_VCI,
+        Kind::Data => name % VCIS == PATH_VCI,
     }
 }
 
-// A data cell of a path is taken from the member whose turn it is, and the slot answers its name; a channel is not looked for among the members.
+// A data cell of a path is taken from the member whose turn it is, and the slot answers the member's name. A
+// channel is not looked for among the members.
 pub fn send(t: &mut [u64; WORDS], time: u64, i: usize, cell: &mut [u8]) -> Answer
     requires { ⌜ (i < capacity) × ((time ≤ latestTime) × (length (now cell) ≡ 53)) ⌝ }
     ensures { λ r. ⌜ Sends time i (now (t .entry)) (now (t .exit)) r (now (cell .entry)) (now (cell .exit)) ⌝ }
@@ -102,7 +105,7 @@ pub fn send(t: &mut [u64; WORDS], time: u64, i: usize, cell: &mut [u8]) -> Answe
     let next = after(kind, time, c);
     put_cell(cell, kind, c, next);
     if of_member(kind, c.name) {
-        let member = serve(t, c.name, (c.queue.served % 65536) as u16);
+        let member = serve(t, c.name, (c.queue.served % VCIS) as u16);
         let comparisons = update_source(t, i, with_served(member, next));
         return Answer::Sent {
             connection: c.name,

@@ -1,8 +1,9 @@
 // A slot: the connection it goes to, what it sends, and the allowed rate it leaves (document 01, "Slots").
 ghost use lib.ListN.{length};
 ghost use Rattle.model.specs.Step.{slotStep};
-ghost use Rattle.engine.specs.Contract.{MeetsWriting};
+ghost use Rattle.engine.specs.Contract.{MeetsWriting, wholeAnswer};
 use crate::send::send;
+use cell::octets::CELL_OCTETS;
 use laws::refusals::REFUSED_LENGTH;
 use laws::refusals::REFUSED_TIME;
 use laws::refusals::REFUSED_TIME_BACKWARD;
@@ -15,9 +16,9 @@ use table_tournament::slot::slot_winner;
 
 // Refusals 1, 8, 14. An idle slot's time counts too.
 pub fn slot(t: &mut [u64; WORDS], time: u64, cell: &mut [u8]) -> Answer
-    ensures { λ r. ⌜ MeetsWriting (λ s. slotStep s time (length (now (cell .entry)))) (now (t .entry)) (now (t .exit)) r (now (cell .entry)) (now (cell .exit)) ⌝ }
+    ensures { λ r. ⌜ MeetsWriting wholeAnswer (λ s. slotStep s time (length (now (cell .entry)))) (now (t .entry)) (now (t .exit)) r (now (cell .entry)) (now (cell .exit)) ⌝ }
 {
-    if cell.len() != 53 {
+    if cell.len() != CELL_OCTETS {
         return Answer::Refused(REFUSED_LENGTH);
     }
     if LATEST_TIME < time {

@@ -21,7 +21,7 @@ use Rattle.model.specs.Winner.{Winner, noneReady, wins, candidateFrom, winner, 
 use Rattle.model.specs.Tournament.{levels, MatchWinner, noWinner, wonBy, instantWinner, leafWinner, winnerAt, inTime, winnerWord, replayed}
 use Rattle.model.specs.declared.answer.Answer.{Answer}
 use Rattle.model.specs.declared.answer.Answer.the-variants.{Refused, Accepted, Closed, Idle, Sent}
-use Rattle.model.specs.Call.{Call, opening, closing, receiving, offering, levelling, slot, making, outOfRate, openingPath, adding, offeringMember, removing, Outcome, comparisons}
+use Rattle.model.specs.Call.{Call, Outcome, comparisons}
 use Rattle.model.specs.Step.{refuse, accept, replay, discard, sendStep, sendFrom, idleStep, sendOutOfRate, step}
 use Rattle.model.specs.Run.{run, final, isAccepted}
 use Rattle.model.proofs.Entries.{each-at, taken-in, lowest-free, entry-place}
@@ -76,26 +76,13 @@ unfolding find
 found-in u ss c e = taken-in ss (position (holds u) ss) c e
 
 -- Each call.
-opened-replays : (c : Call) (sent : Bool) → opensOne c ≡ true → replays c sent ≡ true
-opened-replays (opening vpi vci t p) sent e = refl
-opened-replays (closing vpi vci) sent e = refl
-opened-replays (receiving o) sent e = refl
-opened-replays (offering vpi vci n) sent e = refl
-opened-replays (levelling l) sent e = absurd (false≢true e)
-opened-replays (slot t room) sent e = absurd (false≢true e)
-opened-replays (making vpi vci t) sent e = refl
-opened-replays (outOfRate vpi vci t room) sent e = absurd (false≢true e)
-opened-replays (openingPath vpi t p) sent e = refl
-opened-replays (adding vpi vci) sent e = absurd (false≢true e)
-opened-replays (offeringMember vpi vci n) sent e = refl
-opened-replays (removing vpi vci) sent e = refl
-
-none-counted : (c : Call) (accepted : Bool) → (accepted ≡ true → replays c false ≡ true → ⊥) → Counted c accepted false 0
-none-counted c accepted h = record {
+none-counted :
+    (c : Call) (accepted : Bool) → (accepted ≡ true → replays c false ≡ true → ⊥) → (accepted ≡ true → opensOne c ≡ true → ⊥) → Counted c accepted false 0
+none-counted c accepted h k = record {
   most = omega arith;
   cell = λ e. absurd (false≢true e);
   least = λ a r. absurd (h a r);
-  opens = λ a r. absurd (h a (opened-replays c false r));
+  opens = λ a r. absurd (k a r);
   noReplay = λ _. refl;
   refused = λ _. refl;
 }
@@ -138,21 +125,21 @@ opened-counted {s} w u t p r =
 
 effect-counted : {s : State} → WellFormed s → {c : Call} {o : Outcome} → Effect s c o → CountedAnswer c (o .answer)
 unfolding refuse accept replay discard sendStep sendFrom idleStep sendOutOfRate withTime isAccepted comparisons
-effect-counted w (refuses c n h) = none-counted c false (λ e _. false≢true e)
+effect-counted w (refuses c n h) = none-counted c false (λ e _. false≢true e) (λ e _. false≢true e)
 effect-counted w (opens vpi vci t p g) = leaf-counted _ refl _ _ _ (λ _. opened-counted w (addressName vpi vci) t p (g .room))
 effect-counted w (closes vpi vci d f) = leaf-counted _ refl _ _ _ (λ e. absurd (false≢true e))
 effect-counted w (offers vpi vci n d f i h) = leaf-counted _ refl _ _ _ (λ e. absurd (false≢true e))
 effect-counted w (receivesData o vpi vci e v d r i z f) = leaf-counted _ refl _ _ _ (λ e. absurd (false≢true e))
 effect-counted w (receivesRm o q d r f) = leaf-counted _ refl _ _ _ (λ e. absurd (false≢true e))
-effect-counted w (setsLevel l h) = none-counted _ true (λ _ e. false≢true e)
-effect-counted w (idles t room g b) = none-counted _ true (λ _ e. false≢true e)
+effect-counted w (setsLevel l h) = none-counted _ true (λ _ e. false≢true e) (λ _ e. false≢true e)
+effect-counted w (idles t room g b) = none-counted _ true (λ _ e. false≢true e) (λ _ e. false≢true e)
 effect-counted {s} w (sends t room i u g b) =
     cell-counted _ refl refl _
     (replayed-all (position (holds u) (s .entries)) (omega (arith, found-in u (s .entries) (b .holder) (b .found), w .size)) (s .entries) (w .unique) _ (root-leaf w b))
 effect-counted w (makes vpi vci t d f g b m) = leaf-counted _ refl _ _ _ (λ e. absurd (false≢true e))
-effect-counted w (sendsOutOfRate vpi vci t room d f g b) = none-counted _ true (λ _ e. false≢true e)
+effect-counted w (sendsOutOfRate vpi vci t room d f g b) = none-counted _ true (λ _ e. false≢true e) (λ _ e. false≢true e)
 effect-counted w (opensPath vpi t p g) = leaf-counted _ refl _ _ _ (λ _. opened-counted w (addressName vpi pathVci) t p (g .room))
-effect-counted w (adds vpi vci d f j) = none-counted _ true (λ _ e. false≢true e)
+effect-counted w (adds vpi vci d f j) = none-counted _ true (λ _ e. false≢true e) (λ _ e. false≢true e)
 effect-counted w (offersMember vpi vci n d f i h) = leaf-counted _ refl _ _ _ (λ e. absurd (false≢true e))
 effect-counted w (removes vpi vci d f i) = leaf-counted _ refl _ _ _ (λ e. absurd (false≢true e))
 

@@ -1,5 +1,5 @@
 -- Demand 3 holds of exported calls.
-use Prim.Native.Nat.{ℕ}
+use Prim.Native.Nat.{ℕ, _<_}
 use mathlib.Core.Path.{_≡_, refl, sym, ap, _∙_}
 use mathlib.Core.Bool.{Bool}
 use mathlib.Core.List.{List, [], _∷_}
@@ -16,18 +16,19 @@ use Rattle.model.specs.Invariant.{WellFormed}
 use Rattle.model.specs.declared.answer.Answer.{Answer}
 use Rattle.model.specs.declared.answer.Answer.the-variants.{Refused, Accepted, Closed, Idle, Sent}
 use Rattle.model.specs.Call.{Call, Outcome, refusal, kindSent}
-use Rattle.model.specs.Step.{refuse, accept, replay, discard, idleStep, sendStep, sendFrom, sendOutOfRate, step}
+use Rattle.model.specs.Step.{step}
 use Rattle.model.specs.Queries.{entryAcr, acrOf}
 use Rattle.model.specs.Run.{run, final, isAccepted, paramsAfter, givenFrom, entryRate, allowed}
 use Rattle.model.proofs.Preserved.{empty-well-formed}
-use Rattle.model.proofs.Effects.{Effect, refuses, opens, closes, offers, receivesData, receivesRm, setsLevel, idles, sends, makes, sendsOutOfRate, opensPath, adds, offersMember, removes, effect}
+use Rattle.model.proofs.Effects.{Effect, effect}
 use Rattle.model.proofs.Reached.{step-well-formed}
+use Rattle.model.proofs.Shown.{effect-shown}
 use Rattle.abr_answers.specs.declared.calls.AbrSent.{AbrSent}
 use Rattle.abr_answers.specs.declared.calls.AbrAllowed.{AbrAllowed}
 use Rattle.abr_answers.specs.Calls.{sentOf, allowedOf}
 use Rattle.abr.specs.Contract.{ReturnsAllowed}
 use Rattle.abr.specs.Exports.{Observation, Transcript, finalWords, zeros, Matches, AllMatch, neither, both}
-use Rattle.connection.specs.Sending.{Buffer, untouched}
+use Rattle.connection.specs.Slot.{Buffer, untouched}
 use Rattle.table.specs.Layout.{words}
 use Rattle.engine.specs.Contract.{bufferContent}
 use Rattle.abr.proofs.Exports.{zeros-words, exports-are-run}
@@ -36,25 +37,19 @@ use Rattle.exports.specs.Exports.{paramsObserved, rateReturned, SameConn
 use Rattle.exports.specs.Returned.{noMember, wentTo, placesSeen}
 use Rattle.exports.proofs.Returned.{Knows, none-known, knows-after, names-connection, went-to}
 use Rattle.promise_lists.proofs.Demand3.{demand3}
+use Rattle.promise_lists.proofs.Refusals.{shown-refused}
 
--- What the numbers say of the answers: 0 of an accepted call alone.
+-- What the numbers say of the answers: 0 of an accepted call alone, since no refusal's number is 0.
+answer-accepted : (a : Answer) → ((n : ℕ) → refusal a ≡ some n → 0 < n) → eqb (sentOf a .refusal) 0 ≡ isAccepted a
+unfolding refusal isAccepted
+answer-accepted (Refused n) h = let z = h n refl in ne-eqb n 0 (λ e. omega (arith, z, e))
+answer-accepted (Accepted n) h = refl
+answer-accepted (Closed n k) h = refl
+answer-accepted Idle h = refl
+answer-accepted (Sent v x k a n) h = refl
+
 pub effect-accepted : {s : State} {c : Call} {o : Outcome} → Effect s c o → eqb (sentOf (o .answer) .refusal) 0 ≡ isAccepted (o .answer)
-unfolding refuse accept replay discard idleStep sendStep sendFrom sendOutOfRate isAccepted
-effect-accepted (refuses c n h) = ne-eqb n 0 (λ e. omega (arith, h, e))
-effect-accepted (opens vpi vci t p g) = refl
-effect-accepted (closes vpi vci d f) = refl
-effect-accepted (offers vpi vci n d f i h) = refl
-effect-accepted (receivesData o vpi vci e v d r i y f) = refl
-effect-accepted (receivesRm o q d r f) = refl
-effect-accepted (setsLevel l h) = refl
-effect-accepted (idles t room g b) = refl
-effect-accepted (sends t room i u g b) = refl
-effect-accepted (makes vpi vci t d f g b m) = refl
-effect-accepted (sendsOutOfRate vpi vci t room d f g b) = refl
-effect-accepted (opensPath vpi t p g) = refl
-effect-accepted (adds vpi vci d f j) = refl
-effect-accepted (offersMember vpi vci n d f i h) = refl
-effect-accepted (removes vpi vci d f i) = refl
+effect-accepted {s} {c} {o} e = answer-accepted (o .answer) (λ n q. shown-refused (effect-shown e) n q .number)
 
 -- the kind and the connection of a slot, and a refusal's number
 orZero : Option ℕ → ℕ
@@ -87,22 +82,15 @@ kind-number (Sent v x Data a n) = refl
 
 -- Refusals.
 effect-leaves : {s : State} {c : Call} {o : Outcome} → Effect s c o → (sentOf (o .answer) .refusal ≡ 0 → ⊥) → (o .state ≡ s) × (o .buffer ≡ untouched)
-unfolding refuse accept replay discard idleStep sendStep sendFrom sendOutOfRate
-effect-leaves (refuses c n h) z = (refl, refl)
-effect-leaves (opens vpi vci t p g) z = absurd (z refl)
-effect-leaves (closes vpi vci d f) z = absurd (z refl)
-effect-leaves (offers vpi vci n d f i h) z = absurd (z refl)
-effect-leaves (receivesData o vpi vci e v d r i y f) z = absurd (z refl)
-effect-leaves (receivesRm o q d r f) z = absurd (z refl)
-effect-leaves (setsLevel l h) z = absurd (z refl)
-effect-leaves (idles t room g b) z = absurd (z refl)
-effect-leaves (sends t room i u g b) z = absurd (z refl)
-effect-leaves (makes vpi vci t d f g b m) z = absurd (z refl)
-effect-leaves (sendsOutOfRate vpi vci t room d f g b) z = absurd (z refl)
-effect-leaves (opensPath vpi t p g) z = absurd (z refl)
-effect-leaves (adds vpi vci d f j) z = absurd (z refl)
-effect-leaves (offersMember vpi vci n d f i h) z = absurd (z refl)
-effect-leaves (removes vpi vci d f i) z = absurd (z refl)
+unfolding refusal
+effect-leaves {s} {c} {o} e z = go (o .answer) refl z
+  where
+    go : (a : Answer) → o .answer ≡ a → (sentOf a .refusal ≡ 0 → ⊥) → (o .state ≡ s) × (o .buffer ≡ untouched)
+    go (Refused n) q h = let u = shown-refused (effect-shown e) n (ap refusal q) in (u .table, u .buffer)
+    go (Accepted n) q h = absurd (h refl)
+    go (Closed n k) q h = absurd (h refl)
+    go Idle q h = absurd (h refl)
+    go (Sent v x k a n) q h = absurd (h refl)
 
 leave-from : (s : State) → WellFormed s → (cs : List Call) (l : List ℕ) (os : List Observation) → AllMatch (run s cs) os → l ≡ words s → RefusedLeave l os
 leave-from s w [] l [] neither e = tt

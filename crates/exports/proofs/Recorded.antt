@@ -16,7 +16,7 @@ use Rattle.model.specs.declared.acr.Acr.{Acr}
 use Rattle.model.specs.declared.acr.Acr.the-variants.{NotOpen, Rate}
 use Rattle.model.specs.declared.answer.Answer.{Answer}
 use Rattle.model.specs.declared.answer.Answer.the-variants.{Refused, Accepted, Closed, Idle, Sent}
-use Rattle.model.specs.Call.{Call, opening, closing, receiving, offering, levelling, slot, making, outOfRate, openingPath, adding, offeringMember, removing}
+use Rattle.model.specs.Call.{Call}
 use Rattle.model.specs.Step.{step}
 use Rattle.model.specs.Queries.{acrOf}
 use Rattle.model.specs.Run.{run, final, isAccepted}
@@ -25,11 +25,12 @@ use Rattle.model.proofs.Reached.{step-well-formed, reached-well-formed}
 use Rattle.table.specs.Layout.{words}
 use Rattle.abr_answers.specs.declared.calls.AbrAllowed.{AbrAllowed}
 use Rattle.abr_answers.specs.declared.traces.AbrVerdict.{AbrVerdict}
-use Rattle.abr_answers.specs.Traces.{verdictAnswerOf}
+use Rattle.abr_answers.specs.Traces.{judgedOf}
 use Rattle.abr_answers.specs.Calls.{sentOf, allowedOf}
+use Rattle.model.specs.Aspects.{Sort, opener, closer, arrival, slotAt, another, sortOf}
 use Rattle.abr.specs.Exports.{Observation, finalWords, zeros, Matches, AllMatch, neither, both}
 use Rattle.abr.proofs.Exports.{exports-are-run}
-use Rattle.promise_traces.specs.InRate.{SentCell, acrIn, cellIn, atSlot, sentBy, closesConnection, sentFrom}
+use Rattle.promise_traces.specs.InRate.{SentCell, acrIn, cellIn, atSlot, sentBy, closesConnection, sentFrom, atSort}
 use Rattle.promise_traces.specs.Written.{traceOctets}
 use Rattle.promise_traces.specs.Traces.{Opening, traceCells}
 use Rattle.promise_traces.proofs.Fits.{own-trace-passes}
@@ -54,27 +55,19 @@ unfolding acrIn
 rate-returned NotOpen = refl
 rate-returned (Rate a c) = refl
 
-at-slot : (c : Call) (f g : ℕ → List SentCell) → ((t : ℕ) → f t ≡ g t) → atSlot c f ≡ atSlot c g
-unfolding atSlot
-at-slot (opening vpi vci t p) f g h = refl
-at-slot (closing vpi vci) f g h = refl
-at-slot (receiving o) f g h = refl
-at-slot (offering vpi vci n) f g h = refl
-at-slot (levelling l) f g h = refl
-at-slot (slot t room) f g h = h t
-at-slot (making vpi vci t) f g h = refl
-at-slot (outOfRate vpi vci t room) f g h = refl
-at-slot (openingPath vpi t p) f g h = refl
-at-slot (adding vpi vci) f g h = refl
-at-slot (offeringMember vpi vci n) f g h = refl
-at-slot (removing vpi vci) f g h = refl
+at-sort : (x : Sort) (f g : ℕ → List SentCell) → ((t : ℕ) → f t ≡ g t) → atSort x f ≡ atSort x g
+at-sort (opener v t p) f g h = refl
+at-sort (closer v) f g h = refl
+at-sort (arrival o) f g h = refl
+at-sort (slotAt t) f g h = h t
+at-sort another f g h = refl
 
 sent-seen :
     (v : ℕ) (s : State) (w : WellFormed s) (f : ℕ → Bool) → Knows f s → (c : Call) (o : Observation) → Matches (step s c) o → (a : AbrAllowed) → a ≡ allowedOf (acrOf s v)
     → atSlot c (λ t. cellReturned v f t (a .acr) (o .returned)) ≡ sentBy v s c (step s c .answer)
-unfolding sentBy
+unfolding sentBy atSlot
 sent-seen v s w f k c o m a e =
-    at-slot c (λ t. cellReturned v f t (a .acr) (o .returned)) (λ t. cellIn v t (acrIn (acrOf s v)) (step s c .answer)) λ t.
+    at-sort (sortOf c) (λ t. cellReturned v f t (a .acr) (o .returned)) (λ t. cellIn v t (acrIn (acrOf s v)) (step s c .answer)) λ t.
     ap (cellReturned v f t (a .acr)) (m .returned)
     ∙ cell-returned v f t (a .acr) (step s c .answer) (names-connection w f k c)
     ∙ ap (λ (x : ℕ). cellIn v t x (step s c .answer)) (ap (λ (x : AbrAllowed). x .acr) e ∙ rate-returned (acrOf s v))
@@ -106,8 +99,8 @@ recorded-run before after c v p q f k o ps rs (both m ms) z r =
     (recorded-sent v after (step s c .state) (step-well-formed w c) (memberSeen c o f) (knows-after w c f k _ (accepted-seen w c m)) (o .table) (m .table) ps rs ms r)
     ∙ own-trace-passes before c v p after q (sym (accepted-seen w c m) ∙ eq-eqb (o .returned .refusal) 0 z)
 
-no-rule-broken : (v : Verdict) → v ≡ Passes → (r : AbrVerdict) → r ≡ verdictAnswerOf v → (r .refusal ≡ 0) × (r .rule ≡ 0)
-no-rule-broken v e r h = let q = h ∙ ap verdictAnswerOf e in (ap (λ (x : AbrVerdict). x .refusal) q, ap (λ (x : AbrVerdict). x .rule) q)
+no-rule-broken : (v : Verdict) → v ≡ Passes → (r : AbrVerdict) → r ≡ judgedOf v → (r .refusal ≡ 0) × (r .rule ≡ 0)
+no-rule-broken v e r h = let q = h ∙ ap judgedOf e in (ap (λ (x : AbrVerdict). x .refusal) q, ap (λ (x : AbrVerdict). x .rule) q)
 
 pub recorded-passes : RecordedPasses
 recorded-passes before after c v p os ps o rs r q x y z h e =

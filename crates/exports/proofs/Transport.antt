@@ -1,5 +1,6 @@
--- What carries a statement on lists of calls over to lists of exported calls: the words stand for a state, each exported call is seen as its step, and what a caller
--- keeps of the calls and the numbers that they returned is kept of the states.
+-- What carries a statement on lists of calls over to lists of exported calls. The words stand for a state.
+-- Each exported call is seen as its step. What a caller keeps of the calls and the numbers that they
+-- returned is kept of the states.
 use Prim.Native.Nat.{ℕ}
 use mathlib.Core.Path.{_≡_, refl, sym, ap, subst, _∙_}
 use mathlib.Core.Bool.{true}
@@ -15,21 +16,23 @@ use Rattle.model.specs.Run.{final, isAccepted}
 use Rattle.model.specs.Queries.{acrOf}
 use Rattle.model.specs.Conservation.{sumOver}
 use Rattle.model.proofs.Preserved.{empty-well-formed}
-use Rattle.model.proofs.Reached.{step-well-formed}
+use Rattle.model.proofs.Reached.{step-well-formed, final-append}
+use Rattle.model.proofs.BySort.{BySort, anOpening, anOpeningPath, aClosing, aReceiving, aSlot, anotherCall, bySort}
 use Rattle.table.specs.Layout.{words}
 use Rattle.abr_answers.specs.declared.calls.AbrAllowed.{AbrAllowed}
 use Rattle.abr_answers.specs.Calls.{allowedOf}
 use Rattle.abr.specs.Contract.{ReturnsAllowed}
-use Rattle.abr.specs.Exports.{Observation, Performs, abrOpen, abrClose, abrReceive, abrOffer, abrSetLevel, abrMake, abrOutOfRate, abrSlot, abrOpenPath, abrAdd, abrOfferMember, abrRemove, Transcript, ended, then, finalWords, zeros, Matches}
+use Rattle.abr.specs.Exports.{Observation, Performs, abrReceive, Transcript, ended, then, finalWords, zeros, Matches}
 use Rattle.abr.proofs.Exports.{performs-matches, zeros-words}
 use Rattle.laws.specs.All.{All}
 use Rattle.promise_lists.specs.Demand3.{InPlace}
-use Rattle.promise_cells.specs.ReservedBit.{OfOctets}
+use Rattle.promise_cells.specs.ReservedBit.{OfOctets, OctetsIn}
 use Rattle.exports.specs.Conservation.{sumObserved}
 use Rattle.exports.proofs.Exports.{accepted-seen}
 use Rattle.exports.specs.Along.{kept, Along}
 
--- these words are those of this state, which calls make from the empty table; the cells that they receive consist of octets
+-- These words are those of this state. Calls make it from the empty table, and the cells that
+-- they receive consist of octets.
 pub record Stands (s : State) (l : List ℕ) : Type 0 where
   pub calls : List Call
   pub reached : final empty calls ≡ s
@@ -51,27 +54,18 @@ pub record Sees (s : State) (c : Call) (o : Observation) : Type 0 where
 pub stands-first : Stands empty zeros
 stands-first = record { calls = []; reached = refl; octets = tt; wellFormed = empty-well-formed; table = zeros-words }
 
-final-one : (s : State) (cs : List Call) (c : Call) → final s (cs ++ (c ∷ [])) ≡ step (final s cs) c .state
-final-one s [] c = refl
-final-one s (d ∷ cs) c = final-one (step s d .state) cs c
-
 octets-one : (cs : List Call) (c : Call) → All OfOctets cs → OfOctets c → All OfOctets (cs ++ (c ∷ []))
 octets-one [] c q h = (h, tt)
 octets-one (d ∷ cs) c q h = (q .0, octets-one cs c (q .1) h)
 
-performed-octets : {c : Call} {l : List ℕ} {o : Observation} → Performs c l o → OfOctets c
-performed-octets (abrOpen h) = tt
-performed-octets (abrClose h) = tt
-performed-octets (abrReceive q h) = q
-performed-octets (abrOffer h) = tt
-performed-octets (abrSetLevel h) = tt
-performed-octets (abrMake h) = tt
-performed-octets (abrOutOfRate h) = tt
-performed-octets (abrSlot h) = tt
-performed-octets (abrOpenPath h) = tt
-performed-octets (abrAdd h) = tt
-performed-octets (abrOfferMember h) = tt
-performed-octets (abrRemove h) = tt
+-- the octets of a received cell, by C's type; no other call has any
+performed-octets : {c : Call} → BySort c → {l : List ℕ} {o : Observation} → Performs c l o → OfOctets c
+performed-octets (anOpening a b t p) h = tt
+performed-octets (anOpeningPath a t p) h = tt
+performed-octets (aClosing a b) h = tt
+performed-octets (aReceiving x) (abrReceive q h) = q
+performed-octets (aSlot t room) h = tt
+performed-octets (anotherCall c e) h = subst OctetsIn (sym e) tt
 
 pub sees : {s : State} {l : List ℕ} → Stands s l → {c : Call} {o : Observation} → Performs c l o → Sees s c o
 sees {s} st {c} p =
@@ -80,14 +74,14 @@ sees {s} st {c} p =
       calls = st .calls;
       reached = st .reached;
       octets = st .octets;
-      ofOctets = performed-octets p;
+      ofOctets = performed-octets (bySort c) p;
       wellFormed = st .wellFormed;
       matches = m;
       accepted = accepted-seen (st .wellFormed) c m;
       next = record {
         calls = st .calls ++ (c ∷ []);
-        reached = final-one empty (st .calls) c ∙ ap (λ (r : State). step r c .state) (st .reached);
-        octets = octets-one (st .calls) c (st .octets) (performed-octets p);
+        reached = final-append empty (st .calls) (c ∷ []) ∙ ap (λ (r : State). step r c .state) (st .reached);
+        octets = octets-one (st .calls) c (st .octets) (performed-octets (bySort c) p);
         wellFormed = step-well-formed (st .wellFormed) c;
         table = m .table;
       };
@@ -113,8 +107,9 @@ pub record Keeps {K : Type 0} (next : Call → Observation → K → K) (Means :
   pub goes : (s : State) (c : Call) (o : Observation) (k : K) → Means k s → Sees s c o → Means (next c o k) (step s c .state)
 
 module _ {K : Type 0} (next : Call → Observation → K → K) (Means : K → State → Type 0) (n : Keeps next Means) where
-  -- THE TRANSPORT, an induction along a trace: at each call what is kept is so, the call is seen as the step of a state that calls make, and the claim of the rest may be used.
-  -- The claim may speak of the state, of what is kept, of the calls and of the observations.
+  -- THE TRANSPORT, an induction along a trace. At each call what is kept holds, the call is seen as the step of a
+  -- state that calls make, and the claim of the rest may be used. The claim may be about the state, what is kept,
+  -- the calls and the observations.
   pub carry :
       (G : State → K → List Call → List Observation → Type 0) → ((s : State) (k : K) → G s k [] [])
       → ((s : State) (c : Call) (o : Observation) (k : K) (cs : List Call) (os : List Observation) → Means k s → Sees s c o → G (step s c .state) (next c o k) cs os → G s k (c ∷ cs) (o ∷ os))
@@ -144,8 +139,8 @@ Anything k s = Unit
 pub keeps-nothing : Keeps nothing Anything
 keeps-nothing = record { goes = λ s c o k m z. tt }
 
--- what is true of every outcome of every list of calls whose received cells consist of octets, and can be read off table, answer and buffer, is true of every observation
--- of every trace
+-- Take what is true of every outcome of every list of calls whose received cells consist of octets. If it can be
+-- read off table, answer and buffer, it is true of every observation of every trace.
 pub each-call :
     (P : Call → Outcome → Type 0) (Q : Call → Observation → Type 0) → ((cs : List Call) → All OfOctets cs → (c : Call) → P c (step (final empty cs) c))
     → ((s : State) (c : Call) (o : Observation) → Sees s c o → P c (step s c) → Q c o) → (cs : List Call) (os : List Observation) → Transcript cs zeros os → InPlace Q cs os

@@ -1,4 +1,5 @@
--- What the last backward cell changed, of exported calls: said of what abr_acr returns before a call and after it. (Document 02, L9.)
+-- What the last backward cell changed, for exported calls. It is said of what abr_acr returns before a call
+-- and after it. (Document 02, L9.)
 use Prim.Native.Nat.{ℕ}
 use mathlib.Core.Path.{_≡_}
 use mathlib.Core.List.{List}

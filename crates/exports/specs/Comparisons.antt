@@ -1,5 +1,5 @@
--- The work of a call is bounded: the comparisons that it makes in the tournament of ready instants, and returns. The winner of the tournament is the connection that
--- a scan of all entries picks. (Document 02, L4 and L13.)
+-- The work of a call is bounded: the comparisons that it makes in the tournament of ready instants, and returns.
+-- The winner of the tournament is the connection that a scan of all entries picks. (Document 02, L4 and L13.)
 use Prim.Native.Nat.{ℕ, _≤_}
 use mathlib.Core.Path.{_≡_}
 use mathlib.Core.Bool.{Bool, true, false, not}
@@ -10,40 +10,35 @@ use Rattle.model.specs.Winner.{winner}
 use Rattle.model.specs.Tournament.{levels, winnerAt, inTime}
 use Rattle.model.specs.declared.answer.Answer.{Answer}
 use Rattle.model.specs.declared.answer.Answer.the-variants.{Refused, Accepted, Closed, Idle, Sent}
-use Rattle.model.specs.Call.{Call, opening, closing, receiving, offering, levelling, slot, making, outOfRate, openingPath, adding, offeringMember, removing, comparisons}
+use Rattle.model.specs.Call.{Call, comparisons}
+use Rattle.model.specs.Aspects.{Sort, opener, closer, arrival, slotAt, another, sortOf, Lent, forSlot, forOutOfRate, notLent, lentOf, Subject, byName, inCell, inAnswer, noSubject, subjectOf}
 use Rattle.model.specs.Step.{step}
 use Rattle.model.specs.Run.{final, isAccepted}
 use Rattle.abr.specs.Exports.{Observation, Transcript, zeros}
 use Rattle.promise_lists.specs.Demand3.{InPlace}
 
--- whether a call replays a leaf if it is accepted: a slot does so if it sends a cell
+-- whether a call replays a leaf if it is accepted: that of the connection that it is about,
+-- a slot if it sends a cell, and an out-of-rate cell none
+abbrev pub replaysFor : Lent → Subject → (sent : Bool) → Bool
+replaysFor (forSlot t) x sent = sent
+replaysFor (forOutOfRate v) x sent = false
+replaysFor notLent (byName v) sent = true
+replaysFor notLent (inCell o) sent = true
+replaysFor notLent inAnswer sent = true
+replaysFor notLent noSubject sent = false
+
 abbrev pub replays : Call → (sent : Bool) → Bool
-replays (opening vpi vci t p) sent = true
-replays (closing vpi vci) sent = true
-replays (receiving o) sent = true
-replays (offering vpi vci n) sent = true
-replays (levelling l) sent = false
-replays (slot t room) sent = sent
-replays (making vpi vci t) sent = true
-replays (outOfRate vpi vci t room) sent = false
-replays (openingPath vpi t p) sent = true
-replays (adding vpi vci) sent = false
-replays (offeringMember vpi vci n) sent = true
-replays (removing vpi vci) sent = true
+replays c sent = replaysFor (lentOf c) (subjectOf c) sent
+
+abbrev pub isOpener : Sort → Bool
+isOpener (opener v t p) = true
+isOpener (closer v) = false
+isOpener (arrival o) = false
+isOpener (slotAt t) = false
+isOpener another = false
 
 abbrev pub opensOne : Call → Bool
-opensOne (opening vpi vci t p) = true
-opensOne (closing vpi vci) = false
-opensOne (receiving o) = false
-opensOne (offering vpi vci n) = false
-opensOne (levelling l) = false
-opensOne (slot t room) = false
-opensOne (making vpi vci t) = false
-opensOne (outOfRate vpi vci t room) = false
-opensOne (openingPath vpi t p) = true
-opensOne (adding vpi vci) = false
-opensOne (offeringMember vpi vci n) = false
-opensOne (removing vpi vci) = false
+opensOne c = isOpener (sortOf c)
 
 -- the comparisons n of a call, which was accepted or not, and sent a cell or not
 pub record Counted (c : Call) (accepted sent : Bool) (n : ℕ) : Type 0 where
@@ -77,6 +72,7 @@ CountedObserved c o = Counted c (eqb (o .returned .refusal) 0) (not (eqb (o .ret
 abbrev pub ExportsComparisons : Type 0
 ExportsComparisons = (cs : List Call) (os : List Observation) → Transcript cs zeros os → InPlace CountedObserved cs os
 
--- the winner of a slot at t, found by a scan of the entries, is the winner at the root of the tournament if it is ready by t
+-- the winner of a slot at t, found by a scan of the entries, is the winner at the root of the
+-- tournament if that is ready by t
 abbrev pub ScanPicksWinner : Type 0
 ScanPicksWinner = (cs : List Call) (t : ℕ) → winner t (final empty cs .entries) ≡ inTime t (winnerAt (final empty cs .entries) levels 1)

@@ -1,4 +1,5 @@
--- No data cell is unaccounted, of exported calls: offers, slots and closes are summed from the calls and what they returned. (Document 02, L12 and L13.)
+-- No data cell is unaccounted, for exported calls. Offers, slots and closes are summed from the calls and what they
+-- returned. (Document 02, L12 and L13.)
 use Prim.Native.Nat.{ℕ, _+_, _≤_}
 use mathlib.Core.Path.{_≡_}
 use mathlib.Core.Bool.{Bool, cond, _&&_}
@@ -26,7 +27,8 @@ sumObserved f [] os = 0
 sumObserved f (c ∷ cs) [] = 0
 sumObserved f (c ∷ cs) (o ∷ os) = f c o + sumObserved f cs os
 
--- of the name v: the cells in offers that returned no refusal, the data slots, and the cells that its closes, and the removals of its members, returned
+-- for the name v: the cells in offers that returned no refusal, the data slots, and the cells that its closes and
+-- the removals of its members returned
 abbrev pub offersObserved : (v : ℕ) → List Call → List Observation → ℕ
 offersObserved v = sumObserved (λ c o. offeredTo v c (eqb (o .returned .refusal) 0))
 
@@ -41,7 +43,8 @@ slotsObserved v = slotsFrom v noMember
 abbrev pub closesObserved : (v : ℕ) → List Call → List Observation → ℕ
 closesObserved v = sumObserved (λ c o. closedOn v c (o .cells))
 
--- after every list of exported calls from the zero table, which then holds the words of `final empty cs` (abr/specs/Exports.antt)
+-- after every list of exported calls from the zero table, which then holds the words of
+-- `final empty cs` (abr/specs/Exports.antt)
 pub record ExportsConservation : Type 0 where
   pub balance :
       (cs : List Call) (os : List Observation) → Transcript cs zeros os → (v : ℕ)

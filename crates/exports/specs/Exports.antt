@@ -1,4 +1,5 @@
--- Demands 1 and 3 of exported calls, as C sees them: said of the numbers and structs that calls from the zero table return, and of the rates that abr_acr returns.
+-- Demands 1 and 3 for exported calls, as C sees them. They are said of the numbers and structs that calls from the
+-- zero table return, and of the rates that abr_acr returns.
 -- (Document 01, "The lists of demand 3" and "What the library commits to", 1; document 02, L13.)
 use Prim.Native.Nat.{ℕ, _≤_}
 use mathlib.Core.Path.{_≡_}
@@ -34,7 +35,8 @@ pub record RateNotAbove (a b : AbrAllowed) : Type 0 where
   pub refusals : a .refusal ≡ b .refusal
   pub rates : b .acr ≤ a .acr
 
--- the same refusal or none, the same kind of cell or none, and no rate that abr_acr returns after the second call above that after the first
+-- The same refusal or none, and the same kind of cell or none. No rate that abr_acr returns after the second call
+-- is above that after the first.
 pub record ObservedAgree (o p : Observation) : Type 0 where
   pub refusals : o .returned .refusal ≡ p .returned .refusal
   pub kinds : o .returned .kind ≡ p .returned .kind

@@ -1,4 +1,5 @@
--- What a caller knows from calls and what they returned: which names are open, and which are members. (Document 01, "The lists of demand 3"; document 02, L13.)
+-- What a caller knows from calls and what they returned: which names are open, and which are members.
+-- (Document 01, "The lists of demand 3"; document 02, L13.)
 use Prim.Native.Nat.{ℕ}
 use mathlib.Core.Path.{_≡_}
 use mathlib.Core.Bool.{true}

@@ -1,4 +1,5 @@
--- The last accepted time as a caller knows it: that of the last open, slot, making or out-of-rate cell that returned 0, an idle slot among them, and 0 before the first.
+-- The last accepted time as a caller knows it: that of the last open, slot, making or out-of-rate cell that
+-- returned 0. An idle slot counts too. Before the first it is 0.
 -- (Document 01, "Refused because of the state", 14; document 02, L1, L5 and L13.)
 use Prim.Native.Nat.{ℕ}
 use mathlib.Core.Bool.{cond}

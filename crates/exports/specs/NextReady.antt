@@ -1,4 +1,5 @@
--- How long a transmitter can sleep, of exported calls: said of the numbers that abr_next and abr_slot return after them.
+-- How long a transmitter can sleep, for exported calls. It is said of the numbers that abr_next
+-- and abr_slot return after them.
 use Prim.Native.Nat.{ℕ, _≤_, _<_}
 use mathlib.Core.Path.{_≡_}
 use mathlib.Core.Logic.{_≢_}

@@ -1,4 +1,5 @@
--- After every list of calls, exporting a connection's contract gives the rates that its open gave, and importing them gives their canonical codes. (Document 02, L8.)
+-- After every list of calls, exporting a connection's contract gives the rates that its open gave. Importing them
+-- gives their canonical codes. (Document 02, L8.)
 use Prim.Native.Nat.{ℕ}
 use mathlib.Core.Path.{_≡_}
 use mathlib.Core.List.{List}

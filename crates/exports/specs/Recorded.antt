@@ -1,4 +1,5 @@
--- The trace that a caller records of its own cells passes the judge: said of the numbers and structs that exported calls from the zero table return. (Document 02, L11 and L13.)
+-- The trace that a caller records of its own cells passes the judge. It is said of the numbers and structs that
+-- exported calls from the zero table return. (Document 02, L11 and L13.)
 use Prim.Native.Nat.{ℕ}
 use mathlib.Core.Path.{_≡_}
 use mathlib.Core.Bool.{Bool, cond, _&&_, not}
@@ -10,7 +11,7 @@ use Rattle.model.specs.Call.{Call}
 use Rattle.abr_answers.specs.declared.calls.AbrSent.{AbrSent}
 use Rattle.abr_answers.specs.declared.calls.AbrAllowed.{AbrAllowed}
 use Rattle.abr_answers.specs.declared.traces.AbrVerdict.{AbrVerdict}
-use Rattle.abr_answers.specs.Traces.{verdictAnswerOf}
+use Rattle.abr_answers.specs.Traces.{judgedOf}
 use Rattle.abr.specs.Contract.{ReturnsAllowed}
 use Rattle.abr.specs.Exports.{Observation, Transcript, finalWords, zeros}
 use Rattle.promise_traces.specs.InRate.{SentCell, atSlot, closesConnection}
@@ -22,7 +23,8 @@ use Rattle.exports.specs.Returned.{noMember, memberSeen, membersSeen, co
 abbrev pub cellReturned : (v : ℕ) → (member : ℕ → Bool) → (time rate : ℕ) → AbrSent → List SentCell
 cellReturned v f t rate r = cond (not (eqb (r .kind) 0) && eqb (connectionReturned f r) v) (record { time = t; kind = r .kind; rate = rate } ∷ []) []
 
--- the cells of v, from the calls, what they returned and the rate that was read before each of them, until v is closed: 0 is no refusal
+-- The cells of v until v is closed, from the calls, what they returned and the rate that was read before
+-- each of them. 0 is no refusal.
 abbrev pub recorded : (v : ℕ) → (member : ℕ → Bool) → List Call → List Observation → List AbrAllowed → List SentCell
 recorded v f [] os rs = []
 recorded v f (c ∷ cs) [] rs = []
@@ -35,9 +37,10 @@ pub data RatesRead (v : ℕ) : (first : List ℕ) → List Observation → List 
   noCall : {l : List ℕ} → RatesRead v l [] []
   readThen : {l : List ℕ} {a : AbrAllowed} {rs : List AbrAllowed} {o : Observation} {os : List Observation} → ReturnsAllowed v l a → RatesRead v (o .table) os rs → RatesRead v l (o ∷ os) (a ∷ rs)
 
--- After any exported calls, an open of a channel or of a path that returned 0, and any further ones: for the octets of the trace abr_judge returns neither a refusal nor a broken rule.
+-- Take any exported calls, an open of a channel or of a path that returned 0, and any further calls. For the octets
+-- of the trace abr_judge returns neither a refusal nor a broken rule.
 abbrev pub RecordedPasses : Type 0
 RecordedPasses =
     (before after : List Call) (c : Call) (v : ℕ) (p : Params) (os ps : List Observation) (o : Observation) (rs : List AbrAllowed) (r : AbrVerdict) → Opening c v p → Transcript before zeros os
     → Transcript (c ∷ after) (finalWords zeros os) (o ∷ ps) → o .returned .refusal ≡ 0 → RatesRead v (o .table) ps rs
-    → r ≡ verdictAnswerOf (judgedOctets (traceOctets (p .n) (p .trm) (traceCells (recorded v (memberSeen c o (membersSeen noMember before os)) after ps rs)))) → (r .refusal ≡ 0) × (r .rule ≡ 0)
+    → r ≡ judgedOf (judgedOctets (traceOctets (p .n) (p .trm) (traceCells (recorded v (memberSeen c o (membersSeen noMember before os)) after ps rs)))) → (r .refusal ≡ 0) × (r .rule ≡ 0)

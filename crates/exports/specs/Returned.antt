@@ -1,30 +1,28 @@
--- The connection that a slot went to, as a caller knows it: the pair that the slot returned or, if that is a member, its path. A caller knows its members from the calls
--- that returned no refusal. (Document 02, L13.)
+-- The connection that a slot went to, as a caller knows it: the pair that the slot returned or, if that is a
+-- member, its path. A caller knows its members from the calls that returned no refusal. (Document 02, L13.)
 use Prim.Native.Nat.{ℕ}
 use mathlib.Core.Bool.{Bool, false, cond, _&&_, _||_, not}
 use mathlib.Core.List.{List, [], _∷_}
 use mathlib.Core.Option.{Option, none, some}
 use lib.Dec.{eqb}
-use Rattle.cell.specs.Name.{nameFrom, addressName}
+use Rattle.cell.specs.Name.{nameFrom}
 use Rattle.connection_members.specs.Path.{pathOf}
-use Rattle.model.specs.Call.{Call, opening, closing, receiving, offering, levelling, slot, making, outOfRate, openingPath, adding, offeringMember, removing}
+use Rattle.model.specs.Call.{Call}
+use Rattle.model.specs.Aspects.{OnMembers, ofClosed, ofAdded, ofOffered, ofRemoved, ofSlot, ofNone, membersOf}
 use Rattle.abr_answers.specs.declared.calls.AbrSent.{AbrSent}
 use Rattle.abr.specs.Exports.{Observation}
 
 -- whether the name x is a member's after a call that was accepted or not, from which names were before
+abbrev pub memberBy : OnMembers → (before : ℕ → Bool) → (x : ℕ) → Bool
+memberBy (ofClosed v) f x = f x && not (eqb (pathOf x) v)
+memberBy (ofAdded y) f x = eqb y x || f x
+memberBy (ofOffered y n) f x = f x
+memberBy (ofRemoved y) f x = f x && not (eqb x y)
+memberBy ofSlot f x = f x
+memberBy ofNone f x = f x
+
 abbrev pub memberAfter : Call → (accepted : Bool) → (before : ℕ → Bool) → (x : ℕ) → Bool
-memberAfter (opening vpi vci t p) a f x = f x
-memberAfter (closing vpi vci) a f x = f x && not (a && eqb (pathOf x) (addressName vpi vci))
-memberAfter (receiving o) a f x = f x
-memberAfter (offering vpi vci n) a f x = f x
-memberAfter (levelling l) a f x = f x
-memberAfter (slot t room) a f x = f x
-memberAfter (making vpi vci t) a f x = f x
-memberAfter (outOfRate vpi vci t room) a f x = f x
-memberAfter (openingPath vpi t p) a f x = f x
-memberAfter (adding vpi vci) a f x = (a && eqb (addressName vpi vci) x) || f x
-memberAfter (offeringMember vpi vci n) a f x = f x
-memberAfter (removing vpi vci) a f x = f x && not (a && eqb x (addressName vpi vci))
+memberAfter c a f x = cond a (memberBy (membersOf c) f x) (f x)
 
 abbrev pub noMember : ℕ → Bool
 noMember x = false

@@ -1,4 +1,4 @@
--- Two tables that are equal but for the instant of the last out-of-rate cell of one connection.
+-- Two tables that are equal except for the instant of one connection's last out-of-rate cell.
 use Prim.Native.Nat.{ℕ, zero, suc, _+_, _*_, _/_, _≤_}
 use mathlib.Core.Path.{_≡_, refl, ap}
 use mathlib.Core.Bool.{Bool}

@@ -18,11 +18,11 @@ use Rattle.connection.specs.declared.kind.Kind.{Kind}
 use Rattle.connection.specs.declared.kind.Kind.the-variants.{Forward, Turned, Data}
 use Rattle.connection.specs.Invariant.{ValidAt}
 use Rattle.connection.specs.Kind.{kindAt}
-use Rattle.connection.specs.OutOfRate.{outOfRateCell}
-use Rattle.connection.specs.Sending.{Buffer, written, after, forwardFields, bufferSent}
+use Rattle.connection.specs.Source.{outOfRateCell, forwardFields}
+use Rattle.connection.specs.Slot.{Buffer, written, after, bufferSent}
 use Rattle.connection.proofs.Keeps.{after-same, after-valid, valid-later}
 use Rattle.connection.proofs.Reached.{acr-is-rate}
-use Rattle.connection.proofs.SendCases.{forward-fits}
+use Rattle.connection.proofs.SourceCases.{forward-fits}
 use Rattle.model.specs.State.{State, Entry, taken, empty, find}
 use Rattle.model.specs.Invariant.{WellFormed}
 use Rattle.model.specs.declared.answer.Answer.the-variants.{Sent}

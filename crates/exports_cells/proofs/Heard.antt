@@ -10,7 +10,7 @@ use lib.Dec.{eqb}
 use lib.ListN.{replicate}
 use borrow.Author.Tests.{eqb-true}
 use Rattle.rate_params.specs.declared.params.Params.{Params}
-use Rattle.cell_crc.specs.declared.payload.Payload.{Payload}
+use Rattle.cell_payload.specs.declared.payload.Payload.{Payload}
 use Rattle.cell.specs.Octets.{AreOctets}
 use Rattle.cell.specs.Name.{nameFrom, vpiIn, vciIn, noName, addressName}
 use Rattle.cell.specs.Header.{header}
@@ -31,11 +31,11 @@ use Rattle.connection.specs.declared.parts.Waiting.the-variants.{Nothing, Cell}
 use Rattle.connection.specs.declared.kind.Kind.{Kind}
 use Rattle.connection.specs.declared.kind.Kind.the-variants.{Forward, Turned, Data}
 use Rattle.connection.specs.Parts.{fresh, freshDestination, withQueue, dequeued}
-use Rattle.connection.specs.Making.{withMade}
-use Rattle.connection.specs.Receiving.{offered, afterDataCell, waitingCi, markKept, afterBackwardCell, afterForwardCell, afterRmCell}
+use Rattle.connection.specs.Source.{offered, afterBackwardCell, withServed, sentForward, sentData, afterOutOfRate}
+use Rattle.connection.specs.Destination.{withMade, afterDataCell, waitingCi, markKept, afterForwardCell, sentTurned, madeLeft}
+use Rattle.connection.specs.Received.{afterRmCell}
+use Rattle.connection.specs.Slot.{after, memberServed}
 use Rattle.connection.specs.Kind.{kindAt, kindNumber}
-use Rattle.connection.specs.Sending.{after, withServed, memberServed, sentForward, sentTurned, sentData, madeLeft}
-use Rattle.connection.specs.OutOfRate.{afterOutOfRate}
 use Rattle.connection.proofs.Keeps.{work-same}
 use Rattle.model.specs.State.{State, Entry, free, taken, capacity, empty, find, withEntryOf, withOpened, withTime, withLevel, withMembers}
 use Rattle.model.specs.Invariant.{NamesUnique, WellFormed}
@@ -80,7 +80,8 @@ entryDestination (taken c) = c .destination
 abbrev pub destinationAt : ℕ → State → Destination
 destinationAt v s = entryDestination (find v (s .entries))
 
--- the turned cell that waits will be read with these fields, on the VPI and VCI of v, and keeps the bits that were received
+-- The turned cell that waits will be read with these fields, on the VPI and VCI of v. It
+-- keeps the bits that were received.
 pub data TurnedAs (v : ℕ) : Option TurnedCell → Waiting → Type 0 where
   noneWaits : TurnedAs v none Nothing
   oneWaits :
@@ -153,9 +154,9 @@ module _ (v : ℕ) where
         (either-as (eqb u v)
         (λ e. let q = eqb-true u v e in k q (subst (ReceiverAs v r) (ap entryDestination (ap (λ (i : ℕ). find i (s .entries)) (sym q) ∙ f)) h)) h)
 
-    begun-as : (u t : ℕ) (p : Params) → OpenPassed s u t p → ReceiverAs v (cond (eqb u v) nothingWaits r) (destinationAt v (withOpened (fresh u t p) s))
+    opened-as : (u t : ℕ) (p : Params) → OpenPassed s u t p → ReceiverAs v (cond (eqb u v) nothingWaits r) (destinationAt v (withOpened (fresh u t p) s))
     unfolding fresh entryDestination
-    begun-as u t p g =
+    opened-as u t p g =
         subst (ReceiverAs v (cond (eqb u v) nothingWaits r)) (sym (with-opened-read entryDestination v s (fresh u t p) (g .new) (g .room))) (either-as (eqb u v) (λ _. fresh-as v) h)
 
     ended-as : (u : ℕ) → ReceiverAs v (cond (eqb u v) nothingWaits r) (destinationAt v (withEntryOf u free s))
@@ -199,7 +200,7 @@ module _ (v : ℕ) where
       → ReceiverAs v (cond (isAccepted (o .answer)) (receiverAfter v f (s .level) c (sentOf (o .answer)) r) r) (destinationAt v (o .state))
   unfolding refuse accept replay discard withLevel withMembers idleStep sendStep sendFrom sendOutOfRate withTime isAccepted offered withOffer withoutOne withMade afterOutOfRate
   effect-as f {s} w k q (refuses c n z) r h = h
-  effect-as f {s} w k q (opens a b t p g) r h = begun-as s (w .unique) r h (addressName a b) t p g
+  effect-as f {s} w k q (opens a b t p g) r h = opened-as s (w .unique) r h (addressName a b) t p g
   effect-as f {s} w k q (closes a b d g) r h = ended-as s (w .unique) r h (addressName a b)
   effect-as f {s} w k q (offers a b n d g c z) r h = same-as s (w .unique) r h (addressName a b) d (offered n d) g refl refl
   effect-as f {s} w k q (receivesData o a b e u d y i z g) r h = marked-as s (w .unique) r h f k o a b e u d y z g
@@ -210,7 +211,7 @@ module _ (v : ℕ) where
   effect-as f {s} w k q (makes a b t d e g z m) r h =
       changed-as (withTime t s) (w .unique) r h (addressName a b) d (withMade t (s .level) d) _ e refl (λ _ y. record { efci = y .efci; turned = y .turned; made = refl })
   effect-as f {s} w k q (sendsOutOfRate a b t room d e g z) r h = same-as (withTime t s) (w .unique) r h (addressName a b) d (afterOutOfRate t d) e refl refl
-  effect-as f {s} w k q (opensPath a t p g) r h = begun-as s (w .unique) r h (addressName a pathVci) t p g
+  effect-as f {s} w k q (opensPath a t p g) r h = opened-as s (w .unique) r h (addressName a pathVci) t p g
   effect-as f {s} w k q (adds a b d e j) r h = h
   effect-as f {s} w k q (offersMember a b n d e i z) r h = same-as s (w .unique) r h (pathOf (addressName a b)) d (offered n d) e refl refl
   effect-as f {s} w k q (removes a b d e i) r h = same-as s (w .unique) r h (pathOf (addressName a b)) d (withQueue d (dequeued (cellsOf (addressName a b) (s .members)) (d .queue))) e refl refl

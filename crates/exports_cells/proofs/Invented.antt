@@ -1,6 +1,6 @@
 -- No mark is invented, of exported calls.
 use Prim.Native.Nat.{ℕ, _/_, _%_}
-use mathlib.Core.Path.{_≡_, refl, sym, ap, _∙_}
+use mathlib.Core.Path.{_≡_, refl, sym, ap, _∙_, subst}
 use mathlib.Core.Logic.{_≢_}
 use mathlib.Core.Bool.{Bool, true, false, cond, _&&_, _||_, true≢false, false≢true}
 use mathlib.Core.List.{List, [], _∷_}
@@ -24,22 +24,24 @@ use Rattle.connection.specs.declared.parts.Waiting.the-variants.{Nothing, Cell}
 use Rattle.model.specs.State.{State, Entry, free, taken, isFree, empty, find}
 use Rattle.model.specs.declared.answer.Answer.{Answer}
 use Rattle.model.specs.declared.answer.Answer.the-variants.{Refused as Unaccepted, Accepted, Closed, Idle, Sent}
-use Rattle.model.specs.Call.{Call, opening, closing, receiving, offering, levelling, slot, making, outOfRate, openingPath, adding, offeringMember, removing}
+use Rattle.model.specs.Call.{Call, closing, receiving, slot}
 use Rattle.model.specs.Step.{step}
 use Rattle.model.specs.Run.{isAccepted}
 use Rattle.abr_answers.specs.declared.calls.AbrSent.{AbrSent}
 use Rattle.abr_answers.specs.Calls.{sentOf}
+use Rattle.model.specs.Aspects.{Sort, opener, closer, arrival, slotAt, another, sortOf, Asked, asksMade, asksOutOfRate, asksNone, askedOf}
 use Rattle.abr.specs.Exports.{Observation, Transcript, zeros}
 use Rattle.promise_lists.specs.Demand3.{InPlace}
 use Rattle.exports.specs.Returned.{connectionOf}
 use Rattle.exports.specs.Along.{kept}
 use Rattle.exports.proofs.Transport.{Sees, stands-first, carry}
-use Rattle.exports_cells.specs.Heard.{TurnedCell, Receiver, nothingWaits, ciWaits, turnedFields, turnedAt, goneFrom, receivedFrom, receiverAfter, Heard, hears, nothingHeard, backwardDue}
-use Rattle.exports_cells.specs.Marks.{MarkHeard, withCi, withEfci, atLevel2, QuietSeen, NiHeard, withNi, atLevel1, QuietLast, TakenInWithMark, ExportsNoMarkInvented}
+use Rattle.exports_cells.specs.Heard.{TurnedCell, Receiver, nothingWaits, ciWaits, turnedFields, turnedAt, goneFrom, receivedFrom, receiverAfter, Heard, hears, nothingHeard, backwardDue, receiverBy, madeFor}
+use Rattle.exports_cells.specs.Marks.{MarkHeard, withCi, withEfci, atLevel2, QuietSeen, NiHeard, withNi, atLevel1, QuietLast, TakenInWithMark, ExportsNoMarkInvented, QuietReturned}
 use Rattle.exports_cells.specs.Turned.{SentAsDue}
 use Rattle.exports_cells.proofs.Heard.{entryDestination, destinationAt, TurnedAs, noneWaits, oneWaits, Hears, keeps-hearing, hears-nothing}
 use Rattle.exports_cells.proofs.Addresses.{close-accepted}
 use Rattle.exports_cells.proofs.Turned.{exports-turned}
+use Rattle.model.proofs.BySort.{BySort, anOpening, anOpeningPath, aClosing, aReceiving, aSlot, anotherCall, bySort}
 
 -- a bit of the turned cell that waits
 abbrev bitWaits : (Fields → ℕ) → Option TurnedCell → Bool
@@ -86,22 +88,18 @@ refused-kind (Sent v x k a n) e = absurd (true≢false e)
 
 module _ (bit : Fields → ℕ) (v : ℕ) where
   -- a refused call is quiet, as long as such a cell waits
-  refused-quiet : (s : State) (k : Heard) (c : Call) (o : Observation) → Hears v k s → Sees s c o → eqb (o .returned .refusal) 0 ≡ false → bitWaits bit (k .receiver .turned) ≡ true → QuietSeen v c o
-  refused-quiet s k (opening vpi vci t p) o h z e b = tt
-  refused-quiet s k (closing vpi vci) o h z e b = λ n.
+  refused-quiet :
+      (s : State) (k : Heard) {c : Call} → BySort c → (o : Observation) → Hears v k s → Sees s c o → eqb (o .returned .refusal) 0 ≡ false
+      → bitWaits bit (k .receiver .turned) ≡ true → QuietSeen v c o
+  refused-quiet s k (anOpening vpi vci t p) o h z e b = tt
+  refused-quiet s k (anOpeningPath vpi t p) o h z e b = tt
+  refused-quiet s k (aClosing vpi vci) o h z e b = λ n.
       true≢false (sym (closes-open v s vpi vci (is-cell bit v (k .receiver .turned) (destinationAt v s .turned) (h .receiver .turned) b) n) ∙ sym (z .accepted) ∙ e)
-  refused-quiet s k (receiving q) o h z e b = tt
-  refused-quiet s k (offering vpi vci n) o h z e b = tt
-  refused-quiet s k (levelling l) o h z e b = tt
-  refused-quiet s k (slot t room) o h z e b = λ m.
+  refused-quiet s k (aReceiving q) o h z e b = tt
+  refused-quiet s k (aSlot t room) o h z e b = λ m.
       let y : o .returned .kind ≡ 0 = ap (λ (r : AbrSent). r .kind) (z .matches .returned) ∙ refused-kind (step s (slot t room) .answer) (sym (z .accepted) ∙ e) in
       absurd (omega (arith, m, y))
-  refused-quiet s k (making vpi vci t) o h z e b = tt
-  refused-quiet s k (outOfRate vpi vci t room) o h z e b = tt
-  refused-quiet s k (openingPath vpi t p) o h z e b = tt
-  refused-quiet s k (adding vpi vci) o h z e b = tt
-  refused-quiet s k (offeringMember vpi vci n) o h z e b = tt
-  refused-quiet s k (removing vpi vci) o h z e b = tt
+  refused-quiet s k (anotherCall c q) o h z e b = subst (QuietReturned v o) (sym q) tt
 
   -- where the call leaves nothing, the one before it waits
   stood : (b : Bool) (x d : Receiver) → bitWaits bit (x .turned) ≡ false → bitWaits bit (cond b x d .turned) ≡ true → (b ≡ false) × (bitWaits bit (d .turned) ≡ true)
@@ -115,6 +113,11 @@ module _ (bit : Fields → ℕ) (v : ℕ) where
   same-turned : (b : Bool) (x d : Receiver) → x .turned ≡ d .turned → bitWaits bit (cond b x d .turned) ≡ true → bitWaits bit (d .turned) ≡ true
   same-turned true x d n e = ap (bitWaits bit) (sym n) ∙ e
   same-turned false x d n e = e
+
+  made-turned : (level : ℕ) (d : Receiver) (x : Asked) → bitWaits bit (madeFor v level d x .turned) ≡ true → bitWaits bit (d .turned) ≡ true
+  made-turned level d (asksMade u t) e = same-turned (eqb u v) _ d refl e
+  made-turned level d (asksOutOfRate u t) e = e
+  made-turned level d asksNone e = e
 
 not-both : (a b : Bool) → (a && b) ≡ false → a ≡ true → b ≡ false
 not-both true b e q = e
@@ -131,6 +134,13 @@ is-forward octets g e d =
     let x : g .dir ≡ octet 7 octets / 128 % 2 = ap (λ (h : Fields). h .dir) (rm-received octets g e .fields) in
     let y : g .dir ≢ 1 = eqb-false (g .dir) 1 d in
     omega (arith, x, y)
+
+abbrev NoArrival : Sort → Type 0
+NoArrival (opener u t p) = Unit
+NoArrival (closer u) = Unit
+NoArrival (arrival o) = ⊥
+NoArrival (slotAt t) = Unit
+NoArrival another = Unit
 
 module _ (bit : Fields → ℕ) (v : ℕ) (Mark : Fields → Heard → Type 0) (Since : Call → Observation → Type 0)
     (sets : (k : Heard) (g : Fields) (octets : List ℕ) (o : Observation) → bit (turnedFields v (k .level) (k .receiver) g) ≡ 1 → Sets bit Mark Since k g octets o)
@@ -168,34 +178,37 @@ module _ (bit : Fields → ℕ) (v : ℕ) (Mark : Fields → Heard → Type 0) (
           omega (arith, i, a, ap (λ (h : Fields). h .dir) w)))
       go true n false d b = of (eqb-true (cellName g) v n) (is-forward octets g e d) (sets k g octets o (eqb-true _ 1 b))
 
+  -- a call that receives no cell brings none
+  no-cell : (c : Call) (o : Observation) → (octets : List ℕ) → c ≡ receiving octets → {x : Sort} → sortOf c ≡ x → NoArrival x → ⊥
+  no-cell c o octets e q n = subst NoArrival (sym q ∙ ap sortOf e) n
+
   accepted-one :
-      (k : Heard) (c : Call) (o : Observation) → o .returned .refusal ≡ 0 → bitWaits bit (receiverAfter v (k .member) (k .level) c (o .returned) (k .receiver) .turned) ≡ true → One k c o
-  accepted-one k (opening vpi vci t p) o z b = stayed (stood bit v (eqb (addressName vpi vci) v) nothingWaits (k .receiver) refl b .1) (since _ o tt (λ q f e _ _ _ _. let y : _≡_ {A = ℕ} 0 1 = cc in omega arith))
-  accepted-one k (closing vpi vci) o z b =
+      (k : Heard) {c : Call} → BySort c → (o : Observation) → o .returned .refusal ≡ 0
+      → bitWaits bit (receiverAfter v (k .member) (k .level) c (o .returned) (k .receiver) .turned) ≡ true → One k c o
+  accepted-one k (anOpening vpi vci t p) o z b =
+      stayed (stood bit v (eqb (addressName vpi vci) v) nothingWaits (k .receiver) refl b .1) (since _ o tt (λ q f e _ _ _ _. no-cell _ o q e refl tt))
+  accepted-one k (anOpeningPath vpi t p) o z b =
+      stayed (stood bit v (eqb (addressName vpi pathVci) v) nothingWaits (k .receiver) refl b .1) (since _ o tt (λ q f e _ _ _ _. no-cell _ o q e refl tt))
+  accepted-one k (aClosing vpi vci) o z b =
       let y = stood bit v (eqb (addressName vpi vci) v) nothingWaits (k .receiver) refl b in
-      stayed (y .1) (since (closing vpi vci) o (eqb-false (addressName vpi vci) v (y .0)) (λ q f e _ _ _ _. let y : _≡_ {A = ℕ} 0 1 = cc in omega arith))
-  accepted-one k (receiving octets) o z b = read-one k octets o (reading octets) refl z b
-  accepted-one k (offering vpi vci n) o z b = stayed b (since _ o tt (λ q f e _ _ _ _. let y : _≡_ {A = ℕ} 0 1 = cc in omega arith))
-  accepted-one k (levelling l) o z b = stayed b (since _ o tt (λ q f e _ _ _ _. let y : _≡_ {A = ℕ} 0 1 = cc in omega arith))
-  accepted-one k (slot t room) o z b =
+      stayed (y .1) (since (closing vpi vci) o (eqb-false (addressName vpi vci) v (y .0)) (λ q f e _ _ _ _. no-cell _ o q e refl tt))
+  accepted-one k (aReceiving octets) o z b = read-one k octets o (reading octets) refl z b
+  accepted-one k (aSlot t room) o z b =
       let r = o .returned in
       let d = k .receiver in
       let y = stood bit v (eqb (r .kind) 2 && eqb (nameFrom (r .vpi) (r .vci)) v) (goneFrom (d .efci) (d .made) (d .turned)) d (gone-none bit v (d .efci) (d .made) (d .turned)) b in
       stayed (y .1)
-      (since (slot t room) o (λ m. eqb-false (nameFrom (r .vpi) (r .vci)) v (not-both (eqb (r .kind) 2) _ (y .0) (eq-eqb (r .kind) 2 m))) (λ q f e _ _ _ _. let y : _≡_ {A = ℕ} 0 1 = cc in omega arith))
-  accepted-one k (making vpi vci t) o z b = stayed (same-turned bit v (eqb (addressName vpi vci) v) _ (k .receiver) refl b) (since _ o tt (λ q f e _ _ _ _. let y : _≡_ {A = ℕ} 0 1 = cc in omega arith))
-  accepted-one k (outOfRate vpi vci t room) o z b = stayed b (since _ o tt (λ q f e _ _ _ _. let y : _≡_ {A = ℕ} 0 1 = cc in omega arith))
-  accepted-one k (openingPath vpi t p) o z b = stayed (stood bit v (eqb (addressName vpi pathVci) v) nothingWaits (k .receiver) refl b .1) (since _ o tt (λ q f e _ _ _ _. let y : _≡_ {A = ℕ} 0 1 = cc in omega arith))
-  accepted-one k (adding vpi vci) o z b = stayed b (since _ o tt (λ q f e _ _ _ _. let y : _≡_ {A = ℕ} 0 1 = cc in omega arith))
-  accepted-one k (offeringMember vpi vci n) o z b = stayed b (since _ o tt (λ q f e _ _ _ _. let y : _≡_ {A = ℕ} 0 1 = cc in omega arith))
-  accepted-one k (removing vpi vci) o z b = stayed b (since _ o tt (λ q f e _ _ _ _. let y : _≡_ {A = ℕ} 0 1 = cc in omega arith))
+      (since (slot t room) o (λ m. eqb-false (nameFrom (r .vpi) (r .vci)) v (not-both (eqb (r .kind) 2) _ (y .0) (eq-eqb (r .kind) 2 m))) (λ q f e _ _ _ _. no-cell _ o q e refl tt))
+  accepted-one k (anotherCall c i) o z b =
+      let kept = subst (λ (x : Sort). bitWaits bit (madeFor v (k .level) (receiverBy v (k .member) (k .level) (o .returned) (k .receiver) x) (askedOf c) .turned) ≡ true) i b in
+      stayed (made-turned bit v (k .level) (k .receiver) (askedOf c) kept) (since c o (subst (QuietReturned v o) (sym i) tt) (λ q f e _ _ _ _. no-cell c o q e i tt))
 
   one : (s : State) (k : Heard) (c : Call) (o : Observation) → Hears v k s → Sees s c o → bitWaits bit (hears v c o k .receiver .turned) ≡ true → One k c o
   one s k c o h z b = go (eqb (o .returned .refusal) 0) refl b
     where
       go : (a : Bool) → eqb (o .returned .refusal) 0 ≡ a → bitWaits bit (cond a (receiverAfter v (k .member) (k .level) c (o .returned) (k .receiver)) (k .receiver) .turned) ≡ true → One k c o
-      go true e b = accepted-one k c o (eqb-true (o .returned .refusal) 0 e) b
-      go false e b = stayed b (since c o (refused-quiet bit v s k c o h z e b) (λ q f _ _ _ _. eqb-false (o .returned .refusal) 0 e))
+      go true e b = accepted-one k (bySort c) o (eqb-true (o .returned .refusal) 0 e) b
+      go false e b = stayed b (since c o (refused-quiet bit v s k (bySort c) o h z e b) (λ q f _ _ _ _. eqb-false (o .returned .refusal) 0 e))
 
   -- over a list: it waited all along, or it came
   data Traced (k : Heard) (cs : List Call) (os : List Observation) : Type 0 where

@@ -1,6 +1,5 @@
 -- They hold.
 pub mod Taken
-pub mod WrittenCells
 pub mod Written
 pub mod Carried
 pub mod Sent

@@ -1,6 +1,6 @@
 -- No CI is lost between a received forward cell and the next turned cell that is sent, of exported calls.
 use Prim.Native.Nat.{ℕ}
-use mathlib.Core.Path.{_≡_, sym, ap, _∙_}
+use mathlib.Core.Path.{_≡_, sym, ap, _∙_, subst}
 use mathlib.Core.Bool.{true, false≢true}
 use mathlib.Core.List.{List}
 use native.Mathlib.Omega.{arith}
@@ -11,19 +11,20 @@ use Rattle.cell.specs.declared.fields.Fields.{Fields}
 use Rattle.cell.specs.declared.read.Reading.the-variants.{RmCell}
 use Rattle.connection.specs.declared.parts.Connection.{Connection}
 use Rattle.connection.specs.declared.kind.Kind.the-variants.{Turned}
-use Rattle.connection.specs.Sending.{Buffer}
+use Rattle.connection.specs.Slot.{Buffer}
 use Rattle.model.specs.State.{State, Entry, taken, empty, find}
 use Rattle.model.specs.declared.answer.Answer.the-variants.{Sent}
-use Rattle.model.specs.Call.{Call, opening, closing, receiving, offering, levelling, slot, making, outOfRate, openingPath, adding, offeringMember, removing, Outcome}
+use Rattle.model.specs.Call.{Call, receiving, Outcome}
 use Rattle.model.specs.Step.{refuse, step}
 use Rattle.model.specs.Run.{final, isAccepted}
 use Rattle.model.proofs.Effects.{Effect, refuses, receivesData, receivesRm, effect}
+use Rattle.model.proofs.BySort.{BySort, anOpening, anOpeningPath, aClosing, aReceiving, aSlot, anotherCall, bySort}
 use Rattle.abr_answers.specs.declared.calls.AbrSent.{AbrSent}
 use Rattle.abr_answers.specs.Calls.{sentOf}
 use Rattle.engine.specs.Contract.{bufferContent}
 use Rattle.abr.specs.Exports.{Observation, zeros}
 use Rattle.promise_lists.specs.Demand3.{InPlace}
-use Rattle.promise_cells.specs.Marks.{MarkCame, withCi as cameCi, withEfci as cameEfci, atLevel2 as cameLevel, Quiet, AllQuiet, MarkWritten}
+use Rattle.promise_cells.specs.Marks.{MarkCame, withCi as cameCi, withEfci as cameEfci, atLevel2 as cameLevel, Quiet, AllQuiet, MarkWritten, QuietSort}
 use Rattle.promise_cells.proofs.Marks.{no-mark-lost}
 use Rattle.exports.proofs.Returned.{back}
 use Rattle.exports_cells.specs.Heard.{Heard, hears, nothingHeard}
@@ -46,21 +47,15 @@ mark-came f k s c h g (withCi e) = cameCi e
 mark-came f k s c h g (withEfci e) = cameEfci (sym (h .receiver .efci ∙ ap (λ (x : Entry). entryDestination x .efci) g) ∙ e)
 mark-came f k s c h g (atLevel2 e) = cameLevel (sym (h .level) ∙ e)
 
-quiet : (v : ℕ) (s : State) (c : Call) (o : Observation) → Sees s c o → QuietSeen v c o → Quiet v c (step s c .answer)
-quiet v s (opening vpi vci t p) o z q = tt
-quiet v s (closing vpi vci) o z q = q
-quiet v s (receiving r) o z q = z .ofOctets
-quiet v s (offering vpi vci n) o z q = tt
-quiet v s (levelling l) o z q = tt
-quiet v s (slot t room) o z q = λ x acr n e.
+quiet : (v : ℕ) (s : State) {c : Call} → BySort c → (o : Observation) → Sees s c o → QuietSeen v c o → Quiet v c (step s c .answer)
+quiet v s (anOpening vpi vci t p) o z q = tt
+quiet v s (anOpeningPath vpi t p) o z q = tt
+quiet v s (aClosing vpi vci) o z q = q
+quiet v s (aReceiving r) o z q = z .ofOctets
+quiet v s (aSlot t room) o z q = λ x acr n e.
     let r : o .returned ≡ sentOf (Sent v x Turned acr n) = z .matches .returned ∙ ap sentOf e in
     q (ap (λ (a : AbrSent). a .kind) r) (ap (λ (a : AbrSent). nameFrom (a .vpi) (a .vci)) r ∙ back x ∙ sent-own Turned turned-data z e)
-quiet v s (making vpi vci t) o z q = tt
-quiet v s (outOfRate vpi vci t room) o z q = tt
-quiet v s (openingPath vpi t p) o z q = tt
-quiet v s (adding vpi vci) o z q = tt
-quiet v s (offeringMember vpi vci n) o z q = tt
-quiet v s (removing vpi vci) o z q = tt
+quiet v s (anotherCall c e) o z q = subst (QuietSort v (step s c .answer)) (sym e) tt
 
 mark-in : (v : ℕ) (b : Buffer) (old new : List ℕ) → new ≡ bufferContent b old → MarkWritten v b → MarkIn v new
 mark-in v b old new e m = record {
@@ -82,7 +77,7 @@ exports-no-mark-lost cs ds os ps octets f o p t room x y u g e d z m q k n =
     let h = taken-held f (effect s (one .wellFormed .unique) (receiving octets)) e (was-accepted one z) in
     let heard = kept-so (hears v) (Hears v) (keeps-hearing v) empty zeros stands-first nothingHeard (hears-nothing v) cs os x in
     let still : AllQuiet v r ds =
-    carry nothing Anything keeps-nothing (λ s k cs os. InPlace (QuietSeen v) cs os → AllQuiet v s cs) (λ s k _. tt) (λ s c o k cs os m z l h. (quiet v s c o z (h .0), l (h .1))) r (o .table) (one .next) 0 tt ds ps u q in
+    carry nothing Anything keeps-nothing (λ s k cs os. InPlace (QuietSeen v) cs os → AllQuiet v s cs) (λ s k _. tt) (λ s c o k cs os m z l h. (quiet v s (bySort c) o z (h .0), l (h .1))) r (o .table) (one .next) 0 tt ds ps u q in
     let w = sent-of Turned turned-data two k in
     mark-in v _ (p .old) (p .new) (two .matches .buffer)
     (no-mark-lost cs octets f (h .holder) ds t room (w .told) (w .acr) (w .comparisons) (one .ofOctets) e d (h .found) (mark-came f _ s (h .holder) heard (h .found) m) still

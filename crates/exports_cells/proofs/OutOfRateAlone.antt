@@ -1,4 +1,5 @@
--- An out-of-rate cell can be left out: each call does the same on two tables that are equal but for its instant and the last accepted time.
+-- An out-of-rate cell can be left out. Each call does the same on two tables that are equal except for the cell's
+-- instant and the last accepted time.
 use Prim.Native.Nat.{ℕ, _+_, _-_, _≤_, min, max}
 use mathlib.Core.Path.{_≡_, refl, sym, ap, subst, _∙_}
 use mathlib.Core.Bool.{Bool, true, false, cond, not, _&&_, false≢true}
@@ -29,11 +30,11 @@ use Rattle.connection.specs.declared.ready.Instant.{Instant}
 use Rattle.connection.specs.declared.ready.Instant.the-variants.{Never, At}
 use Rattle.connection.specs.Parts.{fresh, waiting, withOutOfRate, withQueue, dequeued}
 use Rattle.connection.specs.Interval.{rested}
-use Rattle.connection.specs.Making.{withMade}
-use Rattle.connection.specs.Receiving.{offered, afterDataCell, afterBackwardCell, afterForwardCell, afterRmCell}
+use Rattle.connection.specs.Source.{offered, afterBackwardCell, withServed, sentForward, sentData, afterOutOfRate, outOfRateCell}
+use Rattle.connection.specs.Destination.{withMade, afterDataCell, afterForwardCell, sentTurned}
+use Rattle.connection.specs.Received.{afterRmCell}
+use Rattle.connection.specs.Slot.{written, after, memberServed, bufferSent}
 use Rattle.connection.specs.Kind.{isForward, isTurned, kindAt}
-use Rattle.connection.specs.Sending.{written, after, withServed, memberServed, sentForward, sentTurned, sentData, bufferSent}
-use Rattle.connection.specs.OutOfRate.{afterOutOfRate, outOfRateCell}
 use Rattle.model.specs.State.{State, Entry, free, taken, isFree, empty, position, holds, find, leafOf, withEntryOf, withOpened, roomLeft, withTime, withLevel, withMembers}
 use Rattle.model.specs.Winner.{Winner, noneReady, wins, winner}
 use Rattle.model.specs.Tournament.{replayed}

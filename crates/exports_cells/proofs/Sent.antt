@@ -1,4 +1,5 @@
--- A slot that returned a kind sent a cell of that kind, and a forward, turned or made one of the connection whose name it returned.
+-- A slot that returned a kind sent a cell of that kind. A forward, turned or made one is of the
+-- connection whose name it returned.
 use Prim.Native.Nat.{ℕ, _<_}
 use mathlib.Core.Path.{_≡_, refl, sym, ap, subst, _∙_}
 use native.Mathlib.Omega.{arith}

@@ -27,7 +27,7 @@ use Rattle.model.proofs.Effects.{Effect, refuses, receivesData, receivesRm, eff
 use Rattle.promise_lists.proofs.Paths.{member-high}
 use Rattle.laws.specs.Require.{require}
 use Rattle.abr_answers.specs.declared.cells.AbrCell.{AbrCell}
-use Rattle.abr_answers.specs.Cells.{cellAnswerOf}
+use Rattle.abr_answers.specs.Cells.{cellOf}
 use Rattle.abr.specs.Exports.{Observation, Transcript, zeros}
 use Rattle.exports.specs.Known.{nameIn}
 use Rattle.exports_cells.specs.Taken.{ConnectionOpen, channel, member, rm, TakenExactly}
@@ -145,9 +145,9 @@ module _ (cs : List Call) (os : List Observation) (t : Transcript cs zeros os) (
   known (rm k h) = rmIn k (is-open cs os t (nameIn o) h)
 
 -- abr_read
-read-zero : (o : List ℕ) → Reads o → cellAnswerOf (reading o) .refusal ≡ 0
-read-zero o (asData e t q) = ap (λ (x : Reading). cellAnswerOf x .refusal) q
-read-zero o (asRm t q) = ap (λ (x : Reading). cellAnswerOf x .refusal) q
+read-zero : (o : List ℕ) → Reads o → cellOf (reading o) .refusal ≡ 0
+read-zero o (asData e t q) = ap (λ (x : Reading). cellOf x .refusal) q
+read-zero o (asRm t q) = ap (λ (x : Reading). cellOf x .refusal) q
 
 pub taken-exactly : TakenExactly
 taken-exactly = record {
@@ -157,7 +157,7 @@ taken-exactly = record {
       (h .0, seen cs os t octets (h .1));
   takes = λ cs os t octets o p a h. let y = sees (stands cs os t) p in returned-zero y (open-taken (y .wellFormed) octets a (known cs os t octets h));
   read = λ octets r e z. taken-admitted octets (λ n q.
-      let y : r .refusal ≡ n = ap (λ (x : AbrCell). x .refusal) (e ∙ ap cellAnswerOf q) in
+      let y : r .refusal ≡ n = ap (λ (x : AbrCell). x .refusal) (e ∙ ap cellOf q) in
       omega (arith, refusal-number octets n q, y, z));
   reads = λ octets r e a. ap (λ (x : AbrCell). x .refusal) e ∙ read-zero octets (reads octets a);
   members = λ cs os t x m.

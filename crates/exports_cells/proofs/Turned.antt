@@ -19,11 +19,11 @@ use Rattle.connection.specs.declared.parts.Waiting.the-variants.{Nothing, Cell}
 use Rattle.connection.specs.declared.kind.Kind.{Kind}
 use Rattle.connection.specs.declared.kind.Kind.the-variants.{Forward, Turned, Data}
 use Rattle.connection.specs.Kind.{kindAt}
-use Rattle.connection.specs.Making.{madeFields}
+use Rattle.connection.specs.Destination.{madeFields, backwardCell}
+use Rattle.connection.specs.Slot.{Buffer, written, after, bufferSent}
 use Rattle.connection.specs.Ready.{waits, backwardWaits}
-use Rattle.connection.specs.Sending.{Buffer, written, after, backwardCell, bufferSent}
 use Rattle.connection.proofs.Waited.{turned-waits}
-use Rattle.connection.proofs.SendCases.{made-fits}
+use Rattle.connection.proofs.DestinationCases.{made-fits}
 use Rattle.model.specs.State.{State, taken, empty, find}
 use Rattle.model.specs.Invariant.{WellFormed}
 use Rattle.model.specs.declared.answer.Answer.the-variants.{Sent}

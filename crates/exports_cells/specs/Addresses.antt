@@ -1,4 +1,5 @@
--- What exported calls return for a pair of numbers, open or not, a member or not, in range or not, as a caller knows it from the calls before and what they returned.
+-- What exported calls return for a pair of numbers: open or not, a member or not, in range or not. A caller knows
+-- which from the calls before and what they returned.
 -- (Document 01, "Refused because of the state"; document 02, L6 and L13.)
 use Prim.Native.Nat.{ℕ, _≤_, _<_}
 use mathlib.Core.Path.{_≡_}
@@ -70,7 +71,8 @@ pub record ExportsAddresses : Type 0 where
   pub opensMember :
       (cs : List Call) (os : List Observation) → Transcript cs zeros os → (vpi vci t : ℕ) (p : Params) → KnownMember cs os (addressName vpi vci) → codesClear (p .pcr) (p .mcr) (p .icr) ≡ true
       → paramsFit p ≡ true → tbeFits p ≡ true → frttFits p ≡ true → t ≤ latestTime → Returns (finalWords zeros os) (opening vpi vci t p) 27
-  -- the calls on members: 11 without an open path, 28 on an open one for a pair that is no member, out of its ranges or not
+  -- the calls on members: 11 without an open path; 28 on an open one for a pair that is
+  -- no member, in its ranges or not
   pub noPath : (cs : List Call) (os : List Observation) → Transcript cs zeros os → (vpi vci : ℕ) → NotOpened cs os (addressName vpi pathVci) → NoPath (finalWords zeros os) vpi vci
   pub offersOther :
       (cs : List Call) (os : List Observation) → Transcript cs zeros os → (vpi vci n : ℕ) → Opened cs os (addressName vpi pathVci) → (KnownMember cs os (addressName vpi vci) → ⊥)

@@ -1,10 +1,12 @@
--- What the cells in the lent buffer carry, of exported calls: their connection's address, and no reserved bit. (Document 02, L6 and L7.)
+-- What the cells in the lent buffer carry, for exported calls: their connection's address, and no reserved bit.
+-- (Document 02, L6 and L7.)
 use Prim.Native.Nat.{ℕ}
 use mathlib.Core.Path.{_≡_}
 use mathlib.Core.Bool.{true}
 use mathlib.Core.List.{List}
-use Rattle.cell.specs.Name.{nameFrom, addressName}
-use Rattle.model.specs.Call.{Call, opening, closing, receiving, offering, levelling, slot, making, outOfRate, openingPath, adding, offeringMember, removing}
+use Rattle.cell.specs.Name.{nameFrom}
+use Rattle.model.specs.Call.{Call}
+use Rattle.model.specs.Aspects.{Lent, forSlot, forOutOfRate, notLent, lentOf}
 use Rattle.abr_answers.specs.declared.calls.AbrSent.{AbrSent}
 use Rattle.abr.specs.Exports.{Observation, Transcript, zeros}
 use Rattle.promise_lists.specs.Demand3.{InPlace}
@@ -12,20 +14,15 @@ use Rattle.promise_cells.specs.ReservedBit.{TopBitsClear}
 use Rattle.exports.specs.Known.{nameIn}
 use Rattle.exports_cells.specs.Written.{wroteCell}
 
--- the name that a call's cell is to carry: the pair that the slot returned, or the pair that an out-of-rate cell was asked for; no other call writes
+-- The name that a call's cell is to carry: the pair that the slot returned, or the pair that an out-of-rate cell
+-- was asked for. No other call writes.
+abbrev pub nameFor : Lent → AbrSent → ℕ
+nameFor (forSlot t) r = nameFrom (r .vpi) (r .vci)
+nameFor (forOutOfRate v) r = v
+nameFor notLent r = 0
+
 abbrev pub nameDue : Call → AbrSent → ℕ
-nameDue (opening vpi vci t p) r = 0
-nameDue (closing vpi vci) r = 0
-nameDue (receiving o) r = 0
-nameDue (offering vpi vci n) r = 0
-nameDue (levelling l) r = 0
-nameDue (slot t room) r = nameFrom (r .vpi) (r .vci)
-nameDue (making vpi vci t) r = 0
-nameDue (outOfRate vpi vci t room) r = addressName vpi vci
-nameDue (openingPath vpi t p) r = 0
-nameDue (adding vpi vci) r = 0
-nameDue (offeringMember vpi vci n) r = 0
-nameDue (removing vpi vci) r = 0
+nameDue c r = nameFor (lentOf c) r
 
 abbrev pub CarriesDue : Call → Observation → Type 0
 CarriesDue c o = wroteCell c (o .returned) ≡ true → nameIn (o .new) ≡ nameDue c (o .returned)

@@ -1,4 +1,5 @@
--- The forward cells that exported calls write: a slot's of kind 1, and those out of rate. (Document 01, "Slots"; document 02, L5, L6 and L13.)
+-- The forward cells that exported calls write: a slot's of kind 1, and those out of rate.
+-- (Document 01, "Slots"; document 02, L5, L6 and L13.)
 use Prim.Native.Nat.{ℕ}
 use mathlib.Core.Path.{_≡_}
 use mathlib.Core.List.{List}
@@ -15,7 +16,8 @@ use Rattle.abr.specs.Contract.{ReturnsAllowed}
 use Rattle.abr.specs.Exports.{Observation, Performs, Transcript, finalWords, zeros}
 use Rattle.exports.specs.Known.{Opened}
 
--- the fields of a forward cell of v at this allowed rate: the codes of PCR as ER, of the rate as CCR, and of MCR; the five bits, QL and SN 0
+-- the fields of a forward cell of v at this allowed rate: the codes of PCR as ER, of the rate as CCR, and of
+-- MCR; the five bits, QL and SN 0
 abbrev pub forwardExpected : (v acr : ℕ) → Params → Fields
 forwardExpected v acr p = record {
   vpi = vpiIn v;
@@ -32,7 +34,8 @@ forwardExpected v acr p = record {
   sn = 0;
 }
 
--- v is open, and these octets are its forward cell by its own parameters; a minimum of 0 is 0x0000, whatever code the open gave
+-- v is open, and these octets are its forward cell by its own parameters. A minimum of 0 is
+-- 0x0000, whatever code the open gave.
 pub record ForwardAt (cs : List Call) (os : List Observation) (v acr : ℕ) (octets : List ℕ) : Type 0 where
   pub opened : Opened cs os v
   pub read : reading octets ≡ RmCell (forwardExpected v acr (opened .params))

@@ -1,6 +1,6 @@
--- What a caller knows of the receiving side of one connection, from the calls and what they returned: the congestion level, the saved EFCI, and the turned cell, with the octets that were
--- received, and the made cell that wait.
--- (Document 01, "Turning cells round"; document 02, L1, L2, L6 and L13.)
+-- What a caller knows of the receiving side of one connection, from the calls and what they returned: the
+-- congestion level, the saved EFCI, the turned cell that waits, with the octets that were received, and the made
+-- cell that waits. (Document 01, "Turning cells round"; document 02, L1, L2, L6 and L13.)
 use Prim.Native.Nat.{ℕ}
 use mathlib.Core.Bool.{Bool, false, cond, _&&_, _||_}
 use mathlib.Core.List.{List}
@@ -15,8 +15,8 @@ use Rattle.cell.specs.Reading.{reading}
 use Rattle.cell.specs.declared.fields.Fields.{Fields}
 use Rattle.cell.specs.declared.read.Reading.{Reading}
 use Rattle.cell.specs.declared.read.Reading.the-variants.{Refused, DataCell, RmCell}
-use Rattle.connection_members.specs.Path.{pathVci}
 use Rattle.model.specs.Call.{Call, opening, closing, receiving, offering, levelling, slot, making, outOfRate, openingPath, adding, offeringMember, removing}
+use Rattle.model.specs.Aspects.{Sort, opener, closer, arrival, slotAt, another, sortOf, Asked, asksMade, asksOutOfRate, asksNone, askedOf}
 use Rattle.abr_answers.specs.declared.calls.AbrSent.{AbrSent}
 use Rattle.abr.specs.Exports.{Observation}
 use Rattle.exports.specs.Returned.{noMember, memberSeen, connectionOf}
@@ -26,7 +26,8 @@ pub record TurnedCell : Type 0 where
   pub received : List ℕ
   pub fields : Fields
 
--- the EFCI of the last data cell since the open and the last forward cell; the turned cell that waits; the level at which the made cell that waits was made, 0 if none waits
+-- `efci` is the EFCI of the last data cell since the open and the last forward cell. `turned` is the turned cell
+-- that waits. `made` is the level at which the made cell that waits was made, 0 if none waits.
 pub record Receiver : Type 0 where
   pub efci : Bool
   pub turned : Option TurnedCell
@@ -40,7 +41,8 @@ abbrev pub ciWaits : Option TurnedCell → Bool
 ciWaits none = false
 ciWaits (some x) = eqb (x .fields .ci) 1
 
--- a forward cell of v with these fields, turned at this level: CI 1 with its own CI, the saved EFCI, CI 1 of the turned cell that it replaces (L2) or level 2, NI 1 with its own NI or level 1
+-- A forward cell of v with these fields, turned at this level. CI is 1 if its own CI or the saved EFCI is 1, if
+-- the turned cell that it replaces has CI 1 (L2), or at level 2. NI is 1 if its own NI is 1, or at level 1.
 abbrev pub turnedFields : (v level : ℕ) → Receiver → Fields → Fields
 turnedFields v level d g = record {
   vpi = vpiIn v;
@@ -71,20 +73,23 @@ receivedFrom v f level o (Refused n) d = d
 receivedFrom v f level o (DataCell vpi vci e) d = cond (eqb (connectionOf f (addressName vpi vci)) v) (record { efci = e; turned = d .turned; made = d .made }) d
 receivedFrom v f level o (RmCell g) d = cond (eqb (cellName g) v) (cond (eqb (g .dir) 1) d (turnedAt v level o g d)) d
 
--- after a call that was not refused: kind 2 is a turned or made cell
+-- an open or a close, a received cell, a slot: kind 2 is a turned or made cell
+abbrev pub receiverBy : (v : ℕ) → (member : ℕ → Bool) → (level : ℕ) → AbrSent → Receiver → Sort → Receiver
+receiverBy v f level r d (opener u t p) = cond (eqb u v) nothingWaits d
+receiverBy v f level r d (closer u) = cond (eqb u v) nothingWaits d
+receiverBy v f level r d (arrival o) = receivedFrom v f level o (reading o) d
+receiverBy v f level r d (slotAt t) = cond (eqb (r .kind) 2 && eqb (nameFrom (r .vpi) (r .vci)) v) (goneFrom (d .efci) (d .made) (d .turned)) d
+receiverBy v f level r d another = d
+
+-- a made cell of v
+abbrev pub madeFor : (v level : ℕ) → Receiver → Asked → Receiver
+madeFor v level d (asksMade u t) = cond (eqb u v) (record { efci = d .efci; turned = d .turned; made = level }) d
+madeFor v level d (asksOutOfRate u t) = d
+madeFor v level d asksNone = d
+
+-- after a call that was not refused
 abbrev pub receiverAfter : (v : ℕ) → (member : ℕ → Bool) → (level : ℕ) → Call → AbrSent → Receiver → Receiver
-receiverAfter v f level (opening vpi vci t p) r d = cond (eqb (addressName vpi vci) v) nothingWaits d
-receiverAfter v f level (closing vpi vci) r d = cond (eqb (addressName vpi vci) v) nothingWaits d
-receiverAfter v f level (receiving o) r d = receivedFrom v f level o (reading o) d
-receiverAfter v f level (offering vpi vci n) r d = d
-receiverAfter v f level (levelling l) r d = d
-receiverAfter v f level (slot t room) r d = cond (eqb (r .kind) 2 && eqb (nameFrom (r .vpi) (r .vci)) v) (goneFrom (d .efci) (d .made) (d .turned)) d
-receiverAfter v f level (making vpi vci t) r d = cond (eqb (addressName vpi vci) v) (record { efci = d .efci; turned = d .turned; made = level }) d
-receiverAfter v f level (outOfRate vpi vci t room) r d = d
-receiverAfter v f level (openingPath vpi t p) r d = cond (eqb (addressName vpi pathVci) v) nothingWaits d
-receiverAfter v f level (adding vpi vci) r d = d
-receiverAfter v f level (offeringMember vpi vci n) r d = d
-receiverAfter v f level (removing vpi vci) r d = d
+receiverAfter v f level c r d = madeFor v level (receiverBy v f level r d (sortOf c)) (askedOf c)
 
 abbrev pub levelAfter : Call → ℕ → ℕ
 levelAfter (opening vpi vci t p) k = k
@@ -118,7 +123,8 @@ hears v c o k =
 abbrev pub nothingHeard : Heard
 nothingHeard = record { member = noMember; level = 0; receiver = nothingWaits }
 
--- the fields of a cell of v made at this level, v being open with these parameters: BN 1, CI at level 2, NI at level 1, the code of PCR as ER
+-- the fields of a cell of v made at this level, where v is open with these parameters: BN 1, CI 1 at level 2, NI 1
+-- at level 1, ER the code of PCR
 abbrev pub madeDue : (v : ℕ) → Params → (level : ℕ) → Fields
 madeDue v p level = record {
   vpi = vpiIn v;

@@ -1,16 +1,18 @@
--- No mark is lost between a received forward cell and the next turned cell that is sent on its connection, and none is invented, of exported calls: whether a mark came a caller
--- knows from the cell, from the level that it set, and from the data cells before it. (Document 01, "Turning cells round"; document 02, L2 and L6.)
+-- Exported calls lose no mark between a received forward cell and the next turned cell sent on its connection, and
+-- they invent none. The cell, the level that the caller set and the data cells before the cell tell a caller
+-- whether a mark came. (Document 01, "Turning cells round"; document 02, L2 and L6.)
 use Prim.Native.Nat.{ℕ}
 use mathlib.Core.Path.{_≡_}
 use mathlib.Core.Logic.{_≢_}
 use mathlib.Core.Bool.{true}
 use mathlib.Core.List.{List, _∷_, _++_}
-use Rattle.cell.specs.Name.{nameFrom, addressName}
+use Rattle.cell.specs.Name.{nameFrom}
 use Rattle.cell.specs.Fields.{cellName}
 use Rattle.cell.specs.Reading.{reading}
 use Rattle.cell.specs.declared.fields.Fields.{Fields}
 use Rattle.cell.specs.declared.read.Reading.the-variants.{RmCell}
-use Rattle.model.specs.Call.{Call, opening, closing, receiving, offering, levelling, slot, making, outOfRate, openingPath, adding, offeringMember, removing}
+use Rattle.model.specs.Call.{Call, receiving, slot}
+use Rattle.model.specs.Aspects.{Sort, opener, closer, arrival, slotAt, another, sortOf}
 use Rattle.abr.specs.Exports.{Observation, Performs, Transcript, finalWords, zeros}
 use Rattle.promise_lists.specs.Demand3.{InPlace}
 use Rattle.exports.specs.Along.{kept}
@@ -23,19 +25,15 @@ pub data MarkHeard (f : Fields) (k : Heard) : Type 0 where
   atLevel2 : k .level ≡ 2 → MarkHeard f k
 
 -- a call that neither closes v nor returns a turned cell of it, kind 2
+abbrev pub QuietReturned : ℕ → Observation → Sort → Type 0
+QuietReturned v o (opener u t p) = Unit
+QuietReturned v o (closer u) = u ≢ v
+QuietReturned v o (arrival q) = Unit
+QuietReturned v o (slotAt t) = o .returned .kind ≡ 2 → nameFrom (o .returned .vpi) (o .returned .vci) ≢ v
+QuietReturned v o another = Unit
+
 abbrev pub QuietSeen : ℕ → Call → Observation → Type 0
-QuietSeen v (opening vpi vci t p) o = Unit
-QuietSeen v (closing vpi vci) o = addressName vpi vci ≢ v
-QuietSeen v (receiving q) o = Unit
-QuietSeen v (offering vpi vci n) o = Unit
-QuietSeen v (levelling l) o = Unit
-QuietSeen v (slot t room) o = o .returned .kind ≡ 2 → nameFrom (o .returned .vpi) (o .returned .vci) ≢ v
-QuietSeen v (making vpi vci t) o = Unit
-QuietSeen v (outOfRate vpi vci t room) o = Unit
-QuietSeen v (openingPath vpi t p) o = Unit
-QuietSeen v (adding vpi vci) o = Unit
-QuietSeen v (offeringMember vpi vci n) o = Unit
-QuietSeen v (removing vpi vci) o = Unit
+QuietSeen v c o = QuietReturned v o (sortOf c)
 
 -- the octets are read as a turned cell of v with CI 1: a made cell has BN 1
 pub record MarkIn (v : ℕ) (octets : List ℕ) : Type 0 where
@@ -46,7 +44,8 @@ pub record MarkIn (v : ℕ) (octets : List ℕ) : Type 0 where
   pub turned : fields .bn ≡ 0
   pub ci : fields .ci ≡ 1
 
--- after any exported calls a marked forward cell that is taken in, then any calls that neither close its connection nor return a turned cell of it, then a slot that does
+-- After any exported calls a marked forward cell is taken in. Then come any calls that neither close its
+-- connection nor return a turned cell of it. Then a slot returns one.
 abbrev pub ExportsNoMarkLost : Type 0
 ExportsNoMarkLost =
     (cs ds : List Call) (os ps : List Observation) (octets : List ℕ) (f : Fields) (o p : Observation) (t room : ℕ) → Transcript cs zeros os → Performs (receiving octets) (finalWords zeros os) o
@@ -64,7 +63,8 @@ pub record QuietLast (v : ℕ) (c : Call) (o : Observation) : Type 0 where
   pub quiet : QuietSeen v c o
   pub noForward : (octets : List ℕ) (f : Fields) → c ≡ receiving octets → reading octets ≡ RmCell f → cellName f ≡ v → f .dir ≡ 0 → o .returned .refusal ≢ 0
 
--- among these calls a forward cell of v was taken in that had such a mark, by what was known before it, and only such calls came since
+-- one of these calls took in a forward cell of v with a `Mark`, by what was known before it;
+-- every call after it is a `Since`
 pub record TakenInWithMark (Mark : Fields → Heard → Type 0) (Since : Call → Observation → Type 0) (v : ℕ) (first : Heard) (cs : List Call) (os : List Observation) : Type 0 where
   pub before : List Call
   pub octets : List ℕ
@@ -82,7 +82,8 @@ pub record TakenInWithMark (Mark : Fields → Heard → Type 0) (Since : Call �
   pub mark : Mark fields (kept (hears v) first before seen)
   pub quiet : InPlace Since since seenSince
 
--- after any exported calls from the zero table, a slot that returns kind 2 and writes a turned cell: a made one has BN 1
+-- after any exported calls from the zero table, a slot that returns kind 2 and writes a
+-- turned cell (a made one has BN 1)
 pub record ExportsNoMarkInvented : Type 0 where
   pub ci :
       (cs : List Call) (os : List Observation) → Transcript cs zeros os → (t room : ℕ) (o : Observation) → Performs (slot t room) (finalWords zeros os) o → o .returned .kind ≡ 2

@@ -1,35 +1,33 @@
--- An out-of-rate cell changes neither k, Y, ACR nor the last forward and send instants: said of exported calls, it can be left out. All that later calls return and write,
--- and what abr_acr and abr_next return between them, is the same with it and without it. Only its own instant counts: later times are not before it, abr_slot_time looks back no further
--- than it, and the next such cell of its connection comes 100 ms later.
--- (Document 02, L5 and L13; source rule 11.)
+-- An out-of-rate cell changes neither k, Y, ACR nor the last forward and send instants. Stated for exported calls:
+-- it can be left out. Later calls return and write the same with it and without it, and so do abr_acr and abr_next
+-- between them. Only its own instant counts. Later times are not before it, abr_slot_time looks back no further
+-- than it, and the next such cell of its connection comes 100 ms later. (Document 02, L5 and L13; source rule 11.)
 use Prim.Native.Nat.{ℕ, _+_, _≤_}
 use mathlib.Core.Path.{_≡_}
 use mathlib.Core.List.{List}
+use mathlib.Core.Option.{Option}
 use Rattle.cell.specs.Name.{addressName}
-use Rattle.model.specs.Call.{Call, opening, closing, receiving, offering, levelling, slot, making, outOfRate, openingPath, adding, offeringMember, removing}
+use Rattle.model.specs.Call.{Call, outOfRate}
+use Rattle.model.specs.Aspects.{Asked, asksMade, asksOutOfRate, asksNone, askedOf, timeOf}
 use Rattle.table_tournament.specs.Next.{GivesNext, GivesSlotTime}
 use Rattle.abr_answers.specs.declared.calls.AbrAllowed.{AbrAllowed}
 use Rattle.abr.specs.Contract.{ReturnsAllowed}
 use Rattle.abr.specs.Exports.{Observation, Performs, Transcript, finalWords, zeros}
 use Rattle.laws.specs.All.{All}
 use Rattle.promise_lists.specs.Demand3.{InPlace}
+use Rattle.promise_service.specs.LeftOut.{NoneBefore}
 
 -- a call whose time, if it has one, is not before t; one more out-of-rate cell of v comes 100 ms or more after t
-abbrev pub Later : (v t : ℕ) → Call → Type 0
-Later v t (opening vpi vci u p) = t ≤ u
-Later v t (closing vpi vci) = Unit
-Later v t (receiving o) = Unit
-Later v t (offering vpi vci n) = Unit
-Later v t (levelling l) = Unit
-Later v t (slot u room) = t ≤ u
-Later v t (making vpi vci u) = t ≤ u
-Later v t (outOfRate vpi vci u room) = (t ≤ u) × (addressName vpi vci ≡ v → t + 100_000_000 ≤ u)
-Later v t (openingPath vpi u p) = t ≤ u
-Later v t (adding vpi vci) = Unit
-Later v t (offeringMember vpi vci n) = Unit
-Later v t (removing vpi vci) = Unit
+abbrev pub LaterFor : (v t : ℕ) → (time : Option ℕ) → Asked → Type 0
+LaterFor v t x (asksMade w u) = NoneBefore t x
+LaterFor v t x (asksOutOfRate w u) = NoneBefore t x × (w ≡ v → t + 100_000_000 ≤ u)
+LaterFor v t x asksNone = NoneBefore t x
 
--- abr_acr and abr_next return the same on these words as on those, and abr_slot_time does where it looks back no further than t
+abbrev pub Later : (v t : ℕ) → Call → Type 0
+Later v t c = LaterFor v t (timeOf c) (askedOf c)
+
+-- abr_acr and abr_next return the same on both lists of words; so does abr_slot_time where it
+-- looks back no further than t
 pub record SameRead (t : ℕ) (l m : List ℕ) : Type 0 where
   pub acr : (u : ℕ) (a b : AbrAllowed) → ReturnsAllowed u l a → ReturnsAllowed u m b → a ≡ b
   pub next : (i j : ℕ) → GivesNext l i → GivesNext m j → i ≡ j
@@ -42,7 +40,7 @@ pub record SameWithoutCell (t : ℕ) (o p : Observation) : Type 0 where
   pub new : o .old ≡ p .old → o .new ≡ p .new
   pub read : SameRead t (o .table) (p .table)
 
--- after any exported calls one of abr_out_of_rate that returns 0, and any further ones behind it, which are also called without it
+-- After any exported calls abr_out_of_rate returns 0. Any further calls follow, once with it and once without it.
 pub record ExportsOutOfRateAlone : Type 0 where
   pub read :
       (cs : List Call) (os : List Observation) (vpi vci t room : ℕ) (o : Observation) → Transcript cs zeros os → Performs (outOfRate vpi vci t room) (finalWords zeros os) o

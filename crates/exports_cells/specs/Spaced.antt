@@ -1,4 +1,5 @@
--- At most ten made cells a second on a connection, and at most ten out-of-rate cells, of exported calls. (Document 02, L1 and L5; source rule 11.)
+-- Exported calls give at most ten made cells a second on a connection, and at most ten out-of-rate cells.
+-- (Document 02, L1 and L5; source rule 11.)
 use Prim.Native.Nat.{ℕ, _+_, _≤_}
 use mathlib.Core.Path.{_≡_}
 use mathlib.Core.Logic.{_≢_}
@@ -7,7 +8,8 @@ use Rattle.model.specs.Call.{Call, closing, making, outOfRate}
 use Rattle.abr.specs.Exports.{Observation, Performs, Transcript, finalWords, zeros}
 use Rattle.laws.specs.All.{All}
 
--- After any exported calls one that returns 0, and after any further ones that do not close this pair another that returns 0: they lie 100 ms or more apart.
+-- After any exported calls one call returns 0. After any further calls that do not close this pair, another
+-- returns 0. The two lie 100 ms or more apart.
 abbrev pub SeenApart : (vpi vci : ℕ) (one two : Call) (t later : ℕ) → Type 0
 SeenApart vpi vci one two t later =
     (cs ds : List Call) (os ps : List Observation) (o p : Observation) → Transcript cs zeros os → Performs one (finalWords zeros os) o → Transcript ds (o .table) ps → Performs two (finalWords (o .table) ps) p

@@ -1,4 +1,5 @@
--- The turned and made cells that slots send are those that wait, with the fields that a caller knows, and the bits of a turned one as they were received. (Document 01, "Turning cells round"; document 02, L1, L2, L6 and L13.)
+-- Slots send the turned and made cells that wait, with the fields that a caller knows. A turned cell has the bits
+-- as they were received. (Document 01, "Turning cells round"; document 02, L1, L2, L6 and L13.)
 use Prim.Native.Nat.{ℕ, _<_}
 use mathlib.Core.Path.{_≡_}
 use mathlib.Core.List.{List}
@@ -13,7 +14,7 @@ use Rattle.exports.specs.Known.{Opened}
 use Rattle.exports.specs.Along.{kept}
 use Rattle.exports_cells.specs.Heard.{TurnedCell, Receiver, hears, nothingHeard, backwardDue}
 
--- of a turned cell, all bits but DIR, BN, CI, NI and the CRC-10 are those received, the reserved bits and octets among them
+-- a turned cell has all bits as received, also the reserved bits and octets, except DIR, BN, CI, NI and the CRC-10
 abbrev pub KeptFrom : Option TurnedCell → List ℕ → Type 0
 KeptFrom none octets = Unit
 KeptFrom (some x) octets = Kept (x .received) octets

@@ -18,7 +18,7 @@ use Rattle.model.proofs.Entries.{each-at, each-free}
 use Rattle.model.proofs.Frames.{name-of}
 use Rattle.model.proofs.Preserved.{valid-at}
 use Rattle.model.proofs.Given.{entryParams, paramsAt, params-given}
-use Rattle.model.proofs.Reached.{reached-well-formed}
+use Rattle.model.proofs.Reached.{reached-well-formed, final-append}
 use Rattle.abr_answers.specs.declared.calls.AbrAllowed.{AbrAllowed}
 use Rattle.abr_answers.specs.Calls.{allowedOf}
 use Rattle.abr.specs.Contract.{ReturnsAllowed}
@@ -27,7 +27,7 @@ use Rattle.abr.proofs.Exports.{exports-are-run}
 use Rattle.exports.specs.Exports.{paramsObserved}
 use Rattle.exports.proofs.Exports.{accepted-seen}
 use Rattle.exports.proofs.Known.{params-known}
-use Rattle.promise_delivery.proofs.Lists.{final-append, Reached, reach, well}
+use Rattle.promise_delivery.proofs.Lists.{Reached, reach, well}
 use Rattle.promise_caps.specs.Known.{Known, unknown, capBy}
 use Rattle.promise_caps.specs.Own.{paramsIn, capsBy, RatesUnder}
 use Rattle.promise_caps.proofs.Own.{own-caps}

@@ -14,15 +14,17 @@ use Rattle.connection.specs.declared.parts.Connection.{Connection}
 use Rattle.connection.specs.declared.parts.Pace.{Pace}
 use Rattle.connection.specs.declared.parts.Pace.the-variants.{Unsent, Running}
 use Rattle.connection.specs.Invariant.{PaceFits}
-use Rattle.model.specs.State.{State, Entry, free, taken, empty, find, withEntryOf, withOpened, withTime, withLevel, withMembers}
+use Rattle.model.specs.State.{State, Entry, free, taken, empty, find}
 use Rattle.model.specs.Invariant.{WellFormed}
-use Rattle.model.specs.Call.{Call, opening, closing, receiving, offering, levelling, slot, making, outOfRate, openingPath, adding, offeringMember, removing, Outcome, goesTo}
-use Rattle.model.specs.Step.{refuse, accept, replay, discard, withOffer, withoutOne, sendFrom, sendStep, sendOutOfRate, idleStep, step}
+use Rattle.model.specs.Call.{Call, slot, goesTo}
+use Rattle.model.specs.Step.{step}
 use Rattle.model.specs.Queries.{entryAcr, acrOf, nextReady}
-use Rattle.model.specs.Run.{run, final, isAccepted, paramsAfter}
+use Rattle.model.specs.Run.{run, final, paramsAfter, isAccepted}
+use Rattle.model.specs.Times.{timeAfter}
 use Rattle.model.proofs.Preserved.{valid-at, empty-well-formed}
-use Rattle.model.proofs.Effects.{Effect, refuses, opens, closes, offers, receivesData, receivesRm, setsLevel, idles, sends, makes, sendsOutOfRate, opensPath, adds, offersMember, removes, effect}
+use Rattle.model.proofs.Effects.{effect}
 use Rattle.model.proofs.Reached.{step-well-formed, reached-well-formed}
+use Rattle.model.proofs.Times.{effect-time}
 use Rattle.table.specs.Layout.{words}
 use Rattle.abr_answers.specs.declared.calls.AbrAllowed.{AbrAllowed}
 use Rattle.abr_answers.specs.Calls.{allowedOf}
@@ -49,49 +51,20 @@ use Rattle.promise_caps.specs.Known.{Known}
 use Rattle.promise_caps.specs.Own.{paramsIn}
 use Rattle.promise_caps.specs.Served.{Delivers}
 use Rattle.exports_delivery.specs.Obeyed.{knownFrom}
-use Rattle.exports_delivery.specs.Rounds.{Round, timeKept, lastSeen, wordsAt, RoundRuns, RoundsRun, turnsIn, PassedNear, AllPassedNear, watchedAt, watchedAfter, WaitsBefore, AllWaiting, AllSent, AllRatesIn, AllSpaced, ExactlyAfter, lastCell, AllExact, RoundsDelivered}
+use Rattle.exports_delivery.specs.Rounds.{Round, lastSeen, wordsAt, RoundRuns, RoundsRun, turnsIn, PassedNear, AllPassedNear, watchedAt, watchedAfter, WaitsBefore, AllWaiting, AllSent, AllRatesIn, AllSpaced, ExactlyAfter, lastCell, AllExact, RoundsDelivered}
 use Rattle.exports_delivery.specs.Delivered.{knownIn}
 use Rattle.exports_delivery.proofs.Obeyed.{OpenWith, observed-open, step-given, given-run, given-is}
 
 -- The last accepted time.
-refused-keeps : (c : Call) (l : ℕ) → timeKept c false l ≡ l
-unfolding timeKept
-refused-keeps (opening a b t p) l = refl
-refused-keeps (closing a b) l = refl
-refused-keeps (receiving o) l = refl
-refused-keeps (offering a b n) l = refl
-refused-keeps (levelling n) l = refl
-refused-keeps (slot t room) l = refl
-refused-keeps (making a b t) l = refl
-refused-keeps (outOfRate a b t room) l = refl
-refused-keeps (openingPath a t p) l = refl
-refused-keeps (adding a b) l = refl
-refused-keeps (offeringMember a b n) l = refl
-refused-keeps (removing a b) l = refl
-
-effect-time : {s : State} {c : Call} {o : Outcome} → Effect s c o → timeKept c (isAccepted (o .answer)) (s .last) ≡ o .state .last
-unfolding refuse accept replay discard sendFrom sendStep idleStep sendOutOfRate withTime withLevel withMembers withOffer withoutOne withEntryOf withOpened isAccepted timeKept
-effect-time {s} (refuses c n z) = refused-keeps c (s .last)
-effect-time (opens a b t p g) = refl
-effect-time (closes a b d f) = refl
-effect-time (offers a b n d f i h) = refl
-effect-time (receivesData o a b e u d r i z f) = refl
-effect-time (receivesRm o q d r f) = refl
-effect-time (setsLevel l h) = refl
-effect-time (idles t room g b) = refl
-effect-time (sends t room i u g b) = refl
-effect-time (makes a b t d f g h m) = refl
-effect-time (sendsOutOfRate a b t room d f g h) = refl
-effect-time (opensPath a t p g) = refl
-effect-time (adds a b d f j) = refl
-effect-time (offersMember a b n d f i h) = refl
-effect-time (removes a b d f i) = refl
-
 pub last-seen : (s : State) → WellFormed s → (cs : List Call) (os : List Observation) → AllMatch (run s cs) os → lastSeen (s .last) cs os ≡ final s cs .last
 last-seen s w [] [] neither = refl
 last-seen s w (c ∷ cs) (o ∷ os) (both m ms) =
-    ap (λ (l : ℕ). lastSeen l cs os) (ap (λ (b : Bool). timeKept c b (s .last)) (accepted-seen w c m) ∙ effect-time (effect s (w .unique) c))
+    ap (λ (l : ℕ). lastSeen l cs os) (ap (λ (b : Bool). cond b (timeAfter c (s .last)) (s .last)) (accepted-seen w c m) ∙ sym (effect-time (effect s (w .unique) c)))
     ∙ last-seen (step s c .state) (step-well-formed w c) cs os ms
+
+either : {A : Type 0} (b : Bool) (x : A) → cond b x x ≡ x
+either true x = refl
+either false x = refl
 
 -- a table with its words, its last accepted time, its members and what is known of its names
 pub record At (s : State) (t : List ℕ) (last : ℕ) (f : ℕ → Bool) (k : ℕ → Known) : Type 0 where
@@ -175,11 +148,13 @@ module _ (S lag m last : ℕ) (s : State) (t : List ℕ) (f : ℕ → Bool) (k :
       ∙ ap (λ (z : ℕ). goesTo (step here (slot z 53) .answer)) time-is
 
   knows-next : Knows (membersSeen f (x .between) (x .seen)) (slotOf lag s (turnOf x) .state)
-  knows-next = knows-after (well reached-here) (slot (timePassed lag s (turnOf x)) 53) (membersSeen f (x .between) (x .seen)) knows-here _ refl
+  knows-next y =
+      sym (either (isAccepted (slotOf lag s (turnOf x) .answer)) (membersSeen f (x .between) (x .seen) y))
+      ∙ knows-after (well reached-here) (slot (timePassed lag s (turnOf x)) 53) (membersSeen f (x .between) (x .seen)) knows-here _ refl y
 
   known-next : (v : ℕ) → knownIn k x v .given ≡ paramsIn (find v (slotOf lag s (turnOf x) .state .entries))
   unfolding paramsAfter
-  known-next v = known-here v ∙ sym (step-given v reached-here (slot (timePassed lag s (turnOf x)) 53))
+  known-next v = known-here v ∙ sym (either (isAccepted (slotOf lag s (turnOf x) .answer)) (paramsIn (find v (here .entries)))) ∙ sym (step-given v reached-here (slot (timePassed lag s (turnOf x)) 53))
 
   pub at-next : At (slotOf lag s (turnOf x) .state) (x .sent .table) (x .passed) (membersSeen f (x .between) (x .seen)) (knownIn k x)
   at-next = record {

@@ -43,7 +43,8 @@ timely-of (refuses c n h) a = let z : _≡_ {A = ℕ} 0 1 = cc in absurd (omega 
 timely-of (idles t room z b) a = z
 timely-of (sends t room i u z b) a = z
 
--- one that is not refused before its connection is looked for is accepted; so 14 means that it is before the last accepted time
+-- a slot that is not refused before the search for its connection is accepted; so 14 means that its time is
+-- before the last accepted one
 served-zero : (s : State) (t : ℕ) (w : Winner) → sentOf (serve s t w .answer) .refusal ≡ 0
 unfolding serve serveEntry idleStep sendStep sendFrom
 served-zero s t noneReady = refl

@@ -1,4 +1,5 @@
--- What a transmitter in C delivers: enough for rounds to deliver what `RoundsDelivered` says, in terms of what the caller has called and been answered.
+-- These conditions are enough for the rounds of a transmitter in C to deliver what `RoundsDelivered` says. They
+-- are stated by the caller's calls and the answers to them.
 use Prim.Native.Nat.{ℕ, _+_, _-_, _*_, _≤_}
 use mathlib.Core.Path.{_≡_}
 use mathlib.Core.Bool.{true}
@@ -47,7 +48,8 @@ abbrev pub PeaksFit : (vs : List ℕ) (r : ℕ → ℕ) (S : ℕ) → (ℕ → K
 PeaksFit vs r S k [] = Unit
 PeaksFit vs r S k (x ∷ xs) = PeakFits vs r S (knownIn k x) × PeaksFit vs r S (knownIn k x) xs
 
--- 3. The caps that the backward cells make, at each slot those of the last ones: the line as its own port. They may rise and fall.
+-- 3. The caps that the backward cells make, at each slot those of the last ones. The line is its own
+-- port. The caps may rise and fall.
 abbrev pub capsOf : (ℕ → Known) → ℕ → ℕ
 capsOf k v = k v .cap
 
@@ -60,7 +62,8 @@ abbrev pub risesSeen : (v : ℕ) → (ℕ → Known) → List Round → ℕ
 risesSeen v k [] = 0
 risesSeen v k (x ∷ xs) = ifGiven (k v .given) (riseCount (k v .cap) (knownIn k x v .cap)) + risesSeen v (knownIn k x) xs
 
--- A bucket of the depth A into which each open lets a slot of G and each rise its part of one, and out of which each slot takes G - S; and at most N connections at a time.
+-- A bucket of depth A. Each open lets in a slot of G and each rise its part of one. Each slot takes out G - S. At
+-- most N connections are open at a time.
 abbrev pub poured : (vs : List ℕ) (G : ℕ) → (ℕ → Known) → Round → ℕ
 poured vs G k x = total (λ v. opensOf v (x .between) * G + ifGiven (k v .given) (rise G (k v .cap) (knownIn k x v .cap))) vs
 
@@ -77,7 +80,8 @@ InBucket vs S G N A level k (x ∷ xs) =
 
 -- After any exported calls from the zero table, rounds on it.
 module _ (cs : List Call) (os : List Observation) where
-  -- what the clock is ahead at the start: the slot before was at m, which is the last accepted time if nothing is overdue
+  -- how far the clock is ahead at the start: the slot before was at m, the last
+  -- accepted time if nothing is overdue
   abbrev pub early : (m : ℕ) → ℕ
   early m = m - lastSeen 0 cs os
 

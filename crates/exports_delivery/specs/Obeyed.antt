@@ -1,5 +1,6 @@
--- The explicit rate is obeyed: what abr_acr returns is at most max(MCR, min(PCR, ER)) of the connection's last accepted backward cell, and at most the initial rate used before the
--- first. (Document 01, "Four moves of the allowed rate"; document 02, L14.)
+-- The explicit rate is obeyed. What abr_acr returns is at most max(MCR, min(PCR, ER)) of the connection's last
+-- accepted backward cell. Before the first one it is at most the initial rate used. (Document 01, "Four moves of
+-- the allowed rate"; document 02, L14.)
 use Prim.Native.Nat.{ℕ, _≤_}
 use mathlib.Core.Path.{_≡_}
 use mathlib.Core.List.{List}

@@ -1,4 +1,5 @@
--- A policer finds nothing to drop, said of what a caller records: the pairs and kinds that abr_slot returned, with the times passed and the rates that abr_acr returned before.
+-- A policer finds nothing to drop. This is stated for what a caller records: the pairs and kinds that abr_slot
+-- returned, the times passed, and the rates that abr_acr returned before.
 use Prim.Native.Nat.{ℕ}
 use mathlib.Core.Path.{_≡_}
 use mathlib.Core.List.{List}
@@ -14,7 +15,8 @@ use Rattle.exports.specs.Recorded.{recorded, RatesRead}
 use Rattle.exports.specs.Returned.{noMember, membersSeen}
 use Rattle.promise_delivery.specs.Policed.{PolicedCells}
 
--- After any exported calls, of a connection that is open with the parameters p, and any further ones until it is closed.
+-- After any exported calls a connection is open with the parameters p. Any further
+-- calls follow, until it is closed.
 abbrev pub ExportsPoliced : Type 0
 ExportsPoliced =
     (cs ds : List Call) (os ps : List Observation) (v : ℕ) (p : Params) (rs : List AbrAllowed) → Transcript cs zeros os → Transcript ds (finalWords zeros os) ps → paramsObserved v none cs os ≡ some p

@@ -1,5 +1,7 @@
--- The contracted minimum, always: a transmitter that lets in no open and no backward cell above the room of its name (`delivery_caps/specs/Room`, met by abr_limit on each backward cell
--- before abr_receive), and whose opens and rises a bucket holds, has caps that fit at every slot, so that of a leased circuit nothing is asked but that something waits.
+-- The contracted minimum, always. A transmitter lets in no open and no backward cell above the room of
+-- its name (`delivery_caps/specs/Room`). Calling abr_limit on each backward cell before abr_receive
+-- meets this. A bucket holds its opens and rises. Then its caps fit at every slot, and a leased circuit
+-- needs only that something waits.
 use Prim.Native.Nat.{ℕ, _+_, _*_, _≤_}
 use mathlib.Core.Path.{_≡_}
 use mathlib.Core.Bool.{true}

@@ -1,4 +1,5 @@
--- The rounds of a transmitter that passes each slot the time that abr_slot_time returns, said of the numbers that exported calls return; and what they deliver where no slot is passed
+-- The rounds of a transmitter that passes each slot the time that abr_slot_time returns. They are
+-- stated by the numbers that exported calls return. Also what they deliver where no slot is passed
 -- more than k behind its own time.
 use Prim.Native.Nat.{ℕ, _+_, _-_, _*_, _≤_, min, max}
 use mathlib.Core.Path.{_≡_}
@@ -10,7 +11,7 @@ use Rattle.rate.specs.Units.{latestTime}
 use Rattle.rate.specs.Gap.{gap}
 use Rattle.rate_params.specs.declared.params.Params.{Params}
 use Rattle.rate_params.specs.Params.{least}
-use Rattle.model.specs.Call.{Call, opening, closing, receiving, offering, levelling, slot, making, outOfRate, openingPath, adding, offeringMember, removing}
+use Rattle.model.specs.Call.{Call, slot}
 use Rattle.table_tournament.specs.Next.{GivesNext, GivesSlotTime}
 use Rattle.abr_answers.specs.declared.calls.AbrAllowed.{AbrAllowed}
 use Rattle.abr.specs.Contract.{ReturnsAllowed}
@@ -20,12 +21,15 @@ use Rattle.exports.specs.Exports.{paramsObserved}
 use Rattle.exports.specs.Returned.{noMember, membersSeen, wentTo}
 use Rattle.exports_rates.specs.Seen.{Watched, watch, watchedFrom, watched}
 use Rattle.exports_service.specs.Ready.{waitsSeen}
-use Rattle.promise_delivery.specs.Calls.{sortOf}
+use Rattle.exports.specs.LastTime.{timeNoted}
+use Rattle.exports.specs.Along.{kept}
+use Rattle.model.specs.Aspects.{sortOf}
 use Rattle.promise_delivery.specs.Turns.{Turn, NoSlot}
-use Rattle.promise_delivery.specs.Served.{NotCloser, movedOn, oneMore}
+use Rattle.promise_service.specs.Progress.{NotCloser}
+use Rattle.promise_delivery.specs.Served.{movedOn, oneMore}
 
--- one round: the calls since the last slot with what they returned; the slot's own time, what abr_next and abr_slot_time return at it, what abr_slot did, and what abr_acr returns of each
--- name before it
+-- One round: the calls since the last slot, with what they returned; the slot's own time; what abr_next and
+-- abr_slot_time return at it; what abr_slot did; and what abr_acr returns for each name before it.
 pub record Round : Type 0 where
   pub between : List Call
   pub seen : List Observation
@@ -35,25 +39,9 @@ pub record Round : Type 0 where
   pub sent : Observation
   pub acrs : ℕ → AbrAllowed
 
--- the last accepted time, from the calls and the numbers that they returned: 0 is no refusal
-unfoldable pub timeKept : Call → (accepted : Bool) → (last : ℕ) → ℕ
-timeKept (opening vpi vci t p) a l = cond a t l
-timeKept (closing vpi vci) a l = l
-timeKept (receiving o) a l = l
-timeKept (offering vpi vci n) a l = l
-timeKept (levelling n) a l = l
-timeKept (slot t room) a l = cond a t l
-timeKept (making vpi vci t) a l = cond a t l
-timeKept (outOfRate vpi vci t room) a l = cond a t l
-timeKept (openingPath vpi t p) a l = cond a t l
-timeKept (adding vpi vci) a l = l
-timeKept (offeringMember vpi vci n) a l = l
-timeKept (removing vpi vci) a l = l
-
+-- the last accepted time, from the calls and the numbers that they returned
 abbrev pub lastSeen : (last : ℕ) → List Call → List Observation → ℕ
-lastSeen l [] os = l
-lastSeen l (c ∷ cs) [] = l
-lastSeen l (c ∷ cs) (o ∷ os) = lastSeen (timeKept c (eqb (o .returned .refusal) 0) l) cs os
+lastSeen l cs os = kept timeNoted l cs os
 
 abbrev pub wordsAt : List ℕ → Round → List ℕ
 wordsAt t x = finalWords t (x .seen)
@@ -66,11 +54,13 @@ pub record RoundRuns (S lag m last : ℕ) (t : List ℕ) (x : Round) : Type 0 wh
   pub slotted : Performs (slot (x .passed) 53) (wordsAt t x) (x .sent)
   pub read : (v : ℕ) → ReturnsAllowed v (wordsAt t x) (x .acrs v)
   pub others : All (λ c. NoSlot (sortOf c)) (x .between)
-  -- opens, made and out-of-rate cells take the last passed time, so that no call but the slots moves the last accepted one; and the clock is not behind it
+  -- Opens, made and out-of-rate cells take the last passed time, so only slots move the last accepted one.
+  -- The clock is not behind that.
   pub still : lastSeen last (x .between) (x .seen) ≡ last
   pub timely : last ≤ x .now
   pub inRange : x .now ≤ latestTime
-  -- the slot comes at most S after the one before, or at most S after the last instant before the next ready one: a transmitter may sleep until that
+  -- The slot comes at most S after the one before, or at most S after the last instant before the next ready one.
+  -- A transmitter may sleep until then.
   pub soon : x .now ≤ max m (x .next - 1) + S
 
 abbrev pub RoundsRun : (S lag m last : ℕ) → List ℕ → List Round → Type 0
@@ -106,7 +96,8 @@ abbrev pub AllWaiting : (v : ℕ) → Watched → List Round → Type 0
 AllWaiting v k [] = Unit
 AllWaiting v k (x ∷ xs) = WaitsBefore v k x × AllWaiting v (watchedAfter v k x) xs
 
--- each slot's own time is at most k, and a gap for each cell of v before it, after `start`; f says which pairs are members
+-- each slot's own time is at most `start`, plus a gap for each cell of v before it, plus k; f
+-- says which pairs are members
 abbrev pub AllSent : (v gap k start cells : ℕ) → (ℕ → Bool) → List Round → Type 0
 AllSent v g k start n f [] = Unit
 AllSent v g k start n f (x ∷ xs) =
@@ -118,7 +109,8 @@ abbrev pub AllRatesIn : (v low high : ℕ) → List Round → Type 0
 AllRatesIn v low high [] = Unit
 AllRatesIn v low high (x ∷ xs) = ((low ≤ x .acrs v .acr) × (x .acrs v .acr ≤ high)) × AllRatesIn v low high xs
 
--- no slot is passed a time after `by`, and one that returns a cell of v none before `from`: after a cell of v these are a gap at low, and one at high, after it
+-- No slot is passed a time after `by`. A slot that returns a cell of v is passed no time before `from`. After a
+-- cell of v, `by` is a gap at low after it, and `from` a gap at high.
 abbrev pub AllSpaced : (v low high from by : ℕ) → (ℕ → Bool) → List Round → Type 0
 AllSpaced v low high from by f [] = Unit
 AllSpaced v low high from by f (x ∷ xs) =
@@ -145,11 +137,13 @@ AllExact v g l f (x ∷ xs) =
 -- after exported calls from the zero table
 pub record RoundsDelivered (cs : List Call) (os : List Observation) (k : ℕ) (xs : List Round) : Type 0 where
   pub near : AllPassedNear k (lastSeen 0 cs os) xs
-  -- a connection with a minimum on which something waits at every slot has a cell for each gap at its minimum, but for one gap and k
+  -- a connection with a minimum on which something waits at every slot has a cell for each gap at its
+  -- minimum, except for one gap and k
   pub minimum :
       (v : ℕ) (p : Params) → paramsObserved v none cs os ≡ some p → 1 ≤ least p → AllWaiting v (watched v cs os) xs
       → AllSent v (gap (least p)) k (lastSeen 0 cs os + gap (least p)) 0 (membersSeen noMember cs os) xs
-  -- at any rates its cells are passed no later than a gap at the lowest, and no sooner than one at the highest, after each other
+  -- at any rates its cells are passed at most a gap at the lowest rate, and at least a
+  -- gap at the highest rate, apart
   pub spaced :
       (v low high : ℕ) (p : Params) → paramsObserved v none cs os ≡ some p → 1 ≤ low → AllWaiting v (watched v cs os) xs → AllRatesIn v low high xs
       → AllSpaced v low high 0 (lastSeen 0 cs os + gap low) (membersSeen noMember cs os) xs

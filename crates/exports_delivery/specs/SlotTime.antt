@@ -7,7 +7,8 @@ use Rattle.table_tournament.specs.Next.{GivesNext, GivesSlotTime}
 use Rattle.abr.specs.Exports.{Observation, Performs, Transcript, finalWords, zeros}
 use Rattle.exports_delivery.specs.Rounds.{lastSeen}
 
--- what a slot at the slot's own time returns, and what one at the time passed does: no refusal where there is none, and kind 0, which is no cell, in both or in neither
+-- A slot at its own time, and one at the time passed. If the first is not refused, the second is not. Both return
+-- kind 0, which is no cell, or neither does.
 pub record SentAlike (own passed : Observation) : Type 0 where
   pub accepted : own .returned .refusal ≡ 0 → passed .returned .refusal ≡ 0
   pub idle : own .returned .refusal ≡ 0 → own .returned .kind ≡ 0 → passed .returned .kind ≡ 0

@@ -22,27 +22,30 @@ use Rattle.connection.specs.declared.kind.Kind.{Kind}
 use Rattle.connection.specs.declared.kind.Kind.the-variants.{Forward, Turned, Data}
 use Rattle.connection.specs.declared.ready.Instant.the-variants.{At}
 use Rattle.connection.specs.Parts.{fresh, withQueue, dequeued}
-use Rattle.connection.specs.Making.{withMade}
-use Rattle.connection.specs.Receiving.{offered, afterDataCell, afterBackwardCell, afterForwardCell, afterRmCell}
+use Rattle.connection.specs.Source.{offered, afterBackwardCell, withServed, sentForward, sentData, afterOutOfRate}
+use Rattle.connection.specs.Destination.{withMade, afterDataCell, afterForwardCell, sentTurned, madeLeft}
+use Rattle.connection.specs.Received.{afterRmCell}
+use Rattle.connection.specs.Slot.{after, memberServed}
 use Rattle.connection.specs.Kind.{kindAt}
-use Rattle.connection.specs.Sending.{after, withServed, memberServed, sentForward, sentTurned, sentData, madeLeft}
-use Rattle.connection.specs.OutOfRate.{afterOutOfRate}
 use Rattle.connection.proofs.Keeps.{work-same, after-same}
-use Rattle.model.specs.State.{State, Entry, free, taken, capacity, empty, find, withEntryOf, withOpened, withTime, withLevel, withMembers}
+use Rattle.model.specs.State.{State, Entry, free, taken, capacity, empty, find, withTime, withLevel, withMembers}
 use Rattle.model.specs.Invariant.{NamesUnique}
 use Rattle.model.specs.Call.{Call, Outcome}
+use Rattle.model.specs.Aspects.{OnMembers}
 use Rattle.model.specs.Step.{refuse, accept, replay, discard, withOffer, withoutOne, sendFrom, sendStep, sendOutOfRate, idleStep, step}
 use Rattle.model.specs.Run.{final, isAccepted}
 use Rattle.model.specs.Orders.{lastMade, lastOutOfRate}
+use Rattle.model.specs.declared.answer.Answer.{Answer}
 use Rattle.model.proofs.Entries.{absent-find, each-free}
 use Rattle.model.proofs.Frames.{put-read, put-kept, with-opened-read, freed-read}
 use Rattle.model.proofs.Effects.{Effect, refuses, opens, closes, offers, receivesData, receivesRm, setsLevel, idles, sends, makes, sendsOutOfRate, opensPath, adds, offersMember, removes, effect}
+use Rattle.model.proofs.ToMembers.{ToMembers, refusedKept, noneTouched, idleKept, allClosed, oneAdded, oneOffered, oneRemoved, oneServed, effect-to-members}
 use Rattle.abr.specs.Exports.{Observation, Transcript, zeros}
 use Rattle.exports.specs.Along.{kept}
 use Rattle.exports.proofs.Transport.{Keeps, stands-first, kept-so}
 use Rattle.exports_cells.specs.Heard.{levelAfter}
 use Rattle.exports_cells.proofs.Heard.{effect-level}
-use Rattle.exports_orders.specs.Noted.{noted, levelNoted, withName, withoutNames, namesAfter, namesNoted, Instants, noInstants, instantsAfter, instantsNoted}
+use Rattle.exports_orders.specs.Noted.{noted, levelNoted, withName, withoutNames, namesAfter, namesNoted, Instants, noInstants, instantsAfter, instantsNoted, namesBy}
 
 -- A reading of the state that each call changes as the caller does is what the caller keeps.
 abbrev ChangesAs : {K : Type 0} → (State → K) → (Call → K → K) → Type 0
@@ -100,25 +103,18 @@ unfolding afterServing
 serving-names none ms = refl
 serving-names (some x) ms = cells-names x _ ms
 
-effect-names :
-    {s : State} {c : Call} {o : Outcome} → Effect s c o
-    → namesOf (o .state .members) ≡ cond (isAccepted (o .answer)) (namesAfter c (namesOf (s .members))) (namesOf (s .members))
-unfolding refuse accept replay discard sendStep sendFrom idleStep sendOutOfRate withOffer withoutOne withEntryOf withOpened withTime withLevel withMembers isAccepted
-effect-names (refuses c n h) = refl
-effect-names (opens a b t p g) = refl
-effect-names {s} (closes a b d f) = without-names _ (s .members)
-effect-names (offers a b n d f i h) = refl
-effect-names (receivesData o a b e u d r i z f) = refl
-effect-names (receivesRm o q d r f) = refl
-effect-names (setsLevel l h) = refl
-effect-names (idles t room g b) = refl
-effect-names {s} (sends t room i u g b) = serving-names (memberServed (kindAt t (b .holder)) (b .holder) (s .members)) (s .members)
-effect-names (makes a b t d f g h m) = refl
-effect-names (sendsOutOfRate a b t room d f g h) = refl
-effect-names (opensPath a t p g) = refl
-effect-names {s} (adds a b d f j) = with-name (addressName a b) (s .members)
-effect-names {s} (offersMember a b n d f i h) = cells-names (addressName a b) _ (s .members)
-effect-names {s} (removes a b d f i) = without-names _ (s .members)
+names-after :
+    {s : State} {k : OnMembers} {a : Answer} {ms : List Member} → ToMembers s k a ms
+    → namesOf ms ≡ cond (isAccepted a) (namesBy k (namesOf (s .members))) (namesOf (s .members))
+unfolding isAccepted
+names-after (refusedKept n) = refl
+names-after (noneTouched n) = refl
+names-after idleKept = refl
+names-after {s} (allClosed v n k) = without-names _ (s .members)
+names-after {s} (oneAdded x n) = with-name x (s .members)
+names-after {s} (oneOffered x n k i) = cells-names x _ (s .members)
+names-after {s} (oneRemoved x n k) = without-names _ (s .members)
+names-after {s} (oneServed u d k acr n f) = serving-names (memberServed k d (s .members)) (s .members)
 
 no-names : [] ≡ namesOf (empty .members)
 unfolding empty
@@ -130,7 +126,7 @@ names-length (m ∷ ms) = ap suc (names-length ms)
 
 pub members-noted : (cs : List Call) (os : List Observation) → Transcript cs zeros os → length (namesNoted cs os) ≡ length (final empty cs .members)
 members-noted cs os t =
-    ap length (noted-so (λ s. namesOf (s .members)) namesAfter (λ s w c o e. effect-names e) [] no-names cs os t) ∙ names-length (final empty cs .members)
+    ap length (noted-so (λ s. namesOf (s .members)) namesAfter (λ s w c o e. names-after (effect-to-members e)) [] no-names cs os t) ∙ names-length (final empty cs .members)
 
 -- The instants of a connection.
 abbrev pub instantsIn : Entry → Instants

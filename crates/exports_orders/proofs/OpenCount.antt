@@ -53,9 +53,9 @@ freed-count u s c e =
     let k : used (getD (s .entries) i free) ≡ 1 = ap used e in
     omega (arith, count-set (s .entries) i free (taken-in (s .entries) i c e), k)
 
-begun-count : (u t : ℕ) (p : Params) (s : State) → OpenPassed s u t p → total (withOpened (fresh u t p) s) ≡ total s + 1
+opened-count : (u t : ℕ) (p : Params) (s : State) → OpenPassed s u t p → total (withOpened (fresh u t p) s) ≡ total s + 1
 unfolding withOpened roomLeft
-begun-count u t p s g =
+opened-count u t p s g =
     let i = position isFree (s .entries) in
     let l : i < length (s .entries) = ltb-true _ _ (g .room) in
     let k : used (getD (s .entries) i free) ≡ 0 = ap used (lowest-free (s .entries)) in
@@ -64,7 +64,7 @@ begun-count u t p s g =
 effect-count : {s : State} {c : Call} {o : Outcome} → Effect s c o → total (o .state) ≡ cond (isAccepted (o .answer)) (openAfter c (total s)) (total s)
 unfolding refuse accept replay discard sendStep sendFrom idleStep sendOutOfRate withOffer withoutOne withTime withLevel withMembers isAccepted
 effect-count (refuses c n h) = refl
-effect-count {s} (opens a b t p g) = begun-count _ t p s g
+effect-count {s} (opens a b t p g) = opened-count _ t p s g
 effect-count {s} (closes a b d f) = freed-count _ s d f
 effect-count {s} (offers a b n d f i h) = changed-count _ s d _ f
 effect-count {s} (receivesData o a b e u d r i z f) = changed-count _ s d _ f
@@ -74,7 +74,7 @@ effect-count (idles t room g b) = refl
 effect-count {s} (sends t room i u g b) = changed-count u (withTime t s) (b .holder) _ (b .found)
 effect-count {s} (makes a b t d f g h m) = changed-count _ (withTime t s) d _ f
 effect-count {s} (sendsOutOfRate a b t room d f g h) = changed-count _ (withTime t s) d _ f
-effect-count {s} (opensPath a t p g) = begun-count _ t p s g
+effect-count {s} (opensPath a t p g) = opened-count _ t p s g
 effect-count (adds a b d f j) = refl
 effect-count {s} (offersMember a b n d f i h) = changed-count _ s d _ f
 effect-count {s} (removes a b d f i) = changed-count _ s d _ f

@@ -1,4 +1,5 @@
--- Exported calls are refused in their order, by what a caller knows: the order by the state, each of its conditions in the caller's words.
+-- Exported calls are refused in their order, by what a caller knows. This is the order by the state, with each
+-- condition in the caller's words.
 use Prim.Native.Nat.{ℕ, _+_, _≤_, _<_}
 use mathlib.Core.Path.{_≡_, refl, sym, ap, subst, _∙_}
 use mathlib.Core.Logic.{_≢_}

@@ -18,7 +18,7 @@ use Rattle.cell.specs.declared.read.Reading.the-variants.{Refused, DataCell, Rm
 use Rattle.laws.specs.Require.{require}
 use Rattle.model.specs.Orders.{Asks, refused, passed, Accepts, accepted}
 use Rattle.abr_answers.specs.declared.cells.AbrCell.{AbrCell}
-use Rattle.abr_answers.specs.Cells.{cellAnswerOf}
+use Rattle.abr_answers.specs.Cells.{cellOf}
 use Rattle.exports_orders.specs.ReadOrder.{ReadOrder, readReturned}
 
 module _ (o : List ℕ) (After : Reading → Option ℕ → Type 0) (Rest : Option ℕ → Type 0) (r : Option ℕ) (unread : (n : ℕ) → 0 < n → After (Refused n) r → r ≡ some n)
@@ -91,9 +91,9 @@ module _ (o : List ℕ) (After : Reading → Option ℕ → Type 0) (Rest : Opti
   read-order h = size (eqb (length o) 53) refl h
 
 -- abr_read
-pub reads-in-order : (o : List ℕ) (r : AbrCell) → r ≡ cellAnswerOf (reading o) → ReadOrder o Accepts (readReturned r)
+pub reads-in-order : (o : List ℕ) (r : AbrCell) → r ≡ cellOf (reading o) → ReadOrder o Accepts (readReturned r)
 reads-in-order o r e =
-    read-order o (λ x q. q ≡ readReturned (cellAnswerOf x)) Accepts (readReturned r) (λ n l h. h ∙ some-number n l) (λ t b h. subst Accepts (sym h) accepted) (λ t h. subst Accepts (sym h) accepted)
+    read-order o (λ x q. q ≡ readReturned (cellOf x)) Accepts (readReturned r) (λ n l h. h ∙ some-number n l) (λ t b h. subst Accepts (sym h) accepted) (λ t h. subst Accepts (sym h) accepted)
     (ap readReturned e)
   where
     some-number : (n : ℕ) → 0 < n → cond (eqb n 0) none (some n) ≡ some n

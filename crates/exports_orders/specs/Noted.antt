@@ -1,15 +1,15 @@
--- What a caller keeps for the refusals that look at the table, from the calls and the numbers that they returned: the congestion level, the names of the members, and of one connection the
--- instants of its last made cell and of its last out-of-rate cell. (Document 01, "Turning cells round"; document 02, L1, L5 and L13.)
+-- What a caller keeps for the refusals that look at the table, from the calls and the numbers that they returned.
+-- It keeps the congestion level and the names of the members. For one connection it keeps the instants of its last
+-- made cell and of its last out-of-rate cell. (Document 01, "Turning cells round"; document 02, L1, L5 and L13.)
 use Prim.Native.Nat.{ℕ}
 use mathlib.Core.Bool.{Bool, cond}
 use mathlib.Core.List.{List, [], _∷_}
 use lib.Dec.{ltb, eqb}
-use Rattle.cell.specs.Name.{addressName}
-use Rattle.connection_members.specs.Path.{pathVci}
 use Rattle.connection_members.specs.Members.{named, onPath}
 use Rattle.connection.specs.declared.ready.Instant.{Instant}
 use Rattle.connection.specs.declared.ready.Instant.the-variants.{Never, At}
-use Rattle.model.specs.Call.{Call, opening, closing, receiving, offering, levelling, slot, making, outOfRate, openingPath, adding, offeringMember, removing}
+use Rattle.model.specs.Call.{Call}
+use Rattle.model.specs.Aspects.{Sort, opener, closer, arrival, slotAt, another, sortOf, Asked, asksMade, asksOutOfRate, asksNone, askedOf, OnMembers, ofClosed, ofAdded, ofOffered, ofRemoved, ofSlot, ofNone, membersOf}
 use Rattle.abr.specs.Exports.{Observation}
 use Rattle.exports.specs.Along.{kept}
 use Rattle.exports_cells.specs.Heard.{levelAfter}
@@ -31,19 +31,16 @@ withoutNames f [] = []
 withoutNames f (y ∷ ys) = cond (f y) (withoutNames f ys) (y ∷ withoutNames f ys)
 
 -- an adding, a removal, and a close of the path
+abbrev pub namesBy : OnMembers → List ℕ → List ℕ
+namesBy (ofClosed v) ns = withoutNames (onPath v) ns
+namesBy (ofAdded x) ns = withName x ns
+namesBy (ofOffered x n) ns = ns
+namesBy (ofRemoved x) ns = withoutNames (named x) ns
+namesBy ofSlot ns = ns
+namesBy ofNone ns = ns
+
 abbrev pub namesAfter : Call → List ℕ → List ℕ
-namesAfter (opening vpi vci t p) ns = ns
-namesAfter (closing vpi vci) ns = withoutNames (onPath (addressName vpi vci)) ns
-namesAfter (receiving o) ns = ns
-namesAfter (offering vpi vci n) ns = ns
-namesAfter (levelling l) ns = ns
-namesAfter (slot t room) ns = ns
-namesAfter (making vpi vci t) ns = ns
-namesAfter (outOfRate vpi vci t room) ns = ns
-namesAfter (openingPath vpi t p) ns = ns
-namesAfter (adding vpi vci) ns = withName (addressName vpi vci) ns
-namesAfter (offeringMember vpi vci n) ns = ns
-namesAfter (removing vpi vci) ns = withoutNames (named (addressName vpi vci)) ns
+namesAfter c ns = namesBy (membersOf c) ns
 
 abbrev pub namesNoted : List Call → List Observation → List ℕ
 namesNoted cs os = kept (noted namesAfter) [] cs os
@@ -56,19 +53,20 @@ pub record Instants : Type 0 where
 abbrev pub noInstants : Instants
 noInstants = record { made = Never; «out_of_rate» = Never }
 
+abbrev pub instantsBy : (v : ℕ) → Instants → Sort → Instants
+instantsBy v i (opener u t p) = cond (eqb u v) noInstants i
+instantsBy v i (closer u) = cond (eqb u v) noInstants i
+instantsBy v i (arrival o) = i
+instantsBy v i (slotAt t) = i
+instantsBy v i another = i
+
+abbrev pub instantsAsked : (v : ℕ) → Instants → Asked → Instants
+instantsAsked v i (asksMade u t) = cond (eqb u v) (record { made = At t; «out_of_rate» = i .«out_of_rate» }) i
+instantsAsked v i (asksOutOfRate u t) = cond (eqb u v) (record { made = i .made; «out_of_rate» = At t }) i
+instantsAsked v i asksNone = i
+
 abbrev pub instantsAfter : (v : ℕ) → Call → Instants → Instants
-instantsAfter v (opening vpi vci t p) i = cond (eqb (addressName vpi vci) v) noInstants i
-instantsAfter v (closing vpi vci) i = cond (eqb (addressName vpi vci) v) noInstants i
-instantsAfter v (receiving o) i = i
-instantsAfter v (offering vpi vci n) i = i
-instantsAfter v (levelling l) i = i
-instantsAfter v (slot t room) i = i
-instantsAfter v (making vpi vci t) i = cond (eqb (addressName vpi vci) v) (record { made = At t; «out_of_rate» = i .«out_of_rate» }) i
-instantsAfter v (outOfRate vpi vci t room) i = cond (eqb (addressName vpi vci) v) (record { made = i .made; «out_of_rate» = At t }) i
-instantsAfter v (openingPath vpi t p) i = cond (eqb (addressName vpi pathVci) v) noInstants i
-instantsAfter v (adding vpi vci) i = i
-instantsAfter v (offeringMember vpi vci n) i = i
-instantsAfter v (removing vpi vci) i = i
+instantsAfter v c i = instantsAsked v (instantsBy v i (sortOf c)) (askedOf c)
 
 abbrev pub instantsNoted : (v : ℕ) → List Call → List Observation → Instants
 instantsNoted v cs os = kept (noted (instantsAfter v)) noInstants cs os

@@ -1,5 +1,6 @@
--- Each exported call is refused in the order that the documents give, said of what a caller knows from the calls before it and the numbers that they returned, and of the octets of a cell.
--- (Document 01, "Refused because of the input" and "Refused because of the state"; document 02, each request.)
+-- Each exported call is refused in the order that the documents give. This is stated by what a caller knows from
+-- the calls before it and the numbers that they returned, and by the octets of a cell. (Document 01, "Refused
+-- because of the input" and "Refused because of the state"; document 02, each request.)
 use Prim.Native.Nat.{ℕ, _+_, _≤_, _<_}
 use mathlib.Core.Path.{_≡_}
 use mathlib.Core.Logic.{_≢_}
@@ -16,7 +17,7 @@ use Rattle.connection_members.specs.Path.{isPath, pathOf}
 use Rattle.model.specs.Call.{Call, opening, closing, receiving, offering, levelling, slot, making, outOfRate, openingPath, adding, offeringMember, removing}
 use Rattle.model.specs.Orders.{Asks, Accepts, Rested}
 use Rattle.abr_answers.specs.declared.cells.AbrCell.{AbrCell}
-use Rattle.abr_answers.specs.Cells.{cellAnswerOf}
+use Rattle.abr_answers.specs.Cells.{cellOf}
 use Rattle.abr.specs.Exports.{Observation, Performs, Transcript, finalWords, zeros}
 use Rattle.exports.specs.Along.{kept}
 use Rattle.exports.specs.Returned.{noMember, membersSeen}
@@ -94,4 +95,4 @@ pub record ExportsOrders : Type 0 where
   pub calls :
       (cs : List Call) (os : List Observation) → Transcript cs zeros os → (c : Call) (o : Observation) → Performs c (finalWords zeros os) o
       → OrderSeen cs os c (refusalReturned (o .returned))
-  pub reads : (octets : List ℕ) (r : AbrCell) → r ≡ cellAnswerOf (reading octets) → ReadOrder octets Accepts (readReturned r)
+  pub reads : (octets : List ℕ) (r : AbrCell) → r ≡ cellOf (reading octets) → ReadOrder octets Accepts (readReturned r)

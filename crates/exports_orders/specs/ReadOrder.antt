@@ -1,5 +1,6 @@
--- The refusals of reading a cell in their order, by its octets: 1, 2 and 4 of every cell, then 5, 6 and 19 of an RM cell. (Document 01, "The cell, 53 octets", "Refused because of the input"
--- and the orders; document 02, L6 and L7.)
+-- The refusals of reading a cell in their order, by its octets: 1, 2 and 4 for every cell, then 5, 6
+-- and 19 for an RM cell. (Document 01, "The cell, 53 octets", "Refused because of the input" and the
+-- orders; document 02, L6 and L7.)
 use Prim.Native.Nat.{ℕ, _≤_, _%_}
 use mathlib.Core.Path.{_≡_}
 use mathlib.Core.Bool.{true, cond}

@@ -1,1 +1,2 @@
-// The order of the refusals, of whole lists of exported calls, by what a caller knows: definitions in specs/, theorems in proofs/, no code.
+// The order of the refusals in whole lists of exported calls, by what a caller knows. Definitions are in specs/,
+// theorems in proofs/. There is no code.

@@ -13,7 +13,7 @@ use Rattle.connection.specs.declared.parts.Connection.{Connection}
 use Rattle.connection.specs.declared.kind.Kind.{Kind}
 use Rattle.connection.specs.declared.kind.Kind.the-variants.{Forward, Turned, Data}
 use Rattle.connection.specs.Kind.{kindAt}
-use Rattle.connection.specs.Sending.{memberServed}
+use Rattle.connection.specs.Slot.{memberServed}
 use Rattle.model.specs.State.{State, Entry, free, taken, empty, find, withTime}
 use Rattle.model.specs.declared.answer.Answer.the-variants.{Sent}
 use Rattle.model.specs.Call.{Call, Outcome}
@@ -22,7 +22,7 @@ use Rattle.model.specs.Queries.{entryAcr, acrOf}
 use Rattle.model.specs.Run.{final}
 use Rattle.model.proofs.Conservation.{cond-zero}
 use Rattle.model.proofs.Given.{entryParams}
-use Rattle.model.proofs.Effects.{Effect, refuses, opens, closes, offers, receivesData, receivesRm, setsLevel, idles, sends, makes, sendsOutOfRate, opensPath, adds, offersMember, removes, effect}
+use Rattle.model.proofs.Shown.{Shown, refusing, accepting, discarding, idling, serving, servingOutOfRate, shown}
 use Rattle.abr_answers.specs.declared.calls.AbrAllowed.{AbrAllowed}
 use Rattle.abr_answers.specs.Calls.{sentOf, allowedOf}
 use Rattle.abr.specs.Exports.{finalWords, zeros}
@@ -42,23 +42,14 @@ sent-forward v u a n d ms Forward = ap (λ (x : ℕ). cond (eqb x v) 1 0) (back 
 sent-forward v u a n d ms Turned = sym (cond-zero (eqb u v))
 sent-forward v u a n d ms Data = sym (cond-zero (eqb u v))
 
-effect-forward : (v : ℕ) {s : State} {c : Call} {o : Outcome} → Effect s c o → forwardReturned v (sentOf (o .answer)) ≡ forwardSlotOf v (o .answer)
+shown-forward : (v : ℕ) {s : State} {c : Call} {o : Outcome} → Shown s c o → forwardReturned v (sentOf (o .answer)) ≡ forwardSlotOf v (o .answer)
 unfolding refuse accept replay discard idleStep sendStep sendFrom sendOutOfRate withTime forwardSlotOf
-effect-forward v (refuses c n h) = refl
-effect-forward v (opens a b t p g) = refl
-effect-forward v (closes a b d g) = refl
-effect-forward v (offers a b n d g c h) = refl
-effect-forward v (receivesData o a b e u d r i z g) = refl
-effect-forward v (receivesRm o q d r g) = refl
-effect-forward v (setsLevel l h) = refl
-effect-forward v (idles t room g b) = refl
-effect-forward v {s} (sends t room i u g b) = sent-forward v u 0 0 (b .holder) (s .members) (kindAt t (b .holder))
-effect-forward v (makes a b t d e g h m) = refl
-effect-forward v (sendsOutOfRate a b t room d e g h) = refl
-effect-forward v (opensPath a t p g) = refl
-effect-forward v (adds a b d e j) = refl
-effect-forward v (offersMember a b n d e i h) = refl
-effect-forward v (removes a b d e i) = refl
+shown-forward v (refusing c n h) = refl
+shown-forward v (accepting c n r l g) = refl
+shown-forward v (discarding c n x u r l i g) = refl
+shown-forward v (idling t room g) = refl
+shown-forward v {s} (serving t room i u g b) = sent-forward v u 0 0 (b .holder) (s .members) (kindAt t (b .holder))
+shown-forward v (servingOutOfRate a b t room d e g) = refl
 
 -- an open connection, by what a caller knows
 pub record Open (p : Params) (x : Entry) : Type 0 where
@@ -89,7 +80,7 @@ exports-deaf-falls cs os x v p e c ds ps y u j n k a b ha hb =
     let d = open-known (find v (s .entries)) p (sym (params-known cs os x v) ∙ e) in
     let w = d .holder in
     let count : forwardsReturned v ds ps ≡ forwardSlots v s ds =
-    sum-seen (λ c o. forwardReturned v (o .returned)) (λ c a. forwardSlotOf v a) (λ s c o z. ap (forwardReturned v) (z .matches .returned) ∙ effect-forward v (effect s (z .wellFormed .unique) c)) s (finalWords zeros os) st ds ps y in
+    sum-seen (λ c o. forwardReturned v (o .returned)) (λ c a. forwardSlotOf v a) (λ s c o z. ap (forwardReturned v) (z .matches .returned) ∙ shown-forward v (shown (z .wellFormed) c)) s (finalWords zeros os) st ds ps y in
     let unanswered : seenOf v cs os .unanswered ≡ w .unanswered = ap (λ (k : Seen). k .unanswered) (seen-held cs os x v w (d .is)) in
     let before : a .acr ≡ w .rate .acr = ap (λ (r : AbrAllowed). r .acr) (acr-seen st v a ha) ∙ rate-read (find v (s .entries)) w (d .is) in
     let after : b .acr ≡ allowedOf (entryAcr (find v (final s ds .entries))) .acr = ap (λ (r : AbrAllowed). r .acr) (acr-seen (stands-after st ds ps y) v b hb) in
@@ -99,7 +90,7 @@ exports-deaf-falls cs os x v p e c ds ps y u j n k a b ha hb =
     let same : max (least (w .rate .params)) (cutTimes j (w .rate .params .c) (w .rate .acr)) ≡ max (least p) (cutTimes j (p .c) (a .acr)) = (λ i. max (least (q i)) (cutTimes j (q i .c) (sym before i))) in
     omega (arith, after, low, same)
 
--- a name of which abr_acr returns no refusal is open
+-- a name is open if abr_acr returns no refusal for it
 read-above : (x : Entry) (m : ℕ) → allowedOf (entryAcr x) .refusal ≡ 0 → ((e : Connection) → x ≡ taken e → m ≤ e .rate .acr) → m ≤ allowedOf (entryAcr x) .acr
 unfolding entryAcr
 read-above free m r h = absurd (omega (arith, r))

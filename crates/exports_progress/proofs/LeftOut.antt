@@ -11,19 +11,21 @@ use Rattle.connection.specs.declared.kind.Kind.the-variants.{Forward, Turned, D
 use Rattle.connection.specs.Kind.{kindNumber, kindAt}
 use Rattle.model.specs.State.{State, empty, withTime}
 use Rattle.model.specs.declared.answer.Answer.the-variants.{Idle}
-use Rattle.model.specs.Call.{Call, opening, closing, receiving, offering, levelling, slot, making, outOfRate, openingPath, adding, offeringMember, removing, Outcome, closedCells}
+use Rattle.model.specs.Call.{Call, slot, Outcome, closedCells}
 use Rattle.model.specs.Step.{refuse, accept, replay, discard, idleStep, sendFrom, sendStep, sendOutOfRate, step}
 use Rattle.model.specs.Queries.{acrOf, nextReady, slotTime}
 use Rattle.model.specs.Run.{run, final}
-use Rattle.model.proofs.Effects.{Effect, refuses, opens, closes, offers, receivesData, receivesRm, setsLevel, idles, sends, makes, sendsOutOfRate, opensPath, adds, offersMember, removes, effect}
+use Rattle.model.proofs.Effects.{Effect, refuses, idles, sends, effect}
+use Rattle.model.proofs.Shown.{Shown, refusing, accepting, discarding, idling, serving, servingOutOfRate, shown}
 use Rattle.engine.specs.Contract.{bufferContent}
 use Rattle.abr_answers.specs.declared.calls.AbrSent.{AbrSent}
 use Rattle.abr_answers.specs.Calls.{sentOf, allowedOf}
+use Rattle.model.specs.Aspects.{Lent, notLent, lentOf}
 use Rattle.abr.specs.Exports.{Observation, Transcript, ended, then}
 use Rattle.promise_lists.specs.Demand3.{InPlace}
-use Rattle.promise_service.specs.PassedOver.{slotCall, slotTaken}
+use Rattle.promise_service.specs.PassedOver.{slotCall, slotTaken, slotLent}
 use Rattle.promise_service.specs.LeftOut.{NotBefore, SameBehind, isIdle}
-use Rattle.promise_service.proofs.LeftOut.{same-time, same-step, effect-idle, rested-behind, left-out}
+use Rattle.promise_service.proofs.LeftOut.{same-time, same-step, shown-idle, rested-behind, left-out}
 use Rattle.exports.proofs.Transport.{Stands, Sees, sees, stands, acr-seen}
 use Rattle.exports_progress.specs.LeftOut.{SameWithoutSlots, idleSeen, awakeSeen, notIdleSeen, timeOfSlot, InOrderSeen, idleUntil, ExportsLeftOut}
 
@@ -81,6 +83,7 @@ was-idle (sends t _ i u g b) e k = absurd (kind-some (kindAt t (b .holder)) k)
 -- what a caller takes for an idle slot is one, and its time is the last accepted one
 record Idled (c : Call) (p : Outcome) : Type 0 where
   idle : isIdle (p .answer) ≡ true
+  later : (x : ℕ) → NotBefore x c → x ≤ timeOfSlot c
   time : p .state .last ≡ timeOfSlot c
 
 no-slot : {A : Type 0} → false ≡ true → A
@@ -89,56 +92,34 @@ no-slot e = absurd (true≢false (sym e))
 refused-idle : (c : Call) (n : ℕ) → 0 < n → (eqb (slotTaken c (eqb n 0)) 1 && true) ≡ false
 refused-idle c n h = rw (ne-eqb n 0 (λ e. omega (arith, e, h))) refl
 
-idled : {s : State} {c : Call} {p : Outcome} → Effect s c p → idleSeen c (sentOf (p .answer)) ≡ true → Idled c p
+not-idle : (l : Lent) → l ≡ notLent → (eqb (slotLent l) 1 && true) ≡ true → false ≡ true
+not-idle l q e = subst (λ (x : Lent). (eqb (slotLent x) 1 && true) ≡ true) q e
+
+idled : {s : State} {c : Call} {p : Outcome} → Shown s c p → idleSeen c (sentOf (p .answer)) ≡ true → Idled c p
 unfolding refuse accept replay discard idleStep sendFrom sendStep sendOutOfRate withTime slotCall timeOfSlot isIdle
-idled (refuses c n h) e = no-slot (sym (refused-idle c n h) ∙ e)
-idled (opens a b t p g) e = no-slot e
-idled (closes a b d f) e = no-slot e
-idled (offers a b n d f i h) e = no-slot e
-idled (receivesData o a b k u d r i h f) e = no-slot e
-idled (receivesRm o q d r f) e = no-slot e
-idled (setsLevel l h) e = no-slot e
-idled (idles t room g b) e = record { idle = refl; time = refl }
-idled (sends t room i u g b) e = absurd (kind-some (kindAt t (b .holder)) (eqb-true _ _ e))
-idled (makes a b t d f g h m) e = no-slot e
-idled (sendsOutOfRate a b t room d f g h) e = no-slot e
-idled (opensPath a t p g) e = no-slot e
-idled (adds a b d f j) e = no-slot e
-idled (offersMember a b n d f i h) e = no-slot e
-idled (removes a b d f i) e = no-slot e
+idled (refusing c n h) e = no-slot (sym (refused-idle c n h) ∙ e)
+idled (accepting c n r l g) e = no-slot (not-idle (lentOf c) l e)
+idled (discarding c n x u r l i g) e = no-slot (not-idle (lentOf c) l e)
+idled (idling t room g) e = record { idle = refl; later = λ x n. n; time = refl }
+idled (serving t room i u g b) e = absurd (kind-some (kindAt t (b .holder)) (eqb-true _ _ e))
+idled (servingOutOfRate a b t room d f g) e = no-slot e
 
 -- the idle slots come in order
-no-idle : {A : Type 0} (r : AbrSent) → (eqb (cond (eqb (r .refusal) 0) 0 0) 1 && eqb (r .kind) 0) ≡ true → A
-no-idle {A} r e = go (eqb (r .refusal) 0) e
-  where
-    go : (a : Bool) → (eqb (cond a 0 0) 1 && eqb (r .kind) 0) ≡ true → A
-    go true q = no-slot q
-    go false q = no-slot q
+idle-seen : {s : State} {c : Call} {o : Observation} → Sees s c o → idleSeen c (o .returned) ≡ true → Idled c (step s c)
+idle-seen {s} {c} z i = idled (shown (z .wellFormed) c) (sym (ap (idleSeen c) (z .matches .returned)) ∙ i)
 
-idle-later : (x : ℕ) (c : Call) (r : AbrSent) → idleSeen c r ≡ true → NotBefore x c → x ≤ timeOfSlot c
-unfolding slotCall timeOfSlot
-idle-later x (opening vpi vci t p) r e n = no-idle r e
-idle-later x (closing vpi vci) r e n = no-idle r e
-idle-later x (receiving o) r e n = no-idle r e
-idle-later x (offering vpi vci k) r e n = no-idle r e
-idle-later x (levelling l) r e n = no-idle r e
-idle-later x (slot t room) r e n = n
-idle-later x (making vpi vci t) r e n = no-idle r e
-idle-later x (outOfRate vpi vci t room) r e n = no-idle r e
-idle-later x (openingPath vpi t p) r e n = no-idle r e
-idle-later x (adding vpi vci) r e n = no-idle r e
-idle-later x (offeringMember vpi vci k) r e n = no-idle r e
-idle-later x (removing vpi vci) r e n = no-idle r e
-
-until-later : (x : ℕ) (ds : List Call) (ps : List Observation) → InOrderSeen x ds ps → x ≤ idleUntil x ds ps
-until-later x [] ps g = omega arith
-until-later x (c ∷ cs) [] g = omega arith
-until-later x (c ∷ cs) (o ∷ os) g = go (idleSeen c (o .returned)) refl (g .1) (λ w g. until-later w cs os g)
+until-later :
+    (x : ℕ) (ds : List Call) (ps : List Observation) {s : State} {l : List ℕ} → Stands s l → Transcript ds l ps → InOrderSeen x ds ps → x ≤ idleUntil x ds ps
+until-later x [] [] st ended g = omega arith
+until-later x (c ∷ cs) (o ∷ os) {s} st (then p t) g = go (idleSeen c (o .returned)) refl (g .1) (λ w g. until-later w cs os (z .next) t g)
   where
+    z : Sees s c o
+    z = sees st p
+
     go :
         (b : Bool) → idleSeen c (o .returned) ≡ b → InOrderSeen (cond b (timeOfSlot c) x) cs os → ((w : ℕ) → InOrderSeen w cs os → w ≤ idleUntil w cs os)
         → x ≤ idleUntil (cond b (timeOfSlot c) x) cs os
-    go true i h f = let k : timeOfSlot c ≤ idleUntil (timeOfSlot c) cs os = f (timeOfSlot c) h in omega (arith, k, idle-later x c (o .returned) i (g .0))
+    go true i h f = let k : timeOfSlot c ≤ idleUntil (timeOfSlot c) cs os = f (timeOfSlot c) h in omega (arith, k, idle-seen z i .later x (g .0))
     go false i h f = f x h
 
 module _ (u : ℕ) where
@@ -160,13 +141,12 @@ module _ (u : ℕ) where
           → ((w : ℕ) (q : State) (k : List ℕ) → Stands q k → step s c .state ≡ withTime (max w (q .last)) q → InOrderSeen w cs os → idleUntil w cs os ≤ u → (qs : List Observation) → Transcript (awakeSeen cs os) k qs → InPlace (SameWithoutSlots u) (notIdleSeen cs os) qs)
           → (qs : List Observation) → Transcript (cond b (awakeSeen cs os) (c ∷ awakeSeen cs os)) k qs → InPlace (SameWithoutSlots u) (cond b (notIdleSeen cs os) (o ∷ notIdleSeen cs os)) qs
       go true i g n f qs y =
-          let m = effect s (st .wellFormed .unique) c in
-          let a = idled m (sym (ap (idleSeen c) (z .matches .returned)) ∙ i) in
-          let d = effect-idle m (a .idle) in
+          let a = idle-seen z i in
+          let d = shown-idle (shown (st .wellFormed) c) (a .idle) in
           f (timeOfSlot c) r k su (rested-behind x r s (step s c .state) e (d .since) (d .state) ∙ ap (λ (w : ℕ). withTime (max w (r .last)) r) (a .time)) g n qs y
       go false i g n f (q ∷ qs) (then p′ t′) =
           let z′ = sees su p′ in
-          (one-seen x s r c o q h z z′ u (omega (arith, n, until-later x cs os g)), f x (step r c .state) (q .table) (z′ .next) (h .state) g n qs t′)
+          (one-seen x s r c o q h z z′ u (omega (arith, n, until-later x cs os (z .next) t g)), f x (step r c .state) (q .table) (z′ .next) (h .state) g n qs t′)
 
 pub exports-left-out : ExportsLeftOut
 exports-left-out = record {

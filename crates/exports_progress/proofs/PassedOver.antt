@@ -1,6 +1,6 @@
 -- A connection that is ready is not passed over, of exported calls.
 use Prim.Native.Nat.{ℕ, zero, suc, _+_, _-_, _≤_, _<_}
-use mathlib.Core.Path.{_≡_, refl, sym, ap, _∙_}
+use mathlib.Core.Path.{_≡_, refl, sym, ap, _∙_, subst}
 use mathlib.Core.Bool.{Bool, true, false, cond}
 use mathlib.Core.List.{List, [], _∷_}
 use mathlib.Core.Option.{Option, some}
@@ -15,16 +15,19 @@ use Rattle.connection.specs.declared.parts.Connection.{Connection}
 use Rattle.connection.specs.Ready.{anyWaits}
 use Rattle.model.specs.State.{State, Entry, free, taken, capacity, empty, find, withEntryOf, withMembers}
 use Rattle.model.specs.Invariant.{WellFormed}
-use Rattle.model.specs.Call.{Call, opening, closing, receiving, offering, levelling, slot, making, outOfRate, openingPath, adding, offeringMember, removing, Outcome, goesTo}
+use Rattle.model.specs.Call.{Call, opening, closing, receiving, slot, openingPath, Outcome, goesTo}
 use Rattle.model.specs.Step.{refuse, discard, step}
 use Rattle.model.specs.Run.{run, final, isAccepted}
 use Rattle.model.specs.Queries.{entryAcr, acrOf}
 use Rattle.model.proofs.Effects.{Effect, refuses, closes, effect}
+use Rattle.model.proofs.BySort.{BySort, anOpening, anOpeningPath, aClosing, aReceiving, aSlot, anotherCall, bySort}
 use Rattle.abr_answers.specs.declared.calls.AbrAllowed.{AbrAllowed}
 use Rattle.abr_answers.specs.Calls.{allowedOf}
+use Rattle.model.specs.Aspects.{Sort}
+use Rattle.model.specs.Orders.{openCount}
 use Rattle.abr.specs.Exports.{Observation, Transcript, ended, then, finalWords, zeros}
 use Rattle.promise_service.specs.Liveness.{latestReady, GoesTo, Somewhere, here, there}
-use Rattle.promise_service.specs.PassedOver.{openEntries, openConnections, openCall, opensBy, opensUntil, slotTaken, slotsTaken, ReadyBy, FoundReady}
+use Rattle.promise_service.specs.PassedOver.{openConnections, openCall, opensBy, opensUntil, slotTaken, slotsTaken, ReadyBy, FoundReady, openSort}
 use Rattle.promise_service.proofs.Counted.{one, passes, any, freed-count, effect-count, open-count}
 use Rattle.promise_service.proofs.Liveness.{ready-soon}
 use Rattle.promise_service.proofs.PassedOver.{not-passed-over}
@@ -39,7 +42,7 @@ use Rattle.exports_service.specs.Ready.{waitsSeen}
 use Rattle.exports_service.specs.Served.{latestSeen}
 use Rattle.exports_service.proofs.Ready.{waits-same}
 use Rattle.exports_service.proofs.Served.{latest-same}
-use Rattle.exports_progress.specs.PassedOver.{openAfter, countsOpen, opensReturned, slotsReturned, ReadySeen, FoundReadySeen, ExportsNotPassedOver}
+use Rattle.exports_progress.specs.PassedOver.{openAfter, countsOpen, opensReturned, slotsReturned, ReadySeen, FoundReadySeen, ExportsNotPassedOver, openBy}
 use Rattle.exports_progress.proofs.Deaf.{open-known}
 
 -- The number of open connections is at most what a caller counts.
@@ -62,29 +65,26 @@ step-count : {s : State} → WellFormed s → (c : Call) → openConnections (st
 step-count {s} w c =
     omega (arith, open-count (s .entries), open-count (step s c .state .entries), effect-count any (effect s (w .unique) c) (λ t room d e a. le-refl 1))
 
-counts : {s : State} → WellFormed s → (c : Call) (k : ℕ) → openConnections s ≤ k → openConnections (step s c .state) ≤ cond (isAccepted (step s c .answer)) (openAfter c k) k
+counts : {s : State} → WellFormed s → {c : Call} → BySort c → (k : ℕ) → openConnections s ≤ k → openConnections (step s c .state) ≤ cond (isAccepted (step s c .answer)) (openAfter c k) k
 unfolding openCall
-counts {s} w (opening a b t p) k l = more (isAccepted (step s (opening a b t p) .answer)) _ _ k (step-count w (opening a b t p)) l
-counts {s} w (closing a b) k l = closed-count a b k (effect s (w .unique) (closing a b)) l
-counts {s} w (receiving o) k l = same (isAccepted (step s (receiving o) .answer)) _ _ k (step-count w (receiving o)) l
-counts {s} w (offering a b n) k l = same (isAccepted (step s (offering a b n) .answer)) _ _ k (step-count w (offering a b n)) l
-counts {s} w (levelling n) k l = same (isAccepted (step s (levelling n) .answer)) _ _ k (step-count w (levelling n)) l
-counts {s} w (slot t room) k l = same (isAccepted (step s (slot t room) .answer)) _ _ k (step-count w (slot t room)) l
-counts {s} w (making a b t) k l = same (isAccepted (step s (making a b t) .answer)) _ _ k (step-count w (making a b t)) l
-counts {s} w (outOfRate a b t room) k l = same (isAccepted (step s (outOfRate a b t room) .answer)) _ _ k (step-count w (outOfRate a b t room)) l
-counts {s} w (openingPath a t p) k l = more (isAccepted (step s (openingPath a t p) .answer)) _ _ k (step-count w (openingPath a t p)) l
-counts {s} w (adding a b) k l = same (isAccepted (step s (adding a b) .answer)) _ _ k (step-count w (adding a b)) l
-counts {s} w (offeringMember a b n) k l = same (isAccepted (step s (offeringMember a b n) .answer)) _ _ k (step-count w (offeringMember a b n)) l
-counts {s} w (removing a b) k l = same (isAccepted (step s (removing a b) .answer)) _ _ k (step-count w (removing a b)) l
+counts {s} w (anOpening a b t p) k l = more (isAccepted (step s (opening a b t p) .answer)) _ _ k (step-count w (opening a b t p)) l
+counts {s} w (anOpeningPath a t p) k l = more (isAccepted (step s (openingPath a t p) .answer)) _ _ k (step-count w (openingPath a t p)) l
+counts {s} w (aClosing a b) k l = closed-count a b k (effect s (w .unique) (closing a b)) l
+counts {s} w (aReceiving o) k l = same (isAccepted (step s (receiving o) .answer)) _ _ k (step-count w (receiving o)) l
+counts {s} w (aSlot t room) k l = same (isAccepted (step s (slot t room) .answer)) _ _ k (step-count w (slot t room)) l
+counts {s} w (anotherCall c e) k l =
+    let a : Bool = isAccepted (step s c .answer) in
+    subst (λ (x : Sort). openConnections (step s c .state) ≤ cond a (openBy k x) k) (sym e)
+    (same a _ _ k (subst (λ (x : Sort). openConnections (step s c .state) ≤ openConnections s + cond a (openSort (λ t. true) x) 0) e (step-count w c)) l)
 
 abbrev AtMost : ℕ → State → Type 0
 AtMost k s = openConnections s ≤ k
 
 keeps-count : Keeps countsOpen AtMost
-keeps-count = record { goes = λ s c o k m z. rw (z .accepted) (counts (z .wellFormed) c k m) }
+keeps-count = record { goes = λ s c o k m z. rw (z .accepted) (counts (z .wellFormed) (bySort c) k m) }
 
-none-open : (n : ℕ) → openEntries (replicate n free) ≡ 0
-unfolding openEntries
+none-open : (n : ℕ) → openCount (replicate n free) ≡ 0
+unfolding openCount
 none-open zero = refl
 none-open (suc n) = none-open n
 

@@ -23,12 +23,12 @@ use Rattle.connection.specs.declared.kind.Kind.the-variants.{Forward, Turned, D
 use Rattle.connection.specs.declared.parts.Waiting.{Waiting as Slot}
 use Rattle.connection.specs.declared.parts.Made.{Made}
 use Rattle.connection.specs.Parts.{fresh, withQueue, dequeued}
-use Rattle.connection.specs.Making.{withMade}
 use Rattle.connection.specs.Ready.{waits as isThere}
-use Rattle.connection.specs.Receiving.{offered, afterDataCell, afterBackwardCell, afterForwardCell, afterRmCell}
 use Rattle.connection.specs.Kind.{kindAt}
-use Rattle.connection.specs.Sending.{after, madeLeft, withServed, sentForward, sentTurned, sentData}
-use Rattle.connection.specs.OutOfRate.{afterOutOfRate}
+use Rattle.connection.specs.Source.{offered, afterBackwardCell, withServed, sentForward, sentData, afterOutOfRate}
+use Rattle.connection.specs.Destination.{withMade, afterDataCell, afterForwardCell, madeLeft, sentTurned}
+use Rattle.connection.specs.Received.{afterRmCell}
+use Rattle.connection.specs.Slot.{after}
 use Rattle.connection.proofs.Keeps.{work-same}
 use Rattle.model.specs.State.{State, Entry, free, taken, capacity, empty, find, withEntryOf, withOpened, withTime, withLevel, withMembers, entryCells}
 use Rattle.model.specs.Invariant.{NamesUnique}
@@ -42,6 +42,7 @@ use Rattle.model.proofs.Conservation.{cond-zero, conservation}
 use Rattle.model.proofs.Entries.{Case, same, other, case, absent-find, each-free}
 use Rattle.model.proofs.Frames.{put-read, put-kept, with-opened-read, freed-read}
 use Rattle.model.proofs.Effects.{OpenPassed, Effect, refuses, opens, closes, offers, receivesData, receivesRm, setsLevel, idles, sends, makes, sendsOutOfRate, opensPath, adds, offersMember, removes, effect}
+use Rattle.model.proofs.Reached.{final-append}
 use Rattle.abr_answers.specs.Calls.{sentOf}
 use Rattle.abr.specs.Exports.{Observation}
 use Rattle.exports.specs.Returned.{connectionReturned}
@@ -61,9 +62,9 @@ module _ (v : ℕ) (s : State) (w : NamesUnique (s .entries)) where
   same-answers : (u : ℕ) (d e : Connection) → find u (s .entries) ≡ taken d → e .name ≡ d .name → answersOf (taken e) ≡ answersOf (taken d) → answersAt v (withEntryOf u (taken e) s) ≡ answersAt v s
   same-answers u d e f n h = put-kept answersOf v u s w d e f n h
 
-  begun-answers : (u t : ℕ) (p : Params) → OpenPassed s u t p → answersAt v (withOpened (fresh u t p) s) ≡ cond (eqb u v) noAnswers (answersAt v s)
+  opened-answers : (u t : ℕ) (p : Params) → OpenPassed s u t p → answersAt v (withOpened (fresh u t p) s) ≡ cond (eqb u v) noAnswers (answersAt v s)
   unfolding fresh answersOf isThere
-  begun-answers u t p g = with-opened-read answersOf v s (fresh u t p) (g .new) (g .room)
+  opened-answers u t p g = with-opened-read answersOf v s (fresh u t p) (g .new) (g .room)
 
   ended-answers : (u : ℕ) → answersAt v (withEntryOf u free s) ≡ cond (eqb u v) noAnswers (answersAt v s)
   unfolding answersOf
@@ -111,7 +112,7 @@ effect-answers : (v : ℕ) (f : ℕ → Bool) {s : State} → NamesUnique (s .en
     → answersAt v (o .state) ≡ cond (isAccepted (o .answer)) (answersAfter v f c (sentOf (o .answer)) (answersAt v s)) (answersAt v s)
 unfolding refuse accept replay discard withLevel withMembers idleStep sendStep sendFrom sendOutOfRate withTime isAccepted offered withOffer withoutOne afterDataCell withMade afterOutOfRate answersOf
 effect-answers v f {s} w (refuses c n h) k = refl
-effect-answers v f {s} w (opens a b t p g) k = begun-answers v s w (addressName a b) t p g
+effect-answers v f {s} w (opens a b t p g) k = opened-answers v s w (addressName a b) t p g
 effect-answers v f {s} w (closes a b d g) k = ended-answers v s w (addressName a b)
 effect-answers v f {s} w (offers a b n d g c h) k = same-answers v s w (addressName a b) d (offered n d) g refl refl
 effect-answers v f {s} w (receivesData o a b e u d r i z g) k = same-answers v s w u d (afterDataCell e d) g refl refl ∙ ap (λ (x : Reading). turnedRead v x (answersAt v s)) (sym r)
@@ -125,7 +126,7 @@ effect-answers v f {s} w (makes a b t d e g h m) k =
     own v (withTime t s) w (λ k. record { turned = k .turned; made = true }) (addressName a b) d (withMade t (s .level) d) e refl
     (λ i. record { turned = isThere (d .destination .turned); made = lt-ltb 0 (s .level) h i })
 effect-answers v f {s} w (sendsOutOfRate a b t room d e g h) k = same-answers v (withTime t s) w (addressName a b) d (afterOutOfRate t d) e refl refl
-effect-answers v f {s} w (opensPath a t p g) k = begun-answers v s w (addressName a pathVci) t p g
+effect-answers v f {s} w (opensPath a t p g) k = opened-answers v s w (addressName a pathVci) t p g
 effect-answers v f {s} w (adds a b d e j) k = refl
 effect-answers v f {s} w (offersMember a b n d e i h) k = same-answers v s w (pathOf (addressName a b)) d (offered n d) e refl refl
 effect-answers v f {s} w (removes a b d e i) k = same-answers v s w (pathOf (addressName a b)) d (withQueue d (dequeued (cellsOf (addressName a b) (s .members)) (d .queue))) e refl refl
@@ -134,10 +135,6 @@ effect-answers v f {s} w (removes a b d e i) k = same-answers v s w (pathOf (add
 sum-one : (f : Call → Answer → ℕ) (s : State) (cs : List Call) (c : Call) → sumOver f s (cs ++ (c ∷ [])) ≡ sumOver f s cs + f c (step (final s cs) c .answer)
 sum-one f s [] c = omega arith
 sum-one f s (d ∷ cs) c = omega (arith, sum-one f (step s d .state) cs c)
-
-final-one : (s : State) (cs : List Call) (c : Call) → final s (cs ++ (c ∷ [])) ≡ step (final s cs) c .state
-final-one s [] c = refl
-final-one s (d ∷ cs) c = final-one (step s d .state) cs c
 
 step-balanced : (v : ℕ) (cs : List Call) (c : Call) → let s = final empty cs in
     offeredTo v c (isAccepted (step s c .answer)) + cellsWaiting v s ≡ dataSlotOf v (step s c .answer) + cellsWaiting v (step s c .state) + closedOn v c (closedCells (step s c .answer))
@@ -149,7 +146,7 @@ step-balanced v cs c =
       sum-one (λ c a. offeredTo v c (isAccepted a)) empty cs c,
       sum-one (λ c a. dataSlotOf v a) empty cs c,
       sum-one (λ c a. closedOn v c (closedCells a)) empty cs c,
-      ap (cellsWaiting v) (final-one empty cs c),
+      ap (cellsWaiting v) (final-append empty cs (c ∷ [])),
     )
 
 data-number : (v : ℕ) (f : ℕ → Bool) (a : Answer) → NamesConnection f a → dataReturned v f (sentOf a) ≡ dataSlotOf v a

@@ -1,5 +1,6 @@
--- A source that hears nothing falls, of exported calls: said of the forward cells that slots returned and of what abr_acr returns before and after them. (Document 01, "Four moves of
--- the allowed rate"; source rule 6.)
+-- The rate of a source that hears nothing falls. This is stated for exported calls, by the forward cells
+-- that slots returned and what abr_acr returns before and after them. (Document 01, "Four moves of the
+-- allowed rate"; source rule 6.)
 use Prim.Native.Nat.{ℕ, _+_, _≤_, min, max}
 use mathlib.Core.Path.{_≡_}
 use mathlib.Core.Logic.{_≢_}
@@ -28,8 +29,9 @@ forwardReturned v r = cond (eqb (r .kind) 1 && eqb (nameFrom (r .vpi) (r .vci)) 
 abbrev pub forwardsReturned : (v : ℕ) → List Call → List Observation → ℕ
 forwardsReturned v = sumObserved (λ c o. forwardReturned v (o .returned))
 
--- After any exported calls from the zero table, of a name that is open with CDF above zero, and any further ones without its close or an answer to it: the forward cells since its last
--- answer pass CRM by j, and so many at least are among the further ones, so the rate that abr_acr returns was cut j times
+-- After any exported calls from the zero table a name is open with CDF above zero. Any further calls follow,
+-- without its close or an answer to it. Then the forward cells since its last answer pass CRM by j, and at least j
+-- of them are among the further calls. So the rate that abr_acr returns was cut j times.
 abbrev pub ExportsDeafFalls : Type 0
 ExportsDeafFalls =
     (cs : List Call) (os : List Observation) → Transcript cs zeros os → (v : ℕ) (p : Params) → paramsObserved v none cs os ≡ some p → p .c ≢ 7
@@ -38,7 +40,8 @@ ExportsDeafFalls =
     → (a b : AbrAllowed) → ReturnsAllowed v (finalWords zeros os) a → ReturnsAllowed v (finalWords (finalWords zeros os) ps) b
     → b .acr ≤ max (least p) (cutTimes j (p .c) (a .acr))
 
--- with CDF zero, and no backward cell of it among them, the rate falls to the initial rate used at most, by the first cell or idle
+-- with CDF zero and no backward cell of it among the calls, the rate falls no lower than the initial rate
+-- used, by the first cell or idle
 abbrev pub ExportsDeafStays : Type 0
 ExportsDeafStays =
     (cs : List Call) (os : List Observation) → Transcript cs zeros os → (v : ℕ) (p : Params) → paramsObserved v none cs os ≡ some p → p .c ≡ 7

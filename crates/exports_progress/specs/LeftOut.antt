@@ -1,12 +1,14 @@
--- Idle slots can be left out, of exported calls: what is called behind one, with no time before its own, returns and writes the same without it, and abr_acr and abr_next do. An idle slot
--- leaves its time as the last accepted one, so abr_slot_time, which passes no time before that, returns the same for times that are not before the slot's. (Beyond the documents' demands;
--- document 01, "Slots" and refusal 14.)
+-- Idle slots can be left out of exported calls. Calls after one, with no time before its own, return and write the
+-- same without it, and so do abr_acr and abr_next. An idle slot leaves its time as the last accepted one, and
+-- abr_slot_time passes no time before that. So it returns the same for times that are not before the slot's.
+-- (Beyond the documents' demands; document 01, "Slots" and refusal 14.)
 use Prim.Native.Nat.{ℕ, _+_, _≤_}
 use mathlib.Core.Path.{_≡_}
 use mathlib.Core.Bool.{Bool, cond, _&&_}
 use mathlib.Core.List.{List, [], _∷_}
 use lib.Dec.{eqb}
-use Rattle.model.specs.Call.{Call, opening, closing, receiving, offering, levelling, slot, making, outOfRate, openingPath, adding, offeringMember, removing}
+use Rattle.model.specs.Call.{Call, slot}
+use Rattle.model.specs.Aspects.{Lent, forSlot, forOutOfRate, notLent, lentOf}
 use Rattle.table_tournament.specs.Next.{GivesNext, GivesSlotTime}
 use Rattle.abr_answers.specs.declared.calls.AbrSent.{AbrSent}
 use Rattle.abr_answers.specs.declared.calls.AbrAllowed.{AbrAllowed}
@@ -17,8 +19,9 @@ use Rattle.promise_lists.specs.Demand3.{InPlace}
 use Rattle.promise_service.specs.PassedOver.{slotTaken}
 use Rattle.promise_service.specs.LeftOut.{NotBefore}
 
--- a caller sees no difference where slots up to t were left out: in what was returned, in the octets of a buffer that was the same before, or in what abr_acr and abr_next return afterwards;
--- in what abr_slot_time returns none, where it looks back no further than t
+-- A caller sees no difference where slots up to t were left out. This holds for what was returned, for the octets
+-- of a buffer that was the same before, and for what abr_acr and abr_next return afterwards. It holds for what
+-- abr_slot_time returns where that looks back no further than t.
 pub record SameWithoutSlots (t : ℕ) (o q : Observation) : Type 0 where
   pub returned : o .returned ≡ q .returned
   pub cells : o .cells ≡ q .cells
@@ -42,19 +45,13 @@ notIdleSeen [] os = []
 notIdleSeen (c ∷ cs) [] = []
 notIdleSeen (c ∷ cs) (o ∷ os) = cond (idleSeen c (o .returned)) (notIdleSeen cs os) (o ∷ notIdleSeen cs os)
 
+abbrev pub slotTimeIn : Lent → ℕ
+slotTimeIn (forSlot t) = t
+slotTimeIn (forOutOfRate v) = 0
+slotTimeIn notLent = 0
+
 unfoldable pub timeOfSlot : Call → ℕ
-timeOfSlot (opening vpi vci t p) = 0
-timeOfSlot (closing vpi vci) = 0
-timeOfSlot (receiving o) = 0
-timeOfSlot (offering vpi vci n) = 0
-timeOfSlot (levelling l) = 0
-timeOfSlot (slot t room) = t
-timeOfSlot (making vpi vci t) = 0
-timeOfSlot (outOfRate vpi vci t room) = 0
-timeOfSlot (openingPath vpi t p) = 0
-timeOfSlot (adding vpi vci) = 0
-timeOfSlot (offeringMember vpi vci n) = 0
-timeOfSlot (removing vpi vci) = 0
+timeOfSlot c = slotTimeIn (lentOf c)
 
 -- no time is before that of an idle slot in front of it: t is the latest of those so far
 abbrev pub InOrderSeen : (t : ℕ) → List Call → List Observation → Type 0

@@ -1,4 +1,5 @@
--- A connection that is ready is not passed over for long, whatever else is called: said of what a caller knows from the calls and what they returned. (Beyond document 01's demands; "Slots" says who is ready when.)
+-- A connection that is ready is not passed over for long, whatever else is called. This is stated by what a caller
+-- knows from the calls and what they returned. (Beyond document 01's demands; "Slots" says who is ready when.)
 use Prim.Native.Nat.{ℕ, _+_, _-_, _≤_, _<_}
 use mathlib.Core.Path.{_≡_}
 use mathlib.Core.Logic.{_≢_}
@@ -8,7 +9,8 @@ use mathlib.Core.Option.{none, some}
 use lib.Dec.{eqb}
 use Rattle.rate_params.specs.declared.params.Params.{Params}
 use Rattle.rate_params.specs.Params.{least}
-use Rattle.model.specs.Call.{Call, opening, closing, receiving, offering, levelling, slot, making, outOfRate, openingPath, adding, offeringMember, removing}
+use Rattle.model.specs.Call.{Call}
+use Rattle.model.specs.Aspects.{Sort, opener, closer, arrival, slotAt, another, sortOf}
 use Rattle.abr_answers.specs.declared.calls.AbrAllowed.{AbrAllowed}
 use Rattle.abr.specs.Contract.{ReturnsAllowed}
 use Rattle.abr.specs.Exports.{Observation, Transcript, finalWords, zeros}
@@ -24,19 +26,15 @@ use Rattle.exports_service.specs.Ready.{waitsSeen}
 use Rattle.exports_service.specs.Served.{latestSeen}
 
 -- how many connections are open: one more after an open that returned 0, one less after such a close
+abbrev pub openBy : ℕ → Sort → ℕ
+openBy k (opener v t p) = k + 1
+openBy k (closer v) = k - 1
+openBy k (arrival o) = k
+openBy k (slotAt t) = k
+openBy k another = k
+
 abbrev pub openAfter : Call → ℕ → ℕ
-openAfter (opening vpi vci t p) k = k + 1
-openAfter (closing vpi vci) k = k - 1
-openAfter (receiving o) k = k
-openAfter (offering vpi vci n) k = k
-openAfter (levelling l) k = k
-openAfter (slot t room) k = k
-openAfter (making vpi vci t) k = k
-openAfter (outOfRate vpi vci t room) k = k
-openAfter (openingPath vpi t p) k = k + 1
-openAfter (adding vpi vci) k = k
-openAfter (offeringMember vpi vci n) k = k
-openAfter (removing vpi vci) k = k
+openAfter c k = openBy k (sortOf c)
 
 abbrev pub countsOpen : Call → Observation → ℕ → ℕ
 countsOpen c o k = cond (eqb (o .returned .refusal) 0) (openAfter c k) k
@@ -64,15 +62,17 @@ FoundReadySeen m v k l (c ∷ cs) (o ∷ os) =
     (slotTaken c (eqb (o .returned .refusal) 0) ≡ 1 → SlotFrom m c × ReadySeen m v k l)
     × (wentTo (k .member) (o .returned) ≢ some v → FoundReadySeen m v (watch v c o k) (o .table) cs os)
 
--- After any exported calls from the zero table, and in any further ones: of as many slots that returned 0 as connections are open, and as are opened among them by m, one is v's own
+-- After any exported calls from the zero table, any further calls follow. Count the slots among them
+-- that returned 0. If these are as many as the connections that are open, plus those opened among
+-- them by m, one slot is v's own.
 pub record ExportsNotPassedOver : Type 0 where
   pub served :
       (cs : List Call) (os : List Observation) → Transcript cs zeros os → (v m : ℕ)
       → (ds : List Call) (ps : List Observation) → Transcript ds (finalWords zeros os) ps → FoundReadySeen m v (watched v cs os) (finalWords zeros os) ds ps
       → 0 < slotsReturned ds ps → kept countsOpen 0 cs os + opensReturned m ds ps ≤ slotsReturned ds ps
       → Somewhere (λ x. x ≡ some v) (placesSeen (membersSeen noMember cs os) ds ps)
-  -- so if v is open with a minimum above 0, something waits on it, none of the further calls closes it or removes one of its members, and all slots come at m or later, which is a gap at
-  -- the minimum or more after its last cell
+  -- So it is if v is open with a minimum above 0 and something waits on it. No further call closes v or removes
+  -- one of its members. All slots come at m or later, and m is at least a gap at the minimum after its last cell.
   pub guaranteed :
       (cs : List Call) (os : List Observation) → Transcript cs zeros os → (v : ℕ) (p : Params) → paramsObserved v none cs os ≡ some p → 0 < least p
       → waitsSeen (seenOf v cs os) ≡ true → (m : ℕ) → latestSeen (least p) (seenOf v cs os) ≤ m

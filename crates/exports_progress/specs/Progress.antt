@@ -1,5 +1,5 @@
--- Data and answers both get on, of exported calls: what kinds of cell follow each other on one connection, by what a caller knows to wait on it. (Document 01, "Slots"; source rule 3;
--- document 02, L1.)
+-- Data and answers both make progress in exported calls: which kinds of cell follow each other on one connection,
+-- by what a caller knows to wait on it. (Document 01, "Slots"; source rule 3; document 02, L1.)
 use Prim.Native.Nat.{ℕ, _+_, _-_, _≤_, _<_}
 use mathlib.Core.Path.{_≡_}
 use mathlib.Core.Logic.{_≢_}
@@ -12,11 +12,10 @@ use Rattle.rate_params.specs.declared.params.Params.{Params}
 use Rattle.rate_params.specs.Params.{nrm}
 use Rattle.cell.specs.declared.read.Reading.{Reading}
 use Rattle.cell.specs.declared.read.Reading.the-variants.{Refused, DataCell, RmCell}
-use Rattle.cell.specs.Name.{addressName}
 use Rattle.cell.specs.Fields.{cellName}
 use Rattle.cell.specs.Reading.{reading}
-use Rattle.connection_members.specs.Path.{pathVci}
-use Rattle.model.specs.Call.{Call, opening, closing, receiving, offering, levelling, slot, making, outOfRate, openingPath, adding, offeringMember, removing}
+use Rattle.model.specs.Call.{Call}
+use Rattle.model.specs.Aspects.{Sort, opener, closer, arrival, slotAt, another, sortOf, Asked, asksMade, asksOutOfRate, asksNone, askedOf}
 use Rattle.model.specs.Conservation.{offeredTo, closedOn}
 use Rattle.abr_answers.specs.declared.calls.AbrSent.{AbrSent}
 use Rattle.abr.specs.Exports.{Observation, Transcript, finalWords, zeros}
@@ -42,22 +41,26 @@ turnedRead v (Refused n) k = k
 turnedRead v (DataCell vpi vci e) k = k
 turnedRead v (RmCell g) k = cond (eqb (cellName g) v) (cond (eqb (g .dir) 1) k (record { turned = true; made = k .made })) k
 
--- after a call that returned 0: kind 2 is a turned cell or, if none waited, a made one
-abbrev pub answersAfter : (v : ℕ) → (member : ℕ → Bool) → Call → AbrSent → BackwardKept → BackwardKept
-answersAfter v f (opening vpi vci t p) r k = cond (eqb (addressName vpi vci) v) noAnswers k
-answersAfter v f (closing vpi vci) r k = cond (eqb (addressName vpi vci) v) noAnswers k
-answersAfter v f (receiving o) r k = turnedRead v (reading o) k
-answersAfter v f (offering vpi vci n) r k = k
-answersAfter v f (levelling l) r k = k
-answersAfter v f (slot t room) r k = cond (eqb (r .kind) 2 && eqb (connectionReturned f r) v) (record { turned = false; made = k .turned && k .made }) k
-answersAfter v f (making vpi vci t) r k = cond (eqb (addressName vpi vci) v) (record { turned = k .turned; made = true }) k
-answersAfter v f (outOfRate vpi vci t room) r k = k
-answersAfter v f (openingPath vpi t p) r k = cond (eqb (addressName vpi pathVci) v) noAnswers k
-answersAfter v f (adding vpi vci) r k = k
-answersAfter v f (offeringMember vpi vci n) r k = k
-answersAfter v f (removing vpi vci) r k = k
+-- an open or a close, a received cell, a slot: kind 2 is a turned cell or, if none waited, a made one
+abbrev pub answersBy : (v : ℕ) → (member : ℕ → Bool) → AbrSent → BackwardKept → Sort → BackwardKept
+answersBy v f r k (opener u t p) = cond (eqb u v) noAnswers k
+answersBy v f r k (closer u) = cond (eqb u v) noAnswers k
+answersBy v f r k (arrival o) = turnedRead v (reading o) k
+answersBy v f r k (slotAt t) = cond (eqb (r .kind) 2 && eqb (connectionReturned f r) v) (record { turned = false; made = k .turned && k .made }) k
+answersBy v f r k another = k
 
--- what a caller keeps of v: the members, the data cells that wait, those offered less those that slots returned and closes gave back, and its answers
+-- a made cell of v
+abbrev pub madeBy : (v : ℕ) → BackwardKept → Asked → BackwardKept
+madeBy v k (asksMade u t) = cond (eqb u v) (record { turned = k .turned; made = true }) k
+madeBy v k (asksOutOfRate u t) = k
+madeBy v k asksNone = k
+
+-- after a call that returned 0
+abbrev pub answersAfter : (v : ℕ) → (member : ℕ → Bool) → Call → AbrSent → BackwardKept → BackwardKept
+answersAfter v f c r k = madeBy v (answersBy v f r k (sortOf c)) (askedOf c)
+
+-- What a caller keeps of v: the members, the data cells that wait, and its answers. The data cells that wait are
+-- those offered less those that slots returned and closes gave back.
 pub record WaitingKept : Type 0 where
   pub member : ℕ → Bool
   pub cells : ℕ

@@ -22,21 +22,23 @@ use Rattle.connection.specs.Change.{difference}
 use Rattle.model.specs.State.{State, Entry, free, taken, capacity, empty, find}
 use Rattle.model.specs.declared.answer.Answer.{Answer}
 use Rattle.model.specs.declared.answer.Answer.the-variants.{Refused, Accepted, Closed, Idle, Sent}
-use Rattle.model.specs.Call.{Call, opening, closing, receiving, offering, levelling, slot, making, outOfRate, openingPath, adding, offeringMember, removing, Outcome, refusal}
+use Rattle.model.specs.Call.{Call, opening, openingPath, Outcome, refusal}
+use Rattle.model.specs.Aspects.{Sort}
 use Rattle.model.specs.Step.{refuse, step}
 use Rattle.model.specs.Queries.{entryAcr, acrOf}
 use Rattle.model.specs.Run.{final, isAccepted}
 use Rattle.model.proofs.Entries.{Case, same, other, case, taken≢free, absent-find, each-free}
 use Rattle.model.proofs.Effects.{OpenPassed, Effect, refuses, opens, opensPath, effect}
+use Rattle.model.proofs.BySort.{BySort, anOpening, anOpeningPath, aClosing, aReceiving, aSlot, anotherCall, bySort}
 use Rattle.abr_answers.specs.declared.calls.AbrAllowed.{AbrAllowed}
 use Rattle.abr.specs.Exports.{Observation, zeros}
-use Rattle.promise_lists.proofs.Moves.{Begun, begun-at}
+use Rattle.promise_lists.proofs.Moves.{Begun, newly-opened-at}
 use Rattle.promise_lists.proofs.Refusals.{refused-unchanged}
-use Rattle.promise_cells.specs.Changes.{NotFedBack}
+use Rattle.promise_cells.specs.Changes.{NotFedBack, NoFeedback}
 use Rattle.promise_cells.proofs.Changes.{changes}
 use Rattle.promise_cells.proofs.BeforeFeedback.{call-unraised}
 use Rattle.exports.proofs.Transport.{Sees, Keeps, stands, stands-first, kept-so}
-use Rattle.exports_rates.specs.BeforeFeedback.{feeds, fedAfter, fedSeen, ExportsBeforeFeedback}
+use Rattle.exports_rates.specs.BeforeFeedback.{feeds, fedAfter, fedSeen, ExportsBeforeFeedback, fedBy}
 use Rattle.exports_rates.proofs.Held.{acr-held, open-under}
 
 -- the difference of a number and itself
@@ -54,9 +56,9 @@ record Unfed (d : Connection) : Type 0 where
 abbrev Unless : (v : ℕ) → Bool → State → Type 0
 Unless v b s = b ≡ false → (d : Connection) → find v (s .entries) ≡ taken d → Unfed d
 
-begun-unfed : (e : Connection) → Begun e → Unfed e
+opened-unfed : (e : Connection) → Begun e → Unfed e
 unfolding difference
-begun-unfed e b = record { change = rw (b .change) (self (e .rate .acr)); rate = le-of-eq (b .rate) }
+opened-unfed e b = record { change = rw (b .change) (self (e .rate .acr)); rate = le-of-eq (b .rate) }
 
 -- an accepted call that did not feed v, which was open: nothing was fed before, and it is none of the cells that do
 or-false : (a b : Bool) → (a || b) ≡ false → (a ≡ false) × (b ≡ false)
@@ -84,19 +86,13 @@ module _ (v : ℕ) {s : State} (d : Connection) (found : find v (s .entries) ≡
   path-other (refuses _ n h) k a e = absurd (true≢false (sym a))
   path-other (opensPath _ _ _ g) k a e = new-other _ _ _ g k e
 
-  not-fed : (c : Call) {o : Outcome} → Effect s c o → (k : Bool) → isAccepted (o .answer) ≡ true → fedAfter v c k ≡ false → (k ≡ false) × NotFedBack v c
-  not-fed (opening a b t p) h k q e = (opened-other h k q e, tt)
-  not-fed (closing a b) h k q e = (e, tt)
-  not-fed (receiving o) h k q e = let z = or-false (feeds v (reading o)) k e in (z .1, not-fed-by v (reading o) (z .0))
-  not-fed (offering a b n) h k q e = (e, tt)
-  not-fed (levelling l) h k q e = (e, tt)
-  not-fed (slot t room) h k q e = (e, tt)
-  not-fed (making a b t) h k q e = (e, tt)
-  not-fed (outOfRate a b t room) h k q e = (e, tt)
-  not-fed (openingPath a t p) h k q e = (path-other h k q e, tt)
-  not-fed (adding a b) h k q e = (e, tt)
-  not-fed (offeringMember a b n) h k q e = (e, tt)
-  not-fed (removing a b) h k q e = (e, tt)
+  not-fed : {c : Call} → BySort c → {o : Outcome} → Effect s c o → (k : Bool) → isAccepted (o .answer) ≡ true → fedAfter v c k ≡ false → (k ≡ false) × NotFedBack v c
+  not-fed (anOpening a b t p) h k q e = (opened-other h k q e, tt)
+  not-fed (anOpeningPath a t p) h k q e = (path-other h k q e, tt)
+  not-fed (aClosing a b) h k q e = (e, tt)
+  not-fed (aReceiving o) h k q e = let z = or-false (feeds v (reading o)) k e in (z .1, not-fed-by v (reading o) (z .0))
+  not-fed (aSlot t room) h k q e = (e, tt)
+  not-fed (anotherCall c i) h k q e = (subst (λ (x : Sort). fedBy v k x ≡ false) i e, subst (NoFeedback v) (sym i) tt)
 
 -- a refused call leaves the table
 record Refusal (a : Answer) : Type 0 where
@@ -128,9 +124,9 @@ module _ (v : ℕ) {s : State} {c : Call} {o : Observation} (z : Sees s c o) whe
     where
       was-open : (x : Entry) → find v (s .entries) ≡ x → (a : Bool) → isAccepted (step s c .answer) ≡ a → cond a (fedAfter v c k) k ≡ false → Unfed e
       was-open x f false a q = m q e (ap (λ (r : State). find v (r .entries)) (sym (refused-same a)) ∙ found)
-      was-open free f true a q = begun-unfed e (begun-at s (z .wellFormed .unique) c v e f found)
+      was-open free f true a q = opened-unfed e (newly-opened-at s (z .wellFormed .unique) c v e f found)
       was-open (taken d) f true a q =
-          let n = not-fed v d f c (effect s (z .wellFormed .unique) c) k a q in
+          let n = not-fed v d f (bySort c) (effect s (z .wellFormed .unique) c) k a q in
           let u = m (n .0) d f in
           record { change = ap difference (change-same d e f found (n .1)) ∙ u .change; rate = call-unraised (z .wellFormed) c v d e f found (n .1) (u .rate) }
 

@@ -1,4 +1,5 @@
--- A name that is open by what a caller knows has a connection in the table: its parameters, what is kept of it, and what abr_acr returns of it.
+-- A name that is open by what a caller knows has a connection in the table, with its parameters, what is kept of
+-- it, and what abr_acr returns for it.
 use Prim.Native.Nat.{ℕ}
 use mathlib.Core.Path.{_≡_, refl, sym, ap, _∙_}
 use mathlib.Core.Bool.{Bool, true, false, cond}

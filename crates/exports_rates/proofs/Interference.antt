@@ -17,21 +17,22 @@ use Rattle.connection.specs.Parts.{waiting}
 use Rattle.model.specs.State.{State, Entry, free, taken, isFree, empty, find, entryCells}
 use Rattle.model.specs.declared.answer.Answer.{Answer}
 use Rattle.model.specs.declared.answer.Answer.the-variants.{Refused, Accepted, Closed, Idle, Sent}
-use Rattle.model.specs.Call.{Call, opening, closing, receiving, offering, levelling, slot, making, outOfRate, openingPath, adding, offeringMember, removing, closedCells}
+use Rattle.model.specs.Call.{Call, closing, closedCells}
 use Rattle.model.specs.Step.{refuse, discard, ofOpen, closeStep, step}
 use Rattle.model.specs.Queries.{entryAcr, acrOf}
 use Rattle.model.specs.Run.{final}
 use Rattle.abr_answers.specs.declared.calls.AbrSent.{AbrSent}
 use Rattle.abr_answers.specs.Calls.{sentOf, allowedOf}
+use Rattle.model.specs.Aspects.{Subject, byName, inCell, inAnswer, noSubject, subjectOf, OnMembers, ofClosed, ofAdded, ofOffered, ofRemoved, ofSlot, ofNone, membersOf}
 use Rattle.abr.specs.Exports.{Observation, Performs, Transcript, finalWords, zeros}
-use Rattle.promise_lists.specs.Interference.{readName, concerns, answersName, touches}
+use Rattle.promise_lists.specs.Interference.{readName, concerns, answersName, touches, concerned, touched}
 use Rattle.promise_lists.proofs.Interference.{no-interference}
 use Rattle.exports.specs.Returned.{noMember, membersSeen}
 use Rattle.exports.proofs.Returned.{Knows, NamesConnection, names-connection, went-to, back}
 use Rattle.exports.proofs.Transport.{Sees, sees, stands, acr-seen}
 use Rattle.exports.proofs.Known.{members-known}
 use Rattle.exports_rates.proofs.Removal.{removal}
-use Rattle.exports_rates.specs.Interference.{readNameSeen, namesSeen, touchesSeen, ExportsNoInterference}
+use Rattle.exports_rates.specs.Interference.{readNameSeen, namesSeen, touchesSeen, ExportsNoInterference, subjectSeen, touchedSeen}
 
 -- whose call it is
 read-name : (f : ℕ → Bool) (s : State) → Knows f s → (r : Reading) → readNameSeen f r ≡ readName (s .members) r
@@ -40,20 +41,15 @@ read-name f s k (Unread n) = refl
 read-name f s k (DataCell vpi vci e) = ap (λ (b : Bool). some (cond b (pathOf (addressName vpi vci)) (addressName vpi vci))) (k (addressName vpi vci))
 read-name f s k (RmCell g) = refl
 
+subject-seen : (f : ℕ → Bool) (s : State) → Knows f s → (a : Answer) → NamesConnection f a → (x : Subject) → subjectSeen f (sentOf a) x ≡ concerned (s .members) a x
+subject-seen f s k a h (byName v) = refl
+subject-seen f s k a h (inCell o) = read-name f s k (reading o)
+subject-seen f s k a h inAnswer = went-to f a h
+subject-seen f s k a h noSubject = refl
+
 names-seen : (f : ℕ → Bool) (s : State) → Knows f s → (c : Call) (a : Answer) → NamesConnection f a → namesSeen f c (sentOf a) ≡ concerns (s .members) c a
 unfolding concerns
-names-seen f s k (opening vpi vci t p) a h = refl
-names-seen f s k (closing vpi vci) a h = refl
-names-seen f s k (receiving o) a h = read-name f s k (reading o)
-names-seen f s k (offering vpi vci n) a h = refl
-names-seen f s k (levelling l) a h = refl
-names-seen f s k (slot t room) a h = went-to f a h
-names-seen f s k (making vpi vci t) a h = refl
-names-seen f s k (outOfRate vpi vci t room) a h = refl
-names-seen f s k (openingPath vpi t p) a h = refl
-names-seen f s k (adding vpi vci) a h = refl
-names-seen f s k (offeringMember vpi vci n) a h = refl
-names-seen f s k (removing vpi vci) a h = refl
+names-seen f s k c a h = subject-seen f s k a h (subjectOf c)
 
 name-told : (x : ℕ) (a : Answer) → (not (eqb (sentOf a .kind) 0) && eqb (nameFrom (sentOf a .vpi) (sentOf a .vci)) x) ≡ answersName x a
 unfolding answersName
@@ -65,20 +61,17 @@ name-told x (Sent v y Forward a n) = ap (λ (z : ℕ). eqb z x) (back y)
 name-told x (Sent v y Turned a n) = ap (λ (z : ℕ). eqb z x) (back y)
 name-told x (Sent v y Data a n) = ap (λ (z : ℕ). eqb z x) (back y)
 
+touched-seen : (x : ℕ) (a : Answer) (k : OnMembers) → touchedSeen x (sentOf a) k ≡ touched x a k
+touched-seen x a (ofClosed v) = refl
+touched-seen x a (ofAdded y) = refl
+touched-seen x a (ofOffered y n) = refl
+touched-seen x a (ofRemoved y) = refl
+touched-seen x a ofSlot = name-told x a
+touched-seen x a ofNone = refl
+
 touches-seen : (x : ℕ) (c : Call) (a : Answer) → touchesSeen x c (sentOf a) ≡ touches x c a
 unfolding touches
-touches-seen x (opening vpi vci t p) a = refl
-touches-seen x (closing vpi vci) a = refl
-touches-seen x (receiving o) a = refl
-touches-seen x (offering vpi vci n) a = refl
-touches-seen x (levelling l) a = refl
-touches-seen x (slot t room) a = name-told x a
-touches-seen x (making vpi vci t) a = refl
-touches-seen x (outOfRate vpi vci t room) a = refl
-touches-seen x (openingPath vpi t p) a = refl
-touches-seen x (adding vpi vci) a = refl
-touches-seen x (offeringMember vpi vci n) a = refl
-touches-seen x (removing vpi vci) a = refl
+touches-seen x c a = touched-seen x a (membersOf c)
 
 -- what a close returns is read off its entry
 abbrev closeNumber : Entry → ℕ

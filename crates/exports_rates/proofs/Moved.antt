@@ -24,11 +24,11 @@ use Rattle.connection.specs.declared.parts.Pace.the-variants.{Unsent, Running}
 use Rattle.connection.specs.declared.kind.Kind.{Kind}
 use Rattle.connection.specs.declared.kind.Kind.the-variants.{Forward, Turned, Data}
 use Rattle.connection.specs.Parts.{fresh}
-use Rattle.connection.specs.Making.{withMade}
-use Rattle.connection.specs.Receiving.{offered, afterDataCell, afterBackwardCell, afterForwardCell, afterRmCell}
-use Rattle.connection.specs.OutOfRate.{afterOutOfRate}
+use Rattle.connection.specs.Source.{offered, afterBackwardCell, afterOutOfRate, movedBy, sentForward, sentData, withServed}
+use Rattle.connection.specs.Destination.{withMade, afterDataCell, afterForwardCell, sentTurned}
+use Rattle.connection.specs.Received.{afterRmCell}
+use Rattle.connection.specs.Slot.{after, memberServed}
 use Rattle.connection.specs.Kind.{kindAt}
-use Rattle.connection.specs.Sending.{movedBy, sentForward, sentTurned, sentData, after, memberServed, withServed}
 use Rattle.connection.proofs.Keeps.{work-same, after-same}
 use Rattle.model.specs.State.{State, Entry, free, taken, empty, find, withEntryOf, withOpened, withTime, withLevel, withMembers}
 use Rattle.model.specs.Invariant.{NamesUnique}
@@ -42,9 +42,10 @@ use Rattle.model.proofs.Effects.{OpenPassed, Effect, refuses, opens, closes, of
 use Rattle.abr_answers.specs.declared.calls.AbrSent.{AbrSent}
 use Rattle.abr_answers.specs.declared.calls.AbrAllowed.{AbrAllowed}
 use Rattle.abr_answers.specs.Calls.{sentOf}
+use Rattle.model.specs.Aspects.{Sort, opener, closer, arrival, slotAt, another, sortOf}
 use Rattle.exports.proofs.Returned.{back}
 use Rattle.exports.proofs.Transport.{sees, stands}
-use Rattle.exports_rates.specs.Moved.{rateSent, rateFed, rateAfter, ExportsMoves}
+use Rattle.exports_rates.specs.Moved.{rateSent, rateFed, rateAfter, ExportsMoves, rateBy}
 use Rattle.exports_rates.proofs.Seen.{connectionSeen}
 use Rattle.exports_rates.proofs.Held.{held-read, acr-held, open-under, seen-held}
 
@@ -95,19 +96,12 @@ module _ (v : ℕ) (s : State) (w : NamesUnique (s .entries)) (c : Call) (r : Ab
   unfolding self
   ended u l = rw (freed-read self v u s w) (becomes u free (λ q. closed v c r (find v (s .entries))) (λ _. l))
 
-refused : (v : ℕ) (c : Call) (n : ℕ) → 0 < n → KeepsRate v c (sentOf (Refused n))
-refused v (opening a b t p) n h d = refl
-refused v (closing a b) n h d = refl
-refused v (receiving o) n h d = rw (ne-eqb n 0 (λ e. omega (arith, h, e))) refl
-refused v (offering a b k) n h d = refl
-refused v (levelling l) n h d = refl
-refused v (slot t room) n h d = refl
-refused v (making a b t) n h d = refl
-refused v (outOfRate a b t room) n h d = refl
-refused v (openingPath a t p) n h d = refl
-refused v (adding a b) n h d = refl
-refused v (offeringMember a b k) n h d = refl
-refused v (removing a b) n h d = refl
+refused : (v : ℕ) (x : Sort) (n : ℕ) → 0 < n → (d : Connection) → d .rate .acr ≡ rateBy v (connectionSeen d) (d .rate) (sentOf (Refused n)) x
+refused v (opener u t p) n h d = refl
+refused v (closer u) n h d = refl
+refused v (arrival o) n h d = rw (ne-eqb n 0 (λ e. omega (arith, h, e))) refl
+refused v (slotAt t) n h d = refl
+refused v another n h d = refl
 
 -- a received RM cell, of v and of another
 worked : (v level : ℕ) (o : List ℕ) (f : Fields) (d : Connection) → cellName f ≡ v → afterRmCell level o f d .rate .acr ≡ rateFed v (RmCell f) (d .rate)
@@ -143,7 +137,7 @@ sent-other v u t e ms Data a n room q d = refl
 
 effect-rate : (v : ℕ) {s : State} → NamesUnique (s .entries) → {c : Call} {o : Outcome} → Effect s c o → RateTo v c (sentOf (o .answer)) (find v (s .entries)) (find v (o .state .entries))
 unfolding refuse accept replay discard sendFrom sendStep idleStep sendOutOfRate withTime withLevel withMembers withOffer withoutOne withServed offered afterDataCell withMade afterOutOfRate
-effect-rate v {s} w (refuses c n h) = rests v c (sentOf (Refused n)) (refused v c n h) (find v (s .entries))
+effect-rate v {s} w (refuses c n h) = rests v c (sentOf (Refused n)) (refused v (sortOf c) n h) (find v (s .entries))
 effect-rate v {s} w (opens a b t p g) = begun v s w (opening a b t p) _ (addressName a b) t p g (λ d. refl)
 effect-rate v {s} w (closes a b d f) = ended v s w (closing a b) _ (addressName a b) (λ d. refl)
 effect-rate v {s} w (offers a b n d f i h) = changes v s w (offering a b n) _ (addressName a b) d (offered n d) f refl (λ _. refl) (λ _ e. refl)

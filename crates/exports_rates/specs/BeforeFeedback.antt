@@ -1,4 +1,5 @@
--- Before a connection's first accepted backward cell since its open abr_acr returns no change, and a rate not above the ICR used. (Document 02, L9 and L14.)
+-- Before a connection's first accepted backward cell since its open, abr_acr returns no change and a rate not
+-- above the ICR used. (Document 02, L9 and L14.)
 use Prim.Native.Nat.{ℕ, _≤_}
 use mathlib.Core.Path.{_≡_}
 use mathlib.Core.Bool.{Bool, false, cond, _||_, _&&_}
@@ -10,11 +11,10 @@ use Rattle.rate_params.specs.declared.params.Params.{Params}
 use Rattle.rate_params.specs.Params.{initialUsed}
 use Rattle.cell.specs.declared.read.Reading.{Reading}
 use Rattle.cell.specs.declared.read.Reading.the-variants.{Refused, DataCell, RmCell}
-use Rattle.cell.specs.Name.{addressName}
 use Rattle.cell.specs.Fields.{cellName}
 use Rattle.cell.specs.Reading.{reading}
-use Rattle.connection_members.specs.Path.{pathVci}
-use Rattle.model.specs.Call.{Call, opening, closing, receiving, offering, levelling, slot, making, outOfRate, openingPath, adding, offeringMember, removing}
+use Rattle.model.specs.Call.{Call}
+use Rattle.model.specs.Aspects.{Sort, opener, closer, arrival, slotAt, another, sortOf}
 use Rattle.abr_answers.specs.declared.calls.AbrAllowed.{AbrAllowed}
 use Rattle.abr.specs.Contract.{ReturnsAllowed}
 use Rattle.abr.specs.Exports.{Observation, Transcript, finalWords, zeros}
@@ -27,19 +27,15 @@ feeds v (Refused n) = false
 feeds v (DataCell vpi vci e) = false
 feeds v (RmCell f) = eqb (cellName f) v && eqb (f .dir) 1
 
+abbrev pub fedBy : (v : ℕ) → Bool → Sort → Bool
+fedBy v b (opener u t p) = cond (eqb u v) false b
+fedBy v b (closer u) = b
+fedBy v b (arrival o) = feeds v (reading o) || b
+fedBy v b (slotAt t) = b
+fedBy v b another = b
+
 abbrev pub fedAfter : (v : ℕ) → Call → Bool → Bool
-fedAfter v (opening vpi vci t p) b = cond (eqb (addressName vpi vci) v) false b
-fedAfter v (closing vpi vci) b = b
-fedAfter v (receiving o) b = feeds v (reading o) || b
-fedAfter v (offering vpi vci n) b = b
-fedAfter v (levelling l) b = b
-fedAfter v (slot t room) b = b
-fedAfter v (making vpi vci t) b = b
-fedAfter v (outOfRate vpi vci t room) b = b
-fedAfter v (openingPath vpi t p) b = cond (eqb (addressName vpi pathVci) v) false b
-fedAfter v (adding vpi vci) b = b
-fedAfter v (offeringMember vpi vci n) b = b
-fedAfter v (removing vpi vci) b = b
+fedAfter v c b = fedBy v b (sortOf c)
 
 abbrev pub fedSeen : (v : ℕ) → Call → Observation → Bool → Bool
 fedSeen v c o b = cond (eqb (o .returned .refusal) 0) (fedAfter v c b) b

@@ -1,5 +1,6 @@
--- The change that abr_acr returns is that of the connection's last accepted backward cell, new rate less old, and lies between MCR − PCR and PCR − MCR; an open begins without one, and it is 0 until
--- the first such cell (BeforeFeedback.antt). (Document 02, L9.)
+-- The change that abr_acr returns is that of the connection's last accepted backward cell, new rate less old. It
+-- lies between MCR − PCR and PCR − MCR. An open begins without a change, and it is 0 until the first such cell
+-- (BeforeFeedback.antt). (Document 02, L9.)
 use Prim.Native.Nat.{ℕ}
 use mathlib.Core.Path.{_≡_}
 use mathlib.Core.Logic.{_≢_}
@@ -47,7 +48,8 @@ pub record ExportsChangeBounds : Type 0 where
   pub opens :
       (cs : List Call) (os : List Observation) → Transcript cs zeros os → (c : Call) (v : ℕ) (p : Params) → Opening c v p → (o : Observation) → Performs c (finalWords zeros os) o
       → o .returned .refusal ≡ 0 → (a : AbrAllowed) → ReturnsAllowed v (o .table) a → ChangeNone p a
-  -- and a received backward cell of a connection that was open, and any calls that neither feed it again nor close it: from the rate before that cell to the one right after it
+  -- and a received backward cell of an open connection, then any calls that neither feed it again nor close it:
+  -- the change is from the rate before that cell to the rate right after it
   pub last :
       (cs : List Call) (os : List Observation) → Transcript cs zeros os → (octets : List ℕ) (f : Fields) → reading octets ≡ RmCell f → f .dir ≡ 1
       → (o : Observation) → Performs (receiving octets) (finalWords zeros os) o

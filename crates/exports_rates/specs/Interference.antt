@@ -1,5 +1,6 @@
--- A call that is not about a connection leaves what abr_acr returns of it and what waits on it; one that is not about a member leaves what waits on that. (Document 01, "Four moves
--- of the allowed rate", says so of a backward cell; document 02, L6 and L13.)
+-- A call that is not about a connection leaves what abr_acr returns for it and what waits on it. A call that is
+-- not about a member leaves what waits on that member. (Document 01, "Four moves of the allowed rate", says so of
+-- a backward cell; document 02, L6 and L13.)
 use Prim.Native.Nat.{ℕ}
 use mathlib.Core.Path.{_≡_}
 use mathlib.Core.Logic.{_≢_}
@@ -12,8 +13,9 @@ use Rattle.cell.specs.declared.read.Reading.the-variants.{Refused, DataCell, Rm
 use Rattle.cell.specs.Name.{nameFrom, addressName}
 use Rattle.cell.specs.Fields.{cellName}
 use Rattle.cell.specs.Reading.{reading}
-use Rattle.connection_members.specs.Path.{pathVci, pathOf}
-use Rattle.model.specs.Call.{Call, opening, closing, receiving, offering, levelling, slot, making, outOfRate, openingPath, adding, offeringMember, removing}
+use Rattle.connection_members.specs.Path.{pathOf}
+use Rattle.model.specs.Call.{Call, closing, removing}
+use Rattle.model.specs.Aspects.{Subject, byName, inCell, inAnswer, noSubject, subjectOf, OnMembers, ofClosed, ofAdded, ofOffered, ofRemoved, ofSlot, ofNone, membersOf}
 use Rattle.abr_answers.specs.declared.calls.AbrSent.{AbrSent}
 use Rattle.abr_answers.specs.declared.calls.AbrAllowed.{AbrAllowed}
 use Rattle.abr.specs.Contract.{ReturnsAllowed}
@@ -26,34 +28,26 @@ readNameSeen f (Refused n) = none
 readNameSeen f (DataCell vpi vci e) = some (connectionOf f (addressName vpi vci))
 readNameSeen f (RmCell g) = some (cellName g)
 
+abbrev pub subjectSeen : (member : ℕ → Bool) → AbrSent → Subject → Option ℕ
+subjectSeen f r (byName v) = some v
+subjectSeen f r (inCell o) = readNameSeen f (reading o)
+subjectSeen f r inAnswer = wentTo f r
+subjectSeen f r noSubject = none
+
 abbrev pub namesSeen : (member : ℕ → Bool) → Call → AbrSent → Option ℕ
-namesSeen f (opening vpi vci t p) r = some (addressName vpi vci)
-namesSeen f (closing vpi vci) r = some (addressName vpi vci)
-namesSeen f (receiving o) r = readNameSeen f (reading o)
-namesSeen f (offering vpi vci n) r = some (addressName vpi vci)
-namesSeen f (levelling l) r = none
-namesSeen f (slot t room) r = wentTo f r
-namesSeen f (making vpi vci t) r = some (addressName vpi vci)
-namesSeen f (outOfRate vpi vci t room) r = some (addressName vpi vci)
-namesSeen f (openingPath vpi t p) r = some (addressName vpi pathVci)
-namesSeen f (adding vpi vci) r = none
-namesSeen f (offeringMember vpi vci n) r = some (pathOf (addressName vpi vci))
-namesSeen f (removing vpi vci) r = some (pathOf (addressName vpi vci))
+namesSeen f c r = subjectSeen f r (subjectOf c)
 
 -- a call is about the member x: it names it, closes its path, or is a slot that returned it
+abbrev pub touchedSeen : (x : ℕ) → AbrSent → OnMembers → Bool
+touchedSeen x r (ofClosed v) = eqb v (pathOf x)
+touchedSeen x r (ofAdded y) = eqb y x
+touchedSeen x r (ofOffered y n) = eqb y x
+touchedSeen x r (ofRemoved y) = eqb y x
+touchedSeen x r ofSlot = not (eqb (r .kind) 0) && eqb (nameFrom (r .vpi) (r .vci)) x
+touchedSeen x r ofNone = false
+
 abbrev pub touchesSeen : (x : ℕ) → Call → AbrSent → Bool
-touchesSeen x (opening vpi vci t p) r = false
-touchesSeen x (closing vpi vci) r = eqb (addressName vpi vci) (pathOf x)
-touchesSeen x (receiving o) r = false
-touchesSeen x (offering vpi vci n) r = false
-touchesSeen x (levelling l) r = false
-touchesSeen x (slot t room) r = not (eqb (r .kind) 0) && eqb (nameFrom (r .vpi) (r .vci)) x
-touchesSeen x (making vpi vci t) r = false
-touchesSeen x (outOfRate vpi vci t room) r = false
-touchesSeen x (openingPath vpi t p) r = false
-touchesSeen x (adding vpi vci) r = eqb (addressName vpi vci) x
-touchesSeen x (offeringMember vpi vci n) r = eqb (addressName vpi vci) x
-touchesSeen x (removing vpi vci) r = eqb (addressName vpi vci) x
+touchesSeen x c r = touchedSeen x r (membersOf c)
 
 -- two closes: the same refusal or none, and the same data cells
 pub record SameClose (a b : Observation) : Type 0 where

@@ -1,5 +1,6 @@
--- A source and a port that all its backward cells pass, of exported calls: the rate that abr_acr returns is never above the settled one, settles there, and follows a change of the share.
--- Channels and paths alike. (Document 01, "Four moves of the allowed rate"; document 02, L10.)
+-- A source and a port that all its backward cells pass, in exported calls. The rate that abr_acr returns is never
+-- above the settled one, settles there, and follows a change of the share. This holds for channels and paths.
+-- (Document 01, "Four moves of the allowed rate"; document 02, L10.)
 use Prim.Native.Nat.{ℕ, suc, _+_, _-_, _*_, _≤_, _<_, min}
 use mathlib.Core.Path.{_≡_}
 use mathlib.Core.Logic.{_≢_}
@@ -24,7 +25,8 @@ use Rattle.promise_loop.specs.Loop.{FromPort, Unmarked}
 use Rattle.exports.specs.Exports.{paramsObserved, rateReturned}
 use Rattle.exports_rates.specs.Seen.{Seen, Watched, watch, watchedFrom, watched}
 
--- n of these calls, of which the first met these words, are backward cells of v, each of them a `Cell`; of each other call `Other` holds, by what is kept of v before it
+-- n of these calls are backward cells of v, each of them a `Cell`. The first call met these words. For each other
+-- call `Other` holds, by what is kept of v before it.
 pub data FeedbacksSeen (v : ℕ) (Cell : List ℕ → Type 0) (Other : Watched → List ℕ → Call → Observation → Type 0) : Watched → (words : List ℕ) → ℕ → List Call → List Observation → Type 0 where
   ended : {k : Watched} {l : List ℕ} → FeedbacksSeen v Cell Other k l 0 [] []
   fedBack :
@@ -46,8 +48,8 @@ pub record RateKeptSeen (v : ℕ) (k : Watched) (l : List ℕ) (c : Call) (o : O
   pub answersAfter : ReturnsAllowed v (o .table) after
   pub same : rateReturned after ≡ rateReturned before
 
--- enough for the moves before a forward cell at t to leave the rate: it is not the first, no more than ADTF has passed since the last, and fewer than CRM are
--- unanswered, or CDF is zero
+-- enough for the moves before a forward cell at t to leave the rate: it is not the first, at most ADTF has passed
+-- since the last, and fewer than CRM are unanswered or CDF is zero
 pub record UnmovedSeen (p : Params) (t : ℕ) (k : Seen) : Type 0 where
   pub sent : ℕ
   pub forward : ℕ
@@ -57,7 +59,8 @@ pub record UnmovedSeen (p : Params) (t : ℕ) (k : Seen) : Type 0 where
   pub recent : t - forward ≤ adtfTime p
   pub answered : p .c ≢ 7 → k .unanswered < crm p
 
--- the call does not close v; and if it is a slot that returned a forward cell of v, kind 1, the cell's moves leave the rate
+-- the call does not close v; if it is a slot that returned a forward cell of v (kind 1),
+-- the cell's moves leave the rate
 pub record NotLoweredSeen (v : ℕ) (p : Params) (k : Watched) (l : List ℕ) (c : Call) (o : Observation) : Type 0 where
   pub notClosed : NotClosedSeen v k l c o
   pub forwardCell : (t room : ℕ) → c ≡ slot t room → o .returned .kind ≡ 1 → nameFrom (o .returned .vpi) (o .returned .vci) ≡ v → UnmovedSeen p t (k .connection)
@@ -71,9 +74,11 @@ pub data RateLeft (v : ℕ) (p : Params) (k : Watched) (l : List ℕ) (c : Call)
 pub record SameRate (v : ℕ) (k : Watched) (l : List ℕ) (c : Call) (o : Observation) : Type 0 where
   pub same : (a b : AbrAllowed) → ReturnsAllowed v l a → ReturnsAllowed v (o .table) b → rateReturned b ≡ rateReturned a
 
--- After any exported calls cs from the zero table v is open under p; and after further ones abr_acr is called. Where a move of its own lowered the rate, the count begins anew behind it.
+-- After any exported calls cs from the zero table v is open under p. After further calls abr_acr is called. Where
+-- a move of its own lowered the rate, the count starts again after that move.
 pub record LoopSeen (cs : List Call) (os : List Observation) (v : ℕ) (p : Params) (share : FairShare) : Type 0 where
-  -- once one backward cell came from the port, the rate is never above the settled one, whatever marks the cells carry and whatever else moves the rate
+  -- once one backward cell came from the port, the rate is never above the settled one, whatever marks the cells
+  -- carry and whatever else moves the rate
   pub neverAbove :
       (n : ℕ) (ds : List Call) (ps : List Observation) → Transcript ds (finalWords zeros os) ps
       → FeedbacksSeen v (FromPort v share) (NotClosedSeen v) (watched v cs os) (finalWords zeros os) (suc n) ds ps
@@ -84,7 +89,8 @@ pub record LoopSeen (cs : List Call) (os : List Observation) (v : ℕ) (p : Para
       → FeedbacksSeen v (Unmarked v p share) (RateLeft v p) (watched v cs os) (finalWords zeros os) (suc n) ds ps
       → (a b : AbrAllowed) → ReturnsAllowed v (finalWords zeros os) a → ReturnsAllowed v (finalWords (finalWords zeros os) ps) b
       → rateReturned b ≡ some (min (settled p share) (a .acr + suc n * increase p))
-  -- so `feedbackBound` of them bring it there from any rate, and more leave it there, if the increase is at least one unit
+  -- so `feedbackBound` of them bring it there from any rate, and more leave it there, if the
+  -- increase is at least one unit
   pub reached :
       (n : ℕ) (ds : List Call) (ps : List Observation) → 1 ≤ increase p → feedbackBound p ≤ n → Transcript ds (finalWords zeros os) ps
       → FeedbacksSeen v (Unmarked v p share) (RateLeft v p) (watched v cs os) (finalWords zeros os) n ds ps
@@ -100,7 +106,8 @@ pub record LoopSeen (cs : List Call) (os : List Observation) (v : ℕ) (p : Para
       → Transcript es (finalWords (finalWords zeros os) ps) qs
       → FeedbacksSeen v (Unmarked v p other) (RateLeft v p) (watchedFrom v (watched v cs os) ds ps) (finalWords (finalWords zeros os) ps) n es qs
       → (b : AbrAllowed) → ReturnsAllowed v (finalWords (finalWords (finalWords zeros os) ps) qs) b → rateReturned b ≡ some (settled p other)
-  -- nothing else moves the rate where no forward cell of v lowers it: a caller knows that from the slots that returned one, and from the cells that it received
+  -- Nothing else moves the rate where no forward cell of v lowers it. A caller knows that from the slots that
+  -- returned one, and from the cells that it received.
   pub kept :
       (n : ℕ) (ds : List Call) (ps : List Observation) → Transcript ds (finalWords zeros os) ps
       → FeedbacksSeen v (Unmarked v p share) (NotLoweredSeen v p) (watched v cs os) (finalWords zeros os) n ds ps

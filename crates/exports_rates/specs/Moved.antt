@@ -1,5 +1,6 @@
--- The rate that abr_acr returns after a call, from the one that it returned before: exactly four moves change it. A connection's own forward cells from slots make the first three, its own backward
--- cells the fourth; every other call leaves it. (Document 01, "Four moves of the allowed rate".)
+-- The rate that abr_acr returns after a call, from the one that it returned before. Exactly four moves change it.
+-- A connection's own forward cells from slots make the first three, its own backward cells the fourth. Every other
+-- call leaves the rate. (Document 01, "Four moves of the allowed rate".)
 use Prim.Native.Nat.{ℕ, _-_}
 use mathlib.Core.Path.{_≡_}
 use mathlib.Core.Bool.{cond, _&&_}
@@ -17,7 +18,8 @@ use Rattle.cell.specs.Fields.{cellName}
 use Rattle.cell.specs.Reading.{reading}
 use Rattle.connection.specs.declared.parts.Pace.{Pace}
 use Rattle.connection.specs.declared.parts.Pace.the-variants.{Unsent, Running}
-use Rattle.model.specs.Call.{Call, opening, closing, receiving, offering, levelling, slot, making, outOfRate, openingPath, adding, offeringMember, removing}
+use Rattle.model.specs.Call.{Call}
+use Rattle.model.specs.Aspects.{Sort, opener, closer, arrival, slotAt, another, sortOf}
 use Rattle.abr_answers.specs.declared.calls.AbrSent.{AbrSent}
 use Rattle.abr_answers.specs.declared.calls.AbrAllowed.{AbrAllowed}
 use Rattle.abr.specs.Contract.{ReturnsAllowed}
@@ -37,21 +39,18 @@ rateFed v (DataCell vpi vci e) q = q .acr
 rateFed v (RmCell f) q = cond (eqb (cellName f) v && eqb (f .dir) 1) (feedback (eqb (f .ci) 1) (eqb (f .ni) 1) (rateOf (f .er)) q .acr) (q .acr)
 
 -- after a call that returned this, the rate of v being q before it: kind 1 is a forward cell
-abbrev pub rateAfter : (v : ℕ) → Seen → Rate → Call → AbrSent → ℕ
-rateAfter v k q (opening vpi vci t p) r = q .acr
-rateAfter v k q (closing vpi vci) r = q .acr
-rateAfter v k q (receiving o) r = cond (eqb (r .refusal) 0) (rateFed v (reading o) q) (q .acr)
-rateAfter v k q (offering vpi vci n) r = q .acr
-rateAfter v k q (levelling l) r = q .acr
-rateAfter v k q (slot t room) r = cond (eqb (r .kind) 1 && eqb (nameFrom (r .vpi) (r .vci)) v) (rateSent t (k .unanswered) (k .pace) q) (q .acr)
-rateAfter v k q (making vpi vci t) r = q .acr
-rateAfter v k q (outOfRate vpi vci t room) r = q .acr
-rateAfter v k q (openingPath vpi t p) r = q .acr
-rateAfter v k q (adding vpi vci) r = q .acr
-rateAfter v k q (offeringMember vpi vci n) r = q .acr
-rateAfter v k q (removing vpi vci) r = q .acr
+abbrev pub rateBy : (v : ℕ) → Seen → Rate → AbrSent → Sort → ℕ
+rateBy v k q r (opener u t p) = q .acr
+rateBy v k q r (closer u) = q .acr
+rateBy v k q r (arrival o) = cond (eqb (r .refusal) 0) (rateFed v (reading o) q) (q .acr)
+rateBy v k q r (slotAt t) = cond (eqb (r .kind) 1 && eqb (nameFrom (r .vpi) (r .vci)) v) (rateSent t (k .unanswered) (k .pace) q) (q .acr)
+rateBy v k q r another = q .acr
 
--- after any exported calls from the zero table, and one call more, of a connection that is open before and after it, with the rates that abr_acr returns then
+abbrev pub rateAfter : (v : ℕ) → Seen → Rate → Call → AbrSent → ℕ
+rateAfter v k q c r = rateBy v k q r (sortOf c)
+
+-- after any exported calls from the zero table and one call more, for a connection that is open before and after
+-- that call, with the rates that abr_acr returns then
 abbrev pub ExportsMoves : Type 0
 ExportsMoves =
     (cs : List Call) (os : List Observation) → Transcript cs zeros os → (c : Call) (o : Observation) → Performs c (finalWords zeros os) o → (v : ℕ) (p : Params)

@@ -1,4 +1,5 @@
--- Ports on the way of received cells, as abr_limit and abr_port leave them: they never raise a rate that abr_acr returns. (Document 01, "The lists of demand 3"; document 02, L10.)
+-- Received cells may pass ports on their way, which leave them as abr_limit and abr_port do. Ports never raise a
+-- rate that abr_acr returns. (Document 01, "The lists of demand 3"; document 02, L10.)
 use Prim.Native.Nat.{ℕ}
 use mathlib.Core.Path.{_≡_}
 use mathlib.Core.List.{List}
@@ -16,7 +17,8 @@ use Rattle.promise_loop.specs.Loop.{FromPort}
 use Rattle.exports.specs.Exports.{SameConnection, ObservedAgree}
 use Rattle.exports.specs.Returned.{noMember, placesSeen}
 
--- the same call; or a received cell, and what abr_limit or abr_port left of it, returning n: what each holds is the ensures of that export
+-- the same call; or a received cell, and what abr_limit or abr_port left of it, returning n (each
+-- holds the ensures of that export)
 pub data PortedCall : Call → Call → Type 0 where
   same : {c : Call} → PortedCall c c
   limited : (rate n : ℕ) (o p : List ℕ) → passed n p ≡ limit rate o → PortedCall (receiving o) (receiving p)
@@ -33,7 +35,8 @@ pub record LeftByPort (v capacity : ℕ) (demands o : List ℕ) : Type 0 where
   pub left : passed n o ≡ port capacity demands before
 
 pub record ExportsPorts : Type 0 where
-  -- any exported calls from the zero table, and the same with received cells as ports left them, wherever their slots go to the same connections
+  -- any exported calls from the zero table, and the same calls with received cells as ports left them, where the
+  -- slots of both go to the same connections
   pub neverRaise :
       (xs ys : List Call) (os ps : List Observation) → Transcript xs zeros os → Transcript ys zeros ps → InPlace PortedCall xs ys
       → InPlace SameConnection (placesSeen noMember xs os) (placesSeen noMember ys ps) → InPlace ObservedAgree os ps

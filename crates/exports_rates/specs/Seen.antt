@@ -1,5 +1,7 @@
--- What a caller keeps of one connection from the calls and what they returned, and nothing else: its open, its cells from slots, and what waits on it. From this, its contract and
--- the rate that abr_acr returns its ready instant and the kind of its next cell follow. (Document 01, "Opening", "Four moves of the allowed rate" and "Slots"; document 02, L1, L5 and L13.)
+-- What a caller keeps of one connection, only from the calls and what they returned: its open, its cells from
+-- slots, and what waits on it. With its contract and the rate that abr_acr returns, this gives its ready
+-- instant and the kind of its next cell. (Document 01, "Opening", "Four moves of the allowed rate" and "Slots";
+-- document 02, L1, L5 and L13.)
 use Prim.Native.Nat.{ℕ, _+_, _-_, min}
 use mathlib.Core.Bool.{Bool, true, false, cond, _&&_, _||_, not}
 use mathlib.Core.List.{List}
@@ -21,7 +23,9 @@ use Rattle.exports.specs.Along.{kept}
 
 pub record Seen : Type 0 where
   pub opened : ℕ  -- the instant of its open; 0 while it is closed
-  pub pace : Pace  -- its cells from slots: the instants of the last and of the last forward one, k, and whether a turned or made one is among those k
+  -- its cells from slots: the instants of the last and of the last forward one, k, and whether a turned or made one is
+  -- among those k
+  pub pace : Pace
   pub unanswered : ℕ  -- Y: its forward cells from slots since the last backward cell with BN 0
   pub turned : Bool  -- a turned cell waits
   pub made : Bool  -- a made cell waits
@@ -45,7 +49,7 @@ readSeen v (Refused n) k = k
 readSeen v (DataCell vpi vci e) k = k
 readSeen v (RmCell f) k = cond (eqb (cellName f) v) (received f k) k
 
--- a cell of it from a slot at t: a forward one, after which the count begins anew
+-- a cell of it from a slot at t: a forward one, after which the count starts again
 abbrev pub forwardSent : (t : ℕ) → Seen → Seen
 forwardSent t k = seen (k .opened) (Running t t 0 false) (min (k .unanswered + 1) 8_388_608) (k .turned) (k .made) (k .waiting) (k .served)
 

@@ -1,1 +1,2 @@
-// What exported calls make of the allowed rates, of whole lists of them: definitions in specs/, theorems in proofs/, no code.
+// What exported calls do to the allowed rates, in whole lists of calls. Definitions are in specs/, theorems
+// in proofs/. There is no code.

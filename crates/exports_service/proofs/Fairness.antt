@@ -1,34 +1,24 @@
 -- The members of a path are served in turn, of exported calls.
-use Prim.Native.Nat.{ℕ, _<_}
-use mathlib.Core.Path.{_≡_, sym, ap, subst, _∙_}
-use mathlib.Core.Bool.{Bool, _&&_}
+use Prim.Native.Nat.{ℕ}
+use mathlib.Core.Path.{_≡_, ap, subst, _∙_}
+use mathlib.Core.Bool.{Bool}
 use lib.Dec.{eqb}
-use Rattle.cell.specs.Name.{addressName}
 use Rattle.connection_members.specs.Path.{pathOf}
 use Rattle.model.specs.State.{State, empty}
-use Rattle.model.specs.Call.{Call, opening, closing, receiving, offering, levelling, slot, making, outOfRate, openingPath, adding, offeringMember, removing}
+use Rattle.model.specs.Call.{Call}
+use Rattle.model.specs.Aspects.{sortOf}
 use Rattle.model.specs.Run.{final}
 use Rattle.abr.specs.Exports.{Observation, finalWords, zeros}
-use Rattle.promise_service.specs.Fairness.{dataTold, dataCellsOf, BothGoOn, Stretch}
+use Rattle.promise_service.specs.Fairness.{dataTold, dataCellsOf, BothGoOn, Stretch, GoOn}
 use Rattle.promise_service.proofs.Fairness.{fairness}
 use Rattle.exports.specs.Along.{kept, Along}
 use Rattle.exports_service.specs.Fairness.{toldReturned, cellsSeen, noCells, BothGoOnSeen, dataReturnedOf, ExportsFair}
 use Rattle.exports.proofs.Transport.{Stands, Sees, stands-first, stands, carry, kept-so, sum-seen}
-use Rattle.exports_service.proofs.MemberCells.{told-number, Counts, counts, none-count}
+use Rattle.exports_service.proofs.MemberCells.{told-number, Counts, counts, none-count, waitsIn}
 
 go-on : (v a b : ℕ) (s : State) (c : Call) (o : Observation) (f : ℕ → ℕ) → Counts f s → Sees s c o → BothGoOnSeen v a b f c o → BothGoOn v a b s c
-go-on v a b s (opening vpi vci t p) o f m z h = tt
-go-on v a b s (closing vpi vci) o f m z h = ap (λ (x : Bool). x && eqb (addressName vpi vci) v) (sym (z .accepted)) ∙ h
-go-on v a b s (receiving q) o f m z h = tt
-go-on v a b s (offering vpi vci n) o f m z h = tt
-go-on v a b s (levelling l) o f m z h = tt
-go-on v a b s (slot t room) o f m z h = subst (λ (g : ℕ → ℕ). (0 < g a) × (0 < g b)) m h
-go-on v a b s (making vpi vci t) o f m z h = tt
-go-on v a b s (outOfRate vpi vci t room) o f m z h = tt
-go-on v a b s (openingPath vpi t p) o f m z h = tt
-go-on v a b s (adding vpi vci) o f m z h = tt
-go-on v a b s (offeringMember vpi vci n) o f m z h = tt
-go-on v a b s (removing vpi vci) o f m z h = tt
+go-on v a b s c o f m z h =
+    subst (λ (y : Bool). GoOn v a b (waitsIn s) y (sortOf c)) (z .accepted) (subst (λ (g : ℕ → ℕ). GoOn v a b g (eqb (o .returned .refusal) 0) (sortOf c)) m h)
 
 pub exports-fair : ExportsFair
 exports-fair cs ds os ps a b x y e h =

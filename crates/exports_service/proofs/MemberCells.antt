@@ -1,35 +1,35 @@
--- What waits on each member is what a caller counts: offers that returned 0 bring it, slots that return the member's pair take it, a removal and a close of the path end it.
+-- What waits on each member is what a caller counts. Offers that returned 0 bring it, and slots that return the
+-- member's pair take it. A removal and a close of the path end it.
 use Prim.Native.Nat.{ℕ, _+_, _-_}
 use mathlib.Core.Path.{_≡_, refl, sym, ap, _∙_}
 use mathlib.Core.Bool.{Bool, true, false, cond}
 use mathlib.Core.Option.{Option, none, some}
+use mathlib.Core.List.{List}
 use native.Mathlib.Omega.{arith}
 use lib.Dec.{eqb}
 use borrow.Author.Tests.{eqb-true}
-use Rattle.cell.specs.Name.{addressName}
-use Rattle.connection_members.specs.Members.{named, onPath, isMember, cellsWhere, cellsOf}
+use Rattle.connection_members.specs.Members.{named, onPath, isMember, cellsWhere, cellsOf, Member}
 use Rattle.connection_members.specs.Turn.{turn, afterServing}
 use Rattle.connection_members.proofs.Lists.{cells-none, without-cells-of, with-member-cells, with-cells-of}
 use Rattle.connection_members.proofs.Turns.{turn-picks}
 use Rattle.connection.specs.declared.parts.Connection.{Connection}
 use Rattle.connection.specs.declared.kind.Kind.{Kind}
 use Rattle.connection.specs.declared.kind.Kind.the-variants.{Forward, Turned, Data}
-use Rattle.connection.specs.Kind.{kindAt}
-use Rattle.connection.specs.Sending.{memberServed}
-use Rattle.model.specs.State.{State, taken, empty, find, withEntryOf, withOpened, withTime, withLevel, withMembers}
+use Rattle.connection.specs.Slot.{memberServed}
+use Rattle.model.specs.State.{State, taken, empty, find}
 use Rattle.model.specs.Invariant.{WellFormed}
 use Rattle.model.specs.declared.answer.Answer.{Answer}
 use Rattle.model.specs.declared.answer.Answer.the-variants.{Refused, Accepted, Closed, Idle, Sent}
-use Rattle.model.specs.Call.{Call, Outcome}
-use Rattle.model.specs.Step.{refuse, accept, replay, discard, withOffer, withoutOne, nameAnswered, sendFrom, sendStep, idleStep, sendOutOfRate, step}
+use Rattle.model.specs.Step.{nameAnswered, step}
 use Rattle.model.specs.Run.{isAccepted}
 use Rattle.model.specs.Conservation.{dataIn}
 use Rattle.model.proofs.Conservation.{cond-zero}
-use Rattle.model.proofs.Effects.{Effect, refuses, opens, closes, offers, receivesData, receivesRm, setsLevel, idles, sends, makes, sendsOutOfRate, opensPath, adds, offersMember, removes, effect}
+use Rattle.model.proofs.ToMembers.{ToMembers, refusedKept, noneTouched, idleKept, allClosed, oneAdded, oneOffered, oneRemoved, oneServed, to-members}
 use Rattle.abr_answers.specs.Calls.{sentOf}
+use Rattle.model.specs.Aspects.{OnMembers}
 use Rattle.promise_service.specs.Fairness.{dataTold}
 use Rattle.exports.proofs.Returned.{back, open-alone}
-use Rattle.exports_service.specs.Fairness.{toldReturned, cellsAfter, cellsSeen, noCells}
+use Rattle.exports_service.specs.Fairness.{toldReturned, cellsAfter, cellsSeen, noCells, cellsBy}
 use Rattle.exports.proofs.Transport.{Keeps}
 
 -- the data cell that a slot returned is the one that it told
@@ -44,7 +44,7 @@ told-number x (Sent v y Turned a n) = sym (cond-zero (eqb y x))
 told-number x (Sent v y Data a n) = ap (λ (z : ℕ). cond (eqb z x) 1 0) (back y)
 
 -- what waits on the members of a state
-abbrev waitsIn : State → ℕ → ℕ
+abbrev pub waitsIn : State → ℕ → ℕ
 waitsIn s x = cellsOf x (s .members)
 
 -- a slot's cell
@@ -75,28 +75,22 @@ offered-cells : (b : Bool) (m n k : ℕ) → (b ≡ true → m ≡ n) → cond b
 offered-cells true m n k h = ap (λ (z : ℕ). z + k) (h refl)
 offered-cells false m n k h = refl
 
-effect-cells : {s : State} → WellFormed s → {c : Call} {o : Outcome} → Effect s c o → (x : ℕ) → waitsIn (o .state) x ≡ cond (isAccepted (o .answer)) (cellsAfter c (sentOf (o .answer)) (waitsIn s)) (waitsIn s) x
-unfolding refuse accept replay discard sendStep sendFrom idleStep sendOutOfRate withOffer withoutOne withEntryOf withOpened withTime withLevel withMembers isAccepted
-effect-cells w (refuses c n h) x = refl
-effect-cells w (opens vpi vci t p g) x = refl
-effect-cells {s} w (closes vpi vci d f) x = without-cells-of x (onPath (addressName vpi vci)) (s .members)
-effect-cells w (offers vpi vci n d f i h) x = refl
-effect-cells w (receivesData o vpi vci e u d r i z f) x = refl
-effect-cells w (receivesRm o q d r f) x = refl
-effect-cells w (setsLevel l h) x = refl
-effect-cells w (idles t room g b) x = omega arith
-effect-cells {s} w (sends t room i u g b) x =
-    let k = kindAt t (b .holder) in
-    served-cells s w u (b .holder) (b .found) k x 0 0
-    ∙ ap (λ (n : ℕ). cellsOf x (s .members) - n) (sym (told-number x (Sent u (nameAnswered u (memberServed k (b .holder) (s .members))) k 0 0)))
-effect-cells w (makes vpi vci t d f g b m) x = refl
-effect-cells w (sendsOutOfRate vpi vci t room d f g b) x = refl
-effect-cells w (opensPath vpi t p g) x = refl
-effect-cells {s} w (adds vpi vci d f j) x = with-member-cells (named x) (addressName vpi vci) (s .members)
-effect-cells {s} w (offersMember vpi vci n d f i h) x =
-    with-cells-of x (addressName vpi vci) _ (s .members) (w .members .valid .rising) i
-    ∙ offered-cells (eqb (addressName vpi vci) x) _ _ n (λ q. ap (λ (z : ℕ). cellsOf z (s .members)) (eqb-true (addressName vpi vci) x q))
-effect-cells {s} w (removes vpi vci d f i) x = without-cells-of x (named (addressName vpi vci)) (s .members)
+cells-after :
+    {s : State} → WellFormed s → {k : OnMembers} {a : Answer} {ms : List Member} → ToMembers s k a ms → (x : ℕ)
+    → cellsOf x ms ≡ cond (isAccepted a) (cellsBy k (sentOf a) (waitsIn s)) (waitsIn s) x
+unfolding isAccepted
+cells-after w (refusedKept n) x = refl
+cells-after w (noneTouched n) x = refl
+cells-after w idleKept x = omega arith
+cells-after {s} w (allClosed v n k) x = without-cells-of x (onPath v) (s .members)
+cells-after {s} w (oneAdded y n) x = with-member-cells (named x) y (s .members)
+cells-after {s} w (oneOffered y n k i) x =
+    with-cells-of x y _ (s .members) (w .members .valid .rising) i
+    ∙ offered-cells (eqb y x) _ _ n (λ q. ap (λ (z : ℕ). cellsOf z (s .members)) (eqb-true y x q))
+cells-after {s} w (oneRemoved y n k) x = without-cells-of x (named y) (s .members)
+cells-after {s} w (oneServed u d k acr n f) x =
+    served-cells s w u d f k x acr n
+    ∙ ap (λ (n : ℕ). cellsOf x (s .members) - n) (sym (told-number x (Sent u (nameAnswered u (memberServed k d (s .members))) k acr n)))
 
 -- what is counted is so
 abbrev pub Counts : (ℕ → ℕ) → State → Type 0
@@ -107,7 +101,7 @@ counts = record {
   goes = λ s c o f m z.
       let a = step s c .answer in
       let is : waitsIn (step s c .state) ≡ cond (isAccepted a) (cellsAfter c (sentOf a) (waitsIn s)) (waitsIn s) =
-      λ i. λ x. effect-cells (z .wellFormed) (effect s (z .wellFormed .unique) c) x i in
+      λ i. λ x. cells-after (z .wellFormed) (to-members (z .wellFormed) c) x i in
       (λ i. cond (z .accepted i) (cellsAfter c (z .matches .returned i) (m i)) (m i)) ∙ sym is;
 }
 

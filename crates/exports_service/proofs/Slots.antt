@@ -17,7 +17,8 @@ use Rattle.connection.specs.declared.kind.Kind.the-variants.{Forward, Turned, D
 use Rattle.connection.specs.declared.ready.Instant.the-variants.{At}
 use Rattle.connection.specs.Ready.{readyInstant}
 use Rattle.connection.specs.Kind.{kindNumber, kindAt}
-use Rattle.connection.specs.Sending.{Buffer, untouched, bufferSent, after, withServed}
+use Rattle.connection.specs.Source.{withServed}
+use Rattle.connection.specs.Slot.{Buffer, untouched, bufferSent, after}
 use Rattle.connection.proofs.Keeps.{after-same}
 use Rattle.model.specs.State.{State, Entry, free, taken, empty, find, withTime, withMembers}
 use Rattle.model.specs.Invariant.{NamesUnique, Each}

@@ -1,5 +1,6 @@
--- What abr_next returns is the earliest of the ready instants that a caller computes: none is before it, and where it says never none is ever ready. That a slot sends from it on is ExportsNextReady.
--- (Document 01, "Slots", says who is ready when.)
+-- What abr_next returns is the earliest of the ready instants that a caller computes. None is before it, and
+-- where it says never, none is ever ready. ExportsNextReady says that a slot sends from it on. (Document 01,
+-- "Slots", says who is ready when.)
 use Prim.Native.Nat.{ℕ, _≤_}
 use mathlib.Core.Path.{_≡_}
 use mathlib.Core.List.{List}

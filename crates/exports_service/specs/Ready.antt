@@ -1,4 +1,5 @@
--- The ready instant of a connection and the kind of its next cell, from what a caller keeps of it, its contract and the rate that abr_acr returns. (Document 01, "Slots"; document 02, L1 and L5.)
+-- The ready instant of a connection and the kind of its next cell, from what a caller keeps of it, its contract
+-- and the rate that abr_acr returns. (Document 01, "Slots"; document 02, L1 and L5.)
 use Prim.Native.Nat.{ℕ, _+_, _-_, max}
 use mathlib.Core.Bool.{Bool, cond, _&&_, _||_, not}
 use mathlib.Core.Option.{Option, none, some}
@@ -19,7 +20,8 @@ backwardSeen k = k .turned || k .made
 abbrev pub waitsSeen : Seen → Bool
 waitsSeen k = ltb 0 (k .waiting) || backwardSeen k
 
--- before the first cell its opening time, if anything waits; afterwards due, if anything waits or k = Nrm − 1; else due but not before Trm after the last forward cell, if k ≥ 2; else never
+-- Before the first cell: its opening time, if anything waits. Afterwards: due, if anything waits or k = Nrm − 1;
+-- else, if k ≥ 2, due but not before Trm after the last forward cell. Else never.
 abbrev pub readyFromSeen : Params → (acr : ℕ) → Seen → Pace → Instant
 readyFromSeen p a k Unsent = cond (waitsSeen k) (At (k .opened)) Never
 readyFromSeen p a k (Running sent forward n turned) =
@@ -34,8 +36,8 @@ abbrev pub readyUnder : Option Params → (acr : ℕ) → Seen → Instant
 readyUnder none a k = Never
 readyUnder (some p) a k = readySeen p a k
 
--- 1, forward, if none was sent yet, or k = Nrm − 1, or k ≥ 2 and Trm has passed since the last; else 2, turned or made, if one waits and none went since the last forward cell or no data
--- waits; else 3, data
+-- 1, forward, if none was sent yet, or k = Nrm − 1, or k ≥ 2 and Trm has passed since the last. Else 2, turned or
+-- made, if one waits and either none went since the last forward cell or no data waits. Else 3, data.
 abbrev pub kindFromSeen : Params → (t : ℕ) → Seen → Pace → ℕ
 kindFromSeen p t k Unsent = 1
 kindFromSeen p t k (Running sent forward n turned) =

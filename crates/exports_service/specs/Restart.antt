@@ -1,4 +1,5 @@
--- A rate of 0 rises again, and the connection is ready again, of exported calls: a backward cell without marks raises what abr_acr returns. (Document 02, L5.)
+-- A rate of 0 rises again, and the connection is ready again, in exported calls. A backward cell without marks
+-- raises what abr_acr returns. (Document 02, L5.)
 use Prim.Native.Nat.{ℕ, _-_, _≤_, _<_, min}
 use mathlib.Core.Path.{_≡_}
 use mathlib.Core.Bool.{Bool, true, _||_}

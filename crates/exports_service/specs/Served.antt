@@ -1,4 +1,5 @@
--- A connection on which something waits is ready in time, and slots reach it: said of what a caller knows from the calls and what they returned. (Beyond document 01's demands; "Slots" says who is
+-- A connection on which something waits is ready in time, and slots reach it. This is stated by what a
+-- caller knows from the calls and what they returned. (Beyond document 01's demands; "Slots" says who is
 -- ready when. Document 02, L5.)
 use Prim.Native.Nat.{ℕ, _+_, _≤_, _<_}
 use mathlib.Core.Path.{_≡_}
@@ -44,7 +45,7 @@ Reaches cs os v ts ps = Somewhere (λ x. x ≡ some v) (placesSeen (membersSeen 
 
 -- of a name that is open under p
 pub record ServedSeen (cs : List Call) (os : List Observation) (v : ℕ) (p : Params) : Type 0 where
-  -- if anything waits, and the contract has a minimum, it is ready no later than a gap at the minimum after its last cell
+  -- if anything waits and the contract has a minimum, it is ready at most a gap at the minimum after its last cell
   pub guaranteed :
       waitsSeen (seenOf v cs os) ≡ true → 0 < least p → (a : AbrAllowed) → ReturnsAllowed v (finalWords zeros os) a
       → ReadyNotAfter (readySeen p (a .acr) (seenOf v cs os)) (latestSeen (least p) (seenOf v cs os))

@@ -1,5 +1,7 @@
--- Who is sent and what, of exported calls: a slot goes to the connection that a scan of all names picks by their ready instants, sends the kind of cell that the slot rules give, only what waits,
--- and nothing early. Everything is told from the calls, what they returned, and the rates that abr_acr returns. (Document 01, "Slots"; document 02, L4, L5 and L6.)
+-- Where slots go and what they send, in exported calls. A scan of all names picks the connection by the ready
+-- instants. The slot rules give the kind of cell. A slot sends only what waits, and nothing early. All this
+-- is stated by the calls, what they returned, and the rates that abr_acr returns. (Document 01, "Slots";
+-- document 02, L4, L5 and L6.)
 use Prim.Native.Nat.{ℕ, _+_, _≤_, _<_}
 use mathlib.Core.Path.{_≡_}
 use mathlib.Core.Logic.{_≢_}

@@ -1,5 +1,6 @@
--- Whose data cell a slot of a path returns, of exported calls: that of the first member with data after the last one served, in rising VCI, round to the lowest; before any was served, of the
--- lowest with data. A channel's data cell bears the channel's own name. (Document 02, L13.)
+-- Whose data cell a slot of a path returns, in exported calls. It is that of the first member with data after the
+-- last one served, in rising VCI, round to the lowest. Before any was served, it is that of the lowest with data.
+-- A channel's data cell has the channel's own name. (Document 02, L13.)
 use Prim.Native.Nat.{ℕ, _≤_, _<_}
 use mathlib.Core.Path.{_≡_}
 use mathlib.Core.Bool.{true, false}
@@ -14,7 +15,8 @@ use Rattle.exports.specs.Along.{kept}
 use Rattle.exports_rates.specs.Seen.{seenOf}
 use Rattle.exports_service.specs.Fairness.{cellsSeen, noCells}
 
--- of two members of one path, the turn of x comes no later than that of z, if the VCI `last` was served last; 0 is none yet, since members begin at 32
+-- of two members of one path, the turn of x comes no later than that of z, if the VCI `last` was served last; 0
+-- means none yet, since members begin at 32
 pub data NotLater (last x z : ℕ) : Type 0 where
   onward : last < vciIn x → (last < vciIn z → vciIn x ≤ vciIn z) → NotLater last x z
   round : vciIn z ≤ last → vciIn x ≤ vciIn z → NotLater last x z

@@ -1,5 +1,5 @@
-// The documents' numbers of the refusals (document 01, "Refused because of the input" and "Refused because of the state"; document 02),
-// under the names that include/abr.h gives them.
+// The documents' numbers of the refusals (document 01, "Refused because of the input" and "Refused because of the
+// state"; document 02), under the names that include/abr.h gives them.
 
 // Cell or buffer is not 53 octets.
 pub const REFUSED_LENGTH: u32 = 1;

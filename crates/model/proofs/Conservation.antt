@@ -4,7 +4,7 @@ use mathlib.Core.Path.{_≡_, refl, _∙_}
 use mathlib.Core.Logic.{_≢_}
 use mathlib.Core.Bool.{Bool, true, false, cond}
 use mathlib.Core.List.{List, [], _∷_}
-use mathlib.Core.Option.{Option}
+use mathlib.Core.Option.{Option, none, some}
 use native.Mathlib.Omega.{arith}
 use lib.Dec.{eqb}
 use lib.ListN.{replicate}
@@ -19,20 +19,21 @@ use Rattle.connection.specs.declared.parts.Connection.{Connection}
 use Rattle.connection.specs.declared.kind.Kind.{Kind}
 use Rattle.connection.specs.declared.kind.Kind.the-variants.{Forward, Turned, Data}
 use Rattle.connection.specs.Parts.{fresh, waiting, withQueue, dequeued}
-use Rattle.connection.specs.Making.{withMade}
-use Rattle.connection.specs.Receiving.{offered, afterDataCell, afterBackwardCell, afterForwardCell, afterRmCell}
+use Rattle.connection.specs.Source.{offered, afterBackwardCell, sentForward, sentData, withServed, afterOutOfRate}
+use Rattle.connection.specs.Destination.{withMade, afterDataCell, afterForwardCell, sentTurned}
+use Rattle.connection.specs.Received.{afterRmCell}
+use Rattle.connection.specs.Slot.{after}
 use Rattle.connection.specs.Kind.{kindAt}
-use Rattle.connection.specs.Sending.{sentForward, sentTurned, sentData, after, withServed}
-use Rattle.connection.specs.OutOfRate.{afterOutOfRate}
 use Rattle.connection.proofs.Keeps.{work-same, after-same}
 use Rattle.connection.proofs.Waited.{data-waits}
 use Rattle.model.specs.State.{State, free, taken, capacity, empty, find, withEntryOf, withOpened, withTime, withLevel, withMembers, entryCells}
 use Rattle.model.specs.Invariant.{NamesUnique, WellFormed}
 use Rattle.model.specs.Winner.{Chosen}
-use Rattle.model.specs.Call.{Call, opening, closing, receiving, offering, levelling, slot, making, outOfRate, openingPath, adding, offeringMember, removing, Outcome, closedCells}
+use Rattle.model.specs.Call.{Call, Outcome, closedCells}
+use Rattle.model.specs.Aspects.{membersOf, discardsFrom}
 use Rattle.model.specs.Step.{refuse, accept, replay, discard, withOffer, withoutOne, sendFrom, sendStep, sendOutOfRate, idleStep, step}
 use Rattle.model.specs.Run.{final, isAccepted}
-use Rattle.model.specs.Conservation.{offeredTo, closedOn, dataIn, dataSlotOf, sumOver, cellsOffered, dataSlots, cellsClosed, cellsWaiting, Conservation}
+use Rattle.model.specs.Conservation.{offeredTo, closedOn, dataIn, dataSlotOf, sumOver, cellsOffered, dataSlots, cellsClosed, cellsWaiting, Conservation, cellsLost}
 use Rattle.model.proofs.Entries.{Case, same, other, case, absent-find, each-free}
 use Rattle.model.proofs.Frames.{put-read, put-kept, with-opened-read, freed-read}
 use Rattle.model.proofs.Members.{member-waits}
@@ -50,39 +51,13 @@ pub cond-zero : (b : Bool) → _≡_ {A = ℕ} (cond b 0 0) 0
 cond-zero true = refl
 cond-zero false = refl
 
-no-offer : (v : ℕ) (c : Call) → offeredTo v c false ≡ 0
-unfolding offeredTo
-no-offer v (opening a b t p) = refl
-no-offer v (closing a b) = refl
-no-offer v (receiving o) = refl
-no-offer v (offering a b n) = refl
-no-offer v (levelling l) = refl
-no-offer v (slot t room) = refl
-no-offer v (making a b t) = refl
-no-offer v (outOfRate a b t room) = refl
-no-offer v (openingPath a t p) = refl
-no-offer v (adding a b) = refl
-no-offer v (offeringMember a b n) = refl
-no-offer v (removing a b) = refl
-
-none-closed : (v : ℕ) (c : Call) → closedOn v c 0 ≡ 0
-unfolding closedOn
-none-closed v (opening a b t p) = refl
-none-closed v (closing a b) = cond-zero (eqb (addressName a b) v)
-none-closed v (receiving o) = refl
-none-closed v (offering a b n) = refl
-none-closed v (levelling l) = refl
-none-closed v (slot t room) = refl
-none-closed v (making a b t) = refl
-none-closed v (outOfRate a b t room) = refl
-none-closed v (openingPath a t p) = refl
-none-closed v (adding a b) = refl
-none-closed v (offeringMember a b n) = refl
-none-closed v (removing a b) = cond-zero (eqb (pathOf (addressName a b)) v)
+none-lost : (v : ℕ) (u : Option ℕ) → cellsLost v 0 u ≡ 0
+none-lost v none = refl
+none-lost v (some u) = cond-zero (eqb u v)
 
 refused-balanced : (v : ℕ) (s : State) (c : Call) (n : ℕ) → Balanced v s c (refuse s n)
-unfolding refuse isAccepted dataSlotOf closedCells
-refused-balanced v s c n = omega (arith, no-offer v c, none-closed v c)
+unfolding refuse isAccepted offeredTo closedOn dataSlotOf closedCells
+refused-balanced v s c n = omega (arith, none-lost v (discardsFrom (membersOf c)))
 
 same-cells : (w z : ℕ) → z ≡ w → 0 + w ≡ 0 + z + 0
 same-cells w z h = omega arith
@@ -106,9 +81,9 @@ changed-cells v u s a d e f n come go h = rw (put-read entryCells v u s a d e f 
     by (other q) = rw (ne-eqb u v q)
 
 -- Open: nothing waits on a fresh connection.
-begun-cells : (v : ℕ) (s : State) (u t : ℕ) (p : Params) → OpenPassed s u t p → cellsWaiting v (withOpened (fresh u t p) s) ≡ cellsWaiting v s
+opened-cells : (v : ℕ) (s : State) (u t : ℕ) (p : Params) → OpenPassed s u t p → cellsWaiting v (withOpened (fresh u t p) s) ≡ cellsWaiting v s
 unfolding fresh entryCells
-begun-cells v s u t p g = with-opened-read entryCells v s (fresh u t p) (g .new) (g .room) ∙ by (case u v)
+opened-cells v s u t p g = with-opened-read entryCells v s (fresh u t p) (g .new) (g .room) ∙ by (case u v)
   where
     by : Case u v → cond (eqb u v) 0 (entryCells (find v (s .entries))) ≡ entryCells (find v (s .entries))
     by (same q) = rw (eq-eqb u v q, ← q, g .new)
@@ -157,7 +132,7 @@ sent-balanced v s a t i u b k x q =
 effect-balanced : (v : ℕ) {s : State} → WellFormed s → {c : Call} {o : Outcome} → Effect s c o → Balanced v s c o
 unfolding accept replay discard withLevel withMembers withOffer withoutOne idleStep sendStep sendFrom sendOutOfRate withTime isAccepted offeredTo closedOn dataSlotOf closedCells offered afterDataCell withMade afterOutOfRate
 effect-balanced v {s} w (refuses c n h) = refused-balanced v s c n
-effect-balanced v {s} w (opens a b t p g) = same-cells _ _ (begun-cells v s (addressName a b) t p g)
+effect-balanced v {s} w (opens a b t p g) = same-cells _ _ (opened-cells v s (addressName a b) t p g)
 effect-balanced v {s} w (closes a b d f) = ended-cells v (addressName a b) s (w .unique) d f
 effect-balanced v {s} w (offers a b n d f c h) =
     omega (arith, cond-zero (eqb (addressName a b) v), changed-cells v (addressName a b) s (w .unique) d (offered n d) f refl n 0 (omega arith))
@@ -169,7 +144,7 @@ effect-balanced v {s} w (idles t room g b) = same-cells _ _ refl
 effect-balanced v {s} w (sends t room i n g b) = sent-balanced v (withTime t s) (w .unique) t i n b (kindAt t (b .holder)) _ refl
 effect-balanced v {s} w (makes a b t d f g h m) = kept-cells v (addressName a b) (withTime t s) (w .unique) d (withMade t (s .level) d) f refl refl
 effect-balanced v {s} w (sendsOutOfRate a b t room d f g h) = kept-cells v (addressName a b) (withTime t s) (w .unique) d (afterOutOfRate t d) f refl refl
-effect-balanced v {s} w (opensPath a t p g) = same-cells _ _ (begun-cells v s (addressName a pathVci) t p g)
+effect-balanced v {s} w (opensPath a t p g) = same-cells _ _ (opened-cells v s (addressName a pathVci) t p g)
 effect-balanced v {s} w (adds a b d f j) = same-cells _ _ refl
 effect-balanced v {s} w (offersMember a b n d f i h) =
     omega (arith, cond-zero (eqb (pathOf (addressName a b)) v), changed-cells v (pathOf (addressName a b)) s (w .unique) d (offered n d) f refl n 0 (omega arith))

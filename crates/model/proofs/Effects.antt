@@ -1,4 +1,5 @@
--- What a call can do to a table, with what is then known: one walk through the refusals of each call, for every theorem about one table.
+-- What a call can do to a table, and what is then known. One walk through the refusals of each call serves
+-- every theorem about one table.
 use Prim.Native.Nat.{ℕ, _<_, _+_, _≤_}
 use mathlib.Core.Path.{_≡_, refl, sym, ap, _∙_}
 use mathlib.Core.Bool.{Bool, true, false, _&&_, true≢false}
@@ -24,8 +25,9 @@ use Rattle.connection_members.proofs.Names.{path-of-address}
 use Rattle.connection.specs.declared.parts.Connection.{Connection}
 use Rattle.connection.specs.Parts.{fresh, waiting}
 use Rattle.connection.specs.Interval.{rested}
-use Rattle.connection.specs.Making.{withMade}
-use Rattle.connection.specs.Receiving.{offered, afterDataCell, afterRmCell}
+use Rattle.connection.specs.Source.{offered}
+use Rattle.connection.specs.Destination.{withMade, afterDataCell}
+use Rattle.connection.specs.Received.{afterRmCell}
 use Rattle.connection.specs.Kind.{kindAt}
 use Rattle.model.specs.State.{State, Entry, free, taken, position, isFree, find, leafOf, withEntryOf, withOpened, roomLeft, withTime, withLevel, withMembers}
 use Rattle.model.specs.Invariant.{NamesUnique}

@@ -1,4 +1,5 @@
--- Entries: the connection that a name finds, what a change of one entry leaves of the others, and that no name has two entries.
+-- Entries: the connection that a name finds, what stays of the others when one entry changes, and
+-- that no name has two entries.
 use Prim.Native.Nat.{ℕ, zero, suc, _<_}
 use mathlib.Core.Path.{_≡_, refl, sym, ap, subst, _∙_}
 use mathlib.Core.Logic.{_≢_}

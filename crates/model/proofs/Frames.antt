@@ -29,7 +29,7 @@ set-read F v ss i d l a h = go (case (d .name) v)
     go (same e) = rw (eq-eqb (d .name) v e, ← e) (ap F (find-same (d .name) d refl ss i l a))
     go (other e) = rw (ne-eqb (d .name) v e) (ap F (find-other v ss i (taken d) (named-other (d .name) v e (getD ss i free) h) e))
 
--- a connection in its own entry, read anew
+-- a connection put into its own entry and read again
 pub put-read :
     {A : Type 0} (F : Entry → A) (v u : ℕ) (s : State) → NamesUnique (s .entries) → (c d : Connection) → find u (s .entries) ≡ taken c → d .name ≡ c .name
     → F (find v (withEntryOf u (taken d) s .entries)) ≡ cond (eqb u v) (F (taken d)) (F (find v (s .entries)))

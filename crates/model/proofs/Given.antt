@@ -14,18 +14,18 @@ use Rattle.connection_members.specs.Path.{pathVci, pathOf}
 use Rattle.connection_members.specs.Members.{cellsOf}
 use Rattle.connection.specs.declared.parts.Connection.{Connection}
 use Rattle.connection.specs.Parts.{fresh, withQueue, dequeued}
-use Rattle.connection.specs.Making.{withMade}
-use Rattle.connection.specs.Receiving.{offered, afterDataCell, afterRmCell}
+use Rattle.connection.specs.Source.{offered, withServed, afterOutOfRate}
+use Rattle.connection.specs.Destination.{withMade, afterDataCell}
+use Rattle.connection.specs.Received.{afterRmCell}
+use Rattle.connection.specs.Slot.{after}
 use Rattle.connection.specs.Kind.{kindAt}
-use Rattle.connection.specs.Sending.{after, withServed}
-use Rattle.connection.specs.OutOfRate.{afterOutOfRate}
 use Rattle.connection.proofs.Keeps.{work-same, after-same}
 use Rattle.model.specs.State.{State, Entry, free, taken, capacity, empty, find, withEntryOf, withOpened, withTime, withLevel, withMembers}
 use Rattle.model.specs.Invariant.{NamesUnique, WellFormed}
 use Rattle.model.proofs.Entries.{absent-find, each-free}
 use Rattle.model.proofs.Frames.{put-kept, with-opened-read, freed-read}
 use Rattle.model.proofs.Preserved.{empty-well-formed}
-use Rattle.model.specs.Call.{Call, opening, closing, receiving, offering, levelling, slot, making, outOfRate, openingPath, adding, offeringMember, removing, Outcome}
+use Rattle.model.specs.Call.{Call, Outcome}
 use Rattle.model.specs.Step.{refuse, accept, replay, discard, withOffer, withoutOne, sendFrom, sendStep, sendOutOfRate, idleStep, step}
 use Rattle.model.specs.Run.{final, isAccepted, paramsAfter, givenFrom, paramsGiven}
 use Rattle.model.proofs.Effects.{OpenPassed, Effect, refuses, opens, closes, offers, receivesData, receivesRm, setsLevel, idles, sends, makes, sendsOutOfRate, opensPath, adds, offersMember, removes, effect}
@@ -38,26 +38,10 @@ entryParams (taken c) = some (c .rate .params)
 abbrev pub paramsAt : ℕ → State → Option Params
 paramsAt v s = entryParams (find v (s .entries))
 
--- a refusal gives and takes nothing
-refused-given : (v : ℕ) (c : Call) (s : State) (n : ℕ) (p : Option Params) → p ≡ paramsAfter v c (isAccepted (refuse s n .answer)) p
-unfolding refuse paramsAfter isAccepted
-refused-given v (opening a b t q) s n p = refl
-refused-given v (closing a b) s n p = refl
-refused-given v (receiving o) s n p = refl
-refused-given v (offering a b k) s n p = refl
-refused-given v (levelling l) s n p = refl
-refused-given v (slot t room) s n p = refl
-refused-given v (making a b t) s n p = refl
-refused-given v (outOfRate a b t room) s n p = refl
-refused-given v (openingPath a t q) s n p = refl
-refused-given v (adding a b) s n p = refl
-refused-given v (offeringMember a b k) s n p = refl
-refused-given v (removing a b) s n p = refl
-
-begun-params :
+opened-params :
     (v : ℕ) (s : State) (u t : ℕ) (p : Params) → OpenPassed s u t p → paramsAt v (withOpened (fresh u t p) s) ≡ cond (eqb u v) (some p) (paramsAt v s)
 unfolding fresh entryParams
-begun-params v s u t p g = with-opened-read entryParams v s (fresh u t p) (g .new) (g .room)
+opened-params v s u t p g = with-opened-read entryParams v s (fresh u t p) (g .new) (g .room)
 
 ended-params : (v u : ℕ) (s : State) → NamesUnique (s .entries) → paramsAt v (withEntryOf u free s) ≡ cond (eqb u v) none (paramsAt v s)
 unfolding entryParams
@@ -71,8 +55,8 @@ kept-params v u s a d e f n h = put-kept entryParams v u s a d e f n (ap some h)
 
 effect-given : (v : ℕ) {s : State} → NamesUnique (s .entries) → {c : Call} {o : Outcome} → Effect s c o → paramsAt v (o .state) ≡ paramsAfter v c (isAccepted (o .answer)) (paramsAt v s)
 unfolding refuse accept replay discard withLevel withMembers idleStep sendStep sendFrom sendOutOfRate withTime paramsAfter isAccepted offered withOffer withoutOne afterDataCell withMade withServed afterOutOfRate
-effect-given v {s} u (refuses c n h) = refused-given v c s n (paramsAt v s)
-effect-given v {s} u (opens a b t p g) = begun-params v s (addressName a b) t p g
+effect-given v u (refuses c n h) = refl
+effect-given v {s} u (opens a b t p g) = opened-params v s (addressName a b) t p g
 effect-given v {s} u (closes a b d f) = ended-params v (addressName a b) s u
 effect-given v {s} u (offers a b n d f c h) = kept-params v (addressName a b) s u d (offered n d) f refl refl
 effect-given v {s} u (receivesData o a b e i d r c z f) = kept-params v i s u d (afterDataCell e d) f refl refl
@@ -86,7 +70,7 @@ effect-given v {s} u (sends t room i n g b) =
     kept-params v n (withTime t s) u (b .holder) (withServed _ (after (kindAt t (b .holder)) t (b .holder))) (b .found) (same .name) (same .params)
 effect-given v {s} u (makes a b t d f g h m) = kept-params v (addressName a b) (withTime t s) u d (withMade t (s .level) d) f refl refl
 effect-given v {s} u (sendsOutOfRate a b t room d f g h) = kept-params v (addressName a b) (withTime t s) u d (afterOutOfRate t d) f refl refl
-effect-given v {s} u (opensPath a t p g) = begun-params v s (addressName a pathVci) t p g
+effect-given v {s} u (opensPath a t p g) = opened-params v s (addressName a pathVci) t p g
 effect-given v {s} u (adds a b d f j) = refl
 effect-given v {s} u (offersMember a b n d f i h) = kept-params v (pathOf (addressName a b)) s u d (offered n d) f refl refl
 effect-given v {s} u (removes a b d f i) = kept-params v (pathOf (addressName a b)) s u d (withQueue d (dequeued (cellsOf (addressName a b) (s .members)) (d .queue))) f refl refl

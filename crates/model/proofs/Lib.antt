@@ -12,6 +12,9 @@ pub mod Preserved
 pub mod Counts
 pub mod Effects
 pub mod Reached
+pub mod Shown
+pub mod ToMembers
+pub mod BySort
 pub mod Given
 pub mod Orders
 pub mod Times

@@ -1,4 +1,5 @@
--- What the calls do to entries and members keeps them together: each member's path is open, no member is a channel, and on a path waits what waits on its members. (Document 02, L13.)
+-- The calls keep entries and members together. Each member's path is open, no member is a channel, and what waits
+-- on a path is what waits on its members. (Document 02, L13.)
 use Prim.Native.Nat.{ℕ, _+_, _-_, _*_, _<_, _≤_}
 use mathlib.Core.Path.{_≡_, refl, sym, ap, subst, _∙_}
 use mathlib.Core.Logic.{_≢_}
@@ -184,7 +185,7 @@ module _ (s : State) (a : NamesUnique (s .entries)) {ms : List Member} (m : Memb
   pub member-waits : (x : ℕ) (d : Connection) → find (pathOf x) (s .entries) ≡ taken d → cellsOf x ms ≤ waiting (d .queue)
   member-waits x d f = omega (arith, cells-on-path x ms, path-sum (pathOf x) d f (path-is-path x))
 
-  -- a data cell, of which one waited: the member's whose turn it is, if it is a path's
+  -- a data cell that waited is sent; on a path it is that of the member whose turn it is
   pub served-members :
       (u q : ℕ) (d e : Connection) → find u (s .entries) ≡ taken d → e .name ≡ d .name → 0 < waiting (d .queue) → waiting (e .queue) + 1 ≡ waiting (d .queue)
       → MembersOf (withEntryOf u (taken e) s .entries) (afterServing (turn u q ms) ms)

@@ -1,4 +1,5 @@
--- The earliest ready instant: where a slot finds none ready it is later, where one wins it is the winner's, and the winner of all matches has it.
+-- The earliest ready instant. Where a slot finds none ready, it is later. Where one wins, it is the winner's. The
+-- winner of all matches has it.
 use Prim.Native.Nat.{ℕ, suc, _≤_}
 use mathlib.Core.Path.{_≡_, refl, ap, subst, _∙_}
 use mathlib.Core.Bool.{Bool, true, false}

@@ -1,4 +1,5 @@
--- Each call is refused in the order that the documents give: one law for each combinator of the steps, and each proof repeats its step line by line.
+-- Each call is refused in the order that the documents give. There is one law for each combinator of the steps.
+-- Each proof repeats its step line by line.
 use Prim.Native.Nat.{ℕ, suc, _+_, _≤_, _<_}
 use mathlib.Core.Path.{_≡_, refl, sym, ap, _∙_}
 use mathlib.Core.Logic.{_≢_}

@@ -1,4 +1,5 @@
--- The places of the tournament: where they stand, which entry leads at one, and what a change of one leaf leaves as it is.
+-- The places of the tournament: where they stand, which entry leads at a place, and what
+-- stays when one leaf changes.
 use Prim.Native.Nat.{ℕ, zero, suc, _+_, _-_, _*_, _/_, _%_, _^_, _≤_, _<_}
 use mathlib.Core.Path.{_≡_, refl, sym, ap, ap₂, subst, _∙_}
 use mathlib.Core.Logic.{_≢_}

@@ -1,8 +1,9 @@
--- Every call keeps a table well-formed; so every table that calls make from the empty one is well-formed, and its slots choose as document 01 says.
+-- Every call keeps a table well-formed. So every table that calls make from the empty one is well-formed, and its
+-- slots choose as document 01 says.
 use Prim.Native.Nat.{ℕ, _+_, _-_, _<_, _≤_}
 use mathlib.Core.Path.{_≡_, refl, sym, ap, subst, _∙_}
 use mathlib.Core.Bool.{true, false, true≢false}
-use mathlib.Core.List.{List, [], _∷_}
+use mathlib.Core.List.{List, [], _∷_, _++_}
 use mathlib.Core.Option.{none}
 use native.Mathlib.Omega.{arith}
 use Rattle.rate_params.specs.declared.params.Params.{Params}
@@ -15,13 +16,13 @@ use Rattle.connection_members.specs.Turn.{turn, afterServing, lastAfter}
 use Rattle.connection_members.proofs.Names.{path-is-path}
 use Rattle.connection.specs.declared.parts.Connection.{Connection}
 use Rattle.connection.specs.Parts.{fresh, waiting, withQueue, dequeued}
-use Rattle.connection.specs.Making.{withMade}
-use Rattle.connection.specs.Receiving.{offered, afterDataCell, afterRmCell}
+use Rattle.connection.specs.Source.{offered, sentForward, sentData, withServed, afterOutOfRate}
+use Rattle.connection.specs.Destination.{withMade, afterDataCell, sentTurned}
+use Rattle.connection.specs.Received.{afterRmCell}
+use Rattle.connection.specs.Slot.{after, memberServed}
 use Rattle.connection.specs.declared.kind.Kind.{Kind}
 use Rattle.connection.specs.declared.kind.Kind.the-variants.{Forward, Turned, Data}
 use Rattle.connection.specs.Kind.{kindAt}
-use Rattle.connection.specs.Sending.{sentForward, sentTurned, sentData, after, memberServed, withServed}
-use Rattle.connection.specs.OutOfRate.{afterOutOfRate}
 use Rattle.connection.specs.Invariant.{ValidAt}
 use Rattle.connection.proofs.Waited.{data-waits}
 use Rattle.connection.proofs.Keeps.{made-valid, out-of-rate-valid, fresh-valid, offered-valid, less-valid, served-same, served-valid, after-data-cell-valid, work-same, work-queue, work-valid, after-same, after-valid}
@@ -41,9 +42,9 @@ fresh-empty : (u t : ℕ) (p : Params) → waiting (fresh u t p .queue) ≡ 0
 unfolding fresh
 fresh-empty u t p = refl
 
-begun-well-formed : {s : State} → WellFormed s → (u t : ℕ) (p : Params) → OpenPassed s u t p → WellFormed (withTime t (withOpened (fresh u t p) s))
+opened-well-formed : {s : State} → WellFormed s → (u t : ℕ) (p : Params) → OpenPassed s u t p → WellFormed (withTime t (withOpened (fresh u t p) s))
 unfolding withTime withOpened fresh
-begun-well-formed {s} w u t p g =
+opened-well-formed {s} w u t p g =
     with-opened-well-formed (withTime-well-formed w t (g .timely .since) (g .timely .until)) (fresh u t p) (fresh-valid u t p (g .assigned) (g .coded) (g .fits) (g .tbe) (g .frtt)) (g .new)
     (with-opened-members s (w .unique) (w .members) (fresh u t p) (g .new) (g .room) (g .noMember) (fresh-empty u t p))
 
@@ -125,7 +126,7 @@ member-offered-well-formed {s} w x n d f i h =
 effect-well-formed : {s : State} → WellFormed s → {c : Call} {o : Outcome} → Effect s c o → WellFormed (o .state)
 unfolding refuse accept replay discard idleStep sendOutOfRate afterDataCell withTime withMade afterOutOfRate withOffer withoutOne offered
 effect-well-formed w (refuses c n h) = w
-effect-well-formed w (opens a b t p g) = begun-well-formed w (addressName a b) t p g
+effect-well-formed w (opens a b t p g) = opened-well-formed w (addressName a b) t p g
 effect-well-formed {s} w (closes a b d f) = put-well-formed w (addressName a b) free tt tt _ (ended-members s (w .unique) (w .members) (addressName a b))
 effect-well-formed w (offers a b n d f c h) = offered-well-formed w (addressName a b) n d f c h
 effect-well-formed w (receivesData o a b e u d r c z f) = kept-well-formed w u d (afterDataCell e d) f refl refl (after-data-cell-valid e d)
@@ -139,7 +140,7 @@ effect-well-formed {s} w (makes a b t d f g h m) =
     kept-well-formed (withTime-well-formed w t (g .since) (g .until)) (addressName a b) d (withMade t (s .level) d) f refl refl (made-valid t (s .level) d (w .levels))
 effect-well-formed w (sendsOutOfRate a b t room d f g h) =
     kept-well-formed (withTime-well-formed w t (g .since) (g .until)) (addressName a b) d (afterOutOfRate t d) f refl refl (out-of-rate-valid t d)
-effect-well-formed w (opensPath a t p g) = begun-well-formed w (addressName a pathVci) t p g
+effect-well-formed w (opensPath a t p g) = opened-well-formed w (addressName a pathVci) t p g
 effect-well-formed {s} w (adds a b d f j) = withMembers-well-formed w _ (joined w a b d f j)
 effect-well-formed {s} w (offersMember a b n d f i h) = member-offered-well-formed w (addressName a b) n d f i h
 effect-well-formed {s} w (removes a b d f i) =
@@ -169,3 +170,8 @@ reached-no-path cs a b e = unknown (reached-well-formed cs) (pathOf (addressName
 
 pub reached-winner : (cs : List Call) (t : ℕ) → Best t (final empty cs .entries) (winner t (final empty cs .entries))
 reached-winner cs t = winner-best t (final empty cs .entries) (reached-well-formed cs .unique)
+
+-- two lists, one after the other
+pub final-append : (s : State) (cs ds : List Call) → final s (cs ++ ds) ≡ final (final s cs) ds
+final-append s [] ds = refl
+final-append s (c ∷ cs) ds = final-append (step s c .state) cs ds

@@ -64,7 +64,8 @@ won-none ss x d p e (wonBy i v y) c f =
     winner-some : {j w z : ℕ} → wonBy j w z ≡ noWinner → ⊥
     winner-some q = let z : _≡_ {A = ℕ} 0 1 = cc in omega arith
 
--- A leaf that was empty or never ready, and still is, changes no winner and wins nothing: its replay ends at the first level.
+-- A leaf that was empty or never ready, and still is, changes no winner and wins nothing. Its
+-- replay ends at the first level.
 pub replayed-one : (x : ℕ) (ss : List Entry) (y : Entry) → length ss ≡ capacity → x < length ss → leafWinner x (getD ss x free) ≡ noWinner → leafWinner x y ≡ noWinner
     → replayed x ss (set ss x y) ≡ 1
 unfolding replayed replayedFrom ends above

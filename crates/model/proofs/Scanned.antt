@@ -89,7 +89,7 @@ unfolding winner scan
 scan-all t [] = refl
 scan-all t (s ∷ ss) = ap (better (candidate t s)) (scan-all t ss ∙ sym (scan-tail t s ss 0 (length ss)))
 
--- a match of d levels is a scan of the leaves below it, the first of which is k
+-- a match of d levels is a scan of the leaves below it; the first leaf is k
 match-scan : (t : ℕ) (ss : List Entry) (d p k : ℕ) → p * 2 ^ d ≡ capacity + k → inTime t (winnerAt ss d p) ≡ scan t ss k (2 ^ d)
 unfolding winnerAt scan
 match-scan t ss zero p k e =

@@ -7,19 +7,21 @@ use borrow.Author.Tests.{eq-eqb}
 use Rattle.connection.specs.declared.parts.Connection.{Connection}
 use Rattle.connection.specs.declared.kind.Kind.{Kind}
 use Rattle.connection.specs.Kind.{kindAt}
-use Rattle.connection.specs.Sending.{after, memberServed, withServed}
+use Rattle.connection.specs.Source.{withServed}
+use Rattle.connection.specs.Slot.{after, memberServed}
 use Rattle.connection.proofs.Keeps.{after-same}
 use Rattle.model.specs.State.{State, taken, empty, find, withEntryOf, withOpened, withTime, withLevel, withMembers}
 use Rattle.model.specs.Invariant.{NamesUnique}
 use Rattle.model.specs.Call.{Call, Outcome}
-use Rattle.model.specs.Step.{refuse, accept, replay, discard, withOffer, withoutOne, sendFrom, sendStep, sendOutOfRate, idleStep, step}
+use Rattle.model.specs.Step.{refuse, accept, replay, discard, withOffer, withoutOne, sendFrom, sendStep, sendOutOfRate, idleStep}
 use Rattle.model.specs.Run.{final, isAccepted, entryRate}
 use Rattle.model.specs.Times.{timeAfter, TimesCount, RateStands, AnsweredRate}
 use Rattle.model.proofs.Effects.{Effect, refuses, opens, closes, offers, receivesData, receivesRm, setsLevel, idles, sends, makes, sendsOutOfRate, opensPath, adds, offersMember, removes, effect}
 use Rattle.model.proofs.Frames.{put-read}
 use Rattle.model.proofs.Reached.{reached-well-formed}
+use Rattle.model.proofs.Shown.{Shown, refusing, accepting, discarding, idling, serving, servingOutOfRate, shown}
 
-effect-time : {s : State} {c : Call} {o : Outcome} → Effect s c o → o .state .last ≡ cond (isAccepted (o .answer)) (timeAfter c (s .last)) (s .last)
+pub effect-time : {s : State} {c : Call} {o : Outcome} → Effect s c o → o .state .last ≡ cond (isAccepted (o .answer)) (timeAfter c (s .last)) (s .last)
 unfolding isAccepted refuse accept replay discard idleStep sendOutOfRate sendStep sendFrom withOffer withoutOne withEntryOf withOpened withTime withLevel withMembers
 effect-time (refuses c n h) = refl
 effect-time (opens a b t p g) = refl
@@ -46,23 +48,14 @@ sent-rate :
 unfolding sendFrom withMembers entryRate withServed
 sent-rate s a t u d f k x = put-read entryRate u u s a d (withServed x (after k t d)) f (after-same k t d .name) ∙ rw (eq-eqb u u refl) refl
 
-effect-rate : {s : State} → NamesUnique (s .entries) → {c : Call} {o : Outcome} → Effect s c o → RateStands (o .answer) (o .state)
+shown-rate : {s : State} → NamesUnique (s .entries) → {c : Call} {o : Outcome} → Shown s c o → RateStands (o .answer) (o .state)
 unfolding refuse accept replay discard idleStep sendOutOfRate sendStep withTime
-effect-rate a (refuses c n h) = tt
-effect-rate a (opens x y t p g) = tt
-effect-rate a (closes x y d f) = tt
-effect-rate a (offers x y n d f c h) = tt
-effect-rate a (receivesData o x y e u d r c z f) = tt
-effect-rate a (receivesRm o q d r f) = tt
-effect-rate a (setsLevel l h) = tt
-effect-rate a (idles t room g b) = tt
-effect-rate {s} a (sends t room i u g b) = sent-rate (withTime t s) a t u (b .holder) (b .found) (kindAt t (b .holder)) (memberServed (kindAt t (b .holder)) (b .holder) (s .members))
-effect-rate a (makes x y t d f g h m) = tt
-effect-rate a (sendsOutOfRate x y t room d f g h) = tt
-effect-rate a (opensPath x t p g) = tt
-effect-rate a (adds x y d f j) = tt
-effect-rate a (offersMember x y n d f i h) = tt
-effect-rate a (removes x y d f i) = tt
+shown-rate a (refusing c n h) = tt
+shown-rate a (accepting c n r l g) = tt
+shown-rate a (discarding c n x u r l e g) = tt
+shown-rate a (idling t room g) = tt
+shown-rate {s} a (serving t room i u g b) = sent-rate (withTime t s) a t u (b .holder) (b .found) (kindAt t (b .holder)) (memberServed (kindAt t (b .holder)) (b .holder) (s .members))
+shown-rate a (servingOutOfRate x y t room d f g) = tt
 
 pub answered-rate : AnsweredRate
-answered-rate cs c = effect-rate (reached-well-formed cs .unique) (effect (final empty cs) (reached-well-formed cs .unique) c)
+answered-rate cs c = shown-rate (reached-well-formed cs .unique) (shown (reached-well-formed cs) c)

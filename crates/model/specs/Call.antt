@@ -4,12 +4,13 @@ use mathlib.Core.List.{List}
 use mathlib.Core.Option.{Option, none, some}
 use Rattle.rate_params.specs.declared.params.Params.{Params}
 use Rattle.connection.specs.declared.kind.Kind.{Kind}
-use Rattle.connection.specs.Sending.{Buffer}
+use Rattle.connection.specs.Slot.{Buffer}
 use Rattle.model.specs.State.{State}
 pub use Rattle.model.specs.declared.answer.Answer.{Answer}
 pub use Rattle.model.specs.declared.answer.Answer.the-variants.{Refused, Accepted, Closed, Idle, Sent}
 
--- Nothing bounds the arguments. What a lent buffer holds before a slot, or an out-of-rate cell, is no argument, so room is its length.
+-- Nothing bounds the arguments. What a lent buffer holds before a slot or an out-of-rate cell is no
+-- argument, so room is its length.
 pub data Call : Type 0 where
   opening : (vpi vci time : ℕ) → Params → Call
   closing : (vpi vci : ℕ) → Call
@@ -38,7 +39,8 @@ refusal (Closed n k) = none
 refusal Idle = none
 refusal (Sent v x k a n) = none
 
--- the connection that a slot goes to, of a member's data cell its path, and the kind of cell it sends: none of an idle or refused slot
+-- the connection that a slot goes to (for a member's data cell its path) and the kind of cell that it sends;
+-- none for an idle or refused slot
 unfoldable pub goesTo : Answer → Option ℕ
 goesTo (Refused n) = none
 goesTo (Accepted n) = none

@@ -1,4 +1,5 @@
--- What holds of every table that the calls make from an empty one. (Document 01, "What the library commits to", 1; document 02, L13.)
+-- What holds of every table that the calls make from an empty one. (Document 01, "What the library
+-- commits to", 1; document 02, L13.)
 use Prim.Native.Nat.{ℕ, _≤_}
 use mathlib.Core.Path.{_≡_}
 use mathlib.Core.Logic.{_≢_}

@@ -6,6 +6,7 @@ pub mod Winner
 pub mod Tournament
 -- The calls, each with its refusals in order, and lists of calls:
 pub mod Call
+pub mod Aspects
 pub mod Step
 pub mod Queries
 pub mod SlotTime

@@ -1,6 +1,7 @@
--- The refusals of each call in their order, each with what it asks for: a call is refused with the first number whose condition does not hold, and accepted if all hold.
--- The documents' numbers stand here a second time, beside conditions instead of tests. (Document 01, "Refused because of the input", "Refused because of the state" and the
--- orders behind them; document 02, each request.)
+-- The refusals of each call in their order, each with its condition. A call is refused with the first number whose
+-- condition does not hold, and accepted if all hold. The documents' numbers stand here a second time, beside
+-- conditions instead of tests. (Document 01, "Refused because of the input", "Refused because of the state" and
+-- the orders behind them; document 02, each request.)
 use Prim.Native.Nat.{ℕ, suc, _+_, _≤_, _<_}
 use mathlib.Core.Path.{_≡_}
 use mathlib.Core.Logic.{_≢_}

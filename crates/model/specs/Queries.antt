@@ -1,5 +1,6 @@
--- What the calls read that leave the table as it is. Of one connection its allowed rate, with those before and after its last backward cell, or the rate codes of its
--- contract: 11. (Document 01, "Slots"; document 02, L8 and L9.) Of all connections the next ready instant, and the time to pass to a slot: no refusal.
+-- What calls read that leave the table as it is. For one connection: its allowed rate, with those before and after
+-- its last backward cell, or the rate codes of its contract; refusal 11. (Document 01, "Slots"; document 02, L8
+-- and L9.) For all connections: the next ready instant, and the time to pass to a slot; no refusal.
 use Prim.Native.Nat.{ℕ, _-_, _^_, min, max}
 use mathlib.Core.List.{List, [], _∷_}
 use Rattle.connection.specs.declared.ready.Instant.{Instant}
@@ -52,7 +53,8 @@ readyWord (At i) = i
 unfoldable pub nextReady : State → ℕ
 nextReady s = readyWord (earliest (s .entries))
 
--- The time to pass to a slot whose own time is now: the next ready instant, if that has come; not before the last accepted time, and at most lag behind now.
--- A connection is due from the time that was passed, so that the slot's own time would lose what the slot came late.
+-- The time to pass to a slot whose own time is now: the next ready instant, if that has come. It is not before the
+-- last accepted time, and at most lag behind now. A connection is due from the time that was passed. With the
+-- slot's own time, the time by which the slot came late would be lost.
 abbrev pub slotTime : State → (now lag : ℕ) → ℕ
 slotTime s now lag = min now (max (nextReady s) (max (s .last) (now - lag)))

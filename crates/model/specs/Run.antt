@@ -1,15 +1,14 @@
 -- Lists of calls on one table, and what can be told of a connection from the calls and answers alone.
 -- (Document 01, "The lists of demand 3".)
 use Prim.Native.Nat.{ℕ}
-use mathlib.Core.Bool.{Bool, true, false, cond, _&&_}
+use mathlib.Core.Bool.{Bool, true, false, cond}
 use mathlib.Core.List.{List, [], _∷_}
 use mathlib.Core.Option.{Option, none, some}
 use lib.Dec.{eqb}
 use Rattle.rate_params.specs.declared.params.Params.{Params}
-use Rattle.cell.specs.Name.{addressName}
-use Rattle.connection_members.specs.Path.{pathVci}
 use Rattle.model.specs.State.{State, Entry, free, taken, empty, find}
-use Rattle.model.specs.Call.{Call, opening, closing, receiving, offering, levelling, slot, making, outOfRate, openingPath, adding, offeringMember, removing, Answer, Refused, Accepted, Closed, Idle, Sent, Outcome}
+use Rattle.model.specs.Call.{Call, Answer, Refused, Accepted, Closed, Idle, Sent, Outcome}
+use Rattle.model.specs.Aspects.{Sort, opener, closer, arrival, slotAt, another, sortOf}
 use Rattle.model.specs.Step.{step}
 
 -- the outcome of each call, in order
@@ -30,19 +29,15 @@ isAccepted Idle = true
 isAccepted (Sent v x k a n) = true
 
 -- the parameters under which a name is open: an accepted open gives them, an accepted close takes them away
+abbrev pub paramsBy : ℕ → Sort → Option Params → Option Params
+paramsBy v (opener u t p) before = cond (eqb u v) (some p) before
+paramsBy v (closer u) before = cond (eqb u v) none before
+paramsBy v (arrival o) before = before
+paramsBy v (slotAt t) before = before
+paramsBy v another before = before
+
 unfoldable pub paramsAfter : ℕ → Call → (accepted : Bool) → Option Params → Option Params
-paramsAfter v (opening vpi vci t p) a before = cond (a && eqb (addressName vpi vci) v) (some p) before
-paramsAfter v (closing vpi vci) a before = cond (a && eqb (addressName vpi vci) v) none before
-paramsAfter v (receiving o) a before = before
-paramsAfter v (offering vpi vci n) a before = before
-paramsAfter v (levelling l) a before = before
-paramsAfter v (slot t room) a before = before
-paramsAfter v (making vpi vci t) a before = before
-paramsAfter v (outOfRate vpi vci t room) a before = before
-paramsAfter v (openingPath vpi t p) a before = cond (a && eqb (addressName vpi pathVci) v) (some p) before
-paramsAfter v (adding vpi vci) a before = before
-paramsAfter v (offeringMember vpi vci n) a before = before
-paramsAfter v (removing vpi vci) a before = before
+paramsAfter v c a before = cond a (paramsBy v (sortOf c) before) before
 
 abbrev pub givenFrom : ℕ → State → Option Params → List Call → Option Params
 givenFrom v s before [] = before

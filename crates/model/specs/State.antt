@@ -1,4 +1,6 @@
--- The state of a table: the congestion level, the time of the last accepted open, slot, making or out-of-rate cell, the entries, and the members of all paths. (Document 01, first paragraph and "The lists of demand 3"; document 02, L13.)
+-- The state of a table: the congestion level, the time of the last accepted open, slot, making or
+-- out-of-rate cell, the entries, and the members of all paths. (Document 01, first paragraph and "The lists
+-- of demand 3"; document 02, L13.)
 use Prim.Native.Nat.{ℕ, suc}
 use mathlib.Core.Bool.{Bool, true, false, cond}
 use mathlib.Core.List.{List, [], _∷_}

@@ -1,4 +1,5 @@
--- What each call does to a table, its refusals in their order. (Document 01, "Refused because of the state"; document 02.)
+-- What each call does to a table, with its refusals in their order. (Document 01, "Refused because
+-- of the state"; document 02.)
 use Prim.Native.Nat.{ℕ, _+_}
 use mathlib.Core.Bool.{Bool, _&&_, not}
 use mathlib.Core.List.{List}
@@ -20,12 +21,12 @@ use Rattle.connection_members.specs.Turn.{afterServing}
 use Rattle.connection.specs.declared.parts.Connection.{Connection}
 use Rattle.connection.specs.declared.kind.Kind.{Kind}
 use Rattle.connection.specs.Parts.{fresh, waiting, withQueue, dequeued}
-use Rattle.connection.specs.Receiving.{offered, afterDataCell, afterRmCell}
+use Rattle.connection.specs.Source.{offered, withServed, afterOutOfRate, outOfRateCell}
+use Rattle.connection.specs.Destination.{afterDataCell, withMade}
+use Rattle.connection.specs.Received.{afterRmCell}
+use Rattle.connection.specs.Slot.{untouched, written, after, memberServed, bufferSent}
 use Rattle.connection.specs.Interval.{rested}
-use Rattle.connection.specs.Making.{withMade}
 use Rattle.connection.specs.Kind.{kindAt}
-use Rattle.connection.specs.Sending.{untouched, written, after, memberServed, withServed, bufferSent}
-use Rattle.connection.specs.OutOfRate.{afterOutOfRate, outOfRateCell}
 use Rattle.model.specs.State.{State, Entry, free, taken, position, isFree, find, leafOf, withEntryOf, withOpened, roomLeft, withTime, withLevel, withMembers}
 use Rattle.model.specs.Winner.{Winner, noneReady, wins, winner}
 use Rattle.model.specs.Tournament.{replayed}
@@ -52,7 +53,8 @@ unfoldable pub ofOpen : State → Entry → (Connection → Outcome) → Outcome
 ofOpen s free f = refuse s 11
 ofOpen s (taken c) f = f c
 
--- What every open refuses: 19, 7, which judges the initial rate as given, 29, 30, 8, 12, 27, 13, 14. 27 is a member's pair, so that a path's name never meets it. (Document 02, L13 and L14.)
+-- What every open refuses: 19, 7, 29, 30, 8, 12, 27, 13, 14. 7 judges the initial rate as given. 27 is a member's
+-- pair, so a path's name never meets it. (Document 02, L13 and L14.)
 unfoldable pub openAddress : State → (vpi vci time : ℕ) → Params → Outcome
 openAddress s vpi vci t p =
     require (refuse s 19) (codesClear (p .pcr) (p .mcr) (p .icr))
@@ -74,7 +76,8 @@ openStep s vpi vci t p = require (refuse s 10) (leb firstVci vci) (openAddress s
 unfoldable pub openPathStep : State → (vpi time : ℕ) → Params → Outcome
 openPathStep s vpi t p = openAddress s vpi pathVci t p
 
--- Close: 11. All that waits on the connection goes with it, and the answer counts the data cells; a path's members go too.
+-- Close: 11. All that waits on the connection is removed with it, and the answer counts the data cells. A
+-- path's members are removed too.
 unfoldable pub closeStep : State → (name : ℕ) → Outcome
 closeStep s v =
     ofOpen s (find v (s .entries)) λ c. discard (waiting (c .queue)) (leafOf v s) s (withMembers (withoutPath v (s .members)) (withEntryOf v free s))
@@ -106,7 +109,8 @@ addStep s vpi vci =
     (require (refuse s 26) (ltb (length (s .members)) memberCapacity)
     (accept 0 (withMembers (withMember (addressName vpi vci) (s .members)) s)))))
 
--- the rest on a member's path: 11 if the VPI has no open path, 28 if the pair is no member, and with a VCI over 65,535 it is none
+-- the rest on a member's path: 11 if the VPI has no open path, 28 if the pair is no member; with
+-- a VCI over 65,535 it is none
 unfoldable pub ofMember : State → (vpi vci : ℕ) → (Connection → Outcome) → Outcome
 ofMember s vpi vci f =
     ofOpen s (find (addressName vpi pathVci) (s .entries)) λ c. require (refuse s 28) (addressFits vpi vci && isMember (addressName vpi vci) (s .members)) (f c)
@@ -125,7 +129,8 @@ removeStep s vpi vci =
     let x = addressName vpi vci in
     ofMember s vpi vci λ c. discard (cellsOf x (s .members)) (leafOf (pathOf x) s) s (withoutOne x c s)
 
--- a data cell: its EFCI is its channel's, or that of the path that it is a member of; 11 on a path's own name (document 02, L13)
+-- a data cell: its EFCI belongs to its channel, or to the path that it is a member of; 11 on a
+-- path's own name (document 02, L13)
 unfoldable pub dataCellStep : State → (name : ℕ) → (efci : Bool) → Outcome
 dataCellStep s x e =
     require (refuse s 11) (not (isPath x))
@@ -197,7 +202,8 @@ makeStep s v t =
     (require (refuse s 17) (rested t (c .destination .made .last))
     (replay (leafOf v s) s (withEntryOf v (taken (withMade t (s .level) c)) (withTime t s))))))
 
--- An out-of-rate forward cell: 1, 8, 11, 14, 18. Its time counts as a slot's does, and it replays no match. (Document 02, L5.)
+-- An out-of-rate forward cell: 1, 8, 11, 14, 18. Its time counts like a slot's, and it replays
+-- no match. (Document 02, L5.)
 unfoldable pub outOfRateStep : State → (name time room : ℕ) → Outcome
 outOfRateStep s v t room =
     require (refuse s 1) (eqb room 53)
@@ -207,7 +213,8 @@ outOfRateStep s v t room =
     (require (refuse s 18) (rested t (c .«out_of_rate»))
     (sendOutOfRate (withTime t s) t v c))))
 
--- a pair outside the ranges makes no connection's name, so that it meets 11 (document 02, L6); a member's offer and removal look for the path by its VPI
+-- a pair outside the ranges makes no connection's name, so it meets 11 (document 02, L6); a member's offer and
+-- removal look for the path by its VPI
 unfoldable pub step : State → Call → Outcome
 step s (opening vpi vci t p) = openStep s vpi vci t p
 step s (closing vpi vci) = closeStep s (addressName vpi vci)

@@ -1,5 +1,6 @@
--- The tournament of the ready instants: a leaf for each entry, neighbours paired at each level, and what a replay of one leaf's matches counts.
--- (Document 02, L4.) Leaf x has the place capacity + x; the places 2p and 2p + 1 play the match p; place 1 has the winner of all.
+-- The tournament of the ready instants: a leaf for each entry, neighbours paired at each level, and what a replay
+-- of one leaf's matches counts. (Document 02, L4.) Leaf x has the place capacity + x. The places 2p and 2p + 1
+-- play the match p. Place 1 has the winner of all.
 use Prim.Native.Nat.{ℕ, zero, suc, _+_, _-_, _*_, _/_, _%_}
 use mathlib.Core.Bool.{Bool, cond, not, _&&_}
 use mathlib.Core.List.{List}
@@ -68,6 +69,7 @@ unfoldable pub replayedFrom : (leaf : ℕ) (before after : List Entry) (level pl
 replayedFrom x ss rs d p zero = 0
 replayedFrom x ss rs d p (suc left) = cond (ends x (winnerAt ss d p) (winnerAt rs d p)) 1 (suc (replayedFrom x ss rs (suc d) (p / 2) left))
 
--- the comparisons of a call that changes leaf x alone: the levels replayed, up to and including the one at which it ends
+-- the comparisons of a call that changes only leaf x: the levels replayed, including the
+-- one at which the replay ends
 unfoldable pub replayed : (leaf : ℕ) (before after : List Entry) → ℕ
 replayed x ss rs = replayedFrom x ss rs 1 ((capacity + x) / 2) levels

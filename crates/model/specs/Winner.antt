@@ -1,4 +1,5 @@
--- The connection that a slot at t goes to: of the connections that are ready by then, the one that was ready first; of several, the lowest name. (Document 01, "Slots".)
+-- The connection that a slot at t goes to: of those ready by then, the one that was ready first; of several, the
+-- lowest name. (Document 01, "Slots".)
 use Prim.Native.Nat.{ℕ, _≤_, _<_}
 use mathlib.Core.Path.{_≡_}
 use mathlib.Core.Bool.{Bool, cond, _&&_, _||_}

@@ -1,4 +1,5 @@
-// What reading a connection's allowed rate answers: the rate, and those before and after the last backward cell (document 01, "Slots"; document 02, L9).
+// What reading a connection's allowed rate answers: the rate, and those before and after the last backward cell
+// (document 01, "Slots"; document 02, L9).
 use connection::parts::Change;
 
 pub enum Acr {

@@ -1,5 +1,5 @@
-// The engine as documents 01 and 02 describe it: the state, the calls and lists of calls, in specs/, and what holds of them, in proofs/. No code: the types of the
-// answers alone.
+// The engine as documents 01 and 02 describe it: the state, the calls and lists of calls in specs/, and what holds
+// of them in proofs/. The only code is the types of the answers.
 pub mod acr;
 pub mod answer;
 pub mod contract;

@@ -1,6 +1,6 @@
 -- What the tests of a cell say of the outcome.
 use mathlib.Core.Path.{_≡_, refl, sym, ap, _∙_}
-use mathlib.Core.Bool.{Bool, true, false, cond, true≢false}
+use mathlib.Core.Bool.{Bool, true, false, cond}
 use mathlib.Core.Logic.{by-cases}
 use mathlib.Core.List.{List, _++_}
 use Prim.Native.Nat.{ℕ, _≤_, _<_, min}
@@ -19,33 +19,15 @@ use Rattle.cell.specs.Reading.{reading}
 use Rattle.cell.specs.declared.fields.Fields.{Fields}
 use Rattle.cell.specs.declared.read.Reading.{Reading}
 use Rattle.cell.specs.declared.read.Reading.the-variants.{Refused, DataCell, RmCell}
-use Rattle.cell.proofs.Readings.{HeaderMeets, RestMeets}
+use Rattle.cell_read.specs.RefusedAsRead.{RefusedAsRead}
 use Rattle.port_share.specs.Share.{fairShare}
 use Rattle.port_share.specs.declared.share.FairShare.{FairShare}
 use Rattle.port_share.specs.declared.share.FairShare.the-variants.{Refused as Unshared, NoLimit, Limit}
 use Rattle.port.specs.Limit.{passed, refusalOf, heldEr, withEr, held, limit}
 use Rattle.port.specs.Port.{portBy, port}
-use Rattle.port.specs.RefusedAsRead.{RefusedAsRead}
 
 -- ---- the number of its refusal
 module _ (o : List ℕ) where
-  module _ {first : ℕ} (h : HeaderMeets o first) where
-    pub judged-first : (first ≡ 0 → ⊥) → RefusedAsRead o first
-    judged-first n = record { refused = h .refused; size = λ z. absurd (n z); dataCell = λ z. absurd (n z); rm = λ z. absurd (n z) }
-
-    module _ (z : first ≡ 0) where
-      pub judged-data : leb (typeOf o) 3 ≡ true → RefusedAsRead o 0
-      judged-data t =
-          record { refused = λ n. absurd (n refl); size = λ _. h .size z; dataCell = λ _. h .dataCell z; rm = λ _ f. absurd (true≢false (sym t ∙ f)) }
-
-      pub judged-rest : leb (typeOf o) 3 ≡ false → {n : ℕ} → RestMeets o n → RefusedAsRead o n
-      judged-rest f r = record {
-        refused = λ n. h .rm z f ∙ r .refused n;
-        size = λ _. h .size z;
-        dataCell = λ _ t. absurd (true≢false (sym t ∙ f));
-        rm = λ e _. h .rm z f ∙ r .taken e;
-      }
-
   pub judged-number : {n : ℕ} → RefusedAsRead o n → n ≡ refusalOf (reading o)
   judged-number {n} j = by-cases (ℕ-discrete n 0) (λ z. z ∙ sym (zero (leb (typeOf o) 3) refl z)) (λ z. sym (ap refusalOf (j .refused z)))
     where

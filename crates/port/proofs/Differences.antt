@@ -8,14 +8,14 @@ use lib.Bits.{bitXor, xor-block, xor-lt, xor-self, xor-zero-l, xor-zero-r}
 use lib.Dec.{lit<}
 use lib.ListN.{length, getD}
 use Rattle.cell_crc.specs.Checks.{payloadCheck}
-use Rattle.cell_crc.specs.Payload.{octetsOf, wordAt, payloadOf}
-use Rattle.cell_crc.specs.declared.payload.Payload.{Payload}
+use Rattle.cell_payload.specs.Payload.{octetsOf, wordAt, payloadOf}
+use Rattle.cell_payload.specs.declared.payload.Payload.{Payload}
 use Rattle.cell_crc.proofs.Check.{both, payload-both}
 use Rattle.cell_crc.proofs.Limbs.{Six}
-use Rattle.cell_crc.proofs.Words.{octets-of-payload}
+use Rattle.cell_payload.proofs.Words.{octets-of-payload}
 use Rattle.cell_crc.proofs.Xor.{xor-assoc}
 use Rattle.cell.specs.Octets.{AreOctets}
-use Rattle.port.specs.RefusedAsRead.{erAlone}
+use Rattle.port.specs.ErAlone.{erAlone}
 
 -- the bits that change, and the number to which they change
 changed : (x y : ℕ) → bitXor x (bitXor x y) ≡ y

@@ -1,4 +1,4 @@
--- A backward cell that was held to a rate: it reads as before but for ER, and keeps every other bit.
+-- A backward cell that was held to a rate reads as before except for ER, and keeps every other bit.
 use mathlib.Core.Path.{_≡_, refl, sym, ap, ap₂, _∙_, subst}
 use mathlib.Core.Bool.{true, _&&_}
 use mathlib.Core.List.{List, [], _∷_, _++_}

@@ -7,12 +7,12 @@ use lib.Bits.{bitXor}
 use lib.ListN.{length, getD, take, set, drop-of-length-le}
 use lib.Seq.{sets-eq}
 use Rattle.cell_crc.specs.Checks.{payloadCheck}
-use Rattle.cell_crc.specs.Payload.{octetsOf}
+use Rattle.cell_payload.specs.Payload.{octetsOf}
 use Rattle.cell.specs.Octets.{octet, pair, payload, AreOctets}
 use Rattle.cell.specs.Fields.{withCrc}
 use Rattle.cell.proofs.OctetLists.{octets-cons, octets-drop}
 use Rattle.port.specs.Limit.{withEr}
-use Rattle.port.specs.RefusedAsRead.{erAlone}
+use Rattle.port.specs.ErAlone.{erAlone}
 use Rattle.port.proofs.Octets.{Opened, opened, open-up}
 use Rattle.port.proofs.Differences.{difference, check-changed, high-changed, low-changed}
 

@@ -9,7 +9,8 @@ use Rattle.cell.specs.declared.read.Reading.the-variants.{RmCell}
 use Rattle.port_share.specs.Demands.{plainSum}
 use Rattle.port.specs.Port.{port}
 
--- a connection's rate is not above its demand, nor above the ER of some backward cell that the port let pass with these demands
+-- a connection's rate is not above its demand, nor above the ER of some backward cell that the
+-- port let pass with these demands
 pub record Follows (capacity : ℕ) (ds : List ℕ) (demand rate : ℕ) : Type 0 where
   pub cell : List ℕ
   pub fields : Fields

@@ -27,7 +27,8 @@ fieldsWithEr er f = record {
   sn = f .sn;
 }
 
--- octets 1 to 7 are the same, GFC, CLP and the reserved bits of octet 7 among them; so are octets 10 to 51, and the six reserved bits of octet 52
+-- octets 1 to 7 are the same, also GFC, CLP and the reserved bits of octet 7; so are octets 10 to 51 and the
+-- six reserved bits of octet 52
 pub record SameButEr (before after : List ℕ) : Type 0 where
   pub start : take 7 after ≡ take 7 before
   pub middle : take 42 (drop 9 after) ≡ take 42 (drop 9 before)
@@ -35,10 +36,10 @@ pub record SameButEr (before after : List ℕ) : Type 0 where
 
 pub record Limited (rate : ℕ) (o : List ℕ) (f : Fields) : Type 0 where
   pub accepted : limit rate o .refusal ≡ 0
-  -- it is a cell with right checks, since it is read, and reads as before but for ER
+  -- it is a cell with right checks, since it is read, and reads as before except for ER
   pub fields : reading (limit rate o .cell) ≡ RmCell (fieldsWithEr (heldEr rate (f .er)) f)
   pub octets : SameButEr o (limit rate o .cell)
-  -- ER has the greatest code rate that is not above the lesser of the two; where ER was not above the rate, it keeps its own
+  -- ER has the greatest code rate that is not above the lesser of the two; an ER not above the rate keeps its own
   pub greatest : GreatestCode (min (rateOf (f .er)) rate) (heldEr rate (f .er))
   pub kept : rateOf (f .er) ≤ rate → rateOf (heldEr rate (f .er)) ≡ rateOf (f .er)
 

@@ -1,4 +1,5 @@
--- The port: the share of its demands, and a passing cell held to it. (Document 02, L10: 21 and 22 come before the refusals of the cell.)
+-- The port: the share of its demands, and a passing cell held to it. (Document 02, L10: 21 and 22 come
+-- before the refusals of the cell.)
 use Prim.Native.Nat.{ℕ}
 use mathlib.Core.List.{List}
 use Rattle.cell.specs.Reading.{reading}

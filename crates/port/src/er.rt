@@ -1,15 +1,15 @@
-// ER written anew into a cell, with its CRC-10 (document 02, L10).
+// Writes a new ER into a cell, with its CRC-10 (document 02, L10).
 ghost use mathlib.Core.Path.{_≡_};
 ghost use mathlib.Core.List.{_++_};
 ghost use Prim.Native.Nat.{_+_, _*_, _%_, _≤_, _<_};
 ghost use lib.ListN.{length, take};
 ghost use Rattle.cell_crc.specs.Checks.{payloadCheck};
-ghost use Rattle.cell_crc.specs.Payload.{octetsOf};
+ghost use Rattle.cell_payload.specs.Payload.{octetsOf};
 ghost use Rattle.cell.specs.Octets.{pair, payload};
 ghost use Rattle.port.specs.Limit.{withEr};
-ghost use Rattle.port.specs.RefusedAsRead.{erAlone};
+ghost use Rattle.port.specs.ErAlone.{erAlone};
 use cell_crc::crc10::crc10;
-use cell_crc::payload::Payload;
+use cell_payload::payload::Payload;
 
 // The CRC-10 of a payload with no bits set but these, in the two octets of ER.
 fn er_check(high: u8, low: u8) -> u64

@@ -3,7 +3,7 @@ ghost use mathlib.Core.Path.{_≡_};
 ghost use Rattle.port.specs.Limit.{passed};
 ghost use Rattle.port.specs.Port.{port};
 use crate::limit::limit;
-use crate::limit::refusal;
+use cell_read::read::refusal;
 use port_share::share::FairShare;
 use port_share::share::fair_share;
 

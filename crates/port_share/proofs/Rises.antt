@@ -1,4 +1,5 @@
--- The way up to the greatest number that fits: each number tried leaves at most a quarter of what is left of the capacity times the demands not met.
+-- The way up to the greatest number that fits. Take what is left of the capacity times the demands not met. Each
+-- number tried leaves at most a quarter of it.
 use mathlib.Core.Path.{_≡_, sym, ap, subst}
 use mathlib.Core.Bool.{true}
 use mathlib.Core.Logic.{by-cases}
@@ -41,7 +42,8 @@ quarter r n k x l p a b = le-of-mul-le-mul-left {k = k} scaled p
 once-more : (i p q : ℕ) → 4 * q ≤ p → 4 ^ i * p < 4 ^ 31 → 4 ^ (i + 1) * q < 4 ^ 31
 once-more i p q a b = rw (add-one i, pow-suc 4 i) (omega (arith, mul-le-mul-left (4 ^ i) a))
 
--- where the search stands after some passes: s fits and leaves `left` of the capacity, at most n demands are above s, and the product of the two is small
+-- where the search stands after some passes: s fits and leaves `left` of the capacity, at most n demands are above
+-- s, and the product of the two is small
 pub record AfterPasses (capacity : ℕ) (ds : List ℕ) (s left n passes : ℕ) : Type 0 where
   pub whole : cutSum s ds + left ≡ capacity
   pub most : above s ds ≤ n

@@ -1,4 +1,5 @@
--- The share: the greatest whole number to which the demands can be cut so that they fit a capacity. (Document 02, L10, with its refusals 21 and 22 in order.)
+-- The share: the greatest whole number to which the demands can be cut so that they fit a capacity. (Document 02,
+-- L10, with its refusals 21 and 22 in order.)
 use Prim.Native.Nat.{ℕ, zero, suc}
 use mathlib.Core.Bool.{cond}
 use mathlib.Core.List.{List}
@@ -14,7 +15,8 @@ unfoldable pub greatestUpTo : (capacity : ℕ) → List ℕ → ℕ → ℕ
 greatestUpTo capacity ds zero = 0
 greatestUpTo capacity ds (suc n) = cond (leb (cutSum (suc n) ds) capacity) (suc n) (greatestUpTo capacity ds n)
 
--- no limit, if the plain sum fits; else the greatest that fits, looked for up to the largest rate, since no higher one cuts any demand (`ShareGreatest`: it is the greatest of all)
+-- no limit, if the plain sum fits; else the greatest that fits, searched up to the largest rate, since no higher
+-- one cuts any demand (`ShareGreatest`: it is the greatest of all)
 unfoldable pub fairShare : (capacity : ℕ) → (demands : List ℕ) → FairShare
 fairShare capacity ds =
     require (Refused 21) (fewEnough ds)

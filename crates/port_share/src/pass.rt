@@ -1,21 +1,16 @@
 // One pass over the demands of a port (document 02, L10).
 ghost use mathlib.Core.Path.{_≡_};
-ghost use Prim.Native.Nat.{_≤_, min};
+ghost use Prim.Native.Nat.{_≤_};
 ghost use lib.ListN.{length};
 ghost use Rattle.rate.specs.Units.{largestRate};
 ghost use Rattle.port_share.specs.Demands.{cutSum};
 ghost use Rattle.port_share.specs.Above.{oneAbove, above};
+use laws::arithmetic::lower;
 
 // The sum of the demands, each cut to s, and how many of them are above s.
 pub struct Sums {
     pub sum: u64,
     pub above: u64,
-}
-
-pub fn lesser(a: u64, b: u64) -> u64
-    ensures { λ r. ⌜ r ≡ min a b ⌝ }
-{
-    if a < b { a } else { b }
 }
 
 fn one_above(s: u64, d: u64) -> u64
@@ -34,7 +29,7 @@ pub fn pass(demands: &[u64], s: u64) -> Sums
     let mut i = 0;
     while i < demands.len() {
         let d = demands[i];
-        sum += lesser(s, d);
+        sum += lower(s, d);
         count += one_above(s, d);
         i += 1;
     }

@@ -17,11 +17,12 @@ pub enum FairShare {
     Limit(u64),
 }
 
-// At each pass what is left of the capacity, times the demands that are not met, falls to a quarter or less; it starts below 4^31, so that after 31 nothing is left.
+// Take what is left of the capacity, times the demands that are not met. Each pass brings it to a quarter or less.
+// It starts below 4^31, so after 31 passes nothing is left.
 const PASSES: u32 = 31;
 
-// From 0 upwards. What is left of the capacity, shared by the demands above s, surely fits, rounded down; the number after that is tried. Where it does not
-// fit, the one before it was the greatest.
+// From 0 upwards. What is left of the capacity, shared by the demands above s and rounded down, surely fits. The
+// number after that is tried. Where it does not fit, the one before it was the greatest.
 fn greatest(capacity: u64, demands: &[u64]) -> u64
     requires { ⌜ (length (now demands) ≤ 1024) × ((inRange (now demands) ≡ true) × (capacity < plainSum (now demands))) ⌝ }
     ensures { λ r. ⌜ r ≡ greatestUpTo capacity (now (demands .entry)) largestRate ⌝ }

@@ -9,10 +9,11 @@ use lib.Dec.{eqb, leb, ltb}
 use Rattle.model.specs.State.{State, Entry, free, taken, empty, find}
 use Rattle.model.specs.Call.{Call, slot}
 use Rattle.model.specs.Run.{final}
+use Rattle.model.proofs.Reached.{final-append}
 use Rattle.promise_delivery.specs.Calls.{opensName, opensOf, total, ifOpen, isOpen}
 use Rattle.promise_delivery.specs.Turns.{timePassed, slotOf, AllOnTime, opensIn}
 use Rattle.promise_delivery.proofs.Total.{total-mono, total-add}
-use Rattle.promise_delivery.proofs.Lists.{final-append, opens-append, open-final, Reached, reach, well}
+use Rattle.promise_delivery.proofs.Lists.{opens-append, open-final, Reached, reach, well}
 use Rattle.promise_caps.specs.Capped.{rise}
 use Rattle.promise_caps.specs.Lag.{CapTurn, turnsOf, CapTurnsFit, raisedAt, newAt, openOf, bucketLevel, slotsAfter, debtAt, debtAfter, debtFrom, AllLong, AllNear, AllInBucket, risesIn, behindCaps, riseCount, countIn, behindCount, CapsLag}
 use Rattle.promise_caps.proofs.Counted.{rise-most, total-sum, total-right}
@@ -40,7 +41,7 @@ module _ (k : ℕ) (vs : List ℕ) (S G lag : ℕ) where
       more : (a b d : ℕ) → a ≤ b + d → d ≤ k → a ≤ b + k
       more a b d h l = omega arith
 
--- the debt at a slot, by what it is where it goes on and where it begins anew
+-- the debt at a slot, by its values where it goes on and where it starts again
 at-all : (P : ℕ → Type 0) (vs : List ℕ) (q : ℕ → ℕ) (S G lag m debt : ℕ) (s : State) (x : CapTurn) → P (bucketLevel vs q S G debt s x) → P (slotsAfter vs G lag s x - (G - S)) → P (debtAt vs q S G lag m debt s x)
 unfolding debtAt
 at-all P vs q S G lag m debt s x h l = go (leb (x .turn .now) (m + S))

@@ -16,7 +16,7 @@ use Rattle.connection.specs.declared.parts.Connection.{Connection}
 use Rattle.connection.specs.declared.parts.Pace.{Pace}
 use Rattle.connection.specs.declared.parts.Pace.the-variants.{Unsent, Running}
 use Rattle.connection.specs.Kind.{kindAt}
-use Rattle.connection.specs.Sending.{after}
+use Rattle.connection.specs.Slot.{after}
 use Rattle.connection.proofs.Readiness.{ready-some}
 use Rattle.model.specs.State.{State, Entry, free, taken, empty, find}
 use Rattle.model.specs.Invariant.{WellFormed}
@@ -28,13 +28,15 @@ use Rattle.model.proofs.Reached.{step-well-formed, reached-well-formed}
 use Rattle.laws.specs.All.{All}
 use Rattle.promise_traces.specs.InRate.{SentCell, sentBy}
 use Rattle.promise_traces.proofs.Next.{cellAt, Next, closed, quiet, goes, effect-next}
-use Rattle.promise_delivery.specs.Calls.{sortOf, opensName, opensOf, timeSent, slotsSent, cellsFrom, total, ifOpen, isOpen, openRates}
+use Rattle.model.specs.Aspects.{sortOf}
+use Rattle.promise_delivery.specs.Calls.{opensName, opensOf, timeSent, slotsSent, cellsFrom, total, ifOpen, isOpen, openRates}
 use Rattle.promise_delivery.proofs.Policed.{openFrom, not-before, after-from}
 use Rattle.promise_delivery.proofs.Calls.{closing-sends-none, Later, absent, begun, step-later, closed-free, step-sends, sends-none, step-last, final-last}
 use Rattle.promise_delivery.proofs.Total.{total-add, total-over, passes, call-in, call-rates}
 use Rattle.promise_caps.specs.Capped.{Capped, callsOf, rise, RiseMost, risesOf, carried, AllUnder, CapsHeld, CapsFit, ahead, CapsCounted}
 
--- what an open connection may send ahead of the time for which it was open: what its cap allows since its last cell, up to one cell; before its first one cell
+-- what an open connection may send ahead of the time for which it was open: what its cap allows since its last
+-- cell, up to one cell; before its first cell, one cell
 unfoldable paceCredit : (r last : ℕ) → Pace → ℕ
 paceCredit r l Unsent = 512_000_000_000
 paceCredit r l (Running sent forward k turned) = min 512_000_000_000 ((l - sent) * r)

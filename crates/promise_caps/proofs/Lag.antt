@@ -16,19 +16,20 @@ use Rattle.model.specs.Call.{Call, slot, Outcome}
 use Rattle.model.specs.Step.{step}
 use Rattle.model.specs.Queries.{nextReady}
 use Rattle.model.specs.Run.{final}
+use Rattle.model.proofs.Reached.{final-append}
 use Rattle.promise_delivery.specs.Calls.{opensName, opensOf, slotsSent, total, ifOpen, isOpen, AllHeld, AllFit}
 use Rattle.promise_delivery.specs.Turns.{Turn, tableAt, timePassed, slotOf, TurnFits, OnTime}
 use Rattle.promise_delivery.proofs.SlotTime.{slot-last}
 use Rattle.promise_delivery.proofs.Calls.{final-last}
 use Rattle.promise_delivery.proofs.Total.{total-mono}
-use Rattle.promise_delivery.proofs.Lists.{final-append, sent-append, held-append, fit-append, opens-append, others-held, Reached, reach, well, next-of, sent-at, slept, slept-slot, slot-keeps-open}
+use Rattle.promise_delivery.proofs.Lists.{sent-append, held-append, fit-append, opens-append, others-held, Reached, reach, well, next-of, sent-at, slept, slept-slot, slot-keeps-open}
 use Rattle.promise_caps.specs.Capped.{Capped, callsOf, rise, risesOf, CapsHeld, CapsFit, ahead}
 use Rattle.promise_caps.specs.Lag.{CapTurn, CapTurnsFit, raisedAt, newAt, openOf, bucketLevel, slotsAfter, debtAt, debtAfter, AllLong, AllNear}
 use Rattle.promise_caps.proofs.Counted.{total-sum, total-right, caps-together}
 use Rattle.promise_caps.proofs.Lists.{withCap, calls-append, caps-held-append, caps-fit-append, lastCap, last-cap-append, rises-append}
 
--- calls that make s of a base table, with so many cells, while the clock went to m from the base's last time, which it was `late` ahead of; q are the caps after them, and debt
--- has what they cost
+-- Calls that make s from a base table, with so many cells. Meanwhile the clock went to m from the base's last
+-- time, which it was `late` ahead of. q are the caps after them, and debt has what they cost.
 pub record Busy (vs : List ℕ) (S G m debt : ℕ) (q : ℕ → ℕ) (s : State) : Type 0 where
   pub base : State
   pub reached : Reached base

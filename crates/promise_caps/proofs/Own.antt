@@ -24,10 +24,10 @@ use Rattle.cell.specs.Reading.{reading}
 use Rattle.connection_members.specs.Path.{pathVci}
 use Rattle.connection.specs.declared.parts.Connection.{Connection}
 use Rattle.connection.specs.Parts.{fresh}
-use Rattle.connection.specs.Receiving.{afterBackwardCell}
+use Rattle.connection.specs.Source.{afterBackwardCell}
 use Rattle.model.specs.State.{State, Entry, free, taken, empty, find, withOpened, withTime}
 use Rattle.model.specs.Invariant.{NamesUnique, OnEntry, Each, WellFormed}
-use Rattle.model.specs.Call.{Call, opening, closing, receiving, offering, levelling, slot, making, outOfRate, openingPath, adding, offeringMember, removing, Outcome}
+use Rattle.model.specs.Call.{Call, opening, closing, receiving, slot, openingPath, Outcome}
 use Rattle.model.specs.Step.{refuse, accept, replay, step}
 use Rattle.model.specs.Run.{final}
 use Rattle.model.proofs.Entries.{taken≢free, each-at, find-hit, find-past, find-name}
@@ -37,15 +37,17 @@ use Rattle.model.proofs.Preserved.{valid-at}
 use Rattle.model.proofs.Reached.{step-well-formed, final-well-formed, reached-well-formed}
 use Rattle.promise_lists.proofs.Received.{step-fed}
 use Rattle.promise_lists.proofs.Moves.{StillOpen}
-use Rattle.promise_cells.specs.Changes.{NotFedBack}
+use Rattle.promise_cells.specs.Changes.{NotFedBack, NoFeedback}
 use Rattle.promise_loop.specs.Settled.{settledRate}
 use Rattle.promise_loop.proofs.Fed.{Stands}
 use Rattle.promise_loop.proofs.Others.{After, other-step}
-use Rattle.promise_delivery.specs.Calls.{sortOf, opensName}
+use Rattle.model.specs.Aspects.{sortOf}
+use Rattle.model.proofs.BySort.{BySort, anOpening, anOpeningPath, aClosing, aReceiving, aSlot, anotherCall, bySort}
+use Rattle.promise_delivery.specs.Calls.{opensName}
 use Rattle.promise_delivery.specs.Turns.{Turn, tableAt, timePassed, slotOf}
 use Rattle.promise_delivery.proofs.Calls.{Later, absent, begun, step-later}
 use Rattle.promise_caps.specs.Lag.{turnsOf, CapTurnsFit}
-use Rattle.promise_caps.specs.Known.{openCap, fedCap, readCap, capBy}
+use Rattle.promise_caps.specs.Known.{openCap, fedCap, readCap, capBy, capSort}
 use Rattle.promise_caps.specs.Own.{paramsIn, capsBy, RatesUnder, ownTurns, OwnTurnsFit, OwnCaps}
 
 -- What holds of every connection that is found holds of each entry.
@@ -172,39 +174,35 @@ module _ (v a : ℕ) (s : State) (w : WellFormed s) where
   same-cap true = refl
   same-cap false = refl
 
-  step-under : (c : Call) → Before → (e : Connection) → Found c e → e .rate .acr ≤ capBy v a (paramsIn (find v (s .entries))) c
+  step-under : {c : Call} → BySort c → Before → (e : Connection) → Found c e → e .rate .acr ≤ capBy v a (paramsIn (find v (s .entries))) c
   unfolding capBy openCap opensName
-  step-under (opening i j t p) h e g = go (find v (s .entries)) refl
+  step-under (anOpening i j t p) h e g = go (find v (s .entries)) refl
     where
       go : (x : Entry) → find v (s .entries) ≡ x → e .rate .acr ≤ cond (eqb (addressName i j) v) (openCap a p (paramsIn x)) a
       go free f = opening-under f i j t p (effect s (w .unique) (opening i j t p)) e g
       go (taken d) f = rw (same-cap (eqb (addressName i j) v)) (not-fed d f (h d f) (opening i j t p) tt e g)
-  step-under (closing i j) h e g = other (closing i j) refl tt h e g
-  step-under (receiving o) h e g = go (find v (s .entries)) refl
-    where
-      go : (x : Entry) → find v (s .entries) ≡ x → e .rate .acr ≤ readCap v a (paramsIn x) (reading o)
-      go free f = rw (free-cap (reading o)) (not-opened f (receiving o) refl e g)
-      go (taken d) f = received d f (h d f) o (reading o) refl e g
-  step-under (offering i j n) h e g = other (offering i j n) refl tt h e g
-  step-under (levelling l) h e g = other (levelling l) refl tt h e g
-  step-under (slot t room) h e g = other (slot t room) refl tt h e g
-  step-under (making i j t) h e g = other (making i j t) refl tt h e g
-  step-under (outOfRate i j t room) h e g = other (outOfRate i j t room) refl tt h e g
-  step-under (openingPath i t p) h e g = go (find v (s .entries)) refl
+  step-under (anOpeningPath i t p) h e g = go (find v (s .entries)) refl
     where
       go : (x : Entry) → find v (s .entries) ≡ x → e .rate .acr ≤ cond (eqb (addressName i pathVci) v) (openCap a p (paramsIn x)) a
       go free f = path-under f i t p (effect s (w .unique) (openingPath i t p)) e g
       go (taken d) f = rw (same-cap (eqb (addressName i pathVci) v)) (not-fed d f (h d f) (openingPath i t p) tt e g)
-  step-under (adding i j) h e g = other (adding i j) refl tt h e g
-  step-under (offeringMember i j n) h e g = other (offeringMember i j n) refl tt h e g
-  step-under (removing i j) h e g = other (removing i j) refl tt h e g
+  step-under (aClosing i j) h e g = other (closing i j) refl tt h e g
+  step-under (aReceiving o) h e g = go (find v (s .entries)) refl
+    where
+      go : (x : Entry) → find v (s .entries) ≡ x → e .rate .acr ≤ readCap v a (paramsIn x) (reading o)
+      go free f = rw (free-cap (reading o)) (not-opened f (receiving o) refl e g)
+      go (taken d) f = received d f (h d f) o (reading o) refl e g
+  step-under (aSlot t room) h e g = other (slot t room) refl tt h e g
+  step-under (anotherCall c q) h e g =
+      let cap : capSort v a (paramsIn (find v (s .entries))) (sortOf c) ≡ a = ap (capSort v a (paramsIn (find v (s .entries)))) q in
+      subst (λ (n : ℕ). e .rate .acr ≤ n) (sym cap) (other c (ap (opensName v) q) (subst (NoFeedback v) (sym q) tt) h e g)
 
 -- All names.
 rates-step : (q : ℕ → ℕ) (s : State) → WellFormed s → (c : Call) → RatesUnder q s → RatesUnder (λ v. capBy v (q v) (paramsIn (find v (s .entries))) c) (step s c .state)
 rates-step q s w c h =
     each-found (λ d. d .rate .acr ≤ capBy (d .name) (q (d .name)) (paramsIn (find (d .name) (s .entries))) c) (step s c .state .entries) (step-well-formed w c .unique)
     (λ u e g. subst (λ (n : ℕ). e .rate .acr ≤ capBy n (q n) (paramsIn (find n (s .entries))) c) (sym (named u (step s c .state .entries) e g))
-    (step-under u (q u) s w c (λ d f. subst (λ (n : ℕ). d .rate .acr ≤ q n) (named u (s .entries) d f) (each-at (λ x. x .rate .acr ≤ q (x .name)) u (s .entries) d f h)) e g))
+    (step-under u (q u) s w (bySort c) (λ d f. subst (λ (n : ℕ). d .rate .acr ≤ q n) (named u (s .entries) d f) (each-at (λ x. x .rate .acr ≤ q (x .name)) u (s .entries) d f h)) e g))
   where
     named : (u : ℕ) (ss : List Entry) (e : Connection) → find u ss ≡ taken e → e .name ≡ u
     named u ss e g = subst (OnEntry (λ x. x .name ≡ u)) g (find-name u ss)

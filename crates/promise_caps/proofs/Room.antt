@@ -2,7 +2,7 @@
 use Prim.Native.Nat.{ℕ, _+_, _-_, _≤_, _<_, max}
 use mathlib.Core.Path.{_≡_, refl, sym, ap, subst, _∙_}
 use mathlib.Core.Logic.{_≢_, by-cases}
-use mathlib.Core.Bool.{Bool, true, false, cond, _&&_, _||_, true≢false}
+use mathlib.Core.Bool.{Bool, true, false, cond, _||_, true≢false}
 use mathlib.Core.List.{List, [], _∷_}
 use mathlib.Core.Option.{Option, none, some}
 use native.Mathlib.Nat.{le-refl, le-trans}
@@ -22,14 +22,16 @@ use Rattle.cell.specs.Reading.{reading}
 use Rattle.port.specs.Limit.{limit}
 use Rattle.port.proofs.Followed.{none-above}
 use Rattle.connection_members.specs.Path.{pathVci}
-use Rattle.model.specs.Call.{Call, opening, closing, receiving, offering, levelling, slot, making, outOfRate, openingPath, adding, offeringMember, removing}
-use Rattle.model.specs.Run.{paramsAfter}
+use Rattle.model.specs.Call.{Call, opening, closing, receiving, slot, openingPath}
+use Rattle.model.specs.Run.{paramsAfter, paramsBy}
 use Rattle.promise_delivery.specs.Calls.{total, isIn}
+use Rattle.model.specs.Aspects.{Sort, sortOf}
+use Rattle.model.proofs.BySort.{BySort, anOpening, anOpeningPath, aClosing, aReceiving, aSlot, anotherCall, bySort}
 use Rattle.promise_delivery.proofs.Total.{total-mono}
-use Rattle.promise_caps.specs.Known.{openCap, fedCap, readCap, capBy, Known, knownBy, ifGiven, load}
+use Rattle.promise_caps.specs.Known.{openCap, fedCap, readCap, capBy, Known, knownBy, ifGiven, load, capSort}
 use Rattle.promise_caps.specs.Room.{Distinct, room, ReadInRoom, InRoom, CapsAtLeast, RoomsKept}
 
--- one number for each name, of which that of u changes
+-- one number for each name; that of u changes
 module _ (u : ℕ) (w z : ℕ → ℕ) (others : (v : ℕ) → u ≢ v → z v ≤ w v) where
   abbrev rest : List ℕ → ℕ
   rest vs = total (λ v. cond (eqb v u) 0 (w v)) vs
@@ -80,7 +82,7 @@ module _ (capacity : ℕ) (vs : List ℕ) (k : ℕ → Known) (d : Distinct vs) 
 
   -- an open of u
   abbrev openLoad : (b z : Bool) → Params → Known → ℕ
-  openLoad b z p y = ifGiven (cond (b && z) (some p) (y .given)) (cond z (openCap (y .cap) p (y .given)) (y .cap))
+  openLoad b z p y = ifGiven (cond b (cond z (some p) (y .given)) (y .given)) (cond z (openCap (y .cap) p (y .given)) (y .cap))
 
   open-most : (b z : Bool) (g : Option Params) (a : ℕ) (p : Params) → openLoad b z p (record { given = g; cap = a }) ≤ max (ifGiven g a) (initialUsed p)
   unfolding ifGiven openCap
@@ -103,10 +105,28 @@ module _ (capacity : ℕ) (vs : List ℕ) (k : ℕ → Known) (d : Distinct vs) 
       (λ v n. subst (λ (m : ℕ). m ≤ load (k v)) (sym (e v ∙ ap (λ (z : Bool). openLoad b z p (k v)) (ne-eqb u v n))) (open-other b (k v) p)) capacity vs d f
       (let y = open-most b (eqb u u) (k u .given) (k u .cap) p in omega (arith, h, e u, y))
 
-  close-load : (b : Bool) (g : Option Params) (a : ℕ) → ifGiven (cond b none g) a ≤ ifGiven g a
+  close-load : (b z : Bool) (g : Option Params) (a : ℕ) → ifGiven (cond b (cond z none g) g) a ≤ ifGiven g a
   unfolding ifGiven
-  close-load true g a = omega arith
-  close-load false g a = le-refl _
+  close-load true true g a = omega arith
+  close-load true false g a = le-refl _
+  close-load false z g a = le-refl _
+
+  -- a call that changes neither, accepted or not
+  unmoved :
+      (c : Call) → ((v : ℕ) (g : Option Params) → paramsBy v (sortOf c) g ≡ g) → ((v a : ℕ) (g : Option Params) → capSort v a g (sortOf c) ≡ a) → (b : Bool)
+      → After c b
+  unfolding paramsAfter capBy
+  unmoved c given cap b = no-rise c b (λ v. go b v)
+    where
+      go : (b : Bool) (v : ℕ) → load (knownBy v c b (k v)) ≤ load (k v)
+      go true v = rw (given v (k v .given), cap v (k v .cap) (k v .given)) (le-refl _)
+      go false v = rw (cap v (k v .cap) (k v .given)) (le-refl _)
+
+  -- a received cell, accepted or not
+  read-load : (o : List ℕ) (b : Bool) (v : ℕ) → load (knownBy v (receiving o) b (k v)) ≡ ifGiven (k v .given) (readCap v (k v .cap) (k v .given) (reading o))
+  unfolding paramsAfter capBy
+  read-load o true v = refl
+  read-load o false v = refl
 
   -- a backward cell of u
   fed-load : (g : Option Params) (a er r : ℕ) → ((p : Params) → g ≡ some p → least p ≤ a) → er ≤ r → ifGiven g (fedCap a er g) ≤ max (ifGiven g a) r
@@ -115,9 +135,9 @@ module _ (capacity : ℕ) (vs : List ℕ) (k : ℕ → Known) (d : Distinct vs) 
   fed-load (some p) a er r h l = omega (arith, h p refl)
 
   read-fits : (o : List ℕ) (b : Bool) (y : Reading) → reading o ≡ y → ReadInRoom capacity vs k y → After (receiving o) b
-  unfolding paramsAfter capBy readCap
-  read-fits o b (Unread n) e h = no-rise (receiving o) b (λ v. rw e (le-refl _))
-  read-fits o b (DataCell i j x) e h = no-rise (receiving o) b (λ v. rw e (le-refl _))
+  unfolding readCap
+  read-fits o b (Unread n) e h = no-rise (receiving o) b (λ v. rw (read-load o b v, e) (le-refl _))
+  read-fits o b (DataCell i j x) e h = no-rise (receiving o) b (λ v. rw (read-load o b v, e) (le-refl _))
   read-fits o b (RmCell x) e h = go (eqb (x .dir) 1) refl
     where
       u : ℕ
@@ -127,7 +147,7 @@ module _ (capacity : ℕ) (vs : List ℕ) (k : ℕ → Known) (d : Distinct vs) 
       after z v = ifGiven (k v .given) (cond z (cond (eqb (cellName x) v) (fedCap (k v .cap) (rateOf (x .er)) (k v .given)) (k v .cap)) (k v .cap))
 
       is : (z : Bool) → eqb (x .dir) 1 ≡ z → (v : ℕ) → load (knownBy v (receiving o) b (k v)) ≡ after z v
-      is z q v = rw (e, q) refl
+      is z q v = read-load o b v ∙ rw (e, q) refl
 
       go : (z : Bool) → eqb (x .dir) 1 ≡ z → After (receiving o) b
       go false q = no-rise (receiving o) b (λ v. subst (λ (n : ℕ). n ≤ load (k v)) (sym (is false q v)) (le-refl _))
@@ -139,20 +159,14 @@ module _ (capacity : ℕ) (vs : List ℕ) (k : ℕ → Known) (d : Distinct vs) 
           (sym (is true q u ∙ ap (λ (y : Bool). ifGiven (k u .given) (cond y (fedCap (k u .cap) (rateOf (x .er)) (k u .given)) (k u .cap))) (eq-eqb (cellName x) u refl)))
           (fed-load (k u .given) (k u .cap) (rateOf (x .er)) (room capacity vs k u) (low u) (h (eqb-true (x .dir) 1 q))))
 
-  call-fits : (c : Call) (b : Bool) → InRoom capacity vs k c → After c b
+  call-fits : {c : Call} → BySort c → (b : Bool) → InRoom capacity vs k c → After c b
   unfolding paramsAfter capBy
-  call-fits (opening i j t p) b h = opened (addressName i j) p (opening i j t p) b (λ v. refl) (omega (arith, h))
-  call-fits (closing i j) b h = no-rise (closing i j) b (λ v. close-load (b && eqb (addressName i j) v) (k v .given) (k v .cap))
-  call-fits (receiving o) b h = read-fits o b (reading o) refl h
-  call-fits (offering i j n) b h = f
-  call-fits (levelling l) b h = f
-  call-fits (slot t r) b h = f
-  call-fits (making i j t) b h = f
-  call-fits (outOfRate i j t r) b h = f
-  call-fits (openingPath i t p) b h = opened (addressName i pathVci) p (openingPath i t p) b (λ v. refl) (omega (arith, h))
-  call-fits (adding i j) b h = f
-  call-fits (offeringMember i j n) b h = f
-  call-fits (removing i j) b h = f
+  call-fits (anOpening i j t p) b h = opened (addressName i j) p (opening i j t p) b (λ v. refl) (omega (arith, h))
+  call-fits (anOpeningPath i t p) b h = opened (addressName i pathVci) p (openingPath i t p) b (λ v. refl) (omega (arith, h))
+  call-fits (aClosing i j) b h = no-rise (closing i j) b (λ v. close-load b (eqb (addressName i j) v) (k v .given) (k v .cap))
+  call-fits (aReceiving o) b h = read-fits o b (reading o) refl h
+  call-fits (aSlot t r) b h = unmoved (slot t r) (λ v g. refl) (λ v a g. refl) b
+  call-fits (anotherCall c q) b h = unmoved c (λ v g. ap (λ (x : Sort). paramsBy v x g) q) (λ v a g. ap (capSort v a g) q) b
 
   limited-in : (rate : ℕ) (y : Reading) → ((x : Fields) → y ≡ RmCell x → x .dir ≡ 1 → rateOf (x .er) ≤ room capacity vs k (cellName x)) → ReadInRoom capacity vs k y
   limited-in rate (Unread n) h = tt
@@ -175,7 +189,7 @@ own-room w capacity (u ∷ vs) v e f = go (eqb u v) refl e (λ i. own-room w cap
 
 pub rooms-kept : RoomsKept
 rooms-kept capacity vs k d low f = record {
-  fits = λ c b h. call-fits capacity vs k d low f c b h;
+  fits = λ c b h. call-fits capacity vs k d low f (bySort c) b h;
   enough = λ v e. omega (arith, f, own-room (λ u. load (k u)) capacity vs v e f);
   limited = λ rate o h.
       limited-in capacity vs k d low f rate (reading (limit rate o .cell)) (λ x e q. le-trans (none-above rate o x e q) (h x e q));

@@ -1,5 +1,6 @@
--- How many cells slots send where each connection's rate has a cap that may change before every call: a fall of a cap costs nothing, a rise of the cap of an open connection from
--- a to b the part (b - a) / b of a cell, where opening it costs one.
+-- How many cells slots send where each connection's rate has a cap that may change before every call. A fall of
+-- a cap costs nothing. A rise of the cap of an open connection from a to b costs the part (b - a) / b of a
+-- cell. Opening it costs one cell.
 use Prim.Native.Nat.{ℕ, _+_, _-_, _*_, _/_, _≤_, _<_}
 use mathlib.Core.Bool.{cond}
 use mathlib.Core.List.{List, [], _∷_}
@@ -11,7 +12,8 @@ use Rattle.model.specs.Step.{step}
 use Rattle.model.specs.Run.{final}
 use Rattle.laws.specs.All.{All}
 use Rattle.promise_traces.specs.InRate.{sentBy}
-use Rattle.promise_delivery.specs.Calls.{sortOf, opensOf, slotsSent, cellsFrom, total, Held, AtSlot, ifOpen, isOpen, openRates}
+use Rattle.model.specs.Aspects.{sortOf}
+use Rattle.promise_delivery.specs.Calls.{opensOf, slotsSent, cellsFrom, total, Held, AtSlot, ifOpen, isOpen, openRates}
 
 -- a call, and the cap of each name from the call before it on until after it
 pub record Capped : Type 0 where

@@ -1,5 +1,6 @@
--- How far behind its own time a slot is passed where each connection's rate has one cap over the turns, and the caps of what is open fit the link: by no more than a slot for each
--- connection that is open and for each open. So with that lag, or a longer one, the lag never decides.
+-- How far behind its own time a slot is passed, where each connection's rate has one cap over the turns and the
+-- caps of what is open fit the link. It is at most a slot for each connection that is open and for each open. So
+-- with that lag, or a longer one, the lag never decides.
 use Prim.Native.Nat.{ℕ, _+_, _-_, _*_, _≤_}
 use mathlib.Core.List.{List, [], _∷_}
 use Rattle.model.specs.State.{State, empty}

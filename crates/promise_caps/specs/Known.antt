@@ -1,5 +1,6 @@
--- What a transmitter knows of a name from its calls and what they returned: the parameters under which it is open, and the cap of its rate. The cap is max(MCR, min(PCR, ER)) of the
--- last backward cell, and the initial rate used before the first. (Document 01, "Four moves of the allowed rate"; document 02, L14.)
+-- What a transmitter knows of a name from its calls and what they returned: the parameters under which it is open,
+-- and the cap of its rate. The cap is max(MCR, min(PCR, ER)) of the last backward cell. Before the first one it is
+-- the initial rate used. (Document 01, "Four moves of the allowed rate"; document 02, L14.)
 use Prim.Native.Nat.{ℕ}
 use mathlib.Core.Bool.{Bool, cond}
 use mathlib.Core.Option.{Option, none, some}
@@ -9,11 +10,10 @@ use Rattle.rate_params.specs.declared.params.Params.{Params}
 use Rattle.rate_params.specs.Params.{initialUsed}
 use Rattle.cell.specs.declared.read.Reading.{Reading}
 use Rattle.cell.specs.declared.read.Reading.the-variants.{Refused as Unread, DataCell, RmCell}
-use Rattle.cell.specs.Name.{addressName}
 use Rattle.cell.specs.Fields.{cellName}
 use Rattle.cell.specs.Reading.{reading}
-use Rattle.connection_members.specs.Path.{pathVci}
-use Rattle.model.specs.Call.{Call, opening, closing, receiving, offering, levelling, slot, making, outOfRate, openingPath, adding, offeringMember, removing}
+use Rattle.model.specs.Call.{Call}
+use Rattle.model.specs.Aspects.{Sort, opener, closer, arrival, slotAt, another, sortOf}
 use Rattle.model.specs.Run.{paramsAfter}
 use Rattle.promise_loop.specs.Settled.{settledRate}
 
@@ -32,20 +32,17 @@ readCap v a g (Unread n) = a
 readCap v a g (DataCell i j e) = a
 readCap v a g (RmCell f) = cond (eqb (f .dir) 1) (cond (eqb (cellName f) v) (fedCap a (rateOf (f .er)) g) a) a
 
--- the cap of v after a call, by the one before and the parameters under which v was open: only an open and a backward cell of v change it
+-- the cap of v after a call, from the one before and the parameters under which v was open: only an open and a
+-- backward cell of v change it
+abbrev pub capSort : (v a : ℕ) → Option Params → Sort → ℕ
+capSort v a g (opener u t p) = cond (eqb u v) (openCap a p g) a
+capSort v a g (closer u) = a
+capSort v a g (arrival o) = readCap v a g (reading o)
+capSort v a g (slotAt t) = a
+capSort v a g another = a
+
 unfoldable pub capBy : (v a : ℕ) → Option Params → Call → ℕ
-capBy v a g (opening i j t p) = cond (eqb (addressName i j) v) (openCap a p g) a
-capBy v a g (closing i j) = a
-capBy v a g (receiving o) = readCap v a g (reading o)
-capBy v a g (offering i j n) = a
-capBy v a g (levelling l) = a
-capBy v a g (slot t room) = a
-capBy v a g (making i j t) = a
-capBy v a g (outOfRate i j t room) = a
-capBy v a g (openingPath i t p) = cond (eqb (addressName i pathVci) v) (openCap a p g) a
-capBy v a g (adding i j) = a
-capBy v a g (offeringMember i j n) = a
-capBy v a g (removing i j) = a
+capBy v a g c = capSort v a g (sortOf c)
 
 pub record Known : Type 0 where
   pub given : Option Params

@@ -1,5 +1,6 @@
--- How far behind its own time a slot is passed where the caps change at any turn. Opening a connection costs a slot, and raising the cap of an open one a part of one; where the caps leave
--- some of the link free, every slot pays a part of that back. So they may change without end, now and then.
+-- How far behind its own time a slot is passed, where the caps change at any turn. Opening a connection costs a
+-- slot. Raising the cap of an open one costs a part of a slot. Where the caps leave some of the link free, every
+-- slot pays a part of that back. So the caps may change without end, now and then.
 use Prim.Native.Nat.{ℕ, _+_, _-_, _*_, _≤_}
 use mathlib.Core.Bool.{cond}
 use mathlib.Core.List.{List, [], _∷_}
@@ -36,7 +37,8 @@ newAt vs G q s x = total (λ v. opensOf v (x .turn .between) * G + raisedAt v G 
 abbrev pub openOf : (vs : List ℕ) → State → ℕ
 openOf vs s = total (isOpen s) vs
 
--- what is left at a slot of a level after the slot before: opens and rises are let in, and the slot takes what is left free
+-- the level at a slot, from the level after the slot before: opens and rises are added, and the
+-- slot takes what is left free
 abbrev pub bucketLevel : (vs : List ℕ) (q : ℕ → ℕ) (S G level : ℕ) → State → CapTurn → ℕ
 bucketLevel vs q S G level s x = (level + newAt vs G q s x) - (G - S)
 
@@ -44,11 +46,12 @@ bucketLevel vs q S G level s x = (level + newAt vs G q s x) - (G - S)
 abbrev pub slotsAfter : (vs : List ℕ) (G lag : ℕ) → State → CapTurn → ℕ
 slotsAfter vs G lag s x = openOf vs (slotOf lag s (x .turn) .state) * G
 
--- the debt at a slot, by the one after the slot before, which was at m; more than S after it, at the end of a sleep, it begins anew
+-- The debt at a slot, from the debt after the slot before, which was at m. More than S after m, at the end
+-- of a sleep, it starts again.
 unfoldable pub debtAt : (vs : List ℕ) (q : ℕ → ℕ) (S G lag m debt : ℕ) → State → CapTurn → ℕ
 debtAt vs q S G lag m debt s x = cond (leb (x .turn .now) (m + S)) (bucketLevel vs q S G debt s x) (slotsAfter vs G lag s x - (G - S))
 
--- and the debt after it: it begins anew, if the slot was passed its own time
+-- and the debt after it: it starts again if the slot was passed its own time
 unfoldable pub debtAfter : (vs : List ℕ) (G lag debt : ℕ) → State → CapTurn → ℕ
 debtAfter vs G lag debt s x = cond (eqb (timePassed lag s (x .turn)) (x .turn .now)) (slotsAfter vs G lag s x) debt
 
@@ -88,7 +91,8 @@ countIn v lag q s (x ∷ xs) = ifOpen (find v (s .entries)) (riseCount (q v) (x 
 abbrev pub behindCount : (vs : List ℕ) (q : ℕ → ℕ) (S lag m : ℕ) → State → List CapTurn → ℕ
 behindCount vs q S lag m s xs = (m - s .last) + total (λ v. isOpen s v + opensIn v (turnsOf xs) + countIn v lag q s xs) vs * S
 
--- Without end: opens and rises that a bucket of the depth A holds, out of which every slot takes what is left free, and at most N connections at a time.
+-- Without end: a bucket of depth A holds the opens and rises, and every slot takes out what is left free. At most
+-- N connections are open at a time.
 abbrev pub AllInBucket : (vs : List ℕ) (q : ℕ → ℕ) (S G N A lag level : ℕ) → State → List CapTurn → Type 0
 AllInBucket vs q S G N A lag level s [] = Unit
 AllInBucket vs q S G N A lag level s (x ∷ xs) =

@@ -1,4 +1,5 @@
--- What the line delivers: caps on the rates, what they let the line carry, how far behind a slot is then passed, and caps that the transmitter itself makes.
+-- What the line delivers: caps on the rates, what they let the line carry, how far behind a slot is then passed,
+-- and caps that the transmitter itself makes.
 pub mod Capped
 pub mod Lag
 pub mod Fixed

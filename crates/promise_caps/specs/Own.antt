@@ -1,5 +1,6 @@
--- The caps that the backward cells themselves make: an open connection's rate is at most what its last one allowed, or its initial rate before the first. So a transmitter whose
--- line is a port, which limits each backward cell as it comes, knows the caps: they are those of the last cells, not the shares of the moment.
+-- The caps that the backward cells themselves make. An open connection's rate is at most what its last one
+-- allowed, or its initial rate before the first. So a transmitter whose line is a port, which limits each backward
+-- cell as it comes, knows the caps. They are those of the last cells, not the shares of the moment.
 use Prim.Native.Nat.{ℕ, _+_, _-_, _*_, _≤_, max}
 use mathlib.Core.Path.{_≡_}
 use mathlib.Core.List.{List, [], _∷_}
@@ -13,7 +14,8 @@ use Rattle.model.specs.Step.{step}
 use Rattle.model.specs.Queries.{nextReady}
 use Rattle.model.specs.Run.{final}
 use Rattle.laws.specs.All.{All}
-use Rattle.promise_delivery.specs.Calls.{sortOf, OpenAmong, openRates, AllFit}
+use Rattle.model.specs.Aspects.{sortOf}
+use Rattle.promise_delivery.specs.Calls.{OpenAmong, openRates, AllFit}
 use Rattle.promise_delivery.specs.Turns.{Turn, tableAt, slotOf, NoSlot}
 use Rattle.promise_caps.specs.Known.{capBy}
 use Rattle.promise_caps.specs.Lag.{CapTurn, turnsOf, CapTurnsFit}

@@ -1,5 +1,6 @@
--- How a transmitter that is the port of its own line keeps the caps of its connections within a capacity: no open, and no backward cell that it lets in, takes more than the caps of the
--- others leave. So a rise waits by itself for the falls that make room for it.
+-- How a transmitter that is the port of its own line keeps the caps of its connections within a capacity. No open,
+-- and no backward cell that it lets in, takes more than the caps of the others leave. So a rise waits by itself
+-- for the falls that make room for it.
 use Prim.Native.Nat.{ℕ, _-_, _≤_}
 use mathlib.Core.Path.{_≡_}
 use mathlib.Core.Bool.{Bool, false, true, cond}
@@ -12,13 +13,12 @@ use Rattle.rate_params.specs.Params.{least, initialUsed}
 use Rattle.cell.specs.declared.fields.Fields.{Fields}
 use Rattle.cell.specs.declared.read.Reading.{Reading}
 use Rattle.cell.specs.declared.read.Reading.the-variants.{Refused as Unread, DataCell, RmCell}
-use Rattle.cell.specs.Name.{addressName}
 use Rattle.cell.specs.Fields.{cellName}
 use Rattle.cell.specs.Reading.{reading}
 use Rattle.port.specs.Limit.{limit}
-use Rattle.connection_members.specs.Path.{pathVci}
-use Rattle.model.specs.Call.{Call, opening, closing, receiving, offering, levelling, slot, making, outOfRate, openingPath, adding, offeringMember, removing}
+use Rattle.model.specs.Call.{Call, receiving}
 use Rattle.promise_delivery.specs.Calls.{total, isIn}
+use Rattle.model.specs.Aspects.{Sort, opener, closer, arrival, slotAt, another, sortOf}
 use Rattle.promise_caps.specs.Known.{Known, knownBy, load}
 
 -- each name once
@@ -36,19 +36,15 @@ ReadInRoom capacity vs k (Unread n) = Unit
 ReadInRoom capacity vs k (DataCell i j e) = Unit
 ReadInRoom capacity vs k (RmCell f) = f .dir ≡ 1 → rateOf (f .er) ≤ room capacity vs k (cellName f)
 
+abbrev pub SortInRoom : (capacity : ℕ) (names : List ℕ) → (ℕ → Known) → Sort → Type 0
+SortInRoom capacity vs k (opener u t p) = initialUsed p ≤ room capacity vs k u
+SortInRoom capacity vs k (closer u) = Unit
+SortInRoom capacity vs k (arrival o) = ReadInRoom capacity vs k (reading o)
+SortInRoom capacity vs k (slotAt t) = Unit
+SortInRoom capacity vs k another = Unit
+
 abbrev pub InRoom : (capacity : ℕ) (names : List ℕ) → (ℕ → Known) → Call → Type 0
-InRoom capacity vs k (opening i j t p) = initialUsed p ≤ room capacity vs k (addressName i j)
-InRoom capacity vs k (closing i j) = Unit
-InRoom capacity vs k (receiving o) = ReadInRoom capacity vs k (reading o)
-InRoom capacity vs k (offering i j n) = Unit
-InRoom capacity vs k (levelling l) = Unit
-InRoom capacity vs k (slot t r) = Unit
-InRoom capacity vs k (making i j t) = Unit
-InRoom capacity vs k (outOfRate i j t r) = Unit
-InRoom capacity vs k (openingPath i t p) = initialUsed p ≤ room capacity vs k (addressName i pathVci)
-InRoom capacity vs k (adding i j) = Unit
-InRoom capacity vs k (offeringMember i j n) = Unit
-InRoom capacity vs k (removing i j) = Unit
+InRoom capacity vs k c = SortInRoom capacity vs k (sortOf c)
 
 -- the cap of what is open is at least its minimum
 abbrev pub CapsAtLeast : (ℕ → Known) → Type 0

@@ -1,6 +1,6 @@
 -- Pairs out of their ranges are unknown, and every cell that is written carries its connection's VPI and VCI.
 use Prim.Native.Nat.{ℕ, _≤_, _<_}
-use mathlib.Core.Path.{_≡_, refl, ap, subst}
+use mathlib.Core.Path.{_≡_, refl, ap, subst, sym}
 use mathlib.Core.Bool.{true, false, cond, _&&_}
 use mathlib.Core.List.{List, _++_}
 use native.Mathlib.Omega.{arith}
@@ -21,24 +21,27 @@ use Rattle.connection.specs.declared.parts.Waiting.the-variants.{Nothing, Cell}
 use Rattle.connection.specs.declared.kind.Kind.{Kind}
 use Rattle.connection.specs.declared.kind.Kind.the-variants.{Forward, Turned, Data}
 use Rattle.connection.specs.Kind.{kindAt}
-use Rattle.connection.specs.Making.{madeFields}
-use Rattle.connection.specs.OutOfRate.{outOfRateCell}
-use Rattle.connection.specs.Sending.{after, memberServed, forwardFields, backwardCell, bufferSent, untouched, written}
+use Rattle.connection.specs.Source.{outOfRateCell, forwardFields}
+use Rattle.connection.specs.Destination.{madeFields, backwardCell}
+use Rattle.connection.specs.Slot.{after, memberServed, bufferSent, untouched, written}
 use Rattle.connection.proofs.Keeps.{after-same}
 use Rattle.model.specs.State.{State, Entry, free, taken, empty, isFree, find, withTime}
 use Rattle.model.specs.Invariant.{WellFormed}
 use Rattle.model.specs.declared.answer.Answer.the-variants.{Refused}
-use Rattle.model.specs.Call.{Call, opening, closing, receiving, offering, levelling, slot, making, outOfRate, openingPath, adding, offeringMember, removing, Outcome}
+use Rattle.model.specs.Call.{Call, Outcome}
+use Rattle.model.specs.Aspects.{Lent, forSlot, forOutOfRate, notLent, lentOf}
 use Rattle.model.specs.Step.{refuse, accept, replay, discard, ofOpen, openAddress, openStep, openPathStep, addStep, ofMember, offerMemberStep, removeStep, nameAnswered, sendFrom, sendStep, idleStep, sendOutOfRate, step}
 use Rattle.model.specs.Queries.{entryAcr, acrOf, entryContract, contractOf}
 use Rattle.model.specs.Run.{final}
 use Rattle.model.proofs.Frames.{name-of}
 use Rattle.model.proofs.Preserved.{valid-at}
-use Rattle.model.proofs.Effects.{Effect, refuses, opens, closes, offers, receivesData, receivesRm, setsLevel, idles, sends, makes, sendsOutOfRate, opensPath, adds, offersMember, removes, effect}
+use Rattle.model.proofs.Effects.{opens, closes, offers, makes, sendsOutOfRate, adds, offersMember, removes}
 use Rattle.model.proofs.Reached.{reached-well-formed, reached-unknown, reached-no-path}
+use Rattle.model.proofs.Shown.{Shown, refusing, accepting, discarding, idling, serving, servingOutOfRate, shown}
 use Rattle.promise_lists.proofs.NotOpen.{close-out, offer-out, make-out, out-of-rate-out}
-use Rattle.promise_cells.specs.Addresses.{noMemberRefusal, OutOfRangeUnknown, NoPathOver255, AddressesApart, Carries, SentCarries, CarriesName, CellsCarryNames}
+use Rattle.promise_cells.specs.Addresses.{noMemberRefusal, OutOfRangeUnknown, NoPathOver255, AddressesApart, Carries, SentCarries, CarriesName, CellsCarryNames, LentCarries}
 use Rattle.laws.specs.Require.{require}
+use Rattle.model.specs.declared.answer.Answer.{Answer}
 
 -- Out of the ranges.
 module _ (s : State) (vpi vci : ℕ) where
@@ -133,41 +136,26 @@ out-of-rate-name : (c : Connection) → c .name < noName → Carries (c .name) (
 unfolding outOfRateCell rmCell forwardFields
 out-of-rate-name c h = header-name 1 (c .name) _ (lit≤ tt) h
 
-refused-named : (c : Call) (n : ℕ) → CarriesName c (Refused n) untouched
-refused-named (opening vpi vci t p) n = refl
-refused-named (closing vpi vci) n = refl
-refused-named (receiving o) n = refl
-refused-named (offering vpi vci k) n = refl
-refused-named (levelling l) n = refl
-refused-named (slot t room) n = refl
-refused-named (making vpi vci t) n = refl
-refused-named (outOfRate vpi vci t room) n = refl
-refused-named (openingPath vpi t p) n = refl
-refused-named (adding vpi vci) n = refl
-refused-named (offeringMember vpi vci k) n = refl
-refused-named (removing vpi vci) n = refl
+refused-named : (l : Lent) (n : ℕ) → LentCarries l (Refused n) untouched
+refused-named (forSlot t) n = refl
+refused-named (forOutOfRate v) n = refl
+refused-named notLent n = refl
 
-effect-named : {s : State} → WellFormed s → {c : Call} {o : Outcome} → Effect s c o → CarriesName c (o .answer) (o .buffer)
+not-named : (l : Lent) (a : Answer) → l ≡ notLent → LentCarries l a untouched
+not-named l a e = subst (λ (x : Lent). LentCarries x a untouched) (sym e) refl
+
+shown-named : {s : State} → WellFormed s → {c : Call} {o : Outcome} → Shown s c o → CarriesName c (o .answer) (o .buffer)
 unfolding refuse accept replay discard sendFrom sendStep idleStep sendOutOfRate withTime
-effect-named w (refuses c n h) = refused-named c n
-effect-named w (opens vpi vci t p g) = refl
-effect-named w (closes vpi vci d f) = refl
-effect-named w (offers vpi vci n d f i h) = refl
-effect-named w (receivesData o vpi vci e u d r i z f) = refl
-effect-named w (receivesRm o q d r f) = refl
-effect-named w (setsLevel l h) = refl
-effect-named w (idles t room g b) = refl
-effect-named {s} w (sends t room i u g b) =
+shown-named w (refusing c n h) = refused-named (lentOf c) n
+shown-named w (accepting c n r l g) = not-named (lentOf c) _ l
+shown-named w (discarding c n x u r l i g) = not-named (lentOf c) _ l
+shown-named w (idling t room g) = refl
+shown-named {s} w (serving t room i u g b) =
     let k = kindAt t (b .holder) in
     subst (λ (v : ℕ). SentCarries k v (nameAnswered v (memberServed k (b .holder) (s .members))) (bufferSent k (b .holder) (after k t (b .holder)))) (name-of u s (b .holder) (b .found))
     (sent-name k (b .holder) (after k t (b .holder)) (s .members) (after-same k t (b .holder) .name) (valid-at w u (b .holder) (b .found) .0 .coded))
-effect-named w (makes vpi vci t d f g b m) = refl
-effect-named w (opensPath vpi t p g) = refl
-effect-named w (adds vpi vci d f j) = refl
-effect-named w (offersMember vpi vci n d f i h) = refl
-effect-named w (removes vpi vci d f i) = refl
-effect-named {s} w (sendsOutOfRate vpi vci t room d f g b) =
+shown-named {s} w (servingOutOfRate vpi vci t room d f g) =
     subst (λ (v : ℕ). Carries v (written (outOfRateCell d))) (name-of (addressName vpi vci) s d f) (out-of-rate-name d (valid-at w (addressName vpi vci) d f .0 .coded))
 
 pub cells-carry-names : CellsCarryNames
-cells-carry-names cs c = let w = reached-well-formed cs in effect-named w (effect (final empty cs) (w .unique) c)
+cells-carry-names cs c = let w = reached-well-formed cs in shown-named w (shown w c)

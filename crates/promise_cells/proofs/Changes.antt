@@ -5,7 +5,7 @@ use mathlib.Core.Bool.{Bool, true, false, cond}
 use mathlib.Core.List.{List}
 use native.Mathlib.Omega.{arith}
 use lib.Dec.{eqb}
-use borrow.Author.Tests.{eq-eqb, ne-eqb, eqb-true}
+use borrow.Author.Tests.{eq-eqb, eqb-true}
 use Rattle.rate_params.specs.declared.params.Params.{Params}
 use Rattle.rate_params.specs.Params.{initialUsed}
 use Rattle.cell.specs.declared.fields.Fields.{Fields}
@@ -21,27 +21,28 @@ use Rattle.connection.specs.declared.kind.Kind.the-variants.{Forward, Turned, D
 use Rattle.connection.specs.Parts.{fresh, changed}
 use Rattle.connection.specs.Invariant.{ValidAt}
 use Rattle.connection.specs.Kind.{kindAt}
-use Rattle.connection.specs.Making.{withMade}
-use Rattle.connection.specs.Receiving.{offered, afterDataCell, fedBack, afterBackwardCell, afterForwardCell, afterRmCell}
-use Rattle.connection.specs.Sending.{after, withServed, sentForward, sentTurned, sentData}
-use Rattle.connection.specs.OutOfRate.{afterOutOfRate}
+use Rattle.connection.specs.Source.{offered, fedBack, afterBackwardCell, withServed, sentForward, sentData, afterOutOfRate}
+use Rattle.connection.specs.Destination.{withMade, afterDataCell, afterForwardCell, sentTurned}
+use Rattle.connection.specs.Received.{afterRmCell}
+use Rattle.connection.specs.Slot.{after}
 use Rattle.connection.proofs.Differences.{change-within}
 use Rattle.model.specs.declared.acr.Acr.the-variants.{NotOpen, Rate}
 use Rattle.model.specs.declared.answer.Answer.the-variants.{Accepted}
-use Rattle.model.specs.State.{State, Entry, free, taken, empty, find, withEntryOf, withOpened, withTime, withMembers}
+use Rattle.model.specs.State.{State, Entry, free, taken, empty, find, withOpened, withTime}
 use Rattle.model.specs.Invariant.{OnEntry, NamesUnique}
-use Rattle.model.specs.Call.{Call, opening, closing, receiving, offering, levelling, slot, making, outOfRate, openingPath, adding, offeringMember, removing, Outcome}
-use Rattle.model.specs.Step.{refuse, accept, replay, discard, step}
+use Rattle.model.specs.Call.{Call, opening, receiving, openingPath, Outcome}
+use Rattle.model.specs.Aspects.{Sort, opener, closer, arrival, slotAt, another, sortOf}
+use Rattle.model.specs.Step.{refuse, accept, replay, step}
 use Rattle.model.specs.Queries.{entryAcr, acrOf}
 use Rattle.model.specs.Run.{final, paramsGiven}
-use Rattle.model.proofs.Entries.{find-each, Case, same, other, case}
-use Rattle.model.proofs.Frames.{with-opened-read, freed-read}
+use Rattle.model.proofs.Entries.{find-each}
+use Rattle.model.proofs.Frames.{with-opened-read}
 use Rattle.model.proofs.Given.{entryParams, params-given}
-use Rattle.model.proofs.Effects.{OpenPassed, Effect, refuses, opens, closes, opensPath, effect}
+use Rattle.model.proofs.Effects.{OpenPassed, Effect, refuses, opens, opensPath, effect}
 use Rattle.model.proofs.Reached.{reached-well-formed}
 use Rattle.promise_lists.proofs.Received.{step-fed}
-use Rattle.promise_cells.specs.Changes.{ChangeBounded, notOpen, between, ChangedFrom, NotFedBack, Changes}
-use Rattle.promise_cells.proofs.Kept.{Has, effect-kept}
+use Rattle.promise_cells.specs.Changes.{ChangeBounded, notOpen, between, ChangedFrom, NotFedBack, Changes, NoFeedback}
+use Rattle.promise_cells.proofs.Kept.{Has, effect-kept, Stable, KeptBy}
 
 -- Between the bounds.
 bounded-entry : (last : ℕ) (x : Entry) → OnEntry (ValidAt last) x → ChangeBounded (entryParams x) (entryAcr x)
@@ -56,10 +57,10 @@ bounded cs v =
     rw (← params-given v cs) (bounded-entry (s .last) (find v (s .entries)) (find-each (ValidAt (s .last)) v (s .entries) (reached-well-formed cs .each)))
 
 -- An open.
-begun-entry :
+opened-entry :
     (s : State) (u t : ℕ) (p : Params) → OpenPassed s u t p → entryAcr (find u (withOpened (fresh u t p) s .entries)) ≡ Rate (initialUsed p) (changed (initialUsed p) (initialUsed p))
 unfolding entryAcr fresh
-begun-entry s u t p g =
+opened-entry s u t p g =
     ap entryAcr
     (with-opened-read (λ (x : Entry). x) u s (fresh u t p) (g .new) (g .room) ∙ ap (λ (b : Bool). cond b (taken (fresh u t p)) (find u (s .entries))) (eq-eqb u u refl))
 
@@ -68,14 +69,14 @@ begun :
     → acrOf (o .state) (addressName vpi vci) ≡ Rate (initialUsed p) (changed (initialUsed p) (initialUsed p))
 unfolding refuse accept replay acrOf withTime
 begun n (refuses _ k h) e = let z : _≡_ {A = ℕ} 0 1 = cc in absurd (omega arith)
-begun {s} {o} {vpi} {vci} {t} {p} n (opens _ _ _ _ g) e = begun-entry s (addressName vpi vci) t p g
+begun {s} {o} {vpi} {vci} {t} {p} n (opens _ _ _ _ g) e = opened-entry s (addressName vpi vci) t p g
 
-begun-path :
+opened-path :
     {s : State} {o : Outcome} {vpi t : ℕ} {p : Params} (n : ℕ) → Effect s (openingPath vpi t p) o → o .answer ≡ Accepted n
     → acrOf (o .state) (addressName vpi pathVci) ≡ Rate (initialUsed p) (changed (initialUsed p) (initialUsed p))
 unfolding refuse accept replay acrOf withTime
-begun-path n (refuses _ k h) e = let z : _≡_ {A = ℕ} 0 1 = cc in absurd (omega arith)
-begun-path {s} {o} {vpi} {t} {p} n (opensPath _ _ _ g) e = begun-entry s (addressName vpi pathVci) t p g
+opened-path n (refuses _ k h) e = let z : _≡_ {A = ℕ} 0 1 = cc in absurd (omega arith)
+opened-path {s} {o} {vpi} {t} {p} n (opensPath _ _ _ g) e = opened-entry s (addressName vpi pathVci) t p g
 
 -- what was read stands in the entry
 rate-in : (x : Entry) (a : ℕ) (z : Change) → entryAcr x ≡ Rate a z → Has (λ d. (d .rate .acr ≡ a) × (d .change ≡ z)) x
@@ -125,34 +126,18 @@ sent-kept x Forward t d m = m
 sent-kept x Turned t d m = m
 sent-kept x Data t d m = m
 
-closed-kept : {s : State} → NamesUnique (s .entries) → {vpi vci : ℕ} {o : Outcome} (v : ℕ) (x : Change) → Effect s (closing vpi vci) o
-    → Has (Changed x) (find v (s .entries)) → (b : ℕ) (y : Change) → acrOf (o .state) v ≡ Rate b y → Has (Changed x) (find v (o .state .entries))
-unfolding refuse discard withMembers acrOf entryAcr
-closed-kept u v x (refuses _ n h) m b y e = m
-closed-kept {s} u {vpi} {vci} v x (closes _ _ d f) m b y e = go (case (addressName vpi vci) v)
-  where
-    go : Case (addressName vpi vci) v → Has (Changed x) (find v (withEntryOf (addressName vpi vci) free s .entries))
-    go (same q) =
-        let z : NotOpen ≡ Rate b y = sym (ap entryAcr (freed-read (λ (x : Entry). x) v (addressName vpi vci) s u ∙ ap (λ (t : Bool). cond t free (find v (s .entries))) (eq-eqb (addressName vpi vci) v q))) ∙ e in
-        let w : _≡_ {A = ℕ} 0 1 = cc in absurd (omega arith)
-    go (other q) = rw (freed-read (λ (x : Entry). x) v (addressName vpi vci) s u, ne-eqb (addressName vpi vci) v q) m
+change-stable : (v : ℕ) (x : Change) (s : State) → Stable (Changed x) v s
+unfolding offered afterDataCell withMade afterOutOfRate
+change-stable v x s = record { offers = λ n d m. m; removals = λ n d m. m; dataCells = λ e d m. m; makings = λ t d _ _ m. m; outOfRates = λ t d _ _ m. m }
 
-call-kept : {s : State} → NamesUnique (s .entries) → (c : Call) {o : Outcome} (v : ℕ) (x : Change) → Effect s c o → NotFedBack v c → Has (Changed x) (find v (s .entries))
-    → (b : ℕ) (y : Change) → acrOf (o .state) v ≡ Rate b y → Has (Changed x) (find v (o .state .entries))
-unfolding offered afterDataCell withMade withServed afterOutOfRate
-call-kept u (opening vpi vci t p) v x h q m b y e = effect-kept (Changed x) v u h tt m
-call-kept u (closing vpi vci) v x h q m b y e = closed-kept u v x h m b y e
-call-kept {s} u (receiving o) v x h q m b y e =
-    effect-kept (Changed x) v u h (λ e d k. k, λ f d r n g k. work-kept v x (s .level) o f d (λ z. q f r z n) k) m
-call-kept u (offering vpi vci n) v x h q m b y e = effect-kept (Changed x) v u h (λ d k. k) m
-call-kept u (levelling l) v x h q m b y e = effect-kept (Changed x) v u h tt m
-call-kept u (slot t room) v x h q m b y e = effect-kept (Changed x) v u h (λ d y z acr n e k. sent-kept x (kindAt t d) t d k) m
-call-kept u (making vpi vci t) v x h q m b y e = effect-kept (Changed x) v u h (λ d _ _ k. k) m
-call-kept u (outOfRate vpi vci t room) v x h q m b y e = effect-kept (Changed x) v u h (λ d _ _ k. k) m
-call-kept u (openingPath vpi t p) v x h q m b y e = effect-kept (Changed x) v u h tt m
-call-kept u (adding vpi vci) v x h q m b y e = effect-kept (Changed x) v u h tt m
-call-kept u (offeringMember vpi vci n) v x h q m b y e = effect-kept (Changed x) v u h (λ d k. k) m
-call-kept u (removing vpi vci) v x h q m b y e = effect-kept (Changed x) v u h (λ d n k. k) m
+-- a connection whose rate can be read is not closed
+call-kept : (s : State) (o : Outcome) (v : ℕ) (x : Change) (b : ℕ) (y : Change) → acrOf (o .state) v ≡ Rate b y → (c : Sort) → NoFeedback v c → KeptBy (Changed x) v s o c
+unfolding withServed acrOf entryAcr
+call-kept s o v x b y e (opener u t p) q = tt
+call-kept s o v x b y e (closer u) q = λ _ f. let z : NotOpen ≡ Rate b y = ap entryAcr (sym f) ∙ e in let w : _≡_ {A = ℕ} 0 1 = cc in absurd (omega arith)
+call-kept s o v x b y e (arrival i) q = λ f d r n g k. work-kept v x (s .level) i f d (λ z. q f r z n) k
+call-kept s o v x b y e (slotAt t) q = λ d y z acr n e k. sent-kept x (kindAt t d) t d k
+call-kept s o v x b y e another q = tt
 
 same-change : (z : Entry) (x y : Change) (b : ℕ) → Has (Changed x) z → entryAcr z ≡ Rate b y → y ≡ x
 unfolding entryAcr
@@ -167,13 +152,13 @@ kept cs c v a b x y q e g =
     let s : State = final empty cs in
     let u = reached-well-formed cs .unique in
     let m = has-map (λ _ h. h .1) (find v (s .entries)) (rate-in (find v (s .entries)) a x e) in
-    same-change (find v (step s c .state .entries)) x y b (call-kept u c v x (effect s u c) q m b y g) g
+    same-change (find v (step s c .state .entries)) x y b (effect-kept (Changed x) v u (effect s u c) (change-stable v x s) (call-kept s (step s c) v x b y g (sortOf c) q) m) g
 
 pub changes : Changes
 changes = record {
   bounded = bounded;
   opens = λ cs vpi vci t n p e. begun n (effect (final empty cs) (reached-well-formed cs .unique) (opening vpi vci t p)) e;
-  opensPath = λ cs vpi t n p e. begun-path n (effect (final empty cs) (reached-well-formed cs .unique) (openingPath vpi t p)) e;
+  opensPath = λ cs vpi t n p e. opened-path n (effect (final empty cs) (reached-well-formed cs .unique) (openingPath vpi t p)) e;
   fedBack = fed-back;
   kept = kept;
 }

@@ -3,7 +3,7 @@ use Prim.Native.Nat.{ℕ, _≤_}
 use mathlib.Core.Path.{_≡_, sym, subst}
 use mathlib.Core.Bool.{Bool, true}
 use mathlib.Core.List.{List}
-use Rattle.cell_crc.specs.Payload.{payloadOf}
+use Rattle.cell_payload.specs.Payload.{payloadOf}
 use Rattle.cell.specs.Octets.{payload, AreOctets}
 use Rattle.cell.specs.Fields.{fieldsFit, rmCell}
 use Rattle.cell.specs.Reading.{reading}
@@ -28,4 +28,4 @@ turned-formed level b o f a e vpi vci =
     })
 
 pub written-forms : WrittenForms
-written-forms = written-as Formed fields-formed turned-formed
+written-forms = written-as Formed fields-formed (λ level b o f a e vpi vci _ _. turned-formed level b o f a e vpi vci)

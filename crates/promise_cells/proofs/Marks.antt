@@ -7,8 +7,8 @@ use native.Mathlib.Omega.{arith}
 use lib.Dec.{eqb}
 use borrow.Author.Tests.{eq-eqb}
 use Rattle.rate_params.specs.declared.params.Params.{Params}
-use Rattle.cell_crc.specs.declared.payload.Payload.{Payload}
-use Rattle.cell_crc.specs.Payload.{payloadOf}
+use Rattle.cell_payload.specs.declared.payload.Payload.{Payload}
+use Rattle.cell_payload.specs.Payload.{payloadOf}
 use Rattle.cell.specs.Octets.{AreOctets, payload}
 use Rattle.cell.specs.Name.{vpiIn, vciIn, noName}
 use Rattle.cell.specs.Header.{header}
@@ -26,27 +26,27 @@ use Rattle.connection.specs.declared.parts.Waiting.{Waiting}
 use Rattle.connection.specs.declared.parts.Waiting.the-variants.{Cell}
 use Rattle.connection.specs.declared.kind.Kind.{Kind}
 use Rattle.connection.specs.declared.kind.Kind.the-variants.{Forward, Turned, Data}
-use Rattle.connection.specs.Making.{withMade}
-use Rattle.connection.specs.Receiving.{offered, afterDataCell, waitingCi, markKept, afterBackwardCell, afterForwardCell, afterRmCell}
-use Rattle.connection.specs.OutOfRate.{afterOutOfRate}
+use Rattle.connection.specs.Source.{offered, afterBackwardCell, afterOutOfRate, sentForward, sentData, withServed}
+use Rattle.connection.specs.Destination.{withMade, afterDataCell, waitingCi, markKept, afterForwardCell, backwardCell}
+use Rattle.connection.specs.Received.{afterRmCell}
+use Rattle.connection.specs.Slot.{after, bufferSent, written}
 use Rattle.connection.specs.Kind.{kindAt}
-use Rattle.connection.specs.Sending.{after, sentForward, sentData, bufferSent, backwardCell, written, withServed}
 use Rattle.connection.proofs.Keeps.{work-same}
 use Rattle.model.specs.State.{State, Entry, taken, empty, find}
 use Rattle.model.specs.Invariant.{WellFormed}
-use Rattle.model.specs.declared.answer.Answer.{Answer}
 use Rattle.model.specs.declared.answer.Answer.the-variants.{Sent}
-use Rattle.model.specs.Call.{Call, opening, closing, receiving, offering, levelling, slot, making, outOfRate, openingPath, adding, offeringMember, removing, Outcome}
+use Rattle.model.specs.Call.{Call, receiving, slot, Outcome}
+use Rattle.model.specs.Aspects.{Sort, opener, closer, arrival, slotAt, another, sortOf}
 use Rattle.model.specs.Step.{refuse, accept, replay, idleStep, sendFrom, sendStep, step}
 use Rattle.model.specs.Run.{final}
 use Rattle.model.proofs.Frames.{name-of, put-read}
 use Rattle.model.proofs.Preserved.{valid-at}
 use Rattle.model.proofs.Effects.{Effect, refuses, idles, sends, effect}
 use Rattle.model.proofs.Reached.{step-well-formed, final-well-formed, reached-well-formed}
-use Rattle.promise_cells.specs.Marks.{MarkCame, withCi, withEfci, atLevel2, Quiet, AllQuiet, MarkWritten, NoMarkLost}
+use Rattle.promise_cells.specs.Marks.{MarkCame, withCi, withEfci, atLevel2, AllQuiet, MarkWritten, NoMarkLost, QuietSort}
 use Rattle.promise_lists.proofs.Pairs.{sent-same}
-use Rattle.promise_lists.proofs.Received.{step-works}
-use Rattle.promise_cells.proofs.Kept.{Has, KeptBy, effect-kept}
+use Rattle.promise_lists.proofs.Received.{step-rm}
+use Rattle.promise_cells.proofs.Kept.{Has, KeptBy, effect-kept, Stable}
 
 -- the turned cell that waits, as it will be written, is read as a turned cell of v with CI 1
 record Marked (v : ℕ) (w : Waiting) : Type 0 where
@@ -124,25 +124,21 @@ sent-mark v t Forward d n m = m
 sent-mark v t Turned d n m = absurd (n refl)
 sent-mark v t Data d n m = m
 
-quiet-kept : (v : ℕ) {s : State} → WellFormed s → (c : Call) (a : Answer) → Quiet v c a → KeptBy (CarriesMark v) v s c a
-unfolding offered afterDataCell withMade withServed afterOutOfRate
-quiet-kept v w (opening vpi vci t p) a q = tt
-quiet-kept v w (closing vpi vci) a q = q
-quiet-kept v {s} w (receiving o) a q =
-    (λ e d m. m, λ f d r _ g m. work-mark v (s .level) o f d q r (rw (← name-of v s d g) (valid-at w v d g .0 .coded)) m)
-quiet-kept v w (offering vpi vci n) a q = λ d m. m
-quiet-kept v w (levelling l) a q = tt
-quiet-kept v w (slot t room) a q = λ d x y acr n e m. sent-mark v t (kindAt t d) d (λ k. q x acr n (e ∙ sent-same refl refl k)) m
-quiet-kept v w (making vpi vci t) a q = λ d _ _ m. m
-quiet-kept v w (outOfRate vpi vci t room) a q = λ d _ _ m. m
-quiet-kept v w (openingPath vpi t p) a q = tt
-quiet-kept v w (adding vpi vci) a q = tt
-quiet-kept v w (offeringMember vpi vci n) a q = λ d m. m
-quiet-kept v w (removing vpi vci) a q = λ d n m. m
+mark-stable : (v : ℕ) (s : State) → Stable (CarriesMark v) v s
+unfolding offered afterDataCell withMade afterOutOfRate
+mark-stable v s = record { offers = λ n d m. m; removals = λ n d m. m; dataCells = λ e d m. m; makings = λ t d _ _ m. m; outOfRates = λ t d _ _ m. m }
+
+quiet-kept : (v : ℕ) {s : State} → WellFormed s → (c : Sort) (o : Outcome) → QuietSort v (o .answer) c → KeptBy (CarriesMark v) v s o c
+unfolding withServed
+quiet-kept v w (opener u t p) o q = tt
+quiet-kept v w (closer u) o q = λ e _. q e
+quiet-kept v {s} w (arrival x) o q = λ f d r _ g m. work-mark v (s .level) x f d q r (rw (← name-of v s d g) (valid-at w v d g .0 .coded)) m
+quiet-kept v w (slotAt t) o q = λ d x y acr n e m. sent-mark v t (kindAt t d) d (λ k. q x acr n (e ∙ sent-same refl refl k)) m
+quiet-kept v w another o q = tt
 
 all-mark : (v : ℕ) (s : State) → WellFormed s → (cs : List Call) → AllQuiet v s cs → Has (CarriesMark v) (find v (s .entries)) → Has (CarriesMark v) (find v (final s cs .entries))
 all-mark v s w [] q m = m
-all-mark v s w (c ∷ cs) q m = all-mark v (step s c .state) (step-well-formed w c) cs (q .1) (effect-kept (CarriesMark v) v (w .unique) (effect s (w .unique) c) (quiet-kept v w c (step s c .answer) (q .0)) m)
+all-mark v s w (c ∷ cs) q m = all-mark v (step s c .state) (step-well-formed w c) cs (q .1) (effect-kept (CarriesMark v) v (w .unique) (effect s (w .unique) c) (mark-stable v s) (quiet-kept v w (sortOf c) (step s c) (q .0)) m)
 
 -- The cell that brings the mark.
 came-marks : (f : Fields) (c : Connection) (level : ℕ) → MarkCame f c level → cond (markKept (c .destination) || eqb level 2) 1 (f .ci) ≡ 1
@@ -159,7 +155,7 @@ received-mark :
 unfolding accept replay afterRmCell afterForwardCell
 received-mark s w o f c a e d q m =
     rw (
-      step-works s o f c e q,
+      step-rm s o f c e q,
       put-read (λ (x : Entry). x) (cellName f) (cellName f) s (w .unique) c (afterRmCell (s .level) o f c) q (work-same (s .level) o f c .name),
       eq-eqb (cellName f) (cellName f) refl,
       d,

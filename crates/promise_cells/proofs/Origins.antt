@@ -9,8 +9,8 @@ use lib.Dec.{eqb, lit≤}
 use lib.ListN.{getD, replicate}
 use borrow.Author.Tests.{eq-eqb, ne-eqb, eqb-true, eqb-false}
 use Rattle.rate_params.specs.declared.params.Params.{Params}
-use Rattle.cell_crc.specs.Payload.{octetsOf, payloadOf}
-use Rattle.cell_crc.specs.declared.payload.Payload.{Payload}
+use Rattle.cell_payload.specs.Payload.{octetsOf, payloadOf}
+use Rattle.cell_payload.specs.declared.payload.Payload.{Payload}
 use Rattle.cell.specs.Octets.{AreOctets, octet, payload}
 use Rattle.cell.specs.Name.{vpiIn, vciIn, noName, addressName}
 use Rattle.cell.specs.Header.{header}
@@ -31,13 +31,13 @@ use Rattle.connection.specs.declared.parts.Waiting.the-variants.{Nothing, Cell}
 use Rattle.connection.specs.declared.kind.Kind.{Kind}
 use Rattle.connection.specs.declared.kind.Kind.the-variants.{Forward, Turned, Data}
 use Rattle.connection.specs.Parts.{fresh, withQueue, dequeued}
-use Rattle.connection.specs.Making.{withMade, madeFields}
-use Rattle.connection.specs.Receiving.{offered, afterDataCell, waitingCi, markKept, afterBackwardCell, afterForwardCell, afterRmCell}
-use Rattle.connection.specs.OutOfRate.{afterOutOfRate}
+use Rattle.connection.specs.Source.{offered, afterBackwardCell, afterOutOfRate, sentForward, sentData, withServed}
+use Rattle.connection.specs.Destination.{withMade, madeFields, afterDataCell, waitingCi, markKept, afterForwardCell, sentTurned, backwardCell}
+use Rattle.connection.specs.Received.{afterRmCell}
+use Rattle.connection.specs.Slot.{after, bufferSent, written}
 use Rattle.connection.specs.Kind.{kindAt}
-use Rattle.connection.specs.Sending.{after, sentForward, sentTurned, sentData, bufferSent, backwardCell, written, withServed}
 use Rattle.connection.proofs.Keeps.{work-same, after-same}
-use Rattle.connection.proofs.SendCases.{made-fits}
+use Rattle.connection.proofs.DestinationCases.{made-fits}
 use Rattle.model.specs.State.{State, Entry, free, taken, capacity, empty, find, withEntryOf, withOpened, withTime, withLevel, withMembers}
 use Rattle.model.specs.Invariant.{NamesUnique, WellFormed, OnEntry}
 use Rattle.model.specs.declared.answer.Answer.the-variants.{Idle, Sent}
@@ -47,17 +47,13 @@ use Rattle.model.specs.Run.{final, isAccepted}
 use Rattle.model.proofs.Entries.{Case, same, other, case, absent-find, each-free}
 use Rattle.model.proofs.Frames.{name-of, put-read, with-opened-read, freed-read}
 use Rattle.model.proofs.Effects.{OpenPassed, Effect, refuses, opens, closes, offers, receivesData, receivesRm, setsLevel, idles, sends, makes, sendsOutOfRate, opensPath, adds, offersMember, removes, effect}
-use Rattle.model.proofs.Reached.{reached-well-formed}
+use Rattle.model.proofs.Reached.{reached-well-formed, final-append}
 use Rattle.laws.specs.All.{All}
 use Rattle.promise_cells.specs.ReservedBit.{OfOctets}
 use Rattle.promise_cells.specs.Origins.{Mark, ci, ni, efci, SparedByData, SparedByForward, SparedByCell, SparedBySlot, Spared, AllSpared, MarkBrought, EfciCame, SetsCi, withCi, withEfci, atLevel2, SetsNi, withNi, atLevel1, CiCame, NiCame, NoMarkInvented}
 use Rattle.promise_cells.proofs.Spaced.{named-below}
 
 -- One more call at the end of a list.
-pub final-append : (s : State) (xs ys : List Call) → final s (xs ++ ys) ≡ final (final s xs) ys
-final-append s [] ys = refl
-final-append s (x ∷ xs) ys = final-append (step s x .state) xs ys
-
 abbrev SparedNext : Mark → ℕ → State → Call → Type 0
 SparedNext m v s c = isAccepted (step s c .answer) ≡ true → Spared m v s c (step s c .answer)
 
@@ -246,11 +242,11 @@ module _ (v : ℕ) (P Q : Connection → Type 0) where
       go (same q) = rw (eq-eqb u v q) (m q (subst (OnEntry P) (ap (λ (w : ℕ). find w (s .entries)) (sym q) ∙ f) h))
       go (other q) = rw (ne-eqb u v q) (r q h)
 
-  begun-on :
+  opened-on :
       (s : State) (u t : ℕ) (p : Params) → OpenPassed s u t p → Q (fresh u t p) → (OnEntry P (find v (s .entries)) → OnEntry Q (find v (s .entries)))
       → OnEntry P (find v (s .entries)) → OnEntry Q (find v (withOpened (fresh u t p) s .entries))
   unfolding fresh
-  begun-on s u t p g q r h = rw (with-opened-read (λ (x : Entry). x) v s (fresh u t p) (g .new) (g .room)) (go (case u v))
+  opened-on s u t p g q r h = rw (with-opened-read (λ (x : Entry). x) v s (fresh u t p) (g .new) (g .room)) (go (case u v))
     where
       go : Case u v → OnEntry Q (cond (eqb u v) (taken (fresh u t p)) (find v (s .entries)))
       go (same z) = rw (eq-eqb u v z) q
@@ -298,7 +294,7 @@ effect-explained :
 unfolding refuse accept replay discard sendFrom sendStep idleStep sendOutOfRate withEntryOf withOpened withTime withLevel withMembers withOffer withoutOne withServed fresh offered afterDataCell withMade afterOutOfRate isAccepted
 effect-explained v cs a {c} (refuses _ n h) e q m = unchanged v cs c (refused-spares v cs c n e) m
 effect-explained v cs a {c} (opens i j t p g) e q m =
-    begun-on v _ _ (final empty cs) (addressName i j) t p g (none-to-explain v _) (unchanged v cs c (λ k. spared-by v cs c e k tt)) m
+    opened-on v _ _ (final empty cs) (addressName i j) t p g (none-to-explain v _) (unchanged v cs c (λ k. spared-by v cs c e k tt)) m
 effect-explained v cs a {c} (closes i j d f) e q m = freed-on v _ _ (addressName i j) (final empty cs) a (λ r. unchanged v cs c (λ k. spared-by v cs c e k r)) m
 effect-explained v cs a {c} (offers i j n d f g b) e q m = same-marks v cs c (λ k. spared-by v cs c e k tt) (addressName i j) a d (offered n d) f refl refl refl m
 effect-explained v cs a {c} (receivesData o i j x u d r h z f) e q m =
@@ -334,7 +330,7 @@ effect-explained v cs a {c} (makes i j t d f g b z) e q m =
     same-marks v cs c (λ k. spared-by v cs c e k tt) (addressName i j) a d (withMade t (final empty cs .level) d) f refl refl refl m
 effect-explained v cs a {c} (sendsOutOfRate i j t room d f g b) e q m = same-marks v cs c (λ k. spared-by v cs c e k tt) (addressName i j) a d (afterOutOfRate t d) f refl refl refl m
 effect-explained v cs a {c} (opensPath i t p g) e q m =
-    begun-on v _ _ (final empty cs) (addressName i pathVci) t p g (none-to-explain v _) (unchanged v cs c (λ k. spared-by v cs c e k tt)) m
+    opened-on v _ _ (final empty cs) (addressName i pathVci) t p g (none-to-explain v _) (unchanged v cs c (λ k. spared-by v cs c e k tt)) m
 effect-explained v cs a {c} (adds i j d f g) e q m = unchanged v cs c (λ k. spared-by v cs c e k tt) m
 effect-explained v cs a {c} (offersMember i j n d f g b) e q m = same-marks v cs c (λ k. spared-by v cs c e k tt) (pathOf (addressName i j)) a d (offered n d) f refl refl refl m
 effect-explained v cs a {c} (removes i j d f g) e q m =

@@ -18,9 +18,9 @@ use Rattle.connection.specs.declared.parts.Connection.{Connection}
 use Rattle.connection.specs.declared.ready.Instant.the-variants.{At}
 use Rattle.connection.specs.Parts.{withOutOfRate}
 use Rattle.connection.specs.Interval.{rested}
-use Rattle.connection.specs.Sending.{after, forwardFields, written}
-use Rattle.connection.specs.OutOfRate.{afterOutOfRate, outOfRateCell}
-use Rattle.connection.proofs.SendCases.{forward-fits}
+use Rattle.connection.specs.Source.{forwardFields, afterOutOfRate, outOfRateCell}
+use Rattle.connection.specs.Slot.{after, written}
+use Rattle.connection.proofs.SourceCases.{forward-fits}
 use Rattle.connection.proofs.Readiness.{ready-out-of-rate}
 use Rattle.model.specs.State.{State, Entry, free, taken, empty, position, holds, find, withEntryOf, withTime}
 use Rattle.model.specs.Invariant.{WellFormed}
@@ -32,7 +32,7 @@ use Rattle.model.proofs.Frames.{name-of, put-read, put-kept}
 use Rattle.model.proofs.Preserved.{valid-at}
 use Rattle.model.proofs.Effects.{Effect, refuses, sendsOutOfRate, effect}
 use Rattle.model.proofs.Reached.{reached-well-formed}
-use Rattle.promise_cells.specs.OutOfRate.{readyIn, ForwardWritten, OutsideAlone, OutOfRateAlone, OutOfRateSpaced}
+use Rattle.promise_cells.specs.OutOfRate.{readyIn, ForwardWritten, OutOfRateChange, OutOfRateAlone, OutOfRateSpaced}
 use Rattle.promise_lists.proofs.Interference.{put-other}
 use Rattle.promise_cells.proofs.Kept.{Has}
 use Rattle.promise_cells.proofs.Spaced.{outOfRateSent, Since, Counts, named-below, rested-since, apart}
@@ -68,7 +68,7 @@ candidate-kept x t c = ap (candidateFrom x (c .name)) (ready-out-of-rate t c)
 
 effect-alone :
     {s : State} → WellFormed s → (vpi vci t room : ℕ) {o : Outcome} → Effect s (outOfRate vpi vci t room) o → isAccepted (o .answer) ≡ true
-    → OutsideAlone s (addressName vpi vci) t o
+    → OutOfRateChange s (addressName vpi vci) t o
 unfolding refuse isAccepted sendOutOfRate withTime withEntryOf afterOutOfRate entryRate
 effect-alone w vpi vci t room (refuses _ n h) a = let z : _≡_ {A = ℕ} 0 1 = cc in absurd (omega arith)
 effect-alone {s} w vpi vci t room (sendsOutOfRate _ _ _ _ d f g h) a =

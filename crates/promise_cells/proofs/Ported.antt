@@ -1,4 +1,5 @@
--- What a port leaves of a backward cell is at least as congested, and every other cell stays: so demand 3 compares the lists.
+-- What a port leaves of a backward cell is at least as congested, and every other cell stays. So
+-- demand 3 compares the lists.
 use Prim.Native.Nat.{ℕ, _/_, _%_, _≤_}
 use mathlib.Core.Path.{_≡_, refl, sym, ap, _∙_, subst}
 use mathlib.Core.Logic.{by-cases}
@@ -36,7 +37,7 @@ right o f e = record {
   crc = eq-eqb _ _ (rm-received o f e .check);
 }
 
--- the same but for ER is the same but for ER and the marks
+-- the same except for ER is the same except for ER and the marks
 no-mark : {o n : List ℕ} → SameButEr o n → SameButFeedback o n
 no-mark {o} {n} s = record {
   start = sym (take-take 6 7 o (omega arith)) ∙ ap (take 6) (sym (s .start)) ∙ take-take 6 7 n (omega arith);

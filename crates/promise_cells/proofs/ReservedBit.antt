@@ -1,4 +1,5 @@
--- No rate code that a call writes has its reserved bit set: a forward, made or out-of-rate cell has codes that the engine makes, and a turned one those of a cell that was taken in.
+-- No rate code that a call writes has its reserved bit set. A forward, made or out-of-rate cell has codes that the
+-- engine makes. A turned cell has those of a cell that was taken in.
 use Prim.Native.Nat.{ℕ, _+_, _*_, _<_, _≤_}
 use mathlib.Core.Path.{_≡_, refl, sym, subst}
 use mathlib.Core.Bool.{Bool, true, false, _&&_, _||_}
@@ -7,7 +8,7 @@ use native.Mathlib.Omega.{arith}
 use lib.Dec.{ltb, lit≤}
 use borrow.Author.Tests.{ltb-true}
 use Rattle.rate.specs.Code.{reservedClear, codesClear}
-use Rattle.cell_crc.specs.Payload.{payloadOf}
+use Rattle.cell_payload.specs.Payload.{payloadOf}
 use Rattle.cell.specs.Octets.{octet, pair, payload, AreOctets}
 use Rattle.cell.specs.Fields.{fieldsFit, ratesClear, rmCell}
 use Rattle.cell.specs.Reading.{reading}
@@ -17,8 +18,6 @@ use Rattle.cell.specs.declared.read.Reading.the-variants.{RmCell}
 use Rattle.cell.proofs.Admits.{rm-received}
 use Rattle.cell.proofs.Turned.{turned-kept, turned-words}
 use Rattle.cell.proofs.Written.{written-octets, written-clear}
-use Rattle.model.specs.State.{taken}
-use Rattle.model.proofs.Effects.{makes}
 use Rattle.promise_cells.specs.ReservedBit.{TopBitsClear, NoReservedBit}
 use Rattle.laws.proofs.Tests.{both}
 use Rattle.promise_cells.proofs.WrittenCells.{written-as}
@@ -60,4 +59,4 @@ turned-clear level b o f a e vpi vci =
     )
 
 pub no-reserved-bit : NoReservedBit
-no-reserved-bit = record { calls = written-as (λ _. TopBitsClear) fields-clear turned-clear; writes = λ f e. fields-clear 0 f (lit≤ tt) e }
+no-reserved-bit = record { calls = written-as (λ _. TopBitsClear) fields-clear (λ level b o f a e vpi vci _ _. turned-clear level b o f a e vpi vci); writes = λ f e. fields-clear 0 f (lit≤ tt) e }

@@ -1,4 +1,5 @@
--- Two made cells of a connection, and two of its out-of-rate cells, lie 100 ms or more apart: one law for both instants that a connection keeps.
+-- Two made cells of a connection lie 100 ms or more apart, and so do two of its out-of-rate cells. One law serves
+-- both instants that a connection keeps.
 use Prim.Native.Nat.{ℕ, _+_, _≤_, _<_}
 use mathlib.Core.Path.{_≡_, refl, sym, ap, subst, _∙_}
 use mathlib.Core.Logic.{_≢_}
@@ -22,15 +23,15 @@ use Rattle.connection.specs.declared.kind.Kind.the-variants.{Forward, Turned, D
 use Rattle.connection.specs.Parts.{withQueue, dequeued}
 use Rattle.connection.specs.Invariant.{NotAfter, ValidAt}
 use Rattle.connection.specs.Interval.{rested}
-use Rattle.connection.specs.Making.{withMade}
-use Rattle.connection.specs.Receiving.{offered, afterDataCell, afterBackwardCell, afterForwardCell, afterRmCell}
+use Rattle.connection.specs.Source.{offered, afterBackwardCell, sentForward, sentData, withServed, afterOutOfRate}
+use Rattle.connection.specs.Destination.{withMade, afterDataCell, afterForwardCell, sentTurned, madeLeft}
+use Rattle.connection.specs.Received.{afterRmCell}
+use Rattle.connection.specs.Slot.{after}
 use Rattle.connection.specs.Kind.{kindAt}
-use Rattle.connection.specs.Sending.{after, sentForward, sentTurned, sentData, madeLeft, withServed}
-use Rattle.connection.specs.OutOfRate.{afterOutOfRate}
 use Rattle.model.specs.State.{State, Entry, taken, empty, find, withTime}
 use Rattle.model.specs.Invariant.{WellFormed}
-use Rattle.model.specs.declared.answer.Answer.{Answer}
-use Rattle.model.specs.Call.{Call, opening, closing, receiving, offering, levelling, slot, making, outOfRate, openingPath, adding, offeringMember, removing, Outcome}
+use Rattle.model.specs.Call.{Call, closing, making, Outcome}
+use Rattle.model.specs.Aspects.{Sort, opener, closer, arrival, slotAt, another, sortOf}
 use Rattle.model.specs.Step.{refuse, accept, replay, step}
 use Rattle.model.specs.Run.{final, isAccepted}
 use Rattle.model.proofs.Frames.{name-of, put-read}
@@ -39,10 +40,11 @@ use Rattle.model.proofs.Effects.{Effect, refuses, makes, effect}
 use Rattle.model.proofs.Reached.{step-well-formed, final-well-formed, reached-well-formed}
 use Rattle.laws.specs.All.{All}
 use Rattle.promise_cells.specs.Spaced.{Apart, MakingsSpaced}
-use Rattle.promise_cells.proofs.Kept.{Has, KeptBy, effect-kept}
+use Rattle.promise_cells.proofs.Kept.{Has, KeptBy, effect-kept, Stable}
+use Rattle.promise_lists.proofs.Moves.{closer-closes}
 
-pub data Sort : Type 0 where
-  cellMade outOfRateSent : Sort
+pub data Spacing : Type 0 where
+  cellMade outOfRateSent : Spacing
 
 -- the instant of a connection's last cell of each sort
 abbrev Instants : Type 0
@@ -51,20 +53,20 @@ Instants = Instant × Instant
 abbrev instants : Connection → Instants
 instants c = (c .destination .made .last, c .«out_of_rate»)
 
-abbrev pub chosen : Sort → Instants → Instant
+abbrev pub chosen : Spacing → Instants → Instant
 chosen cellMade i = i .0
 chosen outOfRateSent i = i .1
 
-abbrev pub lastOf : Sort → Connection → Instant
+abbrev pub lastOf : Spacing → Connection → Instant
 lastOf k c = chosen k (instants c)
 
 -- the last one of this sort, as it is kept, is not before t
-pub record Since (k : Sort) (t : ℕ) (c : Connection) : Type 0 where
+pub record Since (k : Spacing) (t : ℕ) (c : Connection) : Type 0 where
   pub instant : ℕ
   pub at : lastOf k c ≡ At instant
   pub since : t ≤ instant
 
-kept-since : (k : Sort) (t : ℕ) (c d : Connection) → instants d ≡ instants c → Since k t c → Since k t d
+kept-since : (k : Spacing) (t : ℕ) (c d : Connection) → instants d ≡ instants c → Since k t c → Since k t d
 kept-since k t c d e m = record { instant = m .instant; at = ap (chosen k) e ∙ m .at; since = m .since }
 
 -- received cells and slots change neither
@@ -88,51 +90,55 @@ after-instants Turned t c = ap (λ (i : Instant). (i, c .«out_of_rate»)) (left
 after-instants Data t c = refl
 
 -- a new one is not before the last one kept, since none is after the time of the table
-not-after : (k : Sort) {now : ℕ} (c : Connection) (m : ℕ) → lastOf k c ≡ At m → ValidAt now c → m ≤ now
+not-after : (k : Spacing) {now : ℕ} (c : Connection) (m : ℕ) → lastOf k c ≡ At m → ValidAt now c → m ≤ now
 not-after cellMade {now} c m e h = subst (NotAfter now) e (h .2 .past)
 not-after outOfRateSent {now} c m e h = subst (NotAfter now) e (h .3)
 
-new-made : (k : Sort) (t x level : ℕ) (c : Connection) → t ≤ x → Since k t c → Since k t (withMade x level c)
+new-made : (k : Spacing) (t x level : ℕ) (c : Connection) → t ≤ x → Since k t c → Since k t (withMade x level c)
 unfolding withMade
 new-made cellMade t x level c h m = record { instant = x; at = refl; since = h }
 new-made outOfRateSent t x level c h m = record { instant = m .instant; at = m .at; since = m .since }
 
-new-out-of-rate : (k : Sort) (t x : ℕ) (c : Connection) → t ≤ x → Since k t c → Since k t (afterOutOfRate x c)
+new-out-of-rate : (k : Spacing) (t x : ℕ) (c : Connection) → t ≤ x → Since k t c → Since k t (afterOutOfRate x c)
 unfolding afterOutOfRate
 new-out-of-rate cellMade t x c h m = record { instant = m .instant; at = m .at; since = m .since }
 new-out-of-rate outOfRateSent t x c h m = record { instant = x; at = refl; since = h }
 
+since-stable : (k : Spacing) (v t : ℕ) {s : State} → WellFormed s → Stable (Since k t) v s
+unfolding offered afterDataCell
+since-stable k v t {s} w = record {
+  offers = λ n d m. kept-since k t d (offered n d) refl m;
+  removals = λ n d m. kept-since k t d (withQueue d (dequeued n (d .queue))) refl m;
+  dataCells = λ e d m. kept-since k t d (afterDataCell e d) refl m;
+  makings = λ x d h g m. new-made k t x (s .level) d (omega (arith, h, m .since, not-after k d (m .instant) (m .at) (valid-at w v d g))) m;
+  outOfRates = λ x d h g m. new-out-of-rate k t x d (omega (arith, h, m .since, not-after k d (m .instant) (m .at) (valid-at w v d g))) m;
+}
+
 -- only a close of this very pair closes it: no other pair makes its name
 open-kept :
-    (k : Sort) (vpi vci : ℕ) → addressName vpi vci < noName → (t : ℕ) {s : State} → WellFormed s → (c : Call) (a : Answer) → c ≢ closing vpi vci
-    → KeptBy (Since k t) (addressName vpi vci) s c a
-unfolding offered afterDataCell withServed
-open-kept k vpi vci l t w (opening i j x p) a q = tt
-open-kept k vpi vci l t w (closing i j) a q = λ e. let n = names-apart vpi vci i j l (sym e) in q (rw (n .0, n .1))
-open-kept k vpi vci l t {s} w (receiving o) a q =
-    (λ e d m. kept-since k t d (afterDataCell e d) refl m, λ f d r _ g m. kept-since k t d (afterRmCell (s .level) o f d) (work-instants (s .level) o f d) m)
-open-kept k vpi vci l t w (offering i j n) a q = λ d m. kept-since k t d (offered n d) refl m
-open-kept k vpi vci l t w (levelling n) a q = tt
-open-kept k vpi vci l t w (slot x room) a q = λ d v y acr n e m. kept-since k t d (withServed y (after (kindAt x d) x d)) (after-instants (kindAt x d) x d) m
-open-kept k vpi vci l t {s} w (making i j x) a q = λ d h g m.
-    new-made k t x (s .level) d (omega (arith, h, m .since, not-after k d (m .instant) (m .at) (valid-at w (addressName vpi vci) d g))) m
-open-kept k vpi vci l t w (outOfRate i j x room) a q = λ d h g m.
-    new-out-of-rate k t x d (omega (arith, h, m .since, not-after k d (m .instant) (m .at) (valid-at w (addressName vpi vci) d g))) m
-open-kept k vpi vci l t w (openingPath i x p) a q = tt
-open-kept k vpi vci l t w (adding i j) a q = tt
-open-kept k vpi vci l t w (offeringMember i j n) a q = λ d m. kept-since k t d (offered n d) refl m
-open-kept k vpi vci l t w (removing i j) a q = λ d n m. kept-since k t d (withQueue d (dequeued n (d .queue))) refl m
+    (k : Spacing) (vpi vci : ℕ) → addressName vpi vci < noName → (t : ℕ) (s : State) (c : Call) (o : Outcome) → c ≢ closing vpi vci → (x : Sort) → sortOf c ≡ x
+    → KeptBy (Since k t) (addressName vpi vci) s o x
+unfolding withServed
+open-kept k vpi vci l t s c o q (opener u i p) e = tt
+open-kept k vpi vci l t s c o q (closer u) e = λ z _.
+    let y = closer-closes c u e in
+    let n = names-apart vpi vci (y .vpi) (y .vci) l (sym (y .name ∙ z)) in
+    q (y .is ∙ (λ i. closing (sym (n .0) i) (sym (n .1) i)))
+open-kept k vpi vci l t s c o q (arrival x) e = λ f d r _ g m. kept-since k t d (afterRmCell (s .level) x f d) (work-instants (s .level) x f d) m
+open-kept k vpi vci l t s c o q (slotAt x) e = λ d v y acr n e m. kept-since k t d (withServed y (after (kindAt x d) x d)) (after-instants (kindAt x d) x d) m
+open-kept k vpi vci l t s c o q another e = tt
 
 all-since :
-    (k : Sort) (vpi vci : ℕ) → addressName vpi vci < noName → (t : ℕ) {s : State} → WellFormed s → (cs : List Call) → All (λ c. c ≢ closing vpi vci) cs
+    (k : Spacing) (vpi vci : ℕ) → addressName vpi vci < noName → (t : ℕ) {s : State} → WellFormed s → (cs : List Call) → All (λ c. c ≢ closing vpi vci) cs
     → Has (Since k t) (find (addressName vpi vci) (s .entries)) → Has (Since k t) (find (addressName vpi vci) (final s cs .entries))
 all-since k vpi vci l t w [] q m = m
 all-since k vpi vci l t {s} w (c ∷ cs) q m =
     all-since k vpi vci l t (step-well-formed w c) cs (q .1)
-    (effect-kept (Since k t) (addressName vpi vci) (w .unique) (effect s (w .unique) c) (open-kept k vpi vci l t w c (step s c .answer) (q .0)) m)
+    (effect-kept (Since k t) (addressName vpi vci) (w .unique) (effect s (w .unique) c) (since-stable k (addressName vpi vci) t w) (open-kept k vpi vci l t s c (step s c) (q .0) (sortOf c) refl) m)
 
--- an accepted call for v at t that sends or makes such a cell: 100 ms or more after the one before it, and the last one then
-pub record Counts (k : Sort) (v t : ℕ) (s : State) (o : Outcome) : Type 0 where
+-- an accepted call for v at t that sends or makes such a cell, 100 ms or more after the one
+-- before it; it is then the last one
+pub record Counts (k : Spacing) (v t : ℕ) (s : State) (o : Outcome) : Type 0 where
   pub holder : Connection
   pub found : find v (s .entries) ≡ taken holder
   pub rested : (m : ℕ) → lastOf k holder ≡ At m → m + 100_000_000 ≤ t
@@ -147,11 +153,11 @@ unfolding rested
 rested-since t i h m e = leb-true _ _ (subst (λ (j : Instant). rested t j ≡ true) e h)
 
 -- what is asked of a call's sort: that it counts wherever it is accepted
-abbrev pub Counting : (k : Sort) (v t : ℕ) (c : Call) → Type 0
+abbrev pub Counting : (k : Spacing) (v t : ℕ) (c : Call) → Type 0
 Counting k v t c = (s : State) → WellFormed s → isAccepted (step s c .answer) ≡ true → Counts k v t s (step s c)
 
 pub apart :
-    (k : Sort) (cs ds : List Call) (vpi vci t later : ℕ) (one two : Call) → Counting k (addressName vpi vci) t one → Counting k (addressName vpi vci) later two
+    (k : Spacing) (cs ds : List Call) (vpi vci t later : ℕ) (one two : Call) → Counting k (addressName vpi vci) t one → Counting k (addressName vpi vci) later two
     → Apart cs ds vpi vci one two t later
 apart k cs ds vpi vci t later one two f g q a b =
     let w = reached-well-formed cs in

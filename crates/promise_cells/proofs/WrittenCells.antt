@@ -1,13 +1,15 @@
--- What holds of every cell that is written from fields, and of every received cell turned round, holds of each cell that a call writes.
+-- What holds of every cell written from fields, and of every received cell turned round, holds of
+-- each cell that a call writes.
 use Prim.Native.Nat.{ℕ, _<_, _≤_}
 use mathlib.Core.Path.{_≡_, refl}
 use mathlib.Core.Bool.{Bool, true, false, cond}
 use mathlib.Core.List.{List, [], _∷_}
+use native.Mathlib.Omega.{arith}
 use lib.Dec.{eqb, lit≤}
 use Rattle.rate_params.specs.declared.params.Params.{Params}
-use Rattle.cell_crc.specs.Payload.{payloadOf}
+use Rattle.cell_payload.specs.Payload.{payloadOf}
 use Rattle.cell.specs.Octets.{payload, AreOctets}
-use Rattle.cell.specs.Name.{noName, addressName}
+use Rattle.cell.specs.Name.{noName, addressName, vpiIn, vciIn}
 use Rattle.cell.specs.Fields.{fieldsFit, rmCell, cellName}
 use Rattle.cell.specs.Reading.{reading}
 use Rattle.cell.specs.Turning.{turnedPayload, turnedCell}
@@ -22,13 +24,14 @@ use Rattle.connection.specs.declared.kind.Kind.the-variants.{Forward, Turned, D
 use Rattle.connection.specs.Parts.{fresh}
 use Rattle.connection.specs.Invariant.{ValidAt}
 use Rattle.connection.specs.Kind.{kindAt}
-use Rattle.connection.specs.Making.{withMade}
-use Rattle.connection.specs.Receiving.{offered, afterDataCell, markKept, afterBackwardCell, afterForwardCell, afterRmCell}
-use Rattle.connection.specs.OutOfRate.{afterOutOfRate, outOfRateCell}
-use Rattle.connection.specs.Sending.{after, withServed, sentForward, sentTurned, sentData, bufferSent, backwardCell, written}
+use Rattle.connection.specs.Source.{offered, afterBackwardCell, afterOutOfRate, outOfRateCell, withServed, sentForward, sentData}
+use Rattle.connection.specs.Destination.{withMade, afterDataCell, markKept, afterForwardCell, sentTurned, backwardCell}
+use Rattle.connection.specs.Received.{afterRmCell}
+use Rattle.connection.specs.Slot.{after, bufferSent, written}
 use Rattle.connection.proofs.Keeps.{after-valid, valid-later}
 use Rattle.connection.proofs.Reached.{acr-is-rate}
-use Rattle.connection.proofs.SendCases.{forward-fits, made-fits}
+use Rattle.connection.proofs.SourceCases.{forward-fits}
+use Rattle.connection.proofs.DestinationCases.{made-fits}
 use Rattle.model.specs.State.{State, free, taken, empty, capacity, position, holds, isFree, find, withEntryOf, withOpened, withTime, withLevel, withMembers}
 use Rattle.model.specs.Invariant.{Each, WellFormed}
 use Rattle.model.specs.Call.{Call, Outcome}
@@ -38,17 +41,18 @@ use Rattle.model.proofs.Entries.{each-set, each-free, each-at}
 use Rattle.model.proofs.Preserved.{valid-at, empty-well-formed}
 use Rattle.model.proofs.Effects.{Effect, refuses, opens, closes, offers, receivesData, receivesRm, setsLevel, idles, sends, makes, sendsOutOfRate, opensPath, adds, offersMember, removes, effect}
 use Rattle.model.proofs.Reached.{step-well-formed}
+use Rattle.model.proofs.Shown.{Shown, refusing, accepting, discarding, idling, serving, servingOutOfRate, shown}
 use Rattle.laws.specs.All.{All}
 use Rattle.promise_cells.specs.ReservedBit.{WrittenAs, OfOctets}
 use Rattle.promise_cells.specs.Forms.{clpOf}
 
 -- by the CLP of the cell
 module _ (W : (clp : ℕ) → List ℕ → Type 0) (fields : (clp : ℕ) (f : Fields) → clp ≤ 1 → fieldsFit f ≡ true → W clp (rmCell clp f))
-    (turns : (level : ℕ) (b : Bool) (o : List ℕ) (f : Fields) → AreOctets o → reading o ≡ RmCell f → (vpi vci : ℕ) → W 0 (turnedCell vpi vci (payloadOf (turnedPayload level b (payload o))))) where
+    (turns : (level : ℕ) (b : Bool) (o : List ℕ) (f : Fields) → AreOctets o → reading o ≡ RmCell f → (vpi vci : ℕ) → vpi ≤ 255 → vci ≤ 65535 → W 0 (turnedCell vpi vci (payloadOf (turnedPayload level b (payload o))))) where
   -- the turned cell that waits, if one does, on whatever VPI and VCI it is sent
   abbrev WaitsAs : Waiting → Type 0
   WaitsAs Nothing = Unit
-  WaitsAs (Cell p) = (vpi vci : ℕ) → W 0 (turnedCell vpi vci p)
+  WaitsAs (Cell p) = (vpi vci : ℕ) → vpi ≤ 255 → vci ≤ 65535 → W 0 (turnedCell vpi vci p)
 
   abbrev Waits : Connection → Type 0
   Waits d = WaitsAs (d .destination .turned)
@@ -109,7 +113,7 @@ module _ (W : (clp : ℕ) → List ℕ → Type 0) (fields : (clp : ℕ) (f : Fi
   backward-has : (v : ℕ) (p : Params) (w : Waiting) (level : ℕ) → v < noName → WaitsAs w → W 0 (backwardCell v p w level)
   unfolding backwardCell
   backward-has v p Nothing level h m = fields 0 _ (lit≤ tt) (made-fits v p level h)
-  backward-has v p (Cell x) level h m = m _ _
+  backward-has v p (Cell x) level h m = m (vpiIn v) (vciIn v) (omega (arith, h)) (omega arith)
 
   buffer-has : (last : ℕ) (k : Kind) (c d : Connection) → ValidAt last c → ValidAt last d → Waits c → WrittenAs (W 0) (bufferSent k c d)
   unfolding bufferSent
@@ -121,26 +125,17 @@ module _ (W : (clp : ℕ) → List ℕ → Type 0) (fields : (clp : ℕ) (f : Fi
   unfolding outOfRateCell
   out-of-rate-has last c x = fields 1 _ (lit≤ tt) (forward-fits (c .name) (c .rate) (x .0 .coded) (acr-is-rate (c .rate) (x .1 .rates)))
 
-  effect-written : {s : State} → Reached s → {c : Call} {o : Outcome} → Effect s c o → WrittenAs (W (clpOf c)) (o .buffer)
+  shown-written : {s : State} → Reached s → {c : Call} {o : Outcome} → Shown s c o → WrittenAs (W (clpOf c)) (o .buffer)
   unfolding refuse accept replay discard idleStep sendFrom sendStep sendOutOfRate
-  effect-written h (refuses c n p) = tt
-  effect-written h (opens a b t p g) = tt
-  effect-written h (closes a b d f) = tt
-  effect-written h (offers a b n d f i p) = tt
-  effect-written h (receivesData o a b e u d r i z f) = tt
-  effect-written h (receivesRm o g d r f) = tt
-  effect-written h (setsLevel l p) = tt
-  effect-written h (idles t room g b) = tt
-  effect-written {s} h (sends t room i u g b) =
+  shown-written h (refusing c n p) = tt
+  shown-written h (accepting c n r l g) = tt
+  shown-written h (discarding c n x u r l i g) = tt
+  shown-written h (idling t room g) = tt
+  shown-written {s} h (serving t room i u g b) =
       let d = b .holder in
       let v = valid-later (s .last) t (g .since) d (valid-at (h .wellFormed) u d (b .found)) in
       buffer-has t (kindAt t d) d (after (kindAt t d) t d) v (after-valid (kindAt t d) t d refl v) (each-at Waits u (s .entries) d (b .found) (h .turned))
-  effect-written h (makes a b t d f g p z) = tt
-  effect-written h (opensPath a t p g) = tt
-  effect-written h (adds a b d f j) = tt
-  effect-written h (offersMember a b n d f i p) = tt
-  effect-written h (removes a b d f i) = tt
-  effect-written {s} h (sendsOutOfRate a b t room d f g p) = out-of-rate-has (s .last) d (valid-at (h .wellFormed) (addressName a b) d f)
+  shown-written {s} h (servingOutOfRate a b t room d f g) = out-of-rate-has (s .last) d (valid-at (h .wellFormed) (addressName a b) d f)
 
   pub written-as : (cs : List Call) → All OfOctets cs → (c : Call) → WrittenAs (W (clpOf c)) (step (final empty cs) c .buffer)
-  written-as cs q c = let h = final-waits empty empty-waits cs q in effect-written h (effect (final empty cs) (h .wellFormed .unique) c)
+  written-as cs q c = let h = final-waits empty empty-waits cs q in shown-written h (shown (h .wellFormed) c)

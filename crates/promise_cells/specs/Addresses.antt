@@ -1,4 +1,6 @@
--- A pair of numbers out of their ranges is unknown, or no member of an open path, and never another pair; every cell that a call writes carries its connection's VPI and VCI, of a path VCI 6. (Document 02, L6 and L13.)
+-- A pair of numbers out of their ranges is unknown, or no member of an open path, and never another
+-- pair. Every cell that a call writes carries its connection's VPI and VCI; for a path the VCI is
+-- 6. (Document 02, L6 and L13.)
 use Prim.Native.Nat.{ℕ, _≤_, _<_}
 use mathlib.Core.Path.{_≡_}
 use mathlib.Core.Bool.{true, false, cond}
@@ -11,13 +13,14 @@ use Rattle.cell.specs.Header.{vpiOf, vciOf}
 use Rattle.connection_members.specs.Path.{pathVci}
 use Rattle.connection.specs.declared.kind.Kind.{Kind}
 use Rattle.connection.specs.declared.kind.Kind.the-variants.{Forward, Turned, Data}
-use Rattle.connection.specs.Sending.{Buffer, untouched, written}
+use Rattle.connection.specs.Slot.{Buffer, untouched, written}
 use Rattle.model.specs.State.{State, empty, isFree, find}
 use Rattle.model.specs.declared.acr.Acr.the-variants.{NotOpen}
 use Rattle.model.specs.declared.contract.Contract.the-variants.{NotOpen as NoContract}
 use Rattle.model.specs.declared.answer.Answer.{Answer}
 use Rattle.model.specs.declared.answer.Answer.the-variants.{Refused, Accepted, Closed, Idle, Sent}
-use Rattle.model.specs.Call.{Call, opening, closing, receiving, offering, levelling, slot, making, outOfRate, openingPath, adding, offeringMember, removing}
+use Rattle.model.specs.Call.{Call, opening, closing, offering, making, outOfRate, openingPath, adding, offeringMember, removing}
+use Rattle.model.specs.Aspects.{Lent, forSlot, forOutOfRate, notLent, lentOf}
 use Rattle.model.specs.Step.{refuse, step}
 use Rattle.model.specs.Queries.{acrOf, contractOf}
 use Rattle.model.specs.Run.{final}
@@ -26,7 +29,8 @@ use Rattle.model.specs.Run.{final}
 abbrev pub noMemberRefusal : State → (vpi : ℕ) → ℕ
 noMemberRefusal s vpi = cond (isFree (find (addressName vpi pathVci) (s .entries))) 11 28
 
--- what the calls on a pair do, where no refusal with an earlier place in their order comes first: 10 and 19 in an open, 8 in a making, 1 and 8 in an out-of-rate cell
+-- what the calls on a pair do, where no refusal that is earlier in their order comes first: 10 and 19 in an open,
+-- 8 in a making, 1 and 8 in an out-of-rate cell
 pub record Unknown (s : State) (vpi vci : ℕ) : Type 0 where
   pub opens : (t : ℕ) (p : Params) → 32 ≤ vci → codesClear (p .pcr) (p .mcr) (p .icr) ≡ true → step s (opening vpi vci t p) ≡ refuse s 7
   pub closes : step s (closing vpi vci) ≡ refuse s 11
@@ -61,34 +65,30 @@ abbrev pub Carries : ℕ → Buffer → Type 0
 Carries v untouched = ⊥
 Carries v (written o) = addressName (vpiOf o) (vciOf o) ≡ v
 
--- by the kind of cell that a slot sends, the connection that it goes to and the name that it answers: for data nothing is written
+-- by the kind of cell that a slot sends, the connection that it goes to and the name that it
+-- answers; for data nothing is written
 abbrev pub SentCarries : Kind → (connection name : ℕ) → Buffer → Type 0
 SentCarries Forward v x b = (x ≡ v) × Carries v b
 SentCarries Turned v x b = (x ≡ v) × Carries v b
 SentCarries Data v x b = b ≡ untouched
 
--- by the call and its answer: a slot's answer has the name, an out-of-rate cell is asked for by its pair, and nothing else is written
+-- by the call and its answer: a slot's answer has the name, an out-of-rate cell is requested by its
+-- pair, and nothing else is written
+abbrev pub LentCarries : Lent → Answer → Buffer → Type 0
+LentCarries (forSlot t) (Refused n) b = b ≡ untouched
+LentCarries (forSlot t) (Accepted n) b = b ≡ untouched
+LentCarries (forSlot t) (Closed n k) b = b ≡ untouched
+LentCarries (forSlot t) Idle b = b ≡ untouched
+LentCarries (forSlot t) (Sent v x k acr n) b = SentCarries k v x b
+LentCarries (forOutOfRate u) (Refused n) b = b ≡ untouched
+LentCarries (forOutOfRate u) (Accepted n) b = Carries u b
+LentCarries (forOutOfRate u) (Closed n k) b = ⊥
+LentCarries (forOutOfRate u) Idle b = ⊥
+LentCarries (forOutOfRate u) (Sent v x k acr n) b = ⊥
+LentCarries notLent a b = b ≡ untouched
+
 abbrev pub CarriesName : Call → Answer → Buffer → Type 0
-CarriesName (opening vpi vci t p) a b = b ≡ untouched
-CarriesName (closing vpi vci) a b = b ≡ untouched
-CarriesName (receiving o) a b = b ≡ untouched
-CarriesName (offering vpi vci n) a b = b ≡ untouched
-CarriesName (levelling l) a b = b ≡ untouched
-CarriesName (slot t room) (Refused n) b = b ≡ untouched
-CarriesName (slot t room) (Accepted n) b = b ≡ untouched
-CarriesName (slot t room) (Closed n k) b = b ≡ untouched
-CarriesName (slot t room) Idle b = b ≡ untouched
-CarriesName (slot t room) (Sent v x k acr n) b = SentCarries k v x b
-CarriesName (making vpi vci t) a b = b ≡ untouched
-CarriesName (outOfRate vpi vci t room) (Refused n) b = b ≡ untouched
-CarriesName (outOfRate vpi vci t room) (Accepted n) b = Carries (addressName vpi vci) b
-CarriesName (outOfRate vpi vci t room) (Closed n k) b = ⊥
-CarriesName (outOfRate vpi vci t room) Idle b = ⊥
-CarriesName (outOfRate vpi vci t room) (Sent v x k acr n) b = ⊥
-CarriesName (openingPath vpi t p) a b = b ≡ untouched
-CarriesName (adding vpi vci) a b = b ≡ untouched
-CarriesName (offeringMember vpi vci n) a b = b ≡ untouched
-CarriesName (removing vpi vci) a b = b ≡ untouched
+CarriesName c a b = LentCarries (lentOf c) a b
 
 -- forward, turned and made cells of slots, and those out of rate; after any list of calls from the empty table
 abbrev pub CellsCarryNames : Type 0

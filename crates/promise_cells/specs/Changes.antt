@@ -21,7 +21,8 @@ use Rattle.model.specs.declared.acr.Acr.{Acr}
 use Rattle.model.specs.declared.acr.Acr.the-variants.{NotOpen, Rate}
 use Rattle.model.specs.declared.answer.Answer.the-variants.{Accepted}
 use Rattle.model.specs.State.{empty}
-use Rattle.model.specs.Call.{Call, opening, closing, receiving, offering, levelling, slot, making, outOfRate, openingPath, adding, offeringMember, removing}
+use Rattle.model.specs.Call.{Call, opening, receiving, openingPath}
+use Rattle.model.specs.Aspects.{Sort, opener, closer, arrival, slotAt, another, sortOf}
 use Rattle.model.specs.Step.{step}
 use Rattle.model.specs.Queries.{acrOf}
 use Rattle.model.specs.Run.{final, paramsGiven}
@@ -39,19 +40,15 @@ pub record ChangedFrom (a : ℕ) (r : Acr) : Type 0 where
   pub is : r ≡ Rate after (changed a after)
 
 -- the call is no backward cell of the connection of v
+abbrev pub NoFeedback : ℕ → Sort → Type 0
+NoFeedback v (opener u t p) = Unit
+NoFeedback v (closer u) = Unit
+NoFeedback v (arrival o) = (f : Fields) → reading o ≡ RmCell f → f .dir ≡ 1 → cellName f ≢ v
+NoFeedback v (slotAt t) = Unit
+NoFeedback v another = Unit
+
 abbrev pub NotFedBack : ℕ → Call → Type 0
-NotFedBack v (opening vpi vci t p) = Unit
-NotFedBack v (closing vpi vci) = Unit
-NotFedBack v (receiving o) = (f : Fields) → reading o ≡ RmCell f → f .dir ≡ 1 → cellName f ≢ v
-NotFedBack v (offering vpi vci n) = Unit
-NotFedBack v (levelling l) = Unit
-NotFedBack v (slot t room) = Unit
-NotFedBack v (making vpi vci t) = Unit
-NotFedBack v (outOfRate vpi vci t room) = Unit
-NotFedBack v (openingPath vpi t p) = Unit
-NotFedBack v (adding vpi vci) = Unit
-NotFedBack v (offeringMember vpi vci n) = Unit
-NotFedBack v (removing vpi vci) = Unit
+NotFedBack v c = NoFeedback v (sortOf c)
 
 -- after any list of calls cs from the empty table
 pub record Changes : Type 0 where

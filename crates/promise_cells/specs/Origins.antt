@@ -1,4 +1,5 @@
--- No mark is invented: what a turned cell says of congestion was received, or set here, since the last turned cell of its connection went. (Document 01, "Turning cells round"; document 02, L2 and L13.)
+-- No mark is invented. What a turned cell says of congestion was received, or set here, since the last turned cell
+-- of its connection went. (Document 01, "Turning cells round"; document 02, L2 and L13.)
 use Prim.Native.Nat.{ℕ}
 use mathlib.Core.Path.{_≡_}
 use mathlib.Core.Logic.{_≢_}
@@ -12,11 +13,12 @@ use Rattle.cell.specs.declared.read.Reading.{Reading}
 use Rattle.cell.specs.declared.read.Reading.the-variants.{Refused, DataCell, RmCell}
 use Rattle.connection_members.specs.Members.{owner}
 use Rattle.connection.specs.declared.kind.Kind.the-variants.{Turned}
-use Rattle.connection.specs.Sending.{written}
+use Rattle.connection.specs.Slot.{written}
 use Rattle.model.specs.State.{State, empty}
 use Rattle.model.specs.declared.answer.Answer.{Answer}
 use Rattle.model.specs.declared.answer.Answer.the-variants.{Sent}
-use Rattle.model.specs.Call.{Call, opening, closing, receiving, offering, levelling, slot, making, outOfRate, openingPath, adding, offeringMember, removing}
+use Rattle.model.specs.Call.{Call, receiving, slot}
+use Rattle.model.specs.Aspects.{Sort, opener, closer, arrival, slotAt, another, sortOf}
 use Rattle.model.specs.Step.{step}
 use Rattle.model.specs.Run.{final, isAccepted}
 use Rattle.laws.specs.All.{All}
@@ -26,7 +28,8 @@ use Rattle.promise_cells.specs.ReservedBit.{OfOctets}
 pub data Mark : Type 0 where
   ci ni efci : Mark
 
--- A cell of v does not end it: the saved EFCI ends with the next data cell and with a forward cell, NI with a forward cell. CI goes on to the cell that replaces (L2).
+-- A cell does not end the mark of v. The saved EFCI ends with the next data cell and with a forward cell, NI with
+-- a forward cell. CI goes on to the cell that replaces (L2).
 abbrev pub SparedByData : Mark → (v owner : ℕ) → Type 0
 SparedByData ci v u = Unit
 SparedByData ni v u = Unit
@@ -49,19 +52,15 @@ SparedBySlot ni v a = (x acr n : ℕ) → a ≢ Sent v x Turned acr n
 SparedBySlot efci v a = Unit
 
 -- and a close ends all; no other call does
+abbrev pub SparedBySort : Mark → (v : ℕ) → State → Answer → Sort → Type 0
+SparedBySort m v s a (opener u t p) = Unit
+SparedBySort m v s a (closer u) = u ≢ v
+SparedBySort m v s a (arrival o) = SparedByCell m v s (reading o)
+SparedBySort m v s a (slotAt t) = SparedBySlot m v a
+SparedBySort m v s a another = Unit
+
 abbrev pub Spared : Mark → (v : ℕ) → State → Call → Answer → Type 0
-Spared m v s (opening vpi vci t p) a = Unit
-Spared m v s (closing vpi vci) a = addressName vpi vci ≢ v
-Spared m v s (receiving o) a = SparedByCell m v s (reading o)
-Spared m v s (offering vpi vci n) a = Unit
-Spared m v s (levelling l) a = Unit
-Spared m v s (slot t room) a = SparedBySlot m v a
-Spared m v s (making vpi vci t) a = Unit
-Spared m v s (outOfRate vpi vci t room) a = Unit
-Spared m v s (openingPath vpi t p) a = Unit
-Spared m v s (adding vpi vci) a = Unit
-Spared m v s (offeringMember vpi vci n) a = Unit
-Spared m v s (removing vpi vci) a = Unit
+Spared m v s c a = SparedBySort m v s a (sortOf c)
 
 -- no accepted call of the list ends it
 abbrev pub AllSpared : Mark → (v : ℕ) → State → List Call → Type 0

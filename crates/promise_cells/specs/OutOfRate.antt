@@ -1,4 +1,5 @@
--- An out-of-rate cell changes nothing but its own instant and the time of the table, and carries what a slot's forward cell would. (Document 02, L5 and L6; source rule 11.)
+-- An out-of-rate cell changes only its own instant and the time of the table. It carries what a slot's forward
+-- cell would. (Document 02, L5 and L6; source rule 11.)
 use Prim.Native.Nat.{ℕ, _+_, _≤_}
 use mathlib.Core.Path.{_≡_}
 use mathlib.Core.Logic.{_≢_}
@@ -15,7 +16,8 @@ use Rattle.connection.specs.declared.ready.Instant.{Instant}
 use Rattle.connection.specs.declared.ready.Instant.the-variants.{Never, At}
 use Rattle.connection.specs.Parts.{withOutOfRate}
 use Rattle.connection.specs.Ready.{readyInstant}
-use Rattle.connection.specs.Sending.{Buffer, written, forwardFields}
+use Rattle.connection.specs.Source.{forwardFields}
+use Rattle.connection.specs.Slot.{Buffer, written}
 use Rattle.model.specs.State.{State, Entry, free, taken, empty, find}
 use Rattle.model.specs.Winner.{winner}
 use Rattle.model.specs.Call.{Call, outOfRate, Outcome}
@@ -36,7 +38,7 @@ pub record ForwardWritten (v : ℕ) (q : Rate) (b : Buffer) : Type 0 where
   pub noMinimum : least (q .params) ≡ 0 → forwardFields v q .mcr ≡ 0x0000
 
 -- the outcome of an accepted call for v at t, on the table s
-pub record OutsideAlone (s : State) (v t : ℕ) (o : Outcome) : Type 0 where
+pub record OutOfRateChange (s : State) (v t : ℕ) (o : Outcome) : Type 0 where
   pub holder : Connection
   pub found : find v (s .entries) ≡ taken holder
   -- 100 ms or more after the one before it
@@ -57,7 +59,7 @@ pub record OutsideAlone (s : State) (v t : ℕ) (o : Outcome) : Type 0 where
 abbrev pub OutOfRateAlone : Type 0
 OutOfRateAlone =
     (cs : List Call) (vpi vci t room : ℕ) → isAccepted (step (final empty cs) (outOfRate vpi vci t room) .answer) ≡ true
-    → OutsideAlone (final empty cs) (addressName vpi vci) t (step (final empty cs) (outOfRate vpi vci t room))
+    → OutOfRateChange (final empty cs) (addressName vpi vci) t (step (final empty cs) (outOfRate vpi vci t room))
 
 -- At most ten a second on a connection.
 abbrev pub OutOfRateSpaced : Type 0

@@ -1,4 +1,5 @@
--- A port that received cells pass on their way never raises an allowed rate. (Document 01, "The lists of demand 3"; document 02, L10.)
+-- A port that received cells pass on their way never raises an allowed rate. (Document 01, "The lists of
+-- demand 3"; document 02, L10.)
 use Prim.Native.Nat.{ℕ}
 use mathlib.Core.List.{List}
 use Rattle.port.specs.Limit.{limit}

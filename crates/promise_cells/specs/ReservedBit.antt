@@ -6,9 +6,10 @@ use mathlib.Core.List.{List}
 use Rattle.cell.specs.declared.fields.Fields.{Fields}
 use Rattle.cell.specs.Octets.{octet, AreOctets}
 use Rattle.cell.specs.Fields.{fieldsFit, rmCell}
-use Rattle.connection.specs.Sending.{Buffer, untouched, written}
+use Rattle.connection.specs.Slot.{Buffer, untouched, written}
 use Rattle.model.specs.State.{empty}
-use Rattle.model.specs.Call.{Call, opening, closing, receiving, offering, levelling, slot, making, outOfRate, openingPath, adding, offeringMember, removing}
+use Rattle.model.specs.Call.{Call}
+use Rattle.model.specs.Aspects.{Sort, opener, closer, arrival, slotAt, another, sortOf}
 use Rattle.model.specs.Step.{step}
 use Rattle.model.specs.Run.{final}
 use Rattle.laws.specs.All.{All}
@@ -26,21 +27,18 @@ abbrev pub WrittenClear : Buffer → Type 0
 WrittenClear b = WrittenAs TopBitsClear b
 
 -- a received cell consists of octets, which C's type ensures
-abbrev pub OfOctets : Call → Type 0
-OfOctets (opening vpi vci t p) = Unit
-OfOctets (closing vpi vci) = Unit
-OfOctets (receiving o) = AreOctets o
-OfOctets (offering vpi vci n) = Unit
-OfOctets (levelling l) = Unit
-OfOctets (slot t room) = Unit
-OfOctets (making vpi vci t) = Unit
-OfOctets (outOfRate vpi vci t room) = Unit
-OfOctets (openingPath vpi t p) = Unit
-OfOctets (adding vpi vci) = Unit
-OfOctets (offeringMember vpi vci n) = Unit
-OfOctets (removing vpi vci) = Unit
+abbrev pub OctetsIn : Sort → Type 0
+OctetsIn (opener v t p) = Unit
+OctetsIn (closer v) = Unit
+OctetsIn (arrival o) = AreOctets o
+OctetsIn (slotAt t) = Unit
+OctetsIn another = Unit
 
--- after any list of calls from the empty table, whatever the next call is; and in every cell that is written from its fields
+abbrev pub OfOctets : Call → Type 0
+OfOctets c = OctetsIn (sortOf c)
+
+-- after any list of calls from the empty table, whatever the next call is; and in every cell
+-- that is written from its fields
 pub record NoReservedBit : Type 0 where
   pub calls : (cs : List Call) → All OfOctets cs → (c : Call) → WrittenClear (step (final empty cs) c .buffer)
   pub writes : (f : Fields) → fieldsFit f ≡ true → TopBitsClear (rmCell 0 f)

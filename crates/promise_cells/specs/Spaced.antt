@@ -10,7 +10,8 @@ use Rattle.model.specs.Step.{step}
 use Rattle.model.specs.Run.{final, isAccepted}
 use Rattle.laws.specs.All.{All}
 
--- After any list of calls cs from the empty table one call, at t, is accepted, and after any calls ds that do not close this pair another, at the later time.
+-- After any list of calls cs from the empty table one call is accepted, at t. After any calls ds that do not close
+-- this pair another is accepted, at the later time.
 abbrev pub Apart : (cs ds : List Call) (vpi vci : ℕ) (one two : Call) (t later : ℕ) → Type 0
 Apart cs ds vpi vci one two t later =
     All (λ c. c ≢ closing vpi vci) ds

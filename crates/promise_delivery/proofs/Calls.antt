@@ -1,9 +1,11 @@
--- What each call does to a name that is not open, and to the last accepted time; and what a slot that sends is known to have done.
+-- What each call does to a name that is not open and to the last accepted time. Also what a slot that
+-- sends is known to have done.
 use Prim.Native.Nat.{ℕ, _≤_}
-use mathlib.Core.Path.{_≡_, refl, sym, ap, _∙_}
+use mathlib.Core.Path.{_≡_, refl, sym, ap, _∙_, subst}
 use mathlib.Core.Logic.{_≢_}
 use mathlib.Core.Bool.{Bool, true, false, cond}
 use mathlib.Core.List.{List, [], _∷_}
+use mathlib.Core.Option.{none}
 use native.Mathlib.Nat.{le-refl, le-trans}
 use native.Mathlib.Omega.{arith}
 use lib.Dec.{eqb}
@@ -16,24 +18,29 @@ use Rattle.connection_members.specs.Path.{pathVci, pathOf}
 use Rattle.connection.specs.declared.parts.Connection.{Connection}
 use Rattle.connection.specs.declared.parts.Pace.the-variants.{Unsent}
 use Rattle.connection.specs.Parts.{fresh}
-use Rattle.connection.specs.Making.{withMade}
-use Rattle.connection.specs.Receiving.{offered, afterDataCell, afterRmCell}
-use Rattle.connection.specs.OutOfRate.{afterOutOfRate}
+use Rattle.connection.specs.Source.{offered, afterOutOfRate, withServed}
+use Rattle.connection.specs.Destination.{withMade, afterDataCell}
+use Rattle.connection.specs.Received.{afterRmCell}
+use Rattle.connection.specs.Slot.{after}
 use Rattle.connection.specs.Kind.{kindAt}
-use Rattle.connection.specs.Sending.{after, withServed}
 use Rattle.connection.proofs.Keeps.{work-same, after-same}
 use Rattle.model.specs.State.{State, Entry, free, taken, find, withEntryOf, withOpened, withTime, withLevel, withMembers}
 use Rattle.model.specs.Invariant.{NamesUnique, WellFormed}
 use Rattle.model.specs.declared.answer.Answer.{Answer}
-use Rattle.model.specs.Call.{Call, opening, closing, receiving, offering, levelling, slot, making, outOfRate, openingPath, adding, offeringMember, removing, Outcome, goesTo}
+use Rattle.model.specs.Call.{Call, opening, closing, openingPath, Outcome, goesTo}
 use Rattle.model.specs.Step.{refuse, accept, replay, discard, withOffer, withoutOne, sendFrom, sendStep, sendOutOfRate, idleStep, step}
 use Rattle.model.specs.Run.{final, isAccepted}
 use Rattle.model.proofs.Entries.{taken≢free}
 use Rattle.model.proofs.Frames.{put-read, with-opened-read, freed-read}
 use Rattle.model.proofs.Effects.{OpenPassed, Effect, refuses, opens, closes, offers, receivesData, receivesRm, setsLevel, idles, sends, makes, sendsOutOfRate, opensPath, adds, offersMember, removes, effect}
 use Rattle.model.proofs.Reached.{step-well-formed}
-use Rattle.promise_traces.specs.InRate.{cellIn, atSlot, sentBy, closesConnection}
-use Rattle.promise_delivery.specs.Calls.{sortOf, opensName, timeSent}
+use Rattle.laws.proofs.Tests.{both}
+use Rattle.model.proofs.Shown.{Shown, refusing, accepting, discarding, idling, serving, servingOutOfRate, shown}
+use Rattle.promise_lists.proofs.Moves.{closer-closes}
+use Rattle.promise_traces.specs.InRate.{cellIn, atSlot, sentBy, closesConnection, SentCell, atSort, closesSort}
+use Rattle.promise_traces.proofs.Next.{at-none}
+use Rattle.model.specs.Aspects.{sortOf, Sort, opener, closer, arrival, slotAt, another}
+use Rattle.promise_delivery.specs.Calls.{opensName, timeSent}
 
 -- A name that is not open stays so until it is opened.
 put-free :
@@ -97,42 +104,25 @@ pub data Sends (s : State) (c : Call) (o : Outcome) : Type 0 where
       (t u : ℕ) (d : Connection) → timeSent (sortOf c) (goesTo (o .answer)) ≡ t ∷ [] → find u (s .entries) ≡ taken d → length (sentBy u s c (o .answer)) ≡ 1
       → ((v : ℕ) → u ≢ v → sentBy v s c (o .answer) ≡ []) → s .last ≤ t → o .state .last ≡ t → Sends s c o
 
-refused-sends : (c : Call) (s : State) (n : ℕ) → Sends s c (refuse s n)
-unfolding refuse goesTo sentBy atSlot cellIn
-refused-sends (opening a b t p) s n = nothing refl (λ v. refl) (le-refl _)
-refused-sends (closing a b) s n = nothing refl (λ v. refl) (le-refl _)
-refused-sends (receiving o) s n = nothing refl (λ v. refl) (le-refl _)
-refused-sends (offering a b k) s n = nothing refl (λ v. refl) (le-refl _)
-refused-sends (levelling l) s n = nothing refl (λ v. refl) (le-refl _)
-refused-sends (slot t room) s n = nothing refl (λ v. refl) (le-refl _)
-refused-sends (making a b t) s n = nothing refl (λ v. refl) (le-refl _)
-refused-sends (outOfRate a b t room) s n = nothing refl (λ v. refl) (le-refl _)
-refused-sends (openingPath a t p) s n = nothing refl (λ v. refl) (le-refl _)
-refused-sends (adding a b) s n = nothing refl (λ v. refl) (le-refl _)
-refused-sends (offeringMember a b k) s n = nothing refl (λ v. refl) (le-refl _)
-refused-sends (removing a b) s n = nothing refl (λ v. refl) (le-refl _)
+no-time : (x : Sort) → timeSent x none ≡ []
+no-time (opener v t p) = refl
+no-time (closer v) = refl
+no-time (arrival o) = refl
+no-time (slotAt t) = refl
+no-time another = refl
 
-pub effect-sends : {s : State} {c : Call} {o : Outcome} → Effect s c o → Sends s c o
-unfolding accept replay discard sendFrom sendStep idleStep sendOutOfRate withTime withLevel withMembers withOffer withoutOne withEntryOf withOpened goesTo sentBy atSlot cellIn
-effect-sends {s} (refuses c n z) = refused-sends c s n
-effect-sends (opens vpi vci t p g) = nothing refl (λ v. refl) (g .timely .since)
-effect-sends (closes vpi vci d f) = nothing refl (λ v. refl) (le-refl _)
-effect-sends (offers vpi vci n d f i b) = nothing refl (λ v. refl) (le-refl _)
-effect-sends (receivesData o vpi vci e u d r i z f) = nothing refl (λ v. refl) (le-refl _)
-effect-sends (receivesRm o q d r f) = nothing refl (λ v. refl) (le-refl _)
-effect-sends (setsLevel l b) = nothing refl (λ v. refl) (le-refl _)
-effect-sends (idles t room g b) = nothing refl (λ v. refl) (g .since)
-effect-sends (sends t room i u g b) =
+pub shown-sends : {s : State} {c : Call} {o : Outcome} → Shown s c o → Sends s c o
+unfolding refuse accept discard sendFrom sendStep idleStep sendOutOfRate withTime withMembers withEntryOf goesTo sentBy atSlot cellIn
+shown-sends (refusing c n z) = nothing (no-time (sortOf c)) (λ v. at-none (sortOf c) _ (λ t. refl)) (le-refl _)
+shown-sends (accepting c n r l g) = nothing (no-time (sortOf c)) (λ v. at-none (sortOf c) _ (λ t. refl)) g
+shown-sends (discarding c n x u r l i g) = nothing (no-time (sortOf c)) (λ v. at-none (sortOf c) _ (λ t. refl)) g
+shown-sends (idling t room g) = nothing refl (λ v. refl) (g .since)
+shown-sends (serving t room i u g b) =
     onto t u (b .holder) refl (b .found) (rw (eq-eqb u u refl)) (λ v h. rw (ne-eqb u v h)) (g .since) refl
-effect-sends (makes vpi vci t d f g b m) = nothing refl (λ v. refl) (g .since)
-effect-sends (sendsOutOfRate vpi vci t room d f g b) = nothing refl (λ v. refl) (g .since)
-effect-sends (opensPath vpi t p g) = nothing refl (λ v. refl) (g .timely .since)
-effect-sends (adds vpi vci d f j) = nothing refl (λ v. refl) (le-refl _)
-effect-sends (offersMember vpi vci n d f i b) = nothing refl (λ v. refl) (le-refl _)
-effect-sends (removes vpi vci d f i) = nothing refl (λ v. refl) (le-refl _)
+shown-sends (servingOutOfRate vpi vci t room d f g) = nothing refl (λ v. refl) (g .since)
 
 pub step-sends : {s : State} → WellFormed s → (c : Call) → Sends s c (step s c)
-step-sends {s} w c = effect-sends (effect s (w .unique) c)
+step-sends {s} w c = shown-sends (shown w c)
 
 pub step-later : (v : ℕ) {s : State} → WellFormed s → (c : Call) → find v (s .entries) ≡ free → Later v c (find v (step s c .state .entries))
 step-later v {s} w c h = effect-later v (w .unique) (effect s (w .unique) c) h
@@ -148,34 +138,29 @@ impossible e = let z : _≡_ {A = ℕ} 0 1 = cc in absurd (omega arith)
 
 pub closed-free : (v : ℕ) (c : Call) {s : State} → WellFormed s → closesConnection v c (isAccepted (step s c .answer)) ≡ true → find v (step s c .state .entries) ≡ free
 unfolding closesConnection
-closed-free v (opening a b t p) w e = impossible e
-closed-free v (closing a b) {s} w e = closing-frees v a b (w .unique) (effect s (w .unique) (closing a b)) e
-closed-free v (receiving o) w e = impossible e
-closed-free v (offering a b k) w e = impossible e
-closed-free v (levelling l) w e = impossible e
-closed-free v (slot t room) w e = impossible e
-closed-free v (making a b t) w e = impossible e
-closed-free v (outOfRate a b t room) w e = impossible e
-closed-free v (openingPath a t p) w e = impossible e
-closed-free v (adding a b) w e = impossible e
-closed-free v (offeringMember a b k) w e = impossible e
-closed-free v (removing a b) w e = impossible e
+closed-free v c {s} w e = go (sortOf c) refl (both (isAccepted (step s c .answer)) (closesSort v (sortOf c)) e .1)
+  where
+    go : (x : Sort) → sortOf c ≡ x → closesSort v x ≡ true → find v (step s c .state .entries) ≡ free
+    go (opener u t p) q h = impossible h
+    go (closer u) q h =
+        let y = closer-closes c u q in
+        closing-frees v (y .vpi) (y .vci) (w .unique) (subst (λ (d : Call). Effect s d (step s c)) (y .is) (effect s (w .unique) c))
+        (subst (λ (d : Call). closesConnection v d (isAccepted (step s c .answer)) ≡ true) (y .is) e)
+    go (arrival o) q h = impossible h
+    go (slotAt t) q h = impossible h
+    go another q h = impossible h
 
 -- and a close sends nothing
+closer-sends-none : (v : ℕ) (x : Sort) (f : ℕ → List SentCell) → closesSort v x ≡ true → atSort x f ≡ []
+closer-sends-none v (opener u t p) f e = refl
+closer-sends-none v (closer u) f e = refl
+closer-sends-none v (arrival o) f e = refl
+closer-sends-none v (slotAt t) f e = impossible e
+closer-sends-none v another f e = refl
+
 pub closing-sends-none : (v : ℕ) (s : State) (c : Call) (a : Answer) (b : Bool) → closesConnection v c b ≡ true → sentBy v s c a ≡ []
 unfolding closesConnection sentBy atSlot
-closing-sends-none v s (opening i j t p) a b e = refl
-closing-sends-none v s (closing i j) a b e = refl
-closing-sends-none v s (receiving o) a b e = refl
-closing-sends-none v s (offering i j k) a b e = refl
-closing-sends-none v s (levelling l) a b e = refl
-closing-sends-none v s (slot t room) a b e = let z : _≡_ {A = ℕ} 0 1 = cc in absurd (omega arith)
-closing-sends-none v s (making i j t) a b e = refl
-closing-sends-none v s (outOfRate i j t room) a b e = refl
-closing-sends-none v s (openingPath i t p) a b e = refl
-closing-sends-none v s (adding i j) a b e = refl
-closing-sends-none v s (offeringMember i j k) a b e = refl
-closing-sends-none v s (removing i j) a b e = refl
+closing-sends-none v s c a b e = closer-sends-none v (sortOf c) _ (both b (closesSort v (sortOf c)) e .1)
 
 -- A name that is not open sends nothing.
 pub sends-none : (v : ℕ) {s : State} {c : Call} {o : Outcome} → Sends s c o → find v (s .entries) ≡ free → sentBy v s c (o .answer) ≡ []

@@ -2,6 +2,7 @@
 use Prim.Native.Nat.{ℕ, _+_, _≤_, _<_}
 use mathlib.Core.Path.{_≡_, refl, sym, ap, subst, _∙_}
 use mathlib.Core.List.{List, [], _∷_, _++_}
+use mathlib.Core.Bool.{false, true≢false}
 use native.Mathlib.Omega.{arith}
 use borrow.Author.Tests.{le-leb}
 use Rattle.laws.specs.Require.{require}
@@ -15,21 +16,19 @@ use Rattle.model.specs.Step.{refuse, idleStep, sendFrom, sendStep, slotStep, st
 use Rattle.model.specs.Queries.{nextReady}
 use Rattle.model.specs.Run.{final, isAccepted}
 use Rattle.model.proofs.Effects.{Effect, refuses, idles, sends, effect}
-use Rattle.model.proofs.Reached.{step-well-formed, reached-well-formed}
+use Rattle.model.proofs.Reached.{step-well-formed, reached-well-formed, final-append}
 use Rattle.laws.specs.All.{All}
+use Rattle.laws.proofs.Tests.{both}
 use Rattle.promise_service.specs.Liveness.{IsAccepted}
 use Rattle.promise_service.specs.NextReady.{SendsFromNext}
 use Rattle.promise_service.proofs.NextReady.{next-ready}
 use Rattle.promise_traces.specs.InRate.{closesConnection}
 use Rattle.promise_traces.proofs.Next.{Next, closed, quiet, goes, effect-next}
-use Rattle.promise_delivery.specs.Calls.{Sort, opener, closer, slotAt, another, sortOf, opensName, opensOf, timeSent, slotsSent, ifOpen, isOpen, AtSlot, AllHeld, AllFit}
+use Rattle.model.specs.Aspects.{Sort, opener, closer, slotAt, another, sortOf, arrival}
+use Rattle.promise_delivery.specs.Calls.{opensName, opensOf, timeSent, slotsSent, ifOpen, isOpen, AtSlot, AllHeld, AllFit}
 use Rattle.promise_delivery.proofs.SlotTime.{slot-accepted}
 use Rattle.promise_delivery.proofs.Calls.{Later, absent, begun, step-later}
 use Rattle.promise_delivery.specs.Turns.{NoSlot}
-
-pub final-append : (s : State) (cs ds : List Call) → final s (cs ++ ds) ≡ final (final s cs) ds
-final-append s [] ds = refl
-final-append s (c ∷ cs) ds = final-append (step s c .state) cs ds
 
 append-assoc : {A : Type 0} (xs ys zs : List A) → (xs ++ ys) ++ zs ≡ xs ++ (ys ++ zs)
 append-assoc [] ys zs = refl
@@ -78,8 +77,9 @@ opens-append v (c ∷ cs) ds = omega (arith, opens-append v cs ds)
 
 -- calls that are no slots
 no-slot-held : (x : Sort) (P : Type 0) → NoSlot x → AtSlot x P
-no-slot-held (opener u) P h = tt
+no-slot-held (opener u t p) P h = tt
 no-slot-held (closer u) P h = tt
+no-slot-held (arrival o) P h = tt
 no-slot-held (slotAt t) P h = absurd h
 no-slot-held another P h = tt
 
@@ -128,7 +128,7 @@ unfolding ifOpen closesConnection
 slot-keeps-open v s w t = go (find v (s .entries)) refl
   where
     still : (d : Connection) → Next v s d (slot t 53) (step s (slot t 53)) → 1 ≤ isOpen (step s (slot t 53) .state) v
-    still d (closed h) = let z : _≡_ {A = ℕ} 0 1 = cc in absurd (omega arith)
+    still d (closed h) = absurd (true≢false (sym (both (isAccepted (step s (slot t 53) .answer)) false h .1)))
     still d (quiet h n m y) = rw (y .found) (omega arith)
     still d (goes u i h n m e z due y) = rw (y .found) (omega arith)
 

@@ -19,7 +19,10 @@ use Rattle.connection.specs.declared.kind.Kind.the-variants.{Forward, Turned, D
 use Rattle.connection.specs.declared.ready.Instant.the-variants.{At}
 use Rattle.connection.specs.Ready.{readyInstant}
 use Rattle.connection.specs.Kind.{isForward, kindAt}
-use Rattle.connection.specs.Sending.{paced, sentForward, sentTurned, sentData, after}
+use Rattle.connection.specs.Pace.{paced}
+use Rattle.connection.specs.Source.{sentForward, sentData}
+use Rattle.connection.specs.Destination.{sentTurned}
+use Rattle.connection.specs.Slot.{after}
 use Rattle.connection.proofs.Keeps.{after-same, not-forward, turned≢forward, data≢forward}
 use Rattle.connection.proofs.Readiness.{ready-some}
 use Rattle.connection.proofs.Spaced.{dueFrom, ready-due}
@@ -32,7 +35,8 @@ use Rattle.promise_traces.proofs.Walk.{CellByCell, each-cell}
 use Rattle.promise_delivery.specs.Gcra.{nonconforming, dropped}
 use Rattle.promise_delivery.specs.Policed.{OnWire, arrivals, ownGap, PolicedCells, Policed}
 
--- the instant from which on a connection with this pace may send, if its gap is never less than g: before its first cell n
+-- the instant from which a connection with this pace may send, if its gap is never less than g;
+-- before its first cell it is n
 unfoldable pub openFrom : (g n : ℕ) → Pace → ℕ
 openFrom g n Unsent = n
 openFrom g n (Running sent forward k turned) = sent + g
@@ -61,7 +65,8 @@ kind-from g n t c Data e = paced-from g n t c false (c .pace) (not-forward Data 
 pub after-from : (g n t : ℕ) (c : Connection) → openFrom g n (after (kindAt t c) t c .pace) ≡ t + g
 after-from g n t c = kind-from g n t c (kindAt t c) refl
 
--- Each cell comes the gap of its own rate after t, the time of the one before, and that gap is at least one at the peak.
+-- Each cell comes at least the gap of its own rate after t, the time of the one before. That gap is
+-- at least the gap at the peak.
 record Follows (g t : ℕ) (x : SentCell) : Type 0 where
   pub own : t + gap (x .rate) ≤ x .time
   pub peak : g ≤ gap (x .rate)

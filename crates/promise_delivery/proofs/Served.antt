@@ -10,7 +10,6 @@ use native.Mathlib.Omega.{arith}
 use lib.Dec.{eqb}
 use borrow.Author.Tests.{eqb-true, eq-eqb, ne-eqb}
 use Rattle.laws.proofs.Tests.{both}
-use Rattle.cell.specs.Name.{addressName}
 use Rattle.rate.specs.Units.{latestTime}
 use Rattle.rate.specs.Gap.{gap}
 use Rattle.rate.proofs.Gaps.{gap-antitone}
@@ -25,7 +24,10 @@ use Rattle.connection.specs.declared.kind.Kind.the-variants.{Forward, Turned, D
 use Rattle.connection.specs.declared.ready.Instant.the-variants.{At}
 use Rattle.connection.specs.Ready.{readyInstant}
 use Rattle.connection.specs.Kind.{isForward, kindNumber, kindAt}
-use Rattle.connection.specs.Sending.{paced, sentForward, sentTurned, sentData, after}
+use Rattle.connection.specs.Pace.{paced}
+use Rattle.connection.specs.Source.{sentForward, sentData}
+use Rattle.connection.specs.Destination.{sentTurned}
+use Rattle.connection.specs.Slot.{after}
 use Rattle.connection.proofs.Keeps.{after-same, not-forward, turned≢forward, data≢forward}
 use Rattle.connection.proofs.Readiness.{ready-some}
 use Rattle.connection.proofs.Spaced.{dueFrom, ready-due}
@@ -33,7 +35,7 @@ use Rattle.model.specs.State.{State, Entry, taken, empty, find}
 use Rattle.model.specs.Invariant.{WellFormed}
 use Rattle.model.specs.declared.answer.Answer.{Answer}
 use Rattle.model.specs.declared.answer.Answer.the-variants.{Refused, Accepted, Closed, Idle, Sent}
-use Rattle.model.specs.Call.{Call, opening, closing, receiving, offering, levelling, slot, making, outOfRate, openingPath, adding, offeringMember, removing, goesTo}
+use Rattle.model.specs.Call.{Call, slot, goesTo}
 use Rattle.model.specs.Step.{step}
 use Rattle.model.specs.Queries.{nextReady}
 use Rattle.model.specs.Run.{final, isAccepted}
@@ -44,11 +46,12 @@ use Rattle.model.proofs.Reached.{step-well-formed}
 use Rattle.laws.specs.All.{All}
 use Rattle.promise_service.specs.Liveness.{latestReady, ReadySoon}
 use Rattle.promise_service.proofs.Liveness.{ready-soon}
-use Rattle.promise_traces.specs.InRate.{SentCell, cellIn, atSlot, sentBy, closesConnection}
+use Rattle.promise_traces.specs.InRate.{SentCell, cellIn, atSlot, sentBy, closesConnection, atSort, closesSort}
 use Rattle.promise_traces.proofs.Next.{Stays, StillOpen, cellAt, Next, closed, quiet, goes, effect-next}
-use Rattle.promise_delivery.specs.Calls.{sortOf}
+use Rattle.model.specs.Aspects.{sortOf, Sort, opener, closer, arrival, slotAt, another}
 use Rattle.promise_delivery.specs.Turns.{Turn, tableAt, timePassed, slotOf, NoSlot, OnTime, AllOnTime}
-use Rattle.promise_delivery.specs.Served.{NotCloser, WaitsAt, AllWait, RateAt, AllRated, movedOn, ServedAt, AllServed, AllExactlyServed, oneMore, AllDelivered, TurnPlain, TurnsPlain, DeliveredBy}
+use Rattle.promise_service.specs.Progress.{NotCloser}
+use Rattle.promise_delivery.specs.Served.{WaitsAt, AllWait, RateAt, AllRated, movedOn, ServedAt, AllServed, AllExactlyServed, oneMore, AllDelivered, TurnPlain, TurnsPlain, DeliveredBy}
 use Rattle.promise_delivery.proofs.SlotTime.{slot-last}
 use Rattle.promise_delivery.proofs.Lists.{Reached, reach, well, next-of}
 
@@ -83,38 +86,30 @@ due-latest high c Unsent h l = le-refl _
 due-latest high c (Running sent forward k turned) h l = omega (arith, gap-antitone h l)
 
 -- Other calls leave the pace and the opening time.
+sort-sends : (x : Sort) (f : ℕ → List SentCell) (y : SentCell) → NoSlot x → atSort x f ≡ y ∷ [] → ⊥
+sort-sends (opener u t p) f y h e = let z : _≡_ {A = ℕ} 0 1 = cc in omega arith
+sort-sends (closer u) f y h e = let z : _≡_ {A = ℕ} 0 1 = cc in omega arith
+sort-sends (arrival o) f y h e = let z : _≡_ {A = ℕ} 0 1 = cc in omega arith
+sort-sends (slotAt t) f y h e = h
+sort-sends another f y h e = let z : _≡_ {A = ℕ} 0 1 = cc in omega arith
+
 no-slot-sends : (v : ℕ) (s : State) (c : Call) (a : Answer) (x : SentCell) → NoSlot (sortOf c) → sentBy v s c a ≡ x ∷ [] → ⊥
 unfolding sentBy atSlot
-no-slot-sends v s (opening i j t p) a x h e = let z : _≡_ {A = ℕ} 0 1 = cc in omega arith
-no-slot-sends v s (closing i j) a x h e = let z : _≡_ {A = ℕ} 0 1 = cc in omega arith
-no-slot-sends v s (receiving o) a x h e = let z : _≡_ {A = ℕ} 0 1 = cc in omega arith
-no-slot-sends v s (offering i j k) a x h e = let z : _≡_ {A = ℕ} 0 1 = cc in omega arith
-no-slot-sends v s (levelling l) a x h e = let z : _≡_ {A = ℕ} 0 1 = cc in omega arith
-no-slot-sends v s (slot t room) a x h e = h
-no-slot-sends v s (making i j t) a x h e = let z : _≡_ {A = ℕ} 0 1 = cc in omega arith
-no-slot-sends v s (outOfRate i j t room) a x h e = let z : _≡_ {A = ℕ} 0 1 = cc in omega arith
-no-slot-sends v s (openingPath i t p) a x h e = let z : _≡_ {A = ℕ} 0 1 = cc in omega arith
-no-slot-sends v s (adding i j) a x h e = let z : _≡_ {A = ℕ} 0 1 = cc in omega arith
-no-slot-sends v s (offeringMember i j k) a x h e = let z : _≡_ {A = ℕ} 0 1 = cc in omega arith
-no-slot-sends v s (removing i j) a x h e = let z : _≡_ {A = ℕ} 0 1 = cc in omega arith
+no-slot-sends v s c a x h e = sort-sends (sortOf c) _ x h e
 
 false-true : false ≡ true → ⊥
 false-true e = let z : _≡_ {A = ℕ} 0 1 = cc in omega arith
 
+sort-closes : (v : ℕ) (x : Sort) → NotCloser v x → closesSort v x ≡ true → ⊥
+sort-closes v (opener u t p) h e = false-true e
+sort-closes v (closer u) h e = h (eqb-true u v e)
+sort-closes v (arrival o) h e = false-true e
+sort-closes v (slotAt t) h e = false-true e
+sort-closes v another h e = false-true e
+
 not-closed : (v : ℕ) (c : Call) (b : Bool) → NotCloser v (sortOf c) → closesConnection v c b ≡ true → ⊥
 unfolding closesConnection
-not-closed v (opening i j t p) b h e = false-true e
-not-closed v (closing i j) b h e = h (eqb-true (addressName i j) v (both b (eqb (addressName i j) v) e .1))
-not-closed v (receiving o) b h e = false-true e
-not-closed v (offering i j k) b h e = false-true e
-not-closed v (levelling l) b h e = false-true e
-not-closed v (slot t room) b h e = false-true e
-not-closed v (making i j t) b h e = false-true e
-not-closed v (outOfRate i j t room) b h e = false-true e
-not-closed v (openingPath i t p) b h e = false-true e
-not-closed v (adding i j) b h e = false-true e
-not-closed v (offeringMember i j k) b h e = false-true e
-not-closed v (removing i j) b h e = false-true e
+not-closed v c b h e = sort-closes v (sortOf c) h (both b (closesSort v (sortOf c)) e .1)
 
 taken-same : (c d : Connection) → taken c ≡ taken d → c ≡ d
 taken-same c d e = cc
@@ -181,7 +176,7 @@ unfolding sentBy atSlot closesConnection
 slot-for v t s w e f l u = go (effect-next v e f (w .unique) (effect s (w .unique) (slot t 53)))
   where
     go : Next v s e (slot t 53) (step s (slot t 53)) → SlotFor v t e (step s (slot t 53) .state .entries) (goesTo (step s (slot t 53) .answer))
-    go (closed h) = let z : _≡_ {A = ℕ} 0 1 = cc in absurd (omega arith)
+    go (closed h) = absurd (false-true (both (isAccepted (step s (slot t 53) .answer)) false h .1))
     go (quiet h n k y) = foreign (cell-none v t _ (step s (slot t 53) .answer) n) y
     go (goes z i h n k q r due y) =
         let p : z ≡ t = sym q ∙ slot-last s t l u in

@@ -14,15 +14,16 @@ use borrow.Author.Tests.{eqb-true}
 use Rattle.connection.specs.Kind.{kindNumber}
 use Rattle.model.specs.State.{State, Entry, free, taken, find}
 use Rattle.model.specs.Invariant.{OnEntry}
-use Rattle.model.specs.Call.{Call, opening, closing, receiving, offering, levelling, slot, making, outOfRate, openingPath, adding, offeringMember, removing, goesTo}
+use Rattle.model.specs.Call.{Call, goesTo}
 use Rattle.model.specs.declared.answer.Answer.{Answer}
 use Rattle.model.specs.declared.answer.Answer.the-variants.{Refused, Accepted, Closed, Idle, Sent}
 use Rattle.model.specs.Step.{step}
 use Rattle.model.specs.Queries.{entryAcr, acrOf}
 use Rattle.model.proofs.Entries.{taken≢free, find-name, find-each}
 use Rattle.laws.specs.All.{All}
-use Rattle.promise_traces.specs.InRate.{SentCell, acrIn, cellIn, atSlot, sentBy}
-use Rattle.promise_delivery.specs.Calls.{Sort, opener, closer, slotAt, another, sortOf, timeSent, total, isIn, OpenAmong, Held, AtSlot}
+use Rattle.promise_traces.specs.InRate.{SentCell, acrIn, cellIn, atSlot, sentBy, atSort}
+use Rattle.model.specs.Aspects.{Sort, opener, closer, slotAt, another, sortOf, arrival}
+use Rattle.promise_delivery.specs.Calls.{timeSent, total, isIn, OpenAmong, Held, AtSlot}
 use Rattle.promise_delivery.proofs.Calls.{Sends, nothing, onto}
 
 -- Sums over names.
@@ -65,8 +66,9 @@ among-free vs s h u e = go (find u (s .entries)) (find-name u (s .entries)) (fin
 
 -- only a slot sends
 at-slot : (x : Sort) (t : ℕ) (w : Option ℕ) → timeSent x w ≡ t ∷ [] → {P : Type 0} → AtSlot x P → P
-at-slot (opener u) t w e h = let z : _≡_ {A = ℕ} 0 1 = cc in absurd (omega arith)
+at-slot (opener u n p) t w e h = let z : _≡_ {A = ℕ} 0 1 = cc in absurd (omega arith)
 at-slot (closer u) t w e h = let z : _≡_ {A = ℕ} 0 1 = cc in absurd (omega arith)
+at-slot (arrival o) t w e h = let z : _≡_ {A = ℕ} 0 1 = cc in absurd (omega arith)
 at-slot (slotAt n) t w e h = h
 at-slot another t w e h = let z : _≡_ {A = ℕ} 0 1 = cc in absurd (omega arith)
 
@@ -102,17 +104,13 @@ cell-rates v t q r (Sent u x k a n) h = go (eqb u v)
     go true = (h, tt)
     go false = tt
 
+sort-rates : (vs : List ℕ) (r : ℕ → ℕ) (v : ℕ) (s : State) (a : Answer) (x : Sort) → AtSlot x (Held vs r s) → All (λ y. y .rate ≤ r v) (atSort x (λ t. cellIn v t (acrIn (acrOf s v)) a))
+sort-rates vs r v s a (opener u t p) h = tt
+sort-rates vs r v s a (closer u) h = tt
+sort-rates vs r v s a (arrival o) h = tt
+sort-rates vs r v s a (slotAt t) h = cell-rates v t (acrIn (acrOf s v)) (r v) a (rate-in vs r v s h)
+sort-rates vs r v s a another h = tt
+
 pub call-rates : (vs : List ℕ) (r : ℕ → ℕ) (v : ℕ) (s : State) (c : Call) (a : Answer) → AtSlot (sortOf c) (Held vs r s) → All (λ x. x .rate ≤ r v) (sentBy v s c a)
 unfolding sentBy atSlot
-call-rates vs r v s (opening i j t p) a h = tt
-call-rates vs r v s (closing i j) a h = tt
-call-rates vs r v s (receiving o) a h = tt
-call-rates vs r v s (offering i j k) a h = tt
-call-rates vs r v s (levelling l) a h = tt
-call-rates vs r v s (slot t room) a h = cell-rates v t (acrIn (acrOf s v)) (r v) a (rate-in vs r v s h)
-call-rates vs r v s (making i j t) a h = tt
-call-rates vs r v s (outOfRate i j t room) a h = tt
-call-rates vs r v s (openingPath i t p) a h = tt
-call-rates vs r v s (adding i j) a h = tt
-call-rates vs r v s (offeringMember i j k) a h = tt
-call-rates vs r v s (removing i j) a h = tt
+call-rates vs r v s c a h = sort-rates vs r v s a (sortOf c) h

@@ -1,43 +1,23 @@
--- Lists of calls as a transmitter sees them: what each call means to it, the cells that its slots send, and the connections that are open with their rates.
+-- Lists of calls as a transmitter sees them: what each call means to it, the cells that its slots send, and the
+-- open connections with their rates.
 use Prim.Native.Nat.{ℕ, _+_, _*_, _≤_, _<_}
 use mathlib.Core.Path.{_≡_}
 use mathlib.Core.Bool.{Bool, true, false, cond, _||_}
 use mathlib.Core.List.{List, [], _∷_, _++_}
 use mathlib.Core.Option.{Option, none, some}
 use lib.Dec.{eqb}
-use Rattle.cell.specs.Name.{addressName}
-use Rattle.connection_members.specs.Path.{pathVci}
 use Rattle.model.specs.State.{State, Entry, free, taken, find}
 use Rattle.model.specs.Invariant.{Each}
-use Rattle.model.specs.Call.{Call, opening, closing, receiving, offering, levelling, slot, making, outOfRate, openingPath, adding, offeringMember, removing, goesTo}
+use Rattle.model.specs.Call.{Call, goesTo}
+use Rattle.model.specs.Aspects.{Sort, opener, closer, arrival, slotAt, another, sortOf}
 use Rattle.model.specs.Step.{step}
 use Rattle.promise_traces.specs.InRate.{SentCell, sentBy}
 
--- the calls by what they mean to a transmitter: one that opens a connection, one that closes one, a slot, any other
-pub data Sort : Type 0 where
-  opener : (name : ℕ) → Sort
-  closer : (name : ℕ) → Sort
-  slotAt : (time : ℕ) → Sort
-  another : Sort
-
-abbrev pub sortOf : Call → Sort
-sortOf (opening vpi vci t p) = opener (addressName vpi vci)
-sortOf (closing vpi vci) = closer (addressName vpi vci)
-sortOf (receiving o) = another
-sortOf (offering vpi vci n) = another
-sortOf (levelling l) = another
-sortOf (slot t room) = slotAt t
-sortOf (making vpi vci t) = another
-sortOf (outOfRate vpi vci t room) = another
-sortOf (openingPath vpi t p) = opener (addressName vpi pathVci)
-sortOf (adding vpi vci) = another
-sortOf (offeringMember vpi vci n) = another
-sortOf (removing vpi vci) = another
-
 -- how many calls of a list open v, accepted or not
 unfoldable pub opensName : (v : ℕ) → Sort → ℕ
-opensName v (opener u) = cond (eqb u v) 1 0
+opensName v (opener u t p) = cond (eqb u v) 1 0
 opensName v (closer u) = 0
+opensName v (arrival o) = 0
 opensName v (slotAt t) = 0
 opensName v another = 0
 
@@ -47,8 +27,9 @@ opensOf v (c ∷ cs) = opensName v (sortOf c) + opensOf v cs
 
 -- the time of a slot that goes to a connection
 abbrev pub timeSent : Sort → Option ℕ → List ℕ
-timeSent (opener u) w = []
+timeSent (opener u t p) w = []
 timeSent (closer u) w = []
+timeSent (arrival o) w = []
 timeSent (slotAt t) none = []
 timeSent (slotAt t) (some v) = t ∷ []
 timeSent another w = []
@@ -76,14 +57,16 @@ isIn u (v ∷ vs) = eqb v u || isIn u vs
 abbrev pub OpenAmong : (names : List ℕ) → State → Type 0
 OpenAmong vs s = Each (λ d. isIn (d .name) vs ≡ true) (s .entries)
 
--- each open connection has one of these names, and an allowed rate of at most r of its name: before every slot of a list
+-- before every slot of a list, each open connection has one of these names and an allowed
+-- rate of at most r of its name
 pub record Held (vs : List ℕ) (r : ℕ → ℕ) (s : State) : Type 0 where
   pub among : OpenAmong vs s
   pub rates : Each (λ d. d .rate .acr ≤ r (d .name)) (s .entries)
 
 abbrev pub AtSlot : Sort → Type 0 → Type 0
-AtSlot (opener u) P = Unit
+AtSlot (opener u t p) P = Unit
 AtSlot (closer u) P = Unit
+AtSlot (arrival o) P = Unit
 AtSlot (slotAt t) P = P
 AtSlot another P = Unit
 
@@ -91,7 +74,8 @@ abbrev pub AllHeld : (vs : List ℕ) (r : ℕ → ℕ) → State → List Call �
 AllHeld vs r s [] = Unit
 AllHeld vs r s (c ∷ cs) = AtSlot (sortOf c) (Held vs r s) × AllHeld vs r (step s c .state) cs
 
--- a number for an open connection, none for a free entry; and so, of these names, how many are open, and what their rates come to
+-- a number for an open connection, none for a free entry; from this, how many of these names are
+-- open, and the sum of their rates
 unfoldable pub ifOpen : Entry → ℕ → ℕ
 ifOpen free n = 0
 ifOpen (taken d) n = n

@@ -1,5 +1,6 @@
--- The generic cell rate algorithm as virtual scheduling (ITU-T I.371), with an increment for each cell. With one increment for all cells it is GCRA(increment, tolerance); with
--- the gap of the rate in force before each cell it is the dynamic form, DGCRA.
+-- The generic cell rate algorithm as virtual scheduling (ITU-T I.371), with an increment for each cell. With one
+-- increment for all cells it is GCRA(increment, tolerance). With the gap of the rate in force before each cell
+-- it is the dynamic form, DGCRA.
 use Prim.Native.Nat.{ℕ, suc, _+_, _≤_, max}
 use mathlib.Core.Path.{_≡_}
 use mathlib.Core.Bool.{cond}
@@ -11,8 +12,9 @@ pub record Arrival : Type 0 where
   pub time : ℕ
   pub increment : ℕ
 
--- The theoretical arrival time (TAT) of a cell is its increment after `last`: the later of arrival and theoretical time of the last conforming cell. A cell conforms if it arrives
--- no more than the tolerance before its theoretical time; one that does not leaves `last`.
+-- The theoretical arrival time (TAT) of a cell is its increment after `last`. `last` is the later of arrival and
+-- theoretical time of the last conforming cell. A cell conforms if it arrives at most the tolerance before its
+-- theoretical time. One that does not conform leaves `last`.
 abbrev pub theoretical : (last : ℕ) → Arrival → ℕ
 theoretical last x = last + x .increment
 
@@ -31,7 +33,8 @@ unfoldable pub dropped : (tolerance : ℕ) → List Arrival → ℕ
 dropped tolerance [] = 0
 dropped tolerance (x ∷ xs) = nonconforming tolerance (x .time) xs
 
--- Where it finds nothing to drop, it has found each cell no more than the tolerance before all the increments since any earlier one.
+-- Where it finds nothing to drop, each cell came at most the tolerance before the sum of the
+-- increments since any earlier one.
 abbrev pub increments : List Arrival → ℕ
 increments [] = 0
 increments (x ∷ xs) = x .increment + increments xs

@@ -1,5 +1,7 @@
--- A policer finds nothing to drop: from any table that calls made, until a connection is closed, its cells are gaps at PCR apart, and each the gap of its own rate after the one
--- before, without tolerance by the times that the slots were passed; and on the wire with a tolerance of lag, if each is sent up to lag after the time passed.
+-- A policer finds nothing to drop, from any table that calls made until a connection is closed. By the times
+-- that the slots were passed, without tolerance, its cells are gaps at PCR apart, and each comes the gap of
+-- its own rate after the one before. On the wire this holds with a tolerance of lag, if each cell is sent up
+-- to lag after the time passed.
 use Prim.Native.Nat.{ℕ, suc, _+_, _*_, _≤_}
 use mathlib.Core.Path.{_≡_}
 use mathlib.Core.List.{List, [], _∷_, _++_}
@@ -13,7 +15,8 @@ use Rattle.model.specs.Run.{final}
 use Rattle.promise_traces.specs.InRate.{SentCell, sentFrom}
 use Rattle.promise_delivery.specs.Gcra.{Arrival, dropped}
 
--- each cell goes on the wire at its time in the second list, at most lag after the time that its slot was passed and not before it
+-- each cell goes on the wire at its time in the second list: not before the time that its slot was
+-- passed, and at most lag after it
 abbrev pub OnWire : (lag : ℕ) → List SentCell → List ℕ → Type 0
 OnWire lag [] [] = Unit
 OnWire lag [] (m ∷ ms) = ⊥
@@ -31,7 +34,8 @@ ownGap x = gap (x .rate)
 
 -- of cells in a row, g being the gap at the peak
 pub record PolicedCells (g : ℕ) (cells : List SentCell) : Type 0 where
-  -- by the times passed: the j-th after any cell comes at least j gaps at the peak later, each at least the gap of the rate before it after the one before
+  -- By the times passed, the j-th cell after any cell comes at least j gaps at the peak later. Each comes after
+  -- the one before by at least the gap of the rate before it.
   pub passed :
       (earlier : List SentCell) (x : SentCell) (between : List SentCell) (y : SentCell) (rest : List SentCell) → cells ≡ earlier ++ (x ∷ (between ++ (y ∷ rest)))
       → x .time + suc (length between) * g ≤ y .time

@@ -1,8 +1,8 @@
--- What a connection on which something waits at every slot is delivered, whatever the others do: its cells are passed no later than a gap at its lowest rate apart, exactly a
--- gap if its rate stays; and so, on the clock, it has its cells but for one gap and a slot for each connection.
+-- What a connection on which something waits at every slot is delivered, whatever the others do. Its cells are
+-- passed at most a gap at its lowest rate apart, and exactly a gap if its rate stays. So on the clock it has its
+-- cells, except for one gap and a slot for each connection.
 use Prim.Native.Nat.{ℕ, _+_, _*_, _≤_}
 use mathlib.Core.Path.{_≡_}
-use mathlib.Core.Logic.{_≢_}
 use mathlib.Core.Bool.{true, cond}
 use mathlib.Core.List.{List, [], _∷_}
 use mathlib.Core.Option.{Option, none, some}
@@ -17,17 +17,12 @@ use Rattle.model.specs.Call.{Call, goesTo}
 use Rattle.model.specs.Run.{final}
 use Rattle.laws.specs.All.{All}
 use Rattle.promise_service.specs.Liveness.{latestReady}
-use Rattle.promise_delivery.specs.Calls.{Sort, opener, closer, slotAt, another, sortOf}
+use Rattle.promise_service.specs.Progress.{NotCloser}
 use Rattle.promise_delivery.specs.Turns.{Turn, tableAt, timePassed, slotOf, NoSlot, AllOnTime}
+use Rattle.model.specs.Aspects.{sortOf}
 
--- the call does not close v
-abbrev pub NotCloser : (v : ℕ) → Sort → Type 0
-NotCloser v (opener u) = Unit
-NotCloser v (closer u) = u ≢ v
-NotCloser v (slotAt t) = Unit
-NotCloser v another = Unit
-
--- before the slot of a turn v is open, as it was after the slot before, and something waits on it; and no call since the last slot has moved the last accepted time
+-- Before the slot of a turn v is open, as it was after the slot before, and something waits on it. No call since
+-- the last slot has moved the last accepted time.
 pub record WaitsAt (v : ℕ) (s : State) (x : Turn) : Type 0 where
   pub holder : Connection
   pub found : find v (tableAt s x .entries) ≡ taken holder
@@ -54,7 +49,8 @@ unfoldable pub movedOn : (v gap t instant : ℕ) → Option ℕ → ℕ
 movedOn v g t i none = i
 movedOn v g t i (some u) = cond (eqb u v) (t + g) i
 
--- no slot is passed a time after `by`, and one that goes to v none before `from`; these are, after a cell of v, a gap at the lowest rate and one at the highest after it
+-- No slot is passed a time after `by`. A slot that goes to v is passed no time before `from`. After a cell of v,
+-- `by` is a gap at the lowest rate after it, and `from` a gap at the highest.
 pub record ServedAt (v from by lag : ℕ) (s : State) (x : Turn) : Type 0 where
   pub notLate : timePassed lag s x ≤ by
   pub notEarly : goesTo (slotOf lag s x .answer) ≡ some v → from ≤ timePassed lag s x
@@ -73,7 +69,7 @@ AllExactlyServed v a lag at s (x ∷ xs) =
     (goesTo (slotOf lag s x .answer) ≡ some v → timePassed lag s x ≡ at)
     × AllExactlyServed v a lag (movedOn v (gap a) (timePassed lag s x) at (goesTo (slotOf lag s x .answer))) (slotOf lag s x .state) xs
 
--- the cells of v so far, and at each slot's own time how many they are: it is at most so many gaps, and k, after `start`
+-- The cells of v so far, counted at each slot's own time. That time is at most `start`, plus so many gaps, plus k.
 unfoldable pub oneMore : (v cells : ℕ) → Option ℕ → ℕ
 oneMore v n none = n
 oneMore v n (some u) = cond (eqb u v) (n + 1) n
@@ -108,7 +104,8 @@ pub record DeliveredIn (s : State) (k lag : ℕ) (xs : List Turn) (v : ℕ) (d :
       → AllServed v (least (d .rate .params)) (peak (d .rate .params)) lag (latestReady (peak (d .rate .params)) d (d .pace)) by s xs
       × AllDelivered v (gap (least (d .rate .params))) k lag by 0 s xs
 
--- after any list of calls from the empty table, and turns at which the lag does not decide and that are passed no more than k behind
+-- after any list of calls from the empty table, and turns where the lag does not decide and
+-- that are passed at most k behind
 abbrev pub DeliveredBy : Type 0
 DeliveredBy =
     (cs : List Call) (k lag : ℕ) (xs : List Turn) (v : ℕ) (d : Connection) → let s = final empty cs in

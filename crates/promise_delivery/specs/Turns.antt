@@ -1,4 +1,5 @@
--- A transmitter's turns: calls, and then a slot with the time of `slotTime`. What is asked of them, and what it means that the lag does not decide.
+-- A transmitter's turns: calls, and then a slot with the time of `slotTime`. Also what is asked of them, and what
+-- it means that the lag does not decide.
 use Prim.Native.Nat.{ℕ, _+_, _-_, _*_, _≤_, min, max}
 use mathlib.Core.Path.{_≡_}
 use mathlib.Core.List.{List, [], _∷_}
@@ -6,10 +7,11 @@ use Rattle.rate.specs.Units.{latestTime}
 use Rattle.model.specs.State.{State}
 use Rattle.model.specs.Call.{Call, slot, Outcome}
 use Rattle.model.specs.Step.{step}
+use Rattle.model.specs.Aspects.{Sort, opener, closer, arrival, slotAt, another, sortOf}
 use Rattle.model.specs.Queries.{nextReady, slotTime}
 use Rattle.model.specs.Run.{final}
 use Rattle.laws.specs.All.{All}
-use Rattle.promise_delivery.specs.Calls.{Sort, opener, closer, slotAt, another, sortOf, opensOf, Held, openRates, AllFit}
+use Rattle.promise_delivery.specs.Calls.{opensOf, Held, openRates, AllFit}
 
 -- a turn of a transmitter: the calls since the last slot, and the slot's own time
 pub record Turn : Type 0 where
@@ -28,12 +30,14 @@ slotOf lag s x = step (tableAt s x) (slot (timePassed lag s x) 53)
 
 -- the calls between slots: no slot
 abbrev pub NoSlot : Sort → Type 0
-NoSlot (opener u) = Unit
+NoSlot (opener u t p) = Unit
 NoSlot (closer u) = Unit
+NoSlot (arrival o) = Unit
 NoSlot (slotAt t) = ⊥
 NoSlot another = Unit
 
--- slots at most S apart or after a sleep, m being the own time of the slot before, on a link with a slot every G for the rates
+-- slots at most S apart or after a sleep, where m is the own time of the slot before, on a link with
+-- a slot every G for the rates
 pub record TurnFits (vs : List ℕ) (r : ℕ → ℕ) (S G m : ℕ) (s : State) (x : Turn) : Type 0 where
   pub others : All (λ c. NoSlot (sortOf c)) (x .between)
   -- no call was ahead of the clock

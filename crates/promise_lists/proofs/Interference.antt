@@ -19,21 +19,24 @@ use Rattle.connection.specs.declared.parts.Connection.{Connection}
 use Rattle.connection.specs.declared.kind.Kind.{Kind}
 use Rattle.connection.specs.declared.kind.Kind.the-variants.{Forward, Turned, Data}
 use Rattle.connection.specs.Parts.{fresh}
-use Rattle.connection.specs.Making.{withMade}
-use Rattle.connection.specs.Receiving.{offered, afterDataCell, afterRmCell}
-use Rattle.connection.specs.OutOfRate.{afterOutOfRate}
+use Rattle.connection.specs.Source.{offered, afterOutOfRate, withServed}
+use Rattle.connection.specs.Destination.{withMade, afterDataCell}
+use Rattle.connection.specs.Received.{afterRmCell}
+use Rattle.connection.specs.Slot.{after, memberServed}
 use Rattle.connection.specs.Kind.{kindAt}
-use Rattle.connection.specs.Sending.{after, memberServed, withServed}
 use Rattle.connection.proofs.Keeps.{work-same, after-same}
-use Rattle.model.specs.State.{State, Entry, taken, empty, find, withEntryOf, withOpened, withTime, withLevel, withMembers}
+use Rattle.model.specs.State.{State, Entry, taken, empty, find, withEntryOf, withTime, withLevel, withMembers}
 use Rattle.model.specs.Invariant.{NamesUnique, WellFormed}
 use Rattle.model.proofs.Frames.{put-read, with-opened-read, freed-read}
 use Rattle.model.specs.Call.{Call, Outcome, goesTo}
-use Rattle.model.specs.Step.{refuse, accept, replay, discard, withOffer, withoutOne, nameAnswered, sendFrom, sendStep, idleStep, sendOutOfRate}
+use Rattle.model.specs.Aspects.{OnMembers}
+use Rattle.model.specs.Step.{refuse, accept, replay, discard, withOffer, withoutOne, nameAnswered, sendFrom, sendStep, idleStep, sendOutOfRate, step}
 use Rattle.model.specs.Run.{final}
+use Rattle.model.specs.declared.answer.Answer.{Answer}
 use Rattle.model.proofs.Effects.{Effect, refuses, opens, closes, offers, receivesData, receivesRm, setsLevel, idles, sends, makes, sendsOutOfRate, opensPath, adds, offersMember, removes, effect}
 use Rattle.model.proofs.Reached.{reached-well-formed}
-use Rattle.promise_lists.specs.Interference.{readName, concerns, answersName, touches, SameMember, NoInterference}
+use Rattle.model.proofs.ToMembers.{ToMembers, refusedKept, noneTouched, idleKept, allClosed, oneAdded, oneOffered, oneRemoved, oneServed, to-members}
+use Rattle.promise_lists.specs.Interference.{readName, concerns, answersName, touches, SameMember, NoInterference, touched}
 
 same : Entry → Entry
 same x = x
@@ -105,27 +108,26 @@ served-kept x u Data c ms r e = go (turn (c .name) (c .queue .served) ms) refl e
     go none q e = kept x ms
     go (some y) q e = with-cells-kept x y _ ms r (turn-picks (c .name) (c .queue .served) ms y q .member) e
 
-effect-member :
-    (x : ℕ) {s : State} → WellFormed s → {c : Call} {o : Outcome} → Effect s c o → touches x c (o .answer) ≡ false → SameMember x (s .members) (o .state .members)
-unfolding touches answersName refuse accept replay discard sendFrom sendStep idleStep sendOutOfRate withEntryOf withOpened withTime withLevel withMembers withOffer withoutOne
-effect-member x {s} w (refuses c n z) h = kept x (s .members)
-effect-member x {s} w (opens a b t p g) h = kept x (s .members)
-effect-member x {s} w (closes a b d f) h = without-kept x (onPath (addressName a b)) (s .members) (swapped (addressName a b) (pathOf x) h)
-effect-member x {s} w (offers a b n d f i z) h = kept x (s .members)
-effect-member x {s} w (receivesData o a b e u d r i z f) h = kept x (s .members)
-effect-member x {s} w (receivesRm o q d r f) h = kept x (s .members)
-effect-member x {s} w (setsLevel l z) h = kept x (s .members)
-effect-member x {s} w (idles t room g b) h = kept x (s .members)
-effect-member x {s} w (sends t room i u g b) h = served-kept x u (kindAt t (b .holder)) (b .holder) (s .members) (w .members .valid .rising) h
-effect-member x {s} w (makes a b t d f g z m) h = kept x (s .members)
-effect-member x {s} w (sendsOutOfRate a b t room d f g z) h = kept x (s .members)
-effect-member x {s} w (opensPath a t p g) h = kept x (s .members)
-effect-member x {s} w (adds a b d f j) h = with-member-kept x (addressName a b) (s .members) h
-effect-member x {s} w (offersMember a b n d f i z) h = with-cells-kept x (addressName a b) _ (s .members) (w .members .valid .rising) i h
-effect-member x {s} w (removes a b d f i) h = without-kept x (named (addressName a b)) (s .members) (swapped (addressName a b) x h)
+members-same :
+    (x : ℕ) {s : State} → WellFormed s → {k : OnMembers} {a : Answer} {ms : List Member} → ToMembers s k a ms → touched x a k ≡ false → SameMember x (s .members) ms
+unfolding answersName
+members-same x {s} w (refusedKept n) h = kept x (s .members)
+members-same x {s} w (noneTouched n) h = kept x (s .members)
+members-same x {s} w idleKept h = kept x (s .members)
+members-same x {s} w (allClosed v n k) h = without-kept x (onPath v) (s .members) (swapped v (pathOf x) h)
+members-same x {s} w (oneAdded y n) h = with-member-kept x y (s .members) h
+members-same x {s} w (oneOffered y n k i) h = with-cells-kept x y _ (s .members) (w .members .valid .rising) i h
+members-same x {s} w (oneRemoved y n k) h = without-kept x (named y) (s .members) (swapped y x h)
+members-same x {s} w (oneServed u d k acr n f) h = served-kept x u k d (s .members) (w .members .valid .rising) h
+
+members-kept :
+    (cs : List Call) (c : Call) (x : ℕ) → let s = final empty cs in
+    touches x c (step s c .answer) ≡ false → SameMember x (s .members) (step s c .state .members)
+unfolding touches
+members-kept cs c x h = let w = reached-well-formed cs in members-same x w (to-members w c) h
 
 pub no-interference : NoInterference
 no-interference = record {
   connections = λ cs c u h. let a = reached-well-formed cs .unique in effect-other u a (effect (final empty cs) a c) h;
-  members = λ cs c x h. let w = reached-well-formed cs in effect-member x w (effect (final empty cs) (w .unique) c) h;
+  members = members-kept;
 }

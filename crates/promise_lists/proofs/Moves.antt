@@ -3,6 +3,7 @@ use Prim.Native.Nat.{ℕ}
 use mathlib.Core.Path.{_≡_, refl, sym, ap, _∙_}
 use mathlib.Core.Bool.{Bool, true, false, cond}
 use mathlib.Core.List.{List}
+use native.Mathlib.Omega.{arith}
 use lib.Dec.{eqb}
 use borrow.Author.Tests.{eqb-true, eq-eqb, ne-eqb}
 use Rattle.rate_params.specs.Params.{initialUsed}
@@ -19,11 +20,11 @@ use Rattle.connection.specs.declared.parts.Pace.the-variants.{Unsent, Running}
 use Rattle.connection.specs.declared.kind.Kind.{Kind}
 use Rattle.connection.specs.declared.kind.Kind.the-variants.{Forward, Turned, Data}
 use Rattle.connection.specs.Parts.{changed, fresh}
-use Rattle.connection.specs.Making.{withMade}
-use Rattle.connection.specs.Receiving.{offered, afterDataCell, afterBackwardCell, afterForwardCell, afterRmCell}
-use Rattle.connection.specs.OutOfRate.{afterOutOfRate}
+use Rattle.connection.specs.Source.{offered, afterBackwardCell, afterOutOfRate, movedBy, sentForward, sentData, withServed}
+use Rattle.connection.specs.Destination.{withMade, afterDataCell, afterForwardCell, sentTurned}
+use Rattle.connection.specs.Received.{afterRmCell}
+use Rattle.connection.specs.Slot.{after, memberServed}
 use Rattle.connection.specs.Kind.{kindAt}
-use Rattle.connection.specs.Sending.{movedBy, sentForward, sentTurned, sentData, after, memberServed, withServed}
 use Rattle.connection.proofs.Keeps.{work-same, after-same}
 use Rattle.model.specs.State.{State, Entry, free, taken, empty, find, withEntryOf, withTime, withLevel, withMembers}
 use Rattle.model.specs.Invariant.{NamesUnique}
@@ -32,10 +33,12 @@ use Rattle.model.proofs.Frames.{put-read, with-opened-read, freed-read}
 use Rattle.model.specs.declared.answer.Answer.{Answer}
 use Rattle.model.specs.declared.answer.Answer.the-variants.{Refused, Accepted, Idle, Sent}
 use Rattle.model.specs.Call.{Call, opening, closing, receiving, offering, levelling, slot, making, outOfRate, openingPath, adding, offeringMember, removing, Outcome}
+use Rattle.model.specs.Aspects.{closer, sortOf}
 use Rattle.model.specs.Step.{refuse, accept, replay, discard, withOffer, withoutOne, nameAnswered, sendFrom, sendStep, idleStep, sendOutOfRate, step}
 use Rattle.model.specs.Run.{final}
 use Rattle.model.proofs.Effects.{Effect, refuses, opens, closes, offers, receivesData, receivesRm, setsLevel, idles, sends, makes, sendsOutOfRate, opensPath, adds, offersMember, removes, effect}
 use Rattle.model.proofs.Reached.{reached-well-formed}
+use Rattle.model.proofs.BySort.{BySort, anOpening, anOpeningPath, aClosing, aReceiving, aSlot, anotherCall, bySort}
 use Rattle.promise_lists.specs.Moves.{Moves, stays, first, later, fed, FourMoves}
 
 -- the call is a close of v
@@ -44,6 +47,17 @@ pub record Closes (v : ℕ) (c : Call) : Type 0 where
   pub vci : ℕ
   pub is : c ≡ closing vpi vci
   pub name : addressName vpi vci ≡ v
+
+pub closer-closes : (c : Call) (v : ℕ) → sortOf c ≡ closer v → Closes v c
+closer-closes c v e = go (bySort c) e
+  where
+    go : {c : Call} → BySort c → sortOf c ≡ closer v → Closes v c
+    go (anOpening a b t p) e = let z : _≡_ {A = ℕ} 0 1 = cc in absurd (omega arith)
+    go (anOpeningPath a t p) e = let z : _≡_ {A = ℕ} 0 1 = cc in absurd (omega arith)
+    go (aClosing a b) e = record { vpi = a; vci = b; is = refl; name = cc }
+    go (aReceiving o) e = let z : _≡_ {A = ℕ} 0 1 = cc in absurd (omega arith)
+    go (aSlot t room) e = let z : _≡_ {A = ℕ} 0 1 = cc in absurd (omega arith)
+    go (anotherCall c q) e = let z : _≡_ {A = ℕ} 0 1 = cc in absurd (omega arith)
 
 -- a connection that was not open before starts at the initial rate used, without a change by a backward cell
 pub record Begun (e : Connection) : Type 0 where
@@ -85,10 +99,10 @@ unfolding self
 changes v u s z d e f n c a m =
     rw (put-read self v u s z d e f n) (read-moves v u s c a (taken e) (λ h. rw (ap (λ w. find w (s .entries)) (sym h) ∙ f) (m h)))
 
-works-move :
+rm-moves :
     (v level n : ℕ) (o : List ℕ) (f : Fields) (d : Connection) → reading o ≡ RmCell f → cellName f ≡ v → Moves v d (receiving o) (Accepted n) (afterRmCell level o f d .rate)
 unfolding afterRmCell afterBackwardCell afterForwardCell
-works-move v level n o f d r h = go (eqb (f .dir) 1) refl
+rm-moves v level n o f d r h = go (eqb (f .dir) 1) refl
   where
     go : (t : Bool) → eqb (f .dir) 1 ≡ t → Moves v d (receiving o) (Accepted n) (cond t (afterBackwardCell f d) (afterForwardCell level o d) .rate)
     go true e = fed f r h (eqb-true _ _ e)
@@ -116,7 +130,7 @@ effect-moves v {s} a (closes vpi vci d f) = rw (freed-read self v (addressName v
 effect-moves v {s} a (offers vpi vci n d f i b) = changes v (addressName vpi vci) s a d (offered n d) f refl (offering vpi vci n) _ (λ _. stays)
 effect-moves v {s} a (receivesData o vpi vci e u d r i z f) = changes v u s a d (afterDataCell e d) f refl (receiving o) _ (λ _. stays)
 effect-moves v {s} a (receivesRm o q d r f) =
-    changes v (cellName q) s a d (afterRmCell (s .level) o q d) f (work-same (s .level) o q d .name) (receiving o) _ (works-move v (s .level) _ o q d r)
+    changes v (cellName q) s a d (afterRmCell (s .level) o q d) f (work-same (s .level) o q d .name) (receiving o) _ (rm-moves v (s .level) _ o q d r)
 effect-moves v {s} a (setsLevel l b) = rests v (levelling l) (Accepted 0) (find v (s .entries))
 effect-moves v {s} a (idles t room g b) = rests v (slot t room) Idle (find v (s .entries))
 effect-moves v {s} a (sends t room i u g b) =
@@ -153,9 +167,9 @@ pub moves-at :
     → Moves v d c (step s c .answer) (e .rate)
 moves-at s a c v d e f h = let m = effect-moves v a (effect s a c) in rw (f, h) at m
 
-pub begun-at :
+pub newly-opened-at :
     (s : State) → NamesUnique (s .entries) → (c : Call) (v : ℕ) (e : Connection) → find v (s .entries) ≡ free → find v (step s c .state .entries) ≡ taken e → Begun e
-begun-at s a c v e f h = let m = effect-moves v a (effect s a c) in rw (f, h) at m
+newly-opened-at s a c v e f h = let m = effect-moves v a (effect s a c) in rw (f, h) at m
 
 pub four-moves : FourMoves
 four-moves cs c v d e f h = moves-at (final empty cs) (reached-well-formed cs .unique) c v d e f h

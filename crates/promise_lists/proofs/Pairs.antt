@@ -29,12 +29,12 @@ use Rattle.connection.specs.declared.kind.Kind.the-variants.{Forward, Turned, D
 use Rattle.connection.specs.declared.parts.Pace.{Pace}
 use Rattle.connection.specs.declared.parts.Pace.the-variants.{Unsent, Running}
 use Rattle.connection.specs.Parts.{fresh, withQueue, dequeued, changed}
-use Rattle.connection.specs.Making.{withMade}
-use Rattle.connection.specs.Receiving.{offered, afterDataCell, fedBack, afterBackwardCell, afterForwardCell, afterRmCell}
-use Rattle.connection.specs.OutOfRate.{afterOutOfRate}
+use Rattle.connection.specs.Source.{offered, fedBack, afterBackwardCell, afterOutOfRate, movedBy, sentForward, sentData, withServed}
+use Rattle.connection.specs.Destination.{withMade, afterDataCell, afterForwardCell, sentTurned}
+use Rattle.connection.specs.Received.{afterRmCell}
+use Rattle.connection.specs.Slot.{after, memberServed}
 use Rattle.connection.specs.Ready.{lastBefore}
 use Rattle.connection.specs.Kind.{isForward, isTurned, kindAt}
-use Rattle.connection.specs.Sending.{movedBy, sentForward, sentTurned, sentData, after, memberServed, withServed}
 use Rattle.connection.proofs.Keeps.{movedBy-mono, movedBy-only}
 use Rattle.model.specs.State.{State, Entry, free, taken, find, leafOf, withEntryOf}
 use Rattle.model.specs.Invariant.{WellFormed}

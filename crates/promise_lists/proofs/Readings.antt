@@ -1,4 +1,5 @@
--- Two backward cells, the second at least as congested as the first, are refused with the same number, or read alike but for their marks and ER.
+-- Two backward cells, the second at least as congested as the first, are refused with the same number, or read
+-- alike except for their marks and ER.
 use Prim.Native.Nat.{ℕ, _/_, _%_, _≤_, _<_}
 use mathlib.Core.Path.{_≡_, sym, ap, _∙_}
 use mathlib.Core.Bool.{Bool, true, false}

@@ -8,7 +8,8 @@ use Rattle.cell.specs.declared.read.Reading.the-variants.{RmCell}
 use Rattle.cell.specs.Fields.{cellName}
 use Rattle.cell.specs.Reading.{reading}
 use Rattle.connection.specs.declared.parts.Connection.{Connection}
-use Rattle.connection.specs.Receiving.{afterBackwardCell, afterRmCell}
+use Rattle.connection.specs.Source.{afterBackwardCell}
+use Rattle.connection.specs.Received.{afterRmCell}
 use Rattle.connection.proofs.Keeps.{work-same}
 use Rattle.model.specs.State.{State, Entry, taken, find, leafOf, withEntryOf}
 use Rattle.model.specs.Invariant.{NamesUnique}
@@ -17,11 +18,11 @@ use Rattle.model.specs.Step.{accept, replay, ofOpen, readStep, receiveStep, ste
 use Rattle.model.proofs.Frames.{put-read}
 use Rattle.promise_lists.proofs.Pairs.{work-backward}
 
-pub step-works :
+pub step-rm :
     (s : State) (o : List ℕ) (f : Fields) (c : Connection) → reading o ≡ RmCell f → find (cellName f) (s .entries) ≡ taken c
     → step s (receiving o) ≡ replay (leafOf (cellName f) s) s (withEntryOf (cellName f) (taken (afterRmCell (s .level) o f c)) s)
 unfolding step receiveStep readStep ofOpen
-step-works s o f c e q = rw (e, q)
+step-rm s o f c e q = rw (e, q)
 
 -- a backward one: its own connection moves
 pub step-fed :
@@ -30,7 +31,7 @@ pub step-fed :
 unfolding accept replay
 step-fed s u o f c e d q =
     rw (
-      step-works s o f c e q,
+      step-rm s o f c e q,
       put-read (λ (x : Entry). x) (cellName f) (cellName f) s u c (afterRmCell (s .level) o f c) q (work-same (s .level) o f c .name),
       eq-eqb (cellName f) (cellName f) refl,
       work-backward (s .level) o f c d,

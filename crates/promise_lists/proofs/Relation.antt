@@ -1,4 +1,5 @@
--- The relation that two lists of calls keep: two tables that are equal but for the allowed rates, those of the second being no higher, and for what the last backward cells changed.
+-- The relation that two lists of calls keep. Their tables are equal, except for the allowed rates and for what the
+-- last backward cells changed. The rates of the second are no higher.
 use Prim.Native.Nat.{ℕ, zero, suc, _≤_}
 use mathlib.Core.Path.{_≡_, refl, ap}
 use mathlib.Core.Bool.{Bool}

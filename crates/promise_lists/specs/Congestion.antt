@@ -1,4 +1,5 @@
--- When one backward cell is at least as congested as another, on octets. (Document 01, "Four moves of the allowed rate"; document 02, L7.)
+-- When one backward cell is at least as congested as another, by their octets. (Document 01, "Four moves of the
+-- allowed rate"; document 02, L7.)
 use Prim.Native.Nat.{ℕ, _/_, _%_, _≤_}
 use mathlib.Core.Path.{_≡_}
 use mathlib.Core.Bool.{true}
@@ -26,7 +27,8 @@ pub record Backward (o : List ℕ) : Type 0 where
   pub isRm : typeOf o ≡ 6
   pub isBackward : fieldsOf o .dir ≡ 1
 
--- all that marks, ER and CRC do not occupy is equal: octets 1 to 6, octet 7 but for CI and NI, octets 10 to 51 and the six bits before the CRC
+-- all except marks, ER and CRC is equal: octets 1 to 6, octet 7 without CI and NI, octets 10 to 51
+-- and the six bits before the CRC
 pub record SameButFeedback (a b : List ℕ) : Type 0 where
   pub start : take 6 a ≡ take 6 b
   pub dirBn : octet 7 a / 64 ≡ octet 7 b / 64
@@ -34,7 +36,8 @@ pub record SameButFeedback (a b : List ℕ) : Type 0 where
   pub middle : take 42 (drop 9 a) ≡ take 42 (drop 9 b)
   pub reserved : octet 52 a / 4 ≡ octet 52 b / 4
 
--- b is at least as congested as a, in the order in which it is said; only cells whose rate codes have bit 15 clear are compared
+-- b is at least as congested as a, with the arguments in this order; only cells whose rate codes
+-- have bit 15 clear are compared
 pub record AtLeastAsCongested (b a : List ℕ) : Type 0 where
   pub rightFirst : RightChecks a
   pub rightSecond : RightChecks b

@@ -10,7 +10,8 @@ use Rattle.model.specs.Call.{Call, receiving, Outcome, refusal, goesTo, kindSen
 use Rattle.model.specs.Run.{run, final, paramsGiven, allowed}
 use Rattle.promise_lists.specs.Congestion.{Backward, AtLeastAsCongested}
 
--- not open, by the calls and in the table; or open with an allowed rate between the minimum and the peak that its open gave
+-- not open, by the calls and in the table; or open with an allowed rate between the minimum
+-- and the peak that its open gave
 pub data Bounded : Option Params → Option ℕ → Type 0 where
   notOpen : Bounded none none
   between : {p : Params} {a : ℕ} → least p ≤ a → a ≤ peak p → Bounded (some p) (some a)

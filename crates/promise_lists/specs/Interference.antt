@@ -1,4 +1,5 @@
--- No call touches a connection, or a member of a path, that it is not about: the record of every other one stays as it was. (Document 01, "Four moves of the allowed rate", says so of a backward cell; document 02, L6 and L13.)
+-- No call touches a connection, or a member of a path, that it is not about. The record of every other one stays
+-- as it was. (Document 01, "Four moves of the allowed rate", says so of a backward cell; document 02, L6 and L13.)
 use Prim.Native.Nat.{ℕ}
 use mathlib.Core.Path.{_≡_}
 use mathlib.Core.Logic.{_≢_}
@@ -11,12 +12,13 @@ use Rattle.cell.specs.declared.read.Reading.the-variants.{Refused, DataCell, Rm
 use Rattle.cell.specs.Name.{addressName}
 use Rattle.cell.specs.Fields.{cellName}
 use Rattle.cell.specs.Reading.{reading}
-use Rattle.connection_members.specs.Path.{pathVci, pathOf}
+use Rattle.connection_members.specs.Path.{pathOf}
 use Rattle.connection_members.specs.Members.{Member, isMember, cellsOf, owner}
 use Rattle.model.specs.State.{empty, find}
 use Rattle.model.specs.declared.answer.Answer.{Answer}
 use Rattle.model.specs.declared.answer.Answer.the-variants.{Refused as NotDone, Accepted, Closed, Idle, Sent}
-use Rattle.model.specs.Call.{Call, opening, closing, receiving, offering, levelling, slot, making, outOfRate, openingPath, adding, offeringMember, removing, goesTo}
+use Rattle.model.specs.Call.{Call, goesTo}
+use Rattle.model.specs.Aspects.{Subject, byName, inCell, inAnswer, noSubject, subjectOf, OnMembers, ofClosed, ofAdded, ofOffered, ofRemoved, ofSlot, ofNone, membersOf}
 use Rattle.model.specs.Step.{step}
 use Rattle.model.specs.Run.{final}
 
@@ -26,20 +28,16 @@ readName ms (Refused n) = none
 readName ms (DataCell vpi vci e) = some (owner (addressName vpi vci) ms)
 readName ms (RmCell f) = some (cellName f)
 
--- the one connection that a call is about: it names it or a member of it, it receives a cell of it, or it is a slot that goes to it; a new member changes none
+abbrev pub concerned : List Member → Answer → Subject → Option ℕ
+concerned ms a (byName v) = some v
+concerned ms a (inCell o) = readName ms (reading o)
+concerned ms a inAnswer = goesTo a
+concerned ms a noSubject = none
+
+-- the one connection that a call is about: the call names it or a member of it, receives a cell of it, or is a
+-- slot that goes to it; a new member changes none
 unfoldable pub concerns : List Member → Call → Answer → Option ℕ
-concerns ms (opening vpi vci t p) a = some (addressName vpi vci)
-concerns ms (closing vpi vci) a = some (addressName vpi vci)
-concerns ms (receiving o) a = readName ms (reading o)
-concerns ms (offering vpi vci n) a = some (addressName vpi vci)
-concerns ms (levelling l) a = none
-concerns ms (slot t room) a = goesTo a
-concerns ms (making vpi vci t) a = some (addressName vpi vci)
-concerns ms (outOfRate vpi vci t room) a = some (addressName vpi vci)
-concerns ms (openingPath vpi t p) a = some (addressName vpi pathVci)
-concerns ms (adding vpi vci) a = none
-concerns ms (offeringMember vpi vci n) a = some (pathOf (addressName vpi vci))
-concerns ms (removing vpi vci) a = some (pathOf (addressName vpi vci))
+concerns ms c a = concerned ms a (subjectOf c)
 
 -- it is a slot's answer with the name x
 unfoldable pub answersName : (x : ℕ) → Answer → Bool
@@ -49,20 +47,17 @@ answersName x (Closed n k) = false
 answersName x Idle = false
 answersName x (Sent v y k a n) = eqb y x
 
+abbrev pub touched : (x : ℕ) → Answer → OnMembers → Bool
+touched x a (ofClosed v) = eqb v (pathOf x)
+touched x a (ofAdded y) = eqb y x
+touched x a (ofOffered y n) = eqb y x
+touched x a (ofRemoved y) = eqb y x
+touched x a ofSlot = answersName x a
+touched x a ofNone = false
+
 -- a call is about the member x: it names it, closes its path, or is a slot that names it
 unfoldable pub touches : (x : ℕ) → Call → Answer → Bool
-touches x (opening vpi vci t p) a = false
-touches x (closing vpi vci) a = eqb (addressName vpi vci) (pathOf x)
-touches x (receiving o) a = false
-touches x (offering vpi vci n) a = false
-touches x (levelling l) a = false
-touches x (slot t room) a = answersName x a
-touches x (making vpi vci t) a = false
-touches x (outOfRate vpi vci t room) a = false
-touches x (openingPath vpi t p) a = false
-touches x (adding vpi vci) a = eqb (addressName vpi vci) x
-touches x (offeringMember vpi vci n) a = eqb (addressName vpi vci) x
-touches x (removing vpi vci) a = eqb (addressName vpi vci) x
+touches x c a = touched x a (membersOf c)
 
 -- x is a member before and after, on which the same waits, or in neither
 pub record SameMember (x : ℕ) (ms ns : List Member) : Type 0 where

@@ -1,4 +1,5 @@
--- Only four moves change an allowed rate: its own forward cells make the first three, its own backward cells the fourth. (Document 01, "Four moves of the allowed rate".)
+-- Only four moves change an allowed rate. A connection's own forward cells make the first three, its own backward
+-- cells the fourth. (Document 01, "Four moves of the allowed rate".)
 use Prim.Native.Nat.{ℕ, _-_}
 use mathlib.Core.Path.{_≡_}
 use mathlib.Core.Bool.{Bool}

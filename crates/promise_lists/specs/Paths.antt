@@ -24,7 +24,8 @@ use Rattle.model.specs.Step.{refuse, step}
 use Rattle.model.specs.Queries.{acrOf, contractOf}
 use Rattle.model.specs.Run.{final}
 
--- a member's pair is no connection's: what the calls for one do, where no refusal with an earlier place in their order comes first
+-- what the calls for a connection do on a member's pair, which is no connection's, where no refusal that is
+-- earlier in their order comes first
 pub record MemberOnly (s : State) (vpi vci : ℕ) : Type 0 where
   pub opens :
       (t : ℕ) (p : Params) → codesClear (p .pcr) (p .mcr) (p .icr) ≡ true → paramsFit p ≡ true → tbeFits p ≡ true → frttFits p ≡ true → t ≤ latestTime

@@ -1,9 +1,10 @@
--- A refusal leaves table and buffer as they were, and its number is never 0, which says that a call was accepted. (Document 01, "Refused because of the state".)
+-- A refusal leaves table and buffer as they were. Its number is never 0, which says that a call was accepted.
+-- (Document 01, "Refused because of the state".)
 use Prim.Native.Nat.{ℕ, _<_}
 use mathlib.Core.Path.{_≡_}
 use mathlib.Core.List.{List}
 use mathlib.Core.Option.{some}
-use Rattle.connection.specs.Sending.{untouched}
+use Rattle.connection.specs.Slot.{untouched}
 use Rattle.model.specs.State.{State, empty}
 use Rattle.model.specs.Call.{Call, Outcome, refusal}
 use Rattle.model.specs.Step.{step}

@@ -22,7 +22,7 @@ use Rattle.port.specs.Port.{portBy}
 use Rattle.port.specs.Limited.{fieldsWithEr}
 use Rattle.port.proofs.Limited.{backward-limited}
 use Rattle.connection.specs.declared.parts.Connection.{Connection}
-use Rattle.connection.specs.Receiving.{afterBackwardCell}
+use Rattle.connection.specs.Source.{afterBackwardCell}
 use Rattle.model.specs.State.{State, taken, find}
 use Rattle.model.specs.Invariant.{WellFormed}
 use Rattle.model.specs.Call.{receiving}

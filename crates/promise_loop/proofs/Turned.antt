@@ -19,8 +19,8 @@ use Rattle.cell.proofs.Names.{address-back}
 use Rattle.cell.proofs.Admits.{rm-received}
 use Rattle.cell.proofs.Turned.{turned-read, turned-words}
 use Rattle.cell.proofs.Written.{written-octets, read-written}
-use Rattle.connection.specs.Sending.{forwardFields}
-use Rattle.connection.proofs.SendCases.{forward-fits}
+use Rattle.connection.specs.Source.{forwardFields}
+use Rattle.connection.proofs.SourceCases.{forward-fits}
 use Rattle.promise_loop.specs.Turned.{forwardCell, turnedBack, TurnedUnmarked}
 use Rattle.promise_loop.proofs.Share.{port-low}
 

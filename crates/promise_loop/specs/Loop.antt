@@ -1,5 +1,6 @@
--- A source and a port that all its backward cells pass, in every list of calls: the allowed rate settles, and follows a change of the share. Channels and paths
--- alike. (Document 01, "Four moves of the allowed rate"; document 02, L10.)
+-- A source and a port that all its backward cells pass, in every list of calls. The allowed rate settles,
+-- and follows a change of the share. This holds for channels and paths. (Document 01, "Four moves of the
+-- allowed rate"; document 02, L10.)
 use Prim.Native.Nat.{ℕ, suc, _+_, _-_, _*_, _≤_, _<_, min}
 use mathlib.Core.Path.{_≡_}
 use mathlib.Core.Logic.{_≢_}
@@ -30,7 +31,8 @@ use Rattle.promise_cells.specs.Changes.{NotFedBack}
 use Rattle.promise_loop.specs.Settled.{feedbackBound}
 use Rattle.promise_loop.specs.Share.{portRate, settled}
 
--- a backward cell of v as a port with this share leaves it, whatever marks and ER it has: of `port capacity demands` the share is `fairShare capacity demands`
+-- a backward cell of v as a port with this share leaves it, whatever marks and ER it has; for `port capacity
+-- demands` the share is `fairShare capacity demands`
 pub record FromPort (v : ℕ) (share : FairShare) (o : List ℕ) : Type 0 where
   pub before : List ℕ
   pub fields : Fields
@@ -39,14 +41,16 @@ pub record FromPort (v : ℕ) (share : FairShare) (o : List ℕ) : Type 0 where
   pub name : cellName fields ≡ v
   pub left : o ≡ portBy share before .cell
 
--- such a cell without marks, whose ER before the port was not below what this port allows: no other on the way allows less
+-- such a cell without marks, whose ER before the port was not below what this port allows: no
+-- other on the way allows less
 pub record Unmarked (v : ℕ) (p : Params) (share : FairShare) (o : List ℕ) : Type 0 where
   pub fromPort : FromPort v share o
   pub ci : fromPort .fields .ci ≡ 0
   pub ni : fromPort .fields .ni ≡ 0
   pub er : portRate p share ≤ rateOf (fromPort .fields .er)
 
--- n of these calls on the table s are backward cells of v, each of them a `Cell`; of each other call, on the table that it meets, `Other` holds
+-- n of these calls on the table s are backward cells of v, each of them a `Cell`; for each other call `Other`
+-- holds on the table that it meets
 pub data Feedbacks (v : ℕ) (Cell : List ℕ → Type 0) (Other : State → Call → Type 0) : State → ℕ → List Call → Type 0 where
   ended : {s : State} → Feedbacks v Cell Other s 0 []
   fedBack :
@@ -64,8 +68,8 @@ pub record NotClosed (v : ℕ) (s : State) (c : Call) : Type 0 where
 pub record RateKept (v : ℕ) (s : State) (c : Call) : Type 0 where
   pub same : allowed v (step s c .state) ≡ allowed v s
 
--- enough for the moves before a forward cell at t to leave the rate: it is not the first, no more than ADTF has passed since the last, and fewer than CRM are
--- unanswered, or CDF is zero
+-- enough for the moves before a forward cell at t to leave the rate: it is not the first, at most ADTF has passed
+-- since the last, and fewer than CRM are unanswered or CDF is zero
 pub record Unmoved (t : ℕ) (d : Connection) : Type 0 where
   pub sent : ℕ
   pub forward : ℕ
@@ -75,8 +79,9 @@ pub record Unmoved (t : ℕ) (d : Connection) : Type 0 where
   pub recent : t - forward ≤ adtfTime (d .rate .params)
   pub answered : d .rate .params .c ≢ 7 → d .unanswered < crm (d .rate .params)
 
--- the call does not close v; and if it is a slot that sends a forward cell of v, the cell's moves leave the rate: a caller knows it from the instants of these cells,
--- and from how many went since the last backward cell with BN 0
+-- The call does not close v. If it is a slot that sends a forward cell of v, the cell's moves leave
+-- the rate. A caller knows this from the instants of these cells, and from how many went since the
+-- last backward cell with BN 0.
 pub record NotLowered (v : ℕ) (s : State) (c : Call) : Type 0 where
   pub notClosed : NotClosed v s c
   pub forwardCell :
@@ -87,15 +92,18 @@ pub record OpenAt (cs : List Call) (v : ℕ) (p : Params) (a : ℕ) : Type 0 whe
   pub given : paramsGiven v cs ≡ some p
   pub rate : allowed v (final empty cs) ≡ some a
 
--- and after further calls, s being the table after cs; where a move of its own lowered the rate, the count begins anew behind it
+-- and after further calls, where s is the table after cs; where a move of its own lowered the rate, the count
+-- starts again after that move
 pub record Loop (s : State) (v : ℕ) (p : Params) (a : ℕ) (share : FairShare) : Type 0 where
-  -- once one backward cell came from the port, the rate is never above the settled one, whatever marks the cells carry and whatever else moves the rate
+  -- once one backward cell came from the port, the rate is never above the settled one, whatever marks the cells
+  -- carry and whatever else moves the rate
   pub neverAbove : (n : ℕ) (ds : List Call) → Feedbacks v (FromPort v share) (NotClosed v) s (suc n) ds → NotAbove (some (settled p share)) (allowed v (final s ds))
   -- n + 1 backward cells without marks add as many increases, up to the settled rate, if nothing else moves the rate
   pub rises :
       (n : ℕ) (ds : List Call) → Feedbacks v (Unmarked v p share) (RateKept v) s (suc n) ds
       → allowed v (final s ds) ≡ some (min (settled p share) (a + suc n * increase p))
-  -- so `feedbackBound` of them bring it there from any rate, and more leave it there, if the increase is at least one unit
+  -- so `feedbackBound` of them bring it there from any rate, and more leave it there, if the
+  -- increase is at least one unit
   pub reached :
       (n : ℕ) (ds : List Call) → 1 ≤ increase p → feedbackBound p ≤ n → Feedbacks v (Unmarked v p share) (RateKept v) s n ds
       → allowed v (final s ds) ≡ some (settled p share)

@@ -1,4 +1,5 @@
--- The rate to which backward cells without marks, all of one ER, bring a rate record, and how many of them that takes. (Document 01, "Four moves of the allowed rate".)
+-- The rate to which backward cells without marks, all with one ER, bring a rate record, and how many of them that
+-- takes. (Document 01, "Four moves of the allowed rate".)
 use Prim.Native.Nat.{ℕ, zero, suc, _+_, _*_, _/_, _^_, _≤_, min, max}
 use mathlib.Core.Path.{_≡_}
 use mathlib.Core.Bool.{false}
@@ -21,7 +22,8 @@ abbrev pub fedTimes : (n er : ℕ) → Rate → Rate
 fedTimes zero er q = q
 fedTimes (suc n) er q = fedTimes n er (feedback false false er q)
 
--- there is an increase if PCR is at least 2^r units: so up to r = 9 for every contract, whose PCR is 512 units or more, and for any r from 64 cells a second on
+-- there is an increase if PCR is at least 2^r units: up to r = 9 for every contract, since its PCR is 512 units or
+-- more, and for any r from 64 cells a second on
 abbrev pub IncreaseAtLeastOne : Type 0
 IncreaseAtLeastOne = (p : Params) (k : ℕ) → p .r ≤ k → 2 ^ k ≤ peak p → 1 ≤ increase p
 

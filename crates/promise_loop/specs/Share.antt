@@ -13,7 +13,8 @@ use Rattle.port_share.specs.declared.share.FairShare.the-variants.{Refused, NoL
 use Rattle.port.specs.Limit.{heldEr}
 use Rattle.promise_loop.specs.Settled.{settledRate}
 
--- the code of ER behind the port, by the one before it: a port without a limit leaves it, and so does one that refuses the call
+-- the code of ER after the port, from the one before it: a port without a limit leaves it, and so
+-- does one that refuses the call
 abbrev pub erBehind : FairShare → (er : ℕ) → ℕ
 erBehind (Refused n) er = er
 erBehind NoLimit er = er
@@ -27,10 +28,12 @@ abbrev pub settled : Params → FairShare → ℕ
 settled p share = settledRate p (portRate p share)
 
 pub record SettledRates : Type 0 where
-  -- max(MCR, min(PCR, share)) of a share that is the rate of a code, and of any other share the same of the rate of its code
+  -- max(MCR, min(PCR, share)) for a share that is the rate of a code; for any other share the
+  -- same with the rate of its code
   pub exact : (p : Params) (code : ℕ) → settled p (Limit (rateOf code)) ≡ settledRate p (rateOf code)
   pub rounded : (p : Params) (share : ℕ) → share ≤ largestRate → settled p (Limit share) ≡ settledRate p (rateOf (codeOf share))
-  -- sources that demand their PCR and have settled send together no more than the capacity, but for what their minimums are above the rates that the port allows
+  -- settled sources that demand their PCR send together at most the capacity, plus what their minimums are above
+  -- the rates that the port allows
   pub together :
       (capacity share : ℕ) (ps : List Params) → fairShare capacity (map peak ps) ≡ Limit share
       → plainSum (map (λ p. settled p (Limit share)) ps) ≤ capacity + plainSum (map (λ p. least p - portRate p (Limit share)) ps)

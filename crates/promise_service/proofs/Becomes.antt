@@ -1,4 +1,5 @@
--- What each call makes of the entry of one name, with what is known of it: one walk, for every theorem about one connection along a list.
+-- What each call does to the entry of one name, and what is known of it. One walk serves every theorem about
+-- one connection along a list.
 use Prim.Native.Nat.{ℕ, _≤_, _<_}
 use mathlib.Core.Path.{_≡_, refl, sym, ap, subst, _∙_}
 use mathlib.Core.Logic.{_≢_}
@@ -19,12 +20,12 @@ use Rattle.connection_members.specs.Path.{pathVci, pathOf}
 use Rattle.connection.specs.declared.parts.Connection.{Connection}
 use Rattle.connection.specs.declared.ready.Instant.the-variants.{At}
 use Rattle.connection.specs.Parts.{fresh, withQueue, dequeued}
-use Rattle.connection.specs.Making.{withMade}
+use Rattle.connection.specs.Source.{offered, afterOutOfRate, withServed}
+use Rattle.connection.specs.Destination.{withMade, afterDataCell}
+use Rattle.connection.specs.Received.{afterRmCell}
+use Rattle.connection.specs.Slot.{after, memberServed}
 use Rattle.connection.specs.Ready.{readyInstant}
-use Rattle.connection.specs.Receiving.{offered, afterDataCell, afterRmCell}
-use Rattle.connection.specs.OutOfRate.{afterOutOfRate}
 use Rattle.connection.specs.Kind.{kindAt}
-use Rattle.connection.specs.Sending.{after, memberServed, withServed}
 use Rattle.connection.proofs.Keeps.{work-same, after-same}
 use Rattle.model.specs.State.{State, Entry, free, taken, capacity, empty, find, withEntryOf, withOpened, withTime, withLevel, withMembers}
 use Rattle.model.specs.Invariant.{OnEntry, NamesUnique, WellFormed}
@@ -117,7 +118,7 @@ effect-becomes v {s} z (removes a b d f i) = changes v s z (pathOf (addressName 
 pub becomes : (v : ℕ) (s : State) → NamesUnique (s .entries) → (c : Call) → Becomes v (find v (s .entries)) c (step s c .answer) (find v (step s c .state .entries))
 becomes v s z c = effect-becomes v z (effect s z c)
 
--- what holds of a fresh connection, and is kept by what each call makes of one, holds of each connection in every table that calls make
+-- a property of a fresh connection that every call keeps holds of each connection in every table that calls make
 pub record Kept (P : Connection → Type 0) : Type 0 where
   pub each : (v : ℕ) (x y : Entry) (c : Call) (a : Answer) → Becomes v x c a y → OnEntry P x → OnEntry P y
 

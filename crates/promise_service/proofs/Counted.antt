@@ -15,19 +15,20 @@ use Rattle.connection.specs.declared.parts.Connection.{Connection}
 use Rattle.connection.specs.declared.parts.Pace.{Pace}
 use Rattle.connection.specs.declared.parts.Pace.the-variants.{Unsent}
 use Rattle.connection.specs.Parts.{fresh, withQueue, dequeued}
-use Rattle.connection.specs.Making.{withMade}
-use Rattle.connection.specs.Receiving.{offered, afterDataCell, afterBackwardCell, afterForwardCell, afterRmCell}
-use Rattle.connection.specs.OutOfRate.{afterOutOfRate}
+use Rattle.connection.specs.Source.{offered, afterBackwardCell, afterOutOfRate, withServed}
+use Rattle.connection.specs.Destination.{withMade, afterDataCell, afterForwardCell}
+use Rattle.connection.specs.Received.{afterRmCell}
+use Rattle.connection.specs.Slot.{after, memberServed}
 use Rattle.connection.specs.Kind.{kindAt}
-use Rattle.connection.specs.Sending.{after, memberServed, withServed}
 use Rattle.connection.proofs.Keeps.{work-same}
 use Rattle.model.specs.State.{State, Entry, free, taken, position, holds, isFree, find, withEntryOf, withOpened, withTime, withLevel, withMembers}
 use Rattle.model.specs.Call.{Call, slot, Outcome}
 use Rattle.model.specs.Step.{refuse, accept, replay, discard, withOffer, withoutOne, sendFrom, sendStep, idleStep, sendOutOfRate}
 use Rattle.model.specs.Run.{isAccepted}
+use Rattle.model.specs.Orders.{openCount}
 use Rattle.model.proofs.Counts.{count}
 use Rattle.model.proofs.Effects.{Effect, refuses, opens, closes, offers, receivesData, receivesRm, setsLevel, idles, sends, makes, sendsOutOfRate, opensPath, adds, offersMember, removes}
-use Rattle.promise_service.specs.PassedOver.{openEntries, openCall}
+use Rattle.promise_service.specs.PassedOver.{openCall}
 
 abbrev pub one : Bool → ℕ
 one b = cond b 1 0
@@ -73,9 +74,9 @@ module _ (g : ℕ → Pace → Bool) where
   unfolding passes
   free-fails = refl
 
-  pub begun-count : (s : State) (c : Connection) → count (passes g) (withOpened c s .entries) ≤ count (passes g) (s .entries) + one (g (c .opened) (c .pace))
+  pub opened-count : (s : State) (c : Connection) → count (passes g) (withOpened c s .entries) ≤ count (passes g) (s .entries) + one (g (c .opened) (c .pace))
   unfolding withOpened passes
-  begun-count s c = omega (arith, count-set (passes g) free-fails (s .entries) (position isFree (s .entries)) (taken c))
+  opened-count s c = omega (arith, count-set (passes g) free-fails (s .entries) (position isFree (s .entries)) (taken c))
 
   pub freed-count : (u : ℕ) (s : State) → count (passes g) (withEntryOf u free s .entries) + one (passes g (find u (s .entries))) ≤ count (passes g) (s .entries)
   unfolding passes
@@ -101,7 +102,7 @@ module _ (g : ℕ → Pace → Bool) where
       → count (passes g) (o .state .entries) ≤ count (passes g) (s .entries) + cond (isAccepted (o .answer)) (openCall (λ t. g t Unsent) c) 0
   unfolding refuse accept replay discard sendFrom sendStep idleStep sendOutOfRate withTime withLevel withMembers withOffer withoutOne withServed offered afterDataCell withMade afterOutOfRate fresh isAccepted openCall
   effect-count {s} (refuses c n h) k = omega arith
-  effect-count {s} (opens a b t p h) k = begun-count s (fresh (addressName a b) t p)
+  effect-count {s} (opens a b t p h) k = opened-count s (fresh (addressName a b) t p)
   effect-count {s} (closes a b d f) k = omega (arith, freed-count (addressName a b) s)
   effect-count {s} (offers a b n d f i h) k = same-count (addressName a b) s d (offered n d) f refl refl
   effect-count {s} (receivesData o a b e u d r i h f) k = same-count u s d (afterDataCell e d) f refl refl
@@ -112,27 +113,27 @@ module _ (g : ℕ → Pace → Bool) where
       omega (arith, put-count u (withTime t s) (b .holder) (withServed (memberServed (kindAt t (b .holder)) (b .holder) (s .members)) (after (kindAt t (b .holder)) t (b .holder))) (b .found), k t room (b .holder) refl refl)
   effect-count {s} (makes a b t d f h j m) k = same-count (addressName a b) (withTime t s) d (withMade t (s .level) d) f refl refl
   effect-count {s} (sendsOutOfRate a b t room d f h j) k = same-count (addressName a b) (withTime t s) d (afterOutOfRate t d) f refl refl
-  effect-count {s} (opensPath a t p h) k = begun-count s (fresh (addressName a pathVci) t p)
+  effect-count {s} (opensPath a t p h) k = opened-count s (fresh (addressName a pathVci) t p)
   effect-count {s} (adds a b d f j) k = omega arith
   effect-count {s} (offersMember a b n d f i h) k = same-count (pathOf (addressName a b)) s d (offered n d) f refl refl
   effect-count {s} (removes a b d f i) k = same-count (pathOf (addressName a b)) s d (withQueue d (dequeued (cellsOf (addressName a b) (s .members)) (d .queue))) f refl refl
 
 -- against the number of open connections
-pub count-open : (g : ℕ → Pace → Bool) (ss : List Entry) → count (passes g) ss ≤ openEntries ss
-unfolding count passes openEntries
+pub count-open : (g : ℕ → Pace → Bool) (ss : List Entry) → count (passes g) ss ≤ openCount ss
+unfolding count passes openCount
 count-open g [] = omega arith
 count-open g (free ∷ ss) = count-open g ss
 count-open g (taken c ∷ ss) = go (g (c .opened) (c .pace)) (count-open g ss)
   where
-    go : (b : Bool) → count (passes g) ss ≤ openEntries ss → cond b (suc (count (passes g) ss)) (count (passes g) ss) ≤ suc (openEntries ss)
+    go : (b : Bool) → count (passes g) ss ≤ openCount ss → cond b (suc (count (passes g) ss)) (count (passes g) ss) ≤ suc (openCount ss)
     go true h = omega arith
     go false h = omega arith
 
 abbrev pub any : ℕ → Pace → Bool
 any t p = true
 
-pub open-count : (ss : List Entry) → openEntries ss ≡ count (passes any) ss
-unfolding count passes openEntries
+pub open-count : (ss : List Entry) → openCount ss ≡ count (passes any) ss
+unfolding count passes openCount
 open-count [] = refl
 open-count (free ∷ ss) = open-count ss
 open-count (taken c ∷ ss) = ap suc (open-count ss)

@@ -23,11 +23,12 @@ use Rattle.connection.specs.declared.parts.Pace.the-variants.{Unsent, Running}
 use Rattle.connection.specs.declared.kind.Kind.{Kind}
 use Rattle.connection.specs.declared.kind.Kind.the-variants.{Forward, Turned, Data}
 use Rattle.connection.specs.Parts.{fresh, withQueue, dequeued}
-use Rattle.connection.specs.Making.{withMade}
-use Rattle.connection.specs.Receiving.{offered, afterDataCell, afterBackwardCell, afterForwardCell, afterRmCell}
-use Rattle.connection.specs.OutOfRate.{afterOutOfRate}
+use Rattle.connection.specs.Pace.{paced}
+use Rattle.connection.specs.Source.{offered, afterBackwardCell, afterOutOfRate, movedBy, sentForward, sentData, withServed}
+use Rattle.connection.specs.Destination.{withMade, afterDataCell, afterForwardCell, sentTurned}
+use Rattle.connection.specs.Received.{afterRmCell}
+use Rattle.connection.specs.Slot.{after}
 use Rattle.connection.specs.Kind.{kindAt}
-use Rattle.connection.specs.Sending.{movedBy, paced, sentForward, sentTurned, sentData, after, withServed}
 use Rattle.connection.proofs.Keeps.{after-same}
 use Rattle.model.specs.State.{State, Entry, free, taken, empty, find}
 use Rattle.model.specs.Invariant.{OnEntry, WellFormed}
@@ -148,8 +149,8 @@ module _ (p : Params) (y a : ℕ) (low : 1 ≤ crm p) (high : crm p ≤ 8_388_60
       → Falls p y a n e
   falls-quiet n d e q u k r h = record { params = q ∙ h .params; counted = u; none = k; below = λ j l m. omega (arith, r, h .below j l m) }
 
-  same-falls : (n : ℕ) (e : Connection) → Falls p y a n e → Falls p y a (n + 0) e
-  same-falls n e h = subst (λ (i : ℕ). Falls p y a i e) (omega arith) h
+  same-descends : (n : ℕ) (e : Connection) → Falls p y a n e → Falls p y a (n + 0) e
+  same-descends n e h = subst (λ (i : ℕ). Falls p y a i e) (omega arith) h
 
   falls-worked :
       (n level : ℕ) (o : List ℕ) (f : Fields) (d : Connection) → (f .dir ≡ 1 → (f .bn ≢ 0) × (0 < markLevel (eqb (f .ci) 1) (eqb (f .ni) 1))) → Falls p y a n d
@@ -203,13 +204,13 @@ module _ (p : Params) (y a : ℕ) (low : 1 ≤ crm p) (high : crm p ≤ 8_388_60
   falls-step n v x z c b (unchanged k) u h = subst (λ (i : ℕ). FallsAt p y a i z) (omega (arith, no-forward v b k)) h
   falls-step n v x z c b (entryOpened t k q) u h = absurd h
   falls-step n v x z c b (entryClosed e) u h = absurd (u e)
-  falls-step n v x z c b (dataOffered {d} k j) u h = same-falls n (offered k d) (falls-quiet n d (offered k d) refl (h .counted) (h .none) (omega arith) h)
+  falls-step n v x z c b (dataOffered {d} k j) u h = same-descends n (offered k d) (falls-quiet n d (offered k d) refl (h .counted) (h .none) (omega arith) h)
   falls-step n v x z c b (memberRemoved {d} k e) u h =
-      same-falls n (withQueue d (dequeued k (d .queue))) (falls-quiet n d (withQueue d (dequeued k (d .queue))) refl (h .counted) (h .none) (omega arith) h)
-  falls-step n v x z c b (dataReceived {d} e j) u h = same-falls n (afterDataCell e d) (falls-quiet n d (afterDataCell e d) refl (h .counted) (h .none) (omega arith) h)
-  falls-step n v x z c b (rmReceived {d} {o} level j f r e) u h = same-falls n (afterRmCell level o f d) (falls-worked n level o f d (u f r e) h)
-  falls-step n v x z c b (madeWaits {d} t level j k) u h = same-falls n (withMade t level d) (falls-quiet n d (withMade t level d) refl (h .counted) (h .none) (omega arith) h)
-  falls-step n v x z c b (outOfRateGone {d} t j) u h = same-falls n (afterOutOfRate t d) (falls-quiet n d (afterOutOfRate t d) refl (h .counted) (h .none) (omega arith) h)
+      same-descends n (withQueue d (dequeued k (d .queue))) (falls-quiet n d (withQueue d (dequeued k (d .queue))) refl (h .counted) (h .none) (omega arith) h)
+  falls-step n v x z c b (dataReceived {d} e j) u h = same-descends n (afterDataCell e d) (falls-quiet n d (afterDataCell e d) refl (h .counted) (h .none) (omega arith) h)
+  falls-step n v x z c b (rmReceived {d} {o} level j f r e) u h = same-descends n (afterRmCell level o f d) (falls-worked n level o f d (u f r e) h)
+  falls-step n v x z c b (madeWaits {d} t level j k) u h = same-descends n (withMade t level d) (falls-quiet n d (withMade t level d) refl (h .counted) (h .none) (omega arith) h)
+  falls-step n v x z c b (outOfRateGone {d} t j) u h = same-descends n (afterOutOfRate t d) (falls-quiet n d (afterOutOfRate t d) refl (h .counted) (h .none) (omega arith) h)
   falls-step n v x z c b (cellSent {d} {t} i m r l) u h = rw (eq-eqb v v refl) (falls-sent n t m d (kindAt t d) h)
 
   falls-run : (v n : ℕ) {s : State} → WellFormed s → (ds : List Call) → All (Unheard v) ds → FallsAt p y a n (find v (s .entries)) → FallsAt p y a (n + forwardSlots v s ds) (find v (final s ds .entries))

@@ -1,4 +1,5 @@
--- The data slots of a path through a list of calls are a stretch of turns among its members, which are fair (crate members).
+-- The data slots of a path in a list of calls are a stretch of turns among its members. These
+-- turns are fair (crate members).
 use Prim.Native.Nat.{ℕ, _+_, _≤_, _<_}
 use mathlib.Core.Path.{_≡_, refl, sym, ap, subst, _∙_}
 use mathlib.Core.Logic.{_≢_}
@@ -23,18 +24,19 @@ use Rattle.connection.specs.declared.parts.Queue.{Queue}
 use Rattle.connection.specs.declared.kind.Kind.{Kind}
 use Rattle.connection.specs.declared.kind.Kind.the-variants.{Forward, Turned, Data}
 use Rattle.connection.specs.Parts.{fresh, waiting}
-use Rattle.connection.specs.Making.{withMade}
-use Rattle.connection.specs.Receiving.{offered, afterDataCell, afterRmCell}
-use Rattle.connection.specs.OutOfRate.{afterOutOfRate}
+use Rattle.connection.specs.Source.{offered, afterOutOfRate, sentForward, sentData, withServed}
+use Rattle.connection.specs.Destination.{withMade, afterDataCell, sentTurned}
+use Rattle.connection.specs.Received.{afterRmCell}
+use Rattle.connection.specs.Slot.{after, memberServed}
 use Rattle.connection.specs.Kind.{kindAt}
-use Rattle.connection.specs.Sending.{sentForward, sentTurned, sentData, after, memberServed, withServed}
 use Rattle.connection.proofs.Keeps.{work-same, work-queue}
 use Rattle.connection.proofs.Waited.{data-waits}
 use Rattle.model.specs.State.{State, Entry, free, taken, isFree, empty, find, withEntryOf, withOpened, withTime, withLevel, withMembers}
 use Rattle.model.specs.Invariant.{NamesUnique, WellFormed}
 use Rattle.model.specs.declared.answer.Answer.{Answer}
 use Rattle.model.specs.declared.answer.Answer.the-variants.{Refused, Accepted, Closed, Idle, Sent}
-use Rattle.model.specs.Call.{Call, opening, closing, receiving, offering, levelling, slot, making, outOfRate, openingPath, adding, offeringMember, removing, Outcome}
+use Rattle.model.specs.Call.{Call, closing, slot, Outcome}
+use Rattle.model.specs.Aspects.{Sort, opener, closer, arrival, slotAt, another, sortOf}
 use Rattle.model.specs.Step.{refuse, accept, replay, discard, ofOpen, closeStep, withOffer, withoutOne, nameAnswered, sendFrom, sendStep, sendOutOfRate, idleStep, step}
 use Rattle.model.specs.Run.{final, isAccepted}
 use Rattle.model.specs.Conservation.{dataIn}
@@ -44,7 +46,8 @@ use Rattle.model.proofs.Members.{path-sum}
 use Rattle.model.proofs.Conservation.{cond-zero}
 use Rattle.model.proofs.Effects.{OpenPassed, Effect, refuses, opens, closes, offers, receivesData, receivesRm, setsLevel, idles, sends, makes, sendsOutOfRate, opensPath, adds, offersMember, removes, effect}
 use Rattle.model.proofs.Reached.{step-well-formed, reached-well-formed}
-use Rattle.promise_service.specs.Fairness.{dataTold, dataCellsOf, BothGoOn, Stretch, Fairness}
+use Rattle.model.proofs.Shown.{Shown, refusing, accepting, discarding, idling, serving, servingOutOfRate, shown}
+use Rattle.promise_service.specs.Fairness.{dataTold, dataCellsOf, BothGoOn, Stretch, Fairness, GoOn}
 
 -- the VCI that was served last on the connection in an entry
 unfoldable entryServed : Entry → ℕ
@@ -81,9 +84,9 @@ kept-served :
 unfolding entryServed
 kept-served v u s a d e f n h = put-kept entryServed v u s a d e f n h
 
-begun-served : (v : ℕ) (s : State) (u t : ℕ) (p : Params) → OpenPassed s u t p → servedAt v (withOpened (fresh u t p) s) ≡ servedAt v s
+opened-served : (v : ℕ) (s : State) (u t : ℕ) (p : Params) → OpenPassed s u t p → servedAt v (withOpened (fresh u t p) s) ≡ servedAt v s
 unfolding fresh entryServed
-begun-served v s u t p g = with-opened-read entryServed v s (fresh u t p) (g .new) (g .room) ∙ by (case u v)
+opened-served v s u t p g = with-opened-read entryServed v s (fresh u t p) (g .new) (g .room) ∙ by (case u v)
   where
     by : Case u v → cond (eqb u v) 0 (entryServed (find v (s .entries))) ≡ entryServed (find v (s .entries))
     by (same q) = rw (eq-eqb u v q, ← q, g .new)
@@ -168,7 +171,7 @@ effect-follows :
     (v x y : ℕ) {s : State} → WellFormed s → pathOf x ≡ v → {c : Call} {o : Outcome} → Effect s c o → BothGoOn v x y s c → (l : List (List Member)) → Follows v x s o l
 unfolding refuse accept replay discard withLevel withMembers withOffer withoutOne idleStep sendOutOfRate withTime dataTold withSlot offered afterDataCell withMade afterOutOfRate
 effect-follows v x y w p (refuses c n h) g l = same-turns v x l refl
-effect-follows v x y {s} w p (opens a b t q z) g l = same-turns v x l (begun-served v s (addressName a b) t q z)
+effect-follows v x y {s} w p (opens a b t q z) g l = same-turns v x l (opened-served v s (addressName a b) t q z)
 effect-follows v x y {s} w p (closes a b d f) g l = same-turns v x l (ended-served v (addressName a b) s (w .unique) (not-closed s a b v d f g))
 effect-follows v x y {s} w p (offers a b n d f i h) g l = same-turns v x l (kept-served v (addressName a b) s (w .unique) d (offered n d) f refl refl)
 effect-follows v x y {s} w p (receivesData o a b e u d r i z f) g l = same-turns v x l (kept-served v u s (w .unique) d (afterDataCell e d) f refl refl)
@@ -183,36 +186,27 @@ effect-follows v x y {s} w p (makes a b t d f z h m) g l =
     same-turns v x l (kept-served v (addressName a b) (withTime t s) (w .unique) d (withMade t (s .level) d) f refl refl)
 effect-follows v x y {s} w p (sendsOutOfRate a b t room d f z h) g l =
     same-turns v x l (kept-served v (addressName a b) (withTime t s) (w .unique) d (afterOutOfRate t d) f refl refl)
-effect-follows v x y {s} w p (opensPath a t q z) g l = same-turns v x l (begun-served v s (addressName a pathVci) t q z)
+effect-follows v x y {s} w p (opensPath a t q z) g l = same-turns v x l (opened-served v s (addressName a pathVci) t q z)
 effect-follows v x y w p (adds a b d f j) g l = same-turns v x l refl
 effect-follows v x y {s} w p (offersMember a b n d f i h) g l =
     same-turns v x l (kept-served v (pathOf (addressName a b)) s (w .unique) d (offered n d) f refl refl)
 effect-follows v x y {s} w p (removes a b d f i) g l = same-turns v x l (kept-served v (pathOf (addressName a b)) s (w .unique) d _ f refl refl)
 
 -- Both wait at each of the slots.
-effect-waits :
-    (v a b : ℕ) {s : State} → WellFormed s → {c : Call} {o : Outcome} → Effect s c o → BothGoOn v a b s c → (l : List (List Member)) → BothWait a b l
+shown-waits :
+    (v a b : ℕ) {s : State} → WellFormed s → {c : Call} {o : Outcome} → Shown s c o → BothGoOn v a b s c → (l : List (List Member)) → BothWait a b l
     → BothWait a b (withSlot v (o .answer) (s .members) l)
 unfolding refuse accept replay discard idleStep sendFrom sendStep sendOutOfRate withSlot withTime
-effect-waits v a b w (refuses c n h) g l k = k
-effect-waits v a b w (opens i j t q z) g l k = k
-effect-waits v a b w (closes i j d f) g l k = k
-effect-waits v a b w (offers i j n d f c h) g l k = k
-effect-waits v a b w (receivesData o i j e u d r c z f) g l k = k
-effect-waits v a b w (receivesRm o q d r f) g l k = k
-effect-waits v a b w (setsLevel n h) g l k = k
-effect-waits v a b w (idles t room z c) g l k = k
-effect-waits v a b {s} w (sends t room i u z c) g l k = go (eqb u v && isData (kindAt t (c .holder)))
+shown-waits v a b w (refusing c n h) g l k = k
+shown-waits v a b w (accepting c n r i h) g l k = k
+shown-waits v a b w (discarding c n x u r i h z) g l k = k
+shown-waits v a b w (idling t room z) g l k = k
+shown-waits v a b {s} w (serving t room i u z c) g l k = go (eqb u v && isData (kindAt t (c .holder)))
   where
     go : (q : Bool) → BothWait a b (cond q (s .members ∷ l) l)
     go true = ((w .members .valid .rising, g .0, g .1), k)
     go false = k
-effect-waits v a b w (makes i j t d f z h m) g l k = k
-effect-waits v a b w (sendsOutOfRate i j t room d f z h) g l k = k
-effect-waits v a b w (opensPath i t q z) g l k = k
-effect-waits v a b w (adds i j d f z) g l k = k
-effect-waits v a b w (offersMember i j n d f c h) g l k = k
-effect-waits v a b w (removes i j d f c) g l k = k
+shown-waits v a b w (servingOutOfRate i j t room d f z) g l k = k
 
 -- A stretch of calls, and its data slots of v.
 slotsOf : (v : ℕ) → State → List Call → List (List Member)
@@ -231,25 +225,18 @@ run-waits : (v a b : ℕ) (s : State) → WellFormed s → (cs : List Call) → 
 unfolding slotsOf
 run-waits v a b s w [] g = tt
 run-waits v a b s w (c ∷ cs) g =
-    effect-waits v a b w (effect s (w .unique) c) (g .0) (slotsOf v (step s c .state) cs) (run-waits v a b (step s c .state) (step-well-formed w c) cs (g .1))
+    shown-waits v a b w (shown w c) (g .0) (slotsOf v (step s c .state) cs) (run-waits v a b (step s c .state) (step-well-formed w c) cs (g .1))
 
-call-swapped : (v a b : ℕ) (s : State) (c : Call) → BothGoOn v a b s c → BothGoOn v b a s c
-call-swapped v a b s (opening i j t p) g = g
-call-swapped v a b s (closing i j) g = g
-call-swapped v a b s (receiving o) g = g
-call-swapped v a b s (offering i j n) g = g
-call-swapped v a b s (levelling l) g = g
-call-swapped v a b s (slot t room) g = (g .1, g .0)
-call-swapped v a b s (making i j t) g = g
-call-swapped v a b s (outOfRate i j t room) g = g
-call-swapped v a b s (openingPath i t p) g = g
-call-swapped v a b s (adding i j) g = g
-call-swapped v a b s (offeringMember i j n) g = g
-call-swapped v a b s (removing i j) g = g
+call-swapped : (v a b : ℕ) (f : ℕ → ℕ) (y : Bool) (c : Sort) → GoOn v a b f y c → GoOn v b a f y c
+call-swapped v a b f y (opener u t p) g = g
+call-swapped v a b f y (closer u) g = g
+call-swapped v a b f y (arrival o) g = g
+call-swapped v a b f y (slotAt t) g = (g .1, g .0)
+call-swapped v a b f y another g = g
 
 swapped : (v a b : ℕ) (s : State) (cs : List Call) → Stretch v a b s cs → Stretch v b a s cs
 swapped v a b s [] g = tt
-swapped v a b s (c ∷ cs) g = (call-swapped v a b s c (g .0), swapped v a b (step s c .state) cs (g .1))
+swapped v a b s (c ∷ cs) g = (call-swapped v a b _ _ (sortOf c) (g .0), swapped v a b (step s c .state) cs (g .1))
 
 fair :
     (cs ds : List Call) (a b : ℕ) → let s = final empty cs in

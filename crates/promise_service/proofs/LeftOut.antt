@@ -1,4 +1,5 @@
--- Idle slots can be left out: each call does the same on two tables that differ in the last accepted time only, if its own time is before neither.
+-- Idle slots can be left out. Each call does the same on two tables that differ only in the last accepted time, if
+-- its own time is before neither.
 use Prim.Native.Nat.{ℕ, _≤_, max}
 use mathlib.Core.Path.{_≡_, refl, sym, ap, subst, _∙_}
 use mathlib.Core.Bool.{Bool, true, false, cond, true≢false}
@@ -21,8 +22,9 @@ use Rattle.model.specs.Winner.{Winner, noneReady, wins, winner}
 use Rattle.model.specs.Call.{Call, opening, closing, receiving, offering, levelling, slot, making, outOfRate, openingPath, adding, offeringMember, removing, Outcome}
 use Rattle.model.specs.Step.{refuse, accept, replay, discard, ofOpen, openAddress, openStep, openPathStep, closeStep, offerStep, withOffer, withoutOne, addStep, ofMember, offerMemberStep, removeStep, dataCellStep, readStep, receiveStep, levelStep, sendFrom, sendStep, idleStep, serveEntry, serve, slotStep, makeStep, sendOutOfRate, outOfRateStep, step}
 use Rattle.model.specs.Run.{run, final}
-use Rattle.model.proofs.Effects.{Effect, refuses, opens, closes, offers, receivesData, receivesRm, setsLevel, idles, sends, makes, sendsOutOfRate, opensPath, adds, offersMember, removes, effect}
+use Rattle.model.proofs.Effects.{Effect, refuses, idles, sends, effect}
 use Rattle.model.proofs.Reached.{step-well-formed, reached-well-formed}
+use Rattle.model.proofs.Shown.{Shown, refusing, accepting, discarding, idling, serving, servingOutOfRate, shown}
 use Rattle.laws.specs.All.{All}
 use Rattle.promise_lists.specs.Demand3.{InPlace}
 use Rattle.promise_service.specs.LeftOut.{NotBefore, SameBehind, SameButTime, isIdle, awake, notIdle, InOrder, LeftOut}
@@ -121,23 +123,14 @@ pub record Rested (s : State) (o : Outcome) : Type 0 where
   pub since : s .last ≤ o .state .last
   pub state : o .state ≡ withTime (o .state .last) s
 
-pub effect-idle : {s : State} {c : Call} {o : Outcome} → Effect s c o → isIdle (o .answer) ≡ true → Rested s o
+pub shown-idle : {s : State} {c : Call} {o : Outcome} → Shown s c o → isIdle (o .answer) ≡ true → Rested s o
 unfolding refuse accept replay discard sendFrom sendStep idleStep sendOutOfRate isIdle withTime
-effect-idle (refuses c n h) e = absurd (true≢false (sym e))
-effect-idle (opens a b t p g) e = absurd (true≢false (sym e))
-effect-idle (closes a b d f) e = absurd (true≢false (sym e))
-effect-idle (offers a b n d f i h) e = absurd (true≢false (sym e))
-effect-idle (receivesData o a b k u d r i h f) e = absurd (true≢false (sym e))
-effect-idle (receivesRm o q d r f) e = absurd (true≢false (sym e))
-effect-idle (setsLevel l h) e = absurd (true≢false (sym e))
-effect-idle (idles t room g b) e = record { since = g .since; state = refl }
-effect-idle (sends t room i u g b) e = absurd (true≢false (sym e))
-effect-idle (makes a b t d f g h m) e = absurd (true≢false (sym e))
-effect-idle (sendsOutOfRate a b t room d f g h) e = absurd (true≢false (sym e))
-effect-idle (opensPath a t p g) e = absurd (true≢false (sym e))
-effect-idle (adds a b d f j) e = absurd (true≢false (sym e))
-effect-idle (offersMember a b n d f i h) e = absurd (true≢false (sym e))
-effect-idle (removes a b d f i) e = absurd (true≢false (sym e))
+shown-idle (refusing c n h) e = absurd (true≢false (sym e))
+shown-idle (accepting c n r l g) e = absurd (true≢false (sym e))
+shown-idle (discarding c n x u r l i g) e = absurd (true≢false (sym e))
+shown-idle (idling t room g) e = record { since = g .since; state = refl }
+shown-idle (serving t room i u g b) e = absurd (true≢false (sym e))
+shown-idle (servingOutOfRate a b t room d f g) e = absurd (true≢false (sym e))
 
 idle-time : {s : State} (t room : ℕ) {o : Outcome} → Effect s (slot t room) o → isIdle (o .answer) ≡ true → o .state .last ≡ t
 unfolding refuse sendFrom sendStep idleStep isIdle withTime
@@ -171,7 +164,7 @@ same-all x (c ∷ cs) r s w e l = go (isIdle (step s c .answer)) refl (λ y r k 
         → ((y : ℕ) (r : State) → o .state ≡ withTime (max y (r .last)) r → InOrder y (o .state) cs → InPlace SameButTime (notIdle (run (o .state) cs)) (run r (awake (o .state) cs)))
         → InOrder (cond b (o .state .last) x) (o .state) cs
         → InPlace SameButTime (cond b (notIdle (run (o .state) cs)) (o ∷ notIdle (run (o .state) cs))) (run r (cond b (awake (o .state) cs) (c ∷ awake (o .state) cs)))
-    go true q k m = let i = effect-idle (effect s (w .unique) c) q in k (o .state .last) r (rested-behind x r s (o .state) e (i .since) (i .state)) m
+    go true q k m = let i = shown-idle (shown w c) q in k (o .state .last) r (rested-behind x r s (o .state) e (i .since) (i .state)) m
     go false q k m = (
       record { answer = h .answer; buffer = h .buffer; state = h .state ∙ ap (λ (n : ℕ). withTime n (step r c .state)) (sym at) },
       k x (step r c .state) (h .state) m,
@@ -184,7 +177,7 @@ left-out = record {
       let w = reached-well-formed cs in
       let f = effect s (w .unique) (slot t room) in
       let q : isIdle (step s (slot t room) .answer) ≡ true = is-idle _ e in
-      let i = effect-idle f q in
+      let i = shown-idle (shown w (slot t room)) q in
       let n = idle-time t room f q in
       same-run t ds s (step s (slot t room) .state) (i .state ∙ ap (λ (k : ℕ). withTime k s) (omega (arith, n, i .since))) l;
   all = λ cs ds l. let s = final empty cs in same-all 0 ds s s (reached-well-formed cs) (same-time s (max 0 (s .last)) (omega arith)) l;

@@ -18,7 +18,8 @@ use Rattle.connection.specs.declared.ready.Instant.{Instant}
 use Rattle.connection.specs.declared.ready.Instant.the-variants.{Never, At}
 use Rattle.connection.specs.Ready.{anyWaits, readyInstant}
 use Rattle.connection.specs.Kind.{kindAt}
-use Rattle.connection.specs.Sending.{after, memberServed, withServed}
+use Rattle.connection.specs.Source.{withServed}
+use Rattle.connection.specs.Slot.{after, memberServed}
 use Rattle.connection.proofs.Keeps.{after-same, served-same}
 use Rattle.connection.proofs.Readiness.{ready-zero, ready-moving, ready-some, ready-served}
 use Rattle.connection.proofs.Spaced.{dueFrom, waits-ready, sent-spaced}

@@ -1,4 +1,5 @@
--- A connection that is ready is not passed over for long: each slot that goes to another leaves one fewer that can be ready before it.
+-- A connection that is ready is not passed over for long. Each slot that goes to another leaves one fewer
+-- that can be ready before it.
 use Prim.Native.Nat.{ℕ, suc, _+_, _≤_, _<_}
 use mathlib.Core.Path.{_≡_, refl, sym, ap, subst, _∙_}
 use mathlib.Core.Logic.{_≢_}
@@ -19,12 +20,13 @@ use Rattle.connection.specs.declared.kind.Kind.{Kind}
 use Rattle.connection.specs.declared.kind.Kind.the-variants.{Forward, Turned, Data}
 use Rattle.connection.specs.declared.ready.Instant.the-variants.{At}
 use Rattle.connection.specs.Parts.{waiting}
-use Rattle.connection.specs.Receiving.{offered, afterDataCell, afterBackwardCell, afterForwardCell, afterRmCell}
-use Rattle.connection.specs.Making.{withMade}
-use Rattle.connection.specs.OutOfRate.{afterOutOfRate}
+use Rattle.connection.specs.Pace.{paced}
+use Rattle.connection.specs.Source.{offered, afterBackwardCell, afterOutOfRate, sentForward, sentData, withServed}
+use Rattle.connection.specs.Destination.{afterDataCell, afterForwardCell, withMade, sentTurned}
+use Rattle.connection.specs.Received.{afterRmCell}
+use Rattle.connection.specs.Slot.{after, memberServed}
 use Rattle.connection.specs.Ready.{waits, backwardWaits, anyWaits, readyInstant}
 use Rattle.connection.specs.Kind.{isForward, kindAt}
-use Rattle.connection.specs.Sending.{after, paced, sentForward, sentTurned, sentData, memberServed, withServed}
 use Rattle.connection.proofs.Keeps.{after-same}
 use Rattle.connection.proofs.Readiness.{ready-some}
 use Rattle.connection.proofs.Spaced.{dueFrom, ready-due}
@@ -37,18 +39,20 @@ use Rattle.model.specs.Run.{run, final, isAccepted}
 use Rattle.model.proofs.Entries.{Case, same, other, case}
 use Rattle.model.proofs.Counts.{count}
 use Rattle.model.proofs.Preserved.{valid-at}
-use Rattle.model.proofs.Effects.{Effect, refuses, opens, closes, offers, receivesData, receivesRm, setsLevel, idles, sends, makes, sendsOutOfRate, opensPath, adds, offersMember, removes, effect}
+use Rattle.model.proofs.Effects.{effect}
 use Rattle.model.proofs.Reached.{step-well-formed, reached-well-formed}
+use Rattle.model.proofs.Shown.{Shown, refusing, accepting, discarding, idling, serving, servingOutOfRate, shown}
 use Rattle.laws.specs.All.{All}
 use Rattle.promise_lists.proofs.Pairs.{none≢some}
 use Rattle.promise_service.specs.Liveness.{latestReady, GoesTo, Somewhere, here, there}
-use Rattle.promise_service.specs.PassedOver.{openConnections, slotCall, slotTaken, opensBy, opensUntil, slotsTaken, ReadyBy, SlotFrom, FoundReady, KeepsOpen, NotPassedOver}
+use Rattle.promise_service.specs.PassedOver.{openConnections, slotCall, slotTaken, opensBy, opensUntil, slotsTaken, ReadyBy, SlotFrom, FoundReady, KeepsOpen, NotPassedOver, slotLent}
 use Rattle.promise_service.proofs.Becomes.{Becomes, unchanged, entryOpened, entryClosed, dataOffered, memberRemoved, dataReceived, rmReceived, madeWaits, outOfRateGone, cellSent, becomes}
 use Rattle.promise_service.proofs.Liveness.{ready-soon, Goes, goes, slot-goes, ahead-by}
 use Rattle.promise_lists.proofs.Interference.{put-other}
 use Rattle.promise_service.proofs.Counted.{one, passes, any, freed-count, put-count, effect-count, count-open, open-count}
 
--- whatever moves its rate, it can be ready at m or before: it was opened by m and has sent no cell, or sent its last before m
+-- whatever moves its rate, it can be ready at m or before: it was opened by m and has sent no cell,
+-- or sent its last one before m
 abbrev couldBe : (m : ℕ) → ℕ → Pace → Bool
 couldBe m i Unsent = leb i m
 couldBe m i (Running sent forward k turned) = ltb sent m
@@ -78,23 +82,14 @@ data Sorted (v : ℕ) : Call → Outcome → Type 0 where
   plain : {c : Call} {o : Outcome} → slotTaken c (isAccepted (o .answer)) ≡ 0 → goesTo (o .answer) ≢ some v → Sorted v c o
   slotted : {o : Outcome} (t room : ℕ) → isAccepted (o .answer) ≡ true → Sorted v (slot t room) o
 
-sort : (v : ℕ) {s : State} {c : Call} {o : Outcome} → Effect s c o → Sorted v c o
+sort : (v : ℕ) {s : State} {c : Call} {o : Outcome} → Shown s c o → Sorted v c o
 unfolding refuse accept replay discard sendFrom sendStep idleStep sendOutOfRate isAccepted goesTo slotCall
-sort v (refuses c n h) = plain refl (λ e. none≢some e)
-sort v (opens a b t p g) = plain refl (λ e. none≢some e)
-sort v (closes a b d f) = plain refl (λ e. none≢some e)
-sort v (offers a b n d f i h) = plain refl (λ e. none≢some e)
-sort v (receivesData o a b e u d r i h f) = plain refl (λ e. none≢some e)
-sort v (receivesRm o q d r f) = plain refl (λ e. none≢some e)
-sort v (setsLevel l h) = plain refl (λ e. none≢some e)
-sort v (idles t room g b) = slotted t room refl
-sort v (sends t room i u g b) = slotted t room refl
-sort v (makes a b t d f g h m) = plain refl (λ e. none≢some e)
-sort v (sendsOutOfRate a b t room d f g h) = plain refl (λ e. none≢some e)
-sort v (opensPath a t p g) = plain refl (λ e. none≢some e)
-sort v (adds a b d f j) = plain refl (λ e. none≢some e)
-sort v (offersMember a b n d f i h) = plain refl (λ e. none≢some e)
-sort v (removes a b d f i) = plain refl (λ e. none≢some e)
+sort v (refusing c n h) = plain refl (λ e. none≢some e)
+sort v (accepting c n r l g) = plain (ap slotLent l) (λ e. none≢some e)
+sort v (discarding c n x u r l i g) = plain (ap slotLent l) (λ e. none≢some e)
+sort v (idling t room g) = slotted t room refl
+sort v (serving t room i u g b) = slotted t room refl
+sort v (servingOutOfRate a b t room d f g) = plain refl (λ e. none≢some e)
 
 abbrev rivals : (m : ℕ) → State → ℕ
 rivals m s = count (passes (couldBe m)) (s .entries)
@@ -161,7 +156,7 @@ passed :
     → Somewhere (GoesTo v) (run s ds)
 passed m v w [] r p h = absurd (omega (arith, p))
 passed m v {s} w (c ∷ cs) r p h =
-    go (λ n p h. passed m v (step-well-formed w c) cs (r .1 n) p h) (turn m v w c (r .0) (sort v (effect s (w .unique) c)))
+    go (λ n p h. passed m v (step-well-formed w c) cs (r .1 n) p h) (turn m v w c (r .0) (sort v (shown w c)))
   where
     o : Outcome
     o = step s c

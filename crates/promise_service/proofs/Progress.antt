@@ -21,12 +21,13 @@ use Rattle.connection.specs.declared.kind.Kind.{Kind}
 use Rattle.connection.specs.declared.kind.Kind.the-variants.{Forward, Turned, Data}
 use Rattle.connection.specs.Parts.{fresh, waiting, withQueue, dequeued}
 use Rattle.connection.specs.Invariant.{PaceFits}
-use Rattle.connection.specs.Making.{withMade}
+use Rattle.connection.specs.Pace.{paced}
+use Rattle.connection.specs.Source.{offered, afterOutOfRate, sentForward, sentData, withServed}
+use Rattle.connection.specs.Destination.{withMade, afterDataCell, sentTurned}
+use Rattle.connection.specs.Received.{afterRmCell}
+use Rattle.connection.specs.Slot.{after}
 use Rattle.connection.specs.Ready.{backwardWaits}
-use Rattle.connection.specs.Receiving.{offered, afterDataCell, afterRmCell}
-use Rattle.connection.specs.OutOfRate.{afterOutOfRate}
 use Rattle.connection.specs.Kind.{isForward, isTurned, kindAt}
-use Rattle.connection.specs.Sending.{paced, sentForward, sentTurned, sentData, after, withServed}
 use Rattle.connection.proofs.Keeps.{work-same, after-same}
 use Rattle.model.specs.State.{State, Entry, free, taken, empty, find, entryCells}
 use Rattle.model.specs.Invariant.{OnEntry, WellFormed}
@@ -43,7 +44,8 @@ use Rattle.promise_service.specs.Progress.{OwnCell, entryAnswers, ownCel
 use Rattle.promise_service.proofs.Counted.{work-pace}
 use Rattle.promise_service.proofs.Becomes.{Becomes, unchanged, entryOpened, entryClosed, dataOffered, memberRemoved, dataReceived, rmReceived, madeWaits, outOfRateGone, cellSent, becomes, always}
 
--- where a connection stands between its forward cells: before the first, or k cells after the last, a turned one among them or not
+-- where a connection stands between its forward cells: before the first, or k cells after the last, with or
+-- without a turned one among them
 data Place : Type 0 where
   unsent : Place
   since : (k : ℕ) (turned : Bool) → Place

@@ -17,7 +17,7 @@ use Rattle.connection.specs.declared.parts.Pace.{Pace}
 use Rattle.connection.specs.declared.parts.Pace.the-variants.{Unsent, Running}
 use Rattle.connection.specs.declared.ready.Instant.{Instant}
 use Rattle.connection.specs.declared.ready.Instant.the-variants.{Never, At}
-use Rattle.connection.specs.Receiving.{afterBackwardCell}
+use Rattle.connection.specs.Source.{afterBackwardCell}
 use Rattle.connection.specs.Ready.{anyWaits, lastBefore, readyFrom}
 use Rattle.connection.proofs.Readiness.{ready-moving}
 use Rattle.model.specs.State.{empty}

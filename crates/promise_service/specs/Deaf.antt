@@ -1,4 +1,5 @@
--- A source that hears nothing falls: without answers its rate is cut before each forward cell from the one after CRM on. (Document 01, "Four moves of the allowed rate"; source rule 6.)
+-- The rate of a source that hears nothing falls. Without answers it is cut before each forward cell from the one
+-- after CRM on. (Document 01, "Four moves of the allowed rate"; source rule 6.)
 use Prim.Native.Nat.{ℕ, zero, suc, _+_, _≤_, _<_, min, max}
 use mathlib.Core.Path.{_≡_}
 use mathlib.Core.Logic.{_≢_}
@@ -9,7 +10,6 @@ use Rattle.rate_params.specs.Params.{least, initialUsed, crm}
 use Rattle.rate_moves.specs.Moves.{reducedBy, markLevel}
 use Rattle.cell.specs.declared.fields.Fields.{Fields}
 use Rattle.cell.specs.declared.read.Reading.the-variants.{RmCell}
-use Rattle.cell.specs.Name.{addressName}
 use Rattle.cell.specs.Fields.{cellName}
 use Rattle.cell.specs.Reading.{reading}
 use Rattle.connection.specs.declared.parts.Connection.{Connection}
@@ -18,7 +18,8 @@ use Rattle.connection.specs.declared.kind.Kind.the-variants.{Forward, Turned, D
 use Rattle.model.specs.State.{State, taken, empty, find}
 use Rattle.model.specs.declared.answer.Answer.{Answer}
 use Rattle.model.specs.declared.answer.Answer.the-variants.{Refused, Accepted, Closed, Idle, Sent}
-use Rattle.model.specs.Call.{Call, opening, closing, receiving, offering, levelling, slot, making, outOfRate, openingPath, adding, offeringMember, removing}
+use Rattle.model.specs.Call.{Call}
+use Rattle.model.specs.Aspects.{Sort, opener, closer, arrival, slotAt, another, sortOf}
 use Rattle.model.specs.Run.{final}
 use Rattle.model.specs.Conservation.{sumOver}
 use Rattle.laws.specs.All.{All}
@@ -45,19 +46,15 @@ abbrev pub forwardSlots : (v : ℕ) → State → List Call → ℕ
 forwardSlots v s cs = sumOver (λ c a. forwardSlotOf v a) s cs
 
 -- no close of v, and no backward cell of it but such as these
+abbrev pub HearsSort : (Fields → Type 0) → (v : ℕ) → Sort → Type 0
+HearsSort P v (opener u t p) = Unit
+HearsSort P v (closer u) = u ≢ v
+HearsSort P v (arrival o) = (f : Fields) → reading o ≡ RmCell f → cellName f ≡ v → f .dir ≡ 1 → P f
+HearsSort P v (slotAt t) = Unit
+HearsSort P v another = Unit
+
 abbrev pub HearsOnly : (Fields → Type 0) → (v : ℕ) → Call → Type 0
-HearsOnly P v (opening vpi vci t p) = Unit
-HearsOnly P v (closing vpi vci) = addressName vpi vci ≢ v
-HearsOnly P v (receiving o) = (f : Fields) → reading o ≡ RmCell f → cellName f ≡ v → f .dir ≡ 1 → P f
-HearsOnly P v (offering vpi vci n) = Unit
-HearsOnly P v (levelling l) = Unit
-HearsOnly P v (slot t room) = Unit
-HearsOnly P v (making vpi vci t) = Unit
-HearsOnly P v (outOfRate vpi vci t room) = Unit
-HearsOnly P v (openingPath vpi t p) = Unit
-HearsOnly P v (adding vpi vci) = Unit
-HearsOnly P v (offeringMember vpi vci n) = Unit
-HearsOnly P v (removing vpi vci) = Unit
+HearsOnly P v c = HearsSort P v (sortOf c)
 
 -- no answer: a backward cell has BN 1, so that Y stays, and CI or NI, so that it raises no rate
 abbrev pub NoAnswer : Fields → Type 0
@@ -70,8 +67,9 @@ Unheard v c = HearsOnly NoAnswer v c
 abbrev pub Silent : (v : ℕ) → Call → Type 0
 Silent v c = HearsOnly (λ f. ⊥) v c
 
--- After any calls cs from the empty table, of a connection d with CDF above zero, which calls ds without an answer make e: Y and the forward cells of ds together pass CRM by j,
--- which is no more than those cells, so j of them were cut
+-- After any calls cs from the empty table, d is a connection with CDF above zero. Calls ds without an
+-- answer make it e. Y and the forward cells of ds together pass CRM by j, which is no more than those
+-- cells. So the rate was cut at j of them.
 abbrev pub DeafFalls : Type 0
 DeafFalls =
     (cs ds : List Call) (v j : ℕ) (d e : Connection) → let s = final empty cs in

@@ -1,11 +1,11 @@
--- The members of a path are served in turn, so that none is more than one data cell ahead of another. (Document 02, L13.)
+-- The members of a path are served in turn, so none is more than one data cell ahead of
+-- another. (Document 02, L13.)
 use Prim.Native.Nat.{ℕ, _+_, _≤_, _<_}
 use mathlib.Core.Path.{_≡_}
-use mathlib.Core.Bool.{true, false, cond, _&&_}
+use mathlib.Core.Bool.{true, false, cond, _&&_, Bool}
 use mathlib.Core.List.{List, [], _∷_}
 use mathlib.Core.Option.{some}
 use lib.Dec.{eqb}
-use Rattle.cell.specs.Name.{addressName}
 use Rattle.connection_members.specs.Path.{isPath, pathOf}
 use Rattle.connection_members.specs.Members.{cellsOf, owner}
 use Rattle.connection_members.specs.Turn.{turn}
@@ -15,7 +15,8 @@ use Rattle.connection.specs.declared.kind.Kind.the-variants.{Data}
 use Rattle.model.specs.State.{State, taken, empty, find}
 use Rattle.model.specs.declared.answer.Answer.{Answer}
 use Rattle.model.specs.declared.answer.Answer.the-variants.{Refused, Accepted, Closed, Idle, Sent}
-use Rattle.model.specs.Call.{Call, opening, closing, receiving, offering, levelling, slot, making, outOfRate, openingPath, adding, offeringMember, removing}
+use Rattle.model.specs.Call.{Call, slot}
+use Rattle.model.specs.Aspects.{Sort, opener, closer, arrival, slotAt, another, sortOf}
 use Rattle.model.specs.Step.{step}
 use Rattle.model.specs.Run.{final, isAccepted}
 use Rattle.model.specs.Conservation.{dataIn, sumOver}
@@ -32,20 +33,17 @@ dataTold x (Sent v y k a n) = cond (eqb y x) (dataIn k) 0
 abbrev pub dataCellsOf : (x : ℕ) → State → List Call → ℕ
 dataCellsOf x s cs = sumOver (λ c a. dataTold x a) s cs
 
--- a slot finds data on both members a and b of the path v, and v is not closed; any other call may stand between the slots
+-- a slot finds data on both members a and b of the path v, and v is not closed; any other
+-- call may come between the slots
+abbrev pub GoOn : (v a b : ℕ) → (waits : ℕ → ℕ) → (accepted : Bool) → Sort → Type 0
+GoOn v a b f y (opener u t p) = Unit
+GoOn v a b f y (closer u) = (y && eqb u v) ≡ false
+GoOn v a b f y (arrival o) = Unit
+GoOn v a b f y (slotAt t) = (0 < f a) × (0 < f b)
+GoOn v a b f y another = Unit
+
 abbrev pub BothGoOn : (v a b : ℕ) → State → Call → Type 0
-BothGoOn v a b s (opening vpi vci t p) = Unit
-BothGoOn v a b s (closing vpi vci) = (isAccepted (step s (closing vpi vci) .answer) && eqb (addressName vpi vci) v) ≡ false
-BothGoOn v a b s (receiving o) = Unit
-BothGoOn v a b s (offering vpi vci n) = Unit
-BothGoOn v a b s (levelling l) = Unit
-BothGoOn v a b s (slot t room) = (0 < cellsOf a (s .members)) × (0 < cellsOf b (s .members))
-BothGoOn v a b s (making vpi vci t) = Unit
-BothGoOn v a b s (outOfRate vpi vci t room) = Unit
-BothGoOn v a b s (openingPath vpi t p) = Unit
-BothGoOn v a b s (adding vpi vci) = Unit
-BothGoOn v a b s (offeringMember vpi vci n) = Unit
-BothGoOn v a b s (removing vpi vci) = Unit
+BothGoOn v a b s c = GoOn v a b (λ x. cellsOf x (s .members)) (isAccepted (step s c .answer)) (sortOf c)
 
 abbrev pub Stretch : (v a b : ℕ) → State → List Call → Type 0
 Stretch v a b s [] = Unit
@@ -53,13 +51,15 @@ Stretch v a b s (c ∷ cs) = BothGoOn v a b s c × Stretch v a b (step s c .stat
 
 -- after any list of calls cs from the empty table
 pub record Fairness : Type 0 where
-  -- a data cell of a path is that of the member whose turn it is, and the slot answers its name; of a channel it answers the channel's own
+  -- a path's data cell is that of the member whose turn it is, and the slot answers its name; for a channel
+  -- it answers the channel's own
   pub inTurn :
       (cs : List Call) (t room v x acr n : ℕ) (c : Connection) → let s = final empty cs in
       find v (s .entries) ≡ taken c → step s (slot t room) .answer ≡ Sent v x Data acr n → isPath v ≡ true → turn v (c .queue .served) (s .members) ≡ some x
   pub own :
       (cs : List Call) (t room v x acr n : ℕ) → step (final empty cs) (slot t room) .answer ≡ Sent v x Data acr n → isPath v ≡ false → x ≡ v
-  -- so the name that any slot answers says where it goes: to that connection, or to the path that the name is a member of
+  -- so the name that any slot answers says where it goes: to that connection, or to the path
+  -- that the name is a member of
   pub goes :
       (cs : List Call) (t room v x acr n : ℕ) (k : Kind) → step (final empty cs) (slot t room) .answer ≡ Sent v x k acr n → v ≡ owner x (final empty cs .members)
   -- in any stretch ds of calls after them, of two members of one path

@@ -1,40 +1,36 @@
--- Idle slots can be left out: what comes behind one, with no time before its own, is answered as without it, and only the last accepted time can differ. (Document 01, "Slots" and
--- refusal 14; beyond the documents' demands.)
+-- Idle slots can be left out. Calls after one, with no time before its own, are answered as without it. Only the
+-- last accepted time can differ. (Document 01, "Slots" and refusal 14; beyond the documents' demands.)
 use Prim.Native.Nat.{ℕ, _≤_, max}
 use mathlib.Core.Path.{_≡_}
 use mathlib.Core.Bool.{Bool, true, false, cond}
 use mathlib.Core.List.{List, [], _∷_}
+use mathlib.Core.Option.{Option, none, some}
 use Rattle.model.specs.State.{State, empty, withTime}
 use Rattle.model.specs.declared.answer.Answer.{Answer}
 use Rattle.model.specs.declared.answer.Answer.the-variants.{Refused, Accepted, Closed, Idle, Sent}
-use Rattle.model.specs.Call.{Call, opening, closing, receiving, offering, levelling, slot, making, outOfRate, openingPath, adding, offeringMember, removing, Outcome}
+use Rattle.model.specs.Call.{Call, slot, Outcome}
+use Rattle.model.specs.Aspects.{timeOf}
 use Rattle.model.specs.Step.{step}
 use Rattle.model.specs.Run.{run, final}
 use Rattle.laws.specs.All.{All}
 use Rattle.promise_lists.specs.Demand3.{InPlace}
 
 -- the time of an open, slot, making or out-of-rate cell is not before t
-abbrev pub NotBefore : (t : ℕ) → Call → Type 0
-NotBefore t (opening vpi vci u p) = t ≤ u
-NotBefore t (closing vpi vci) = Unit
-NotBefore t (receiving o) = Unit
-NotBefore t (offering vpi vci n) = Unit
-NotBefore t (levelling l) = Unit
-NotBefore t (slot u room) = t ≤ u
-NotBefore t (making vpi vci u) = t ≤ u
-NotBefore t (outOfRate vpi vci u room) = t ≤ u
-NotBefore t (openingPath vpi u p) = t ≤ u
-NotBefore t (adding vpi vci) = Unit
-NotBefore t (offeringMember vpi vci n) = Unit
-NotBefore t (removing vpi vci) = Unit
+abbrev pub NoneBefore : (t : ℕ) → Option ℕ → Type 0
+NoneBefore t none = Unit
+NoneBefore t (some u) = t ≤ u
 
--- o came behind an idle slot at t, p without it: the same answer and octets, and the same table but for the last accepted time, which is at least t
+abbrev pub NotBefore : (t : ℕ) → Call → Type 0
+NotBefore t c = NoneBefore t (timeOf c)
+
+-- o came after an idle slot at t, p without it: the same answer and octets, and the same table except for the last
+-- accepted time, which is at least t
 pub record SameBehind (t : ℕ) (o p : Outcome) : Type 0 where
   pub answer : o .answer ≡ p .answer
   pub buffer : o .buffer ≡ p .buffer
   pub state : o .state ≡ withTime (max t (p .state .last)) (p .state)
 
--- the same but for the last accepted time
+-- the same except for the last accepted time
 pub record SameButTime (o p : Outcome) : Type 0 where
   pub answer : o .answer ≡ p .answer
   pub buffer : o .buffer ≡ p .buffer

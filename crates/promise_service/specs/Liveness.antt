@@ -1,4 +1,5 @@
--- What a connection that waits can count on: it is ready in time, and slots reach it. (Beyond document 01's demands; "Slots" says who is ready when.)
+-- What a connection that waits can count on: it is ready in time, and slots reach it. (Beyond document 01's
+-- demands; "Slots" says who is ready when.)
 use Prim.Native.Nat.{ℕ, _+_, _≤_, _<_}
 use mathlib.Core.Path.{_≡_}
 use mathlib.Core.Logic.{_≢_}
@@ -58,7 +59,8 @@ slots (t ∷ ts) = slot t 53 ∷ slots ts
 
 -- In every table s that calls make from the empty one, of a connection c with the name v:
 pub record Live (s : State) (v : ℕ) (c : Connection) : Type 0 where
-  -- if data, a turned or a made cell waits, and the contract has a minimum, it is ready no later than a gap at the minimum after its last cell
+  -- if data, a turned or a made cell waits and the contract has a minimum, it is ready at most a gap at
+  -- the minimum after its last cell
   pub guaranteed : anyWaits c ≡ true → 0 < least (c .rate .params) → ReadySoon (least (c .rate .params)) c
   -- with a minimum or without, no later than a gap at the allowed rate, if that is above 0 (document 02, L5)
   pub ready : anyWaits c ≡ true → 0 < c .rate .acr → ReadySoon (c .rate .acr) c

@@ -1,5 +1,6 @@
--- How long a transmitter can sleep: before the next ready instant every accepted slot is idle, and from then on none is; the slots before it can be left out, and the
--- slots that follow, no other call coming between, do what they would have done. (Beyond the documents' demands; document 01, "Slots", says who is ready when.)
+-- How long a transmitter can sleep. Before the next ready instant every accepted slot is idle, and from then on
+-- none is. The slots before it can be left out. The slots that follow, with no other call between, do what they
+-- would have done. (Beyond the documents' demands; document 01, "Slots", says who is ready when.)
 use Prim.Native.Nat.{ℕ, _≤_, _<_}
 use mathlib.Core.Path.{_≡_}
 use mathlib.Core.List.{List, _++_}

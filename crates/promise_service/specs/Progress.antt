@@ -1,4 +1,5 @@
--- Data and answers both get on: what kinds of cell follow each other on one connection. (Document 01, "Slots"; source rule 3; document 02, L1.)
+-- Data and answers both make progress: which kinds of cell follow each other on one connection. (Document 01,
+-- "Slots"; source rule 3; document 02, L1.)
 use Prim.Native.Nat.{ℕ, _+_, _≤_, _<_}
 use mathlib.Core.Path.{_≡_}
 use mathlib.Core.Logic.{_≢_}
@@ -7,7 +8,6 @@ use mathlib.Core.List.{List, [], _∷_, _++_}
 use lib.Dec.{eqb}
 use lib.ListN.{length}
 use Rattle.rate_params.specs.Params.{nrm}
-use Rattle.cell.specs.Name.{addressName}
 use Rattle.connection.specs.declared.parts.Connection.{Connection}
 use Rattle.connection.specs.declared.kind.Kind.{Kind}
 use Rattle.connection.specs.declared.kind.Kind.the-variants.{Forward, Turned, Data}
@@ -15,7 +15,8 @@ use Rattle.connection.specs.Ready.{backwardWaits}
 use Rattle.model.specs.State.{State, Entry, free, taken, empty, find, entryCells}
 use Rattle.model.specs.declared.answer.Answer.{Answer}
 use Rattle.model.specs.declared.answer.Answer.the-variants.{Refused, Accepted, Closed, Idle, Sent}
-use Rattle.model.specs.Call.{Call, opening, closing, receiving, offering, levelling, slot, making, outOfRate, openingPath, adding, offeringMember, removing}
+use Rattle.model.specs.Call.{Call}
+use Rattle.model.specs.Aspects.{Sort, opener, closer, arrival, slotAt, another, sortOf}
 use Rattle.model.specs.Step.{step}
 use Rattle.model.specs.Run.{final}
 use Rattle.laws.specs.All.{All}
@@ -45,19 +46,15 @@ cellsSent v s [] = []
 cellsSent v s (c ∷ cs) = ownCell v (find v (s .entries)) (step s c .answer) ++ cellsSent v (step s c .state) cs
 
 -- no close of v
+abbrev pub NotCloser : (v : ℕ) → Sort → Type 0
+NotCloser v (opener u t p) = Unit
+NotCloser v (closer u) = u ≢ v
+NotCloser v (arrival o) = Unit
+NotCloser v (slotAt t) = Unit
+NotCloser v another = Unit
+
 abbrev pub NoClose : (v : ℕ) → Call → Type 0
-NoClose v (opening vpi vci t p) = Unit
-NoClose v (closing vpi vci) = addressName vpi vci ≢ v
-NoClose v (receiving o) = Unit
-NoClose v (offering vpi vci n) = Unit
-NoClose v (levelling l) = Unit
-NoClose v (slot t room) = Unit
-NoClose v (making vpi vci t) = Unit
-NoClose v (outOfRate vpi vci t room) = Unit
-NoClose v (openingPath vpi t p) = Unit
-NoClose v (adding vpi vci) = Unit
-NoClose v (offeringMember vpi vci n) = Unit
-NoClose v (removing vpi vci) = Unit
+NoClose v c = NotCloser v (sortOf c)
 
 unfoldable pub turnedKind : Kind → ℕ
 turnedKind Forward = 0
@@ -72,11 +69,12 @@ turnedAmong (x ∷ xs) = turnedKind (x .kind) + turnedAmong xs
 pub record Progress (c : Connection) (xs : List OwnCell) : Type 0 where
   -- between two forward cells at most one is turned, if data waits before each
   pub oneTurned : All (λ x. 0 < x .waiting) xs → All (λ x. x .kind ≢ Forward) xs → turnedAmong xs ≤ 1
-  -- from Nrm 4 on, of four before each of which data waits one is data; at Nrm 2 turned cells can take every other place, and forward ones the rest
+  -- from Nrm 4 on, if data waits before each of four cells, one is data; at Nrm 2 turned cells can take every
+  -- other place, and forward ones the rest
   pub dataSent : 2 ≤ c .rate .params .n → All (λ x. 0 < x .waiting) xs → 4 ≤ length xs → Somewhere (λ x. x .kind ≡ Data) xs
   -- at any Nrm, of two before which no turned or made cell waits one is data
   pub dataAlone : All (λ x. x .answers ≡ false) xs → 2 ≤ length xs → Somewhere (λ x. x .kind ≡ Data) xs
-  -- of Nrm cells before each of which a turned or made one waits, one is turned
+  -- if a turned or made cell waits before each of Nrm cells, one is turned
   pub answerSent : All (λ x. x .answers ≡ true) xs → nrm (c .rate .params) ≤ length xs → Somewhere (λ x. x .kind ≡ Turned) xs
 
 -- after any calls cs from the empty table, in any calls ds behind them

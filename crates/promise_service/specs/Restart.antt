@@ -1,4 +1,5 @@
--- What a subscriber without a minimum can count on: an allowed rate of 0 rises again, and the connection is ready again. (Document 02, L5.)
+-- What a subscriber without a minimum can count on: an allowed rate of 0 rises again, and the connection is
+-- ready again. (Document 02, L5.)
 use Prim.Native.Nat.{ℕ, _/_, _^_, _≤_, _<_, min}
 use mathlib.Core.Path.{_≡_}
 use mathlib.Core.Bool.{Bool, true, _||_}
@@ -34,7 +35,8 @@ pub record Raises (o : List ℕ) (f : Fields) : Type 0 where
   pub ni : f .ni ≡ 0
   pub er : 1 ≤ rateOf (f .er)
 
--- it has a cell to send as soon as its rate, and from k = 2 on Trm, let it: something waits, or k is at 2 or more, or at Nrm − 1
+-- it has a cell to send as soon as its rate, and from k = 2 on Trm, allow it: something waits,
+-- or k is 2 or more, or Nrm − 1
 abbrev pub hasNext : Connection → Pace → Bool
 hasNext c Unsent = anyWaits c
 hasNext c (Running sent forward k turned) = (anyWaits c || lastBefore c k) || leb 2 k

@@ -1,4 +1,5 @@
--- A slot sends only what there is: a turned cell if a turned or made one waits, data if data waits. (Document 01, "Slots".)
+-- A slot sends only what there is: a turned cell if a turned or made one waits, data if data
+-- waits. (Document 01, "Slots".)
 use Prim.Native.Nat.{ℕ, _<_}
 use mathlib.Core.Path.{_≡_}
 use mathlib.Core.Bool.{true}

@@ -1,4 +1,5 @@
--- No cell comes early: a slot goes to a connection only when a gap at its allowed rate has passed since its last cell. (Document 01, "Slots".)
+-- No cell comes early. A slot goes to a connection only when a gap at its allowed rate has passed since its last
+-- cell. (Document 01, "Slots".)
 use Prim.Native.Nat.{ℕ, _+_, _≤_}
 use mathlib.Core.Path.{_≡_}
 use mathlib.Core.List.{List}

@@ -1,5 +1,5 @@
--- What each call does to one open connection, as far as its trace goes: it closes it; or it sends nothing on it, and its pace, Trm and parameters stay; or it sends a
--- cell on it that is due.
+-- What each call does to one open connection, as far as its trace goes. It closes it; or it sends nothing on it,
+-- and its pace, Trm and parameters stay; or it sends a cell on it that is due.
 use Prim.Native.Nat.{ℕ, _≤_}
 use mathlib.Core.Path.{_≡_, refl, sym, ap, subst, _∙_}
 use mathlib.Core.Logic.{_≢_}
@@ -18,23 +18,24 @@ use Rattle.connection_members.specs.Members.{Member, cellsOf}
 use Rattle.connection.specs.declared.parts.Connection.{Connection}
 use Rattle.connection.specs.declared.ready.Instant.the-variants.{At}
 use Rattle.connection.specs.Parts.{fresh, withQueue, dequeued}
-use Rattle.connection.specs.Making.{withMade}
-use Rattle.connection.specs.Receiving.{offered, afterDataCell, afterBackwardCell, afterForwardCell, afterRmCell}
+use Rattle.connection.specs.Source.{offered, afterBackwardCell, withServed, afterOutOfRate}
+use Rattle.connection.specs.Destination.{withMade, afterDataCell, afterForwardCell}
+use Rattle.connection.specs.Received.{afterRmCell}
+use Rattle.connection.specs.Slot.{after, memberServed}
 use Rattle.connection.specs.Ready.{readyInstant}
 use Rattle.connection.specs.Kind.{kindNumber, kindAt}
-use Rattle.connection.specs.Sending.{after, memberServed, withServed}
-use Rattle.connection.specs.OutOfRate.{afterOutOfRate}
 use Rattle.connection.proofs.Keeps.{KeepsIdentity, work-same, made-same, out-of-rate-same, after-same}
 use Rattle.model.specs.State.{State, Entry, free, taken, find, withEntryOf, withOpened, withTime, withLevel, withMembers}
 use Rattle.model.specs.Invariant.{NamesUnique}
-use Rattle.model.specs.Call.{Call, opening, closing, receiving, offering, levelling, slot, making, outOfRate, openingPath, adding, offeringMember, removing, Outcome}
+use Rattle.model.specs.Call.{Call, closing, slot, Outcome}
+use Rattle.model.specs.Aspects.{Sort, opener, closer, arrival, slotAt, another, sortOf}
 use Rattle.model.specs.Step.{refuse, accept, replay, discard, withOffer, withoutOne, sendFrom, sendStep, sendOutOfRate, idleStep}
 use Rattle.model.specs.Queries.{entryAcr, acrOf}
 use Rattle.model.specs.Run.{isAccepted}
 use Rattle.model.proofs.Entries.{Case, same, other, case, taken≢free}
 use Rattle.model.proofs.Frames.{put-read, with-opened-read, freed-read}
 use Rattle.model.proofs.Effects.{Timely, OpenPassed, Effect, refuses, opens, closes, offers, receivesData, receivesRm, setsLevel, idles, sends, makes, sendsOutOfRate, opensPath, adds, offersMember, removes}
-use Rattle.promise_traces.specs.InRate.{SentCell, acrIn, cellIn, atSlot, sentBy, closesConnection}
+use Rattle.promise_traces.specs.InRate.{SentCell, acrIn, cellIn, atSlot, sentBy, closesConnection, atSort}
 
 -- d as it is later, without a cell of its own in between
 pub record Stays (d now : Connection) : Type 0 where
@@ -98,36 +99,22 @@ out-of-rate-stays t d = record { kept = out-of-rate-same t d; pace = refl }
 taken-same : (c d : Connection) → taken c ≡ taken d → c ≡ d
 taken-same c d e = cc
 
+-- a call sends nothing unless a slot does
+pub at-none : (x : Sort) (f : ℕ → List SentCell) → ((t : ℕ) → f t ≡ []) → atSort x f ≡ []
+at-none (opener v t p) f h = refl
+at-none (closer v) f h = refl
+at-none (arrival o) f h = refl
+at-none (slotAt t) f h = h t
+at-none another f h = refl
+
 -- a refused call closes nothing and sends nothing
 refused-closes : (v : ℕ) (c : Call) (s : State) (n : ℕ) → closesConnection v c (isAccepted (refuse s n .answer)) ≡ false
 unfolding refuse closesConnection isAccepted
-refused-closes v (opening a b t p) s n = refl
-refused-closes v (closing a b) s n = refl
-refused-closes v (receiving o) s n = refl
-refused-closes v (offering a b k) s n = refl
-refused-closes v (levelling l) s n = refl
-refused-closes v (slot t room) s n = refl
-refused-closes v (making a b t) s n = refl
-refused-closes v (outOfRate a b t room) s n = refl
-refused-closes v (openingPath a t p) s n = refl
-refused-closes v (adding a b) s n = refl
-refused-closes v (offeringMember a b k) s n = refl
-refused-closes v (removing a b) s n = refl
+refused-closes v c s n = refl
 
 refused-sends : (v : ℕ) (c : Call) (s : State) (n : ℕ) → sentBy v s c (refuse s n .answer) ≡ []
 unfolding refuse sentBy atSlot cellIn
-refused-sends v (opening a b t p) s n = refl
-refused-sends v (closing a b) s n = refl
-refused-sends v (receiving o) s n = refl
-refused-sends v (offering a b k) s n = refl
-refused-sends v (levelling l) s n = refl
-refused-sends v (slot t room) s n = refl
-refused-sends v (making a b t) s n = refl
-refused-sends v (outOfRate a b t room) s n = refl
-refused-sends v (openingPath a t p) s n = refl
-refused-sends v (adding a b) s n = refl
-refused-sends v (offeringMember a b k) s n = refl
-refused-sends v (removing a b) s n = refl
+refused-sends v c s n = at-none (sortOf c) _ (λ t. refl)
 
 module _ (v : ℕ) (s : State) (d : Connection) (e : find v (s .entries) ≡ taken d) where
   still : StillOpen v (s .entries) d
@@ -188,7 +175,7 @@ module _ (v : ℕ) (s : State) (d : Connection) (e : find v (s .entries) ≡ tak
   sends-next :
       (t room i u : ℕ) → NamesUnique (s .entries) → Timely s t → (x : Connection) → find u (s .entries) ≡ taken x → readyInstant x ≡ At i → i ≤ t
       → Next v s d (slot t room) (sendStep (withTime t s) t u x (kindAt t x))
-  unfolding sendStep sendFrom closesConnection sentBy atSlot cellIn withTime withMembers withEntryOf
+  unfolding sendStep sendFrom closesConnection sentBy atSlot cellIn withTime withMembers withEntryOf isAccepted
   sends-next t room i u a g x f r l = go (case u v)
     where
       m : Option ℕ

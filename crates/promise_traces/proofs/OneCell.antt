@@ -16,7 +16,7 @@ use Rattle.trace_judge.specs.Rules.{nothingSent, withSent, isForwardCell, tooSo
 use Rattle.connection.specs.declared.parts.Pace.{Pace}
 use Rattle.connection.specs.declared.parts.Pace.the-variants.{Unsent, Running}
 use Rattle.promise_traces.specs.InRate.{SentCell}
-use Rattle.promise_traces.specs.Traces.{cellOf, laterCells, traceCells}
+use Rattle.promise_traces.specs.Traces.{traceCell, laterCells, traceCells}
 
 -- One cell.
 module _ (nr trm : ℕ) (h : Sent) (c : Cell) where
@@ -86,7 +86,7 @@ module _
       → Passing nr trm (Running sent forward k turned) (record { time = t; kind = 1; rate = rate } ∷ xs)
   unfolding laterCells
   later-forward e h cells began up early =
-      let c : Cell = cellOf (t - sent) (record { time = t; kind = 1; rate = rate }) in
+      let c : Cell = traceCell (t - sent) (record { time = t; kind = 1; rate = rate }) in
       let s : Sent = seen cells began sent forward k in
       judged-next nr trm s c (laterCells t xs) (rule-none nr trm s c up (not-soon c some slow) true (due-same began forward sent t early old new nr trm k ∙ e) refl)
       ∙ ap (λ (z : Sent). judgedFrom nr trm z (laterCells t xs)) (with-forward s c refl)
@@ -98,7 +98,7 @@ module _
       → Passing nr trm (Running sent forward k turned) (record { time = t; kind = x; rate = rate } ∷ xs)
   unfolding laterCells
   later-other x turns f e h cells began up early =
-      let c : Cell = cellOf (t - sent) (record { time = t; kind = x; rate = rate }) in
+      let c : Cell = traceCell (t - sent) (record { time = t; kind = x; rate = rate }) in
       let s : Sent = seen cells began sent forward k in
       judged-next nr trm s c (laterCells t xs) (rule-none nr trm s c up (not-soon c some slow) false (due-same began forward sent t early old new nr trm k ∙ e) f)
       ∙ ap (λ (z : Sent). judgedFrom nr trm z (laterCells t xs)) (with-other s c f)

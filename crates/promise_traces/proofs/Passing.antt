@@ -1,4 +1,5 @@
--- The cells of one connection break no rule: by the slot rules each goes a gap or more after the one before, and is a forward one exactly when it is due.
+-- The cells of one connection break no rule. By the slot rules each goes a gap or more after the one before, and
+-- is a forward one exactly when that is due.
 use Prim.Native.Nat.{ℕ, _-_, _≤_, _<_}
 use mathlib.Core.Path.{_≡_, refl, subst, _∙_}
 use mathlib.Core.Bool.{Bool, true, false, cond, _||_}
@@ -23,7 +24,10 @@ use Rattle.connection.specs.declared.kind.Kind.the-variants.{Forward, Turned, D
 use Rattle.connection.specs.Parts.{fresh}
 use Rattle.connection.specs.Ready.{readyInstant}
 use Rattle.connection.specs.Kind.{kindNumber, isForward, isTurned, kindAt}
-use Rattle.connection.specs.Sending.{paced, sentForward, sentTurned, sentData, after}
+use Rattle.connection.specs.Pace.{paced}
+use Rattle.connection.specs.Source.{sentForward, sentData}
+use Rattle.connection.specs.Destination.{sentTurned}
+use Rattle.connection.specs.Slot.{after}
 use Rattle.connection.specs.Invariant.{PaceFits}
 use Rattle.connection.proofs.Keeps.{KeepsIdentity, after-same}
 use Rattle.connection.proofs.Readiness.{ready-some}

@@ -1,4 +1,5 @@
--- Until feedback the engine's own cells go at the initial rate used or below, and they pass the judge: passing cells are gaps apart.
+-- Until feedback the engine's own cells go at the initial rate used or below. They pass the judge, and
+-- passing cells are gaps apart.
 use Prim.Native.Nat.{ℕ}
 use mathlib.Core.Path.{_≡_, subst}
 use mathlib.Core.List.{List, [], _∷_, _++_}

@@ -10,7 +10,7 @@ use Rattle.trace_judge.specs.RoundTrip.{RatesUpTo}
 use Rattle.connection.specs.declared.parts.Connection.{Connection}
 use Rattle.connection.specs.Parts.{fresh}
 use Rattle.connection.specs.Kind.{kindAt}
-use Rattle.connection.specs.Sending.{after}
+use Rattle.connection.specs.Slot.{after}
 use Rattle.connection.proofs.Keeps.{after-same}
 use Rattle.model.specs.State.{State, taken, empty, find}
 use Rattle.model.specs.Invariant.{WellFormed}

@@ -9,7 +9,7 @@ use Rattle.connection.specs.declared.parts.Connection.{Connection}
 use Rattle.connection.specs.declared.ready.Instant.the-variants.{At}
 use Rattle.connection.specs.Ready.{readyInstant}
 use Rattle.connection.specs.Kind.{kindAt}
-use Rattle.connection.specs.Sending.{after}
+use Rattle.connection.specs.Slot.{after}
 use Rattle.connection.specs.Invariant.{ValidAt}
 use Rattle.model.specs.State.{State, taken, find}
 use Rattle.model.specs.Invariant.{WellFormed}

@@ -1,5 +1,6 @@
--- The engine's own cells before feedback: from the opening of a connection until its first backward cell comes, no more than TBE of its in-rate cells go in less than
--- a round trip, unless the minimum by itself allows more. With FRTT 0, as in the house set, it says nothing. (Document 02, L14.)
+-- The engine's own cells before feedback. From the opening of a connection until its first backward cell comes, at
+-- most TBE of its in-rate cells go in less than a round trip, unless the minimum by itself allows more. With FRTT
+-- 0, as in the house set, this says nothing. (Document 02, L14.)
 use Prim.Native.Nat.{ℕ, _*_, _≤_, _<_}
 use mathlib.Core.Path.{_≡_}
 use mathlib.Core.Bool.{true}
@@ -17,8 +18,9 @@ use Rattle.laws.specs.All.{All}
 use Rattle.promise_cells.specs.Changes.{NotFedBack}
 use Rattle.promise_traces.specs.Traces.{Opening, ownCells}
 
--- after any list of calls from the empty table, an accepted opening of a channel or a path, and any calls of which none is a backward cell of that connection:
--- any of its cells in a row, the last of which goes less than a round trip after the first
+-- After any list of calls from the empty table an opening of a channel or a path is accepted. Then come any
+-- calls, none of them a backward cell of that connection. Take any of its cells in a row, the last less than
+-- a round trip after the first.
 abbrev pub OwnTripBounded : Type 0
 OwnTripBounded =
     (before : List Call) (c : Call) (v : ℕ) (p : Params) (after : List Call) → Opening c v p → isAccepted (step (final empty before) c .answer) ≡ true

@@ -1,4 +1,5 @@
--- Shortest form only: the judge refuses a trace exactly if it is not what a recorder writes of numbers in their ranges. (Document 02, L11.)
+-- Shortest form only. The judge refuses a trace exactly if it is not what a recorder writes of numbers in
+-- their ranges. (Document 02, L11.)
 use Prim.Native.Nat.{ℕ, _^_, _≤_}
 use mathlib.Core.Path.{_≡_}
 use mathlib.Core.Logic.{_≢_}

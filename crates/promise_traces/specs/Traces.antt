@@ -1,4 +1,5 @@
--- The in-rate cells that the engine sends on one connection, from its opening on, make a trace that passes the judge. (Document 02, L11 and L13.)
+-- The in-rate cells that the engine sends on one connection, from its opening on, make a trace that passes the
+-- judge. (Document 02, L11 and L13.)
 use Prim.Native.Nat.{ℕ, _-_}
 use mathlib.Core.Path.{_≡_}
 use mathlib.Core.Bool.{true}
@@ -17,18 +18,18 @@ use Rattle.model.specs.Run.{final, isAccepted}
 use Rattle.promise_traces.specs.InRate.{SentCell, sentFrom}
 use Rattle.promise_traces.specs.Written.{traceOctets}
 
-abbrev pub cellOf : (since : ℕ) → SentCell → Cell
-cellOf since x = record { since = since; kind = x .kind; rate = x .rate }
+abbrev pub traceCell : (since : ℕ) → SentCell → Cell
+traceCell since x = record { since = since; kind = x .kind; rate = x .rate }
 
 -- the cells after one at the instant `last`
 unfoldable pub laterCells : (last : ℕ) → List SentCell → List Cell
 laterCells last [] = []
-laterCells last (x ∷ xs) = cellOf (x .time - last) x ∷ laterCells (x .time) xs
+laterCells last (x ∷ xs) = traceCell (x .time - last) x ∷ laterCells (x .time) xs
 
 -- the cells of a trace: the first one's time is 0, each later one's counts from the one before
 unfoldable pub traceCells : List SentCell → List Cell
 traceCells [] = []
-traceCells (x ∷ xs) = cellOf 0 x ∷ laterCells (x .time) xs
+traceCells (x ∷ xs) = traceCell 0 x ∷ laterCells (x .time) xs
 
 -- a call that opens the connection v with these parameters, a channel or a path
 pub data Opening : Call → (v : ℕ) → Params → Type 0 where
@@ -39,7 +40,8 @@ pub data Opening : Call → (v : ℕ) → Params → Type 0 where
 abbrev pub ownCells : (before : List Call) → (c : Call) → (v : ℕ) → (after : List Call) → List Cell
 ownCells before c v after = traceCells (sentFrom v (step (final empty before) c .state) after)
 
--- after any list of calls from the empty table, an accepted opening, and any further list of calls: the cells break no rule,
+-- after any list of calls from the empty table, an accepted opening, and any further list of
+-- calls: the cells break no rule
 abbrev pub OwnCellsPass : Type 0
 OwnCellsPass =
     (before : List Call) (c : Call) (v : ℕ) (p : Params) (after : List Call) → Opening c v p → isAccepted (step (final empty before) c .answer) ≡ true

@@ -1,5 +1,6 @@
--- The rate code: `codeOf` gives the greatest code rate not above a rate, a code comes back from its own rate, and neither leaves its order.
-use mathlib.Core.Path.{_≡_, refl, ap, _∙_}
+-- The rate code. `codeOf` gives the greatest code rate not above a rate. A code comes back from its own rate.
+-- Both directions keep the order.
+use mathlib.Core.Path.{_≡_, refl, sym, ap, _∙_}
 use mathlib.Core.Bool.{Bool, true, false, cond}
 use mathlib.Core.Logic.{by-cases}
 use Prim.Native.Nat.{ℕ, zero, suc, _+_, _-_, _*_, _/_, _%_, _^_, _≤_, _<_}
@@ -8,7 +9,7 @@ use native.Mathlib.Omega.{arith}
 use native.Mathlib.Decide.{decLt}
 use lib.Dec.{leb, eqb}
 use lib.Pow.{pow-pos, pow-mono, shr-mono}
-use borrow.Author.Tests.{leb-true, leb-false, eqb-true, eq-eqb, lt-ltb}
+use borrow.Author.Tests.{leb-true, leb-false, eqb-true, eq-eqb, ne-eqb, lt-ltb}
 use Rattle.rate.specs.Code.{reservedClear, codesClear, rateOf, codeBelow, codeOf, GreatestCode}
 use Rattle.rate.specs.Units.{largestRate}
 use Rattle.rate.proofs.Octaves.{Octave, octave, codeIn, code-octave, code-none}
@@ -116,6 +117,13 @@ code-of-rate k = go (eqb (k / 16384 % 2) 1) refl
         let o : Octave e (2 ^ e * y) = octave e (2 ^ e * y) (omega arith) (omega (arith, pow-suc 2 e, mul-suc (2 ^ e) y, pow-pos e)) in
         let d : 2 ^ e * y / 2 ^ e ≡ y = rw (mul-comm (2 ^ e) y) (mul-div-cancel y (pow-pos e)) in
         code-octave e (2 ^ e * y) (omega arith) o ∙ rw d (omega (arith, eqb-true (k / 16384 % 2) 1 p))
+
+-- by the test of nz
+pub canonical-set : (k : ℕ) → k / 16384 % 2 ≡ 1 → k % 32768 ≡ codeOf (rateOf k)
+canonical-set k h = sym (code-of-rate k ∙ rw (eq-eqb _ _ h))
+
+pub canonical-clear : (k : ℕ) → (k / 16384 % 2 ≡ 1 → ⊥) → 0 ≡ codeOf (rateOf k)
+canonical-clear k h = sym (code-of-rate k ∙ rw (ne-eqb _ _ h))
 
 -- the codes below an octave
 below-le : (e x : ℕ) → x < 512 * 2 ^ e → codeBelow e x ≤ 16384 + e * 512

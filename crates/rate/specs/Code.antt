@@ -6,7 +6,8 @@ use Rattle.rate.specs.Units.{largestRate}
 use Rattle.rate.specs.declared.code.Coded.{Coded}
 use Rattle.rate.specs.declared.code.Coded.the-variants.{Code, Refused}
 
--- whether bit 15, which is reserved, is 0; true also of a number over 16 bits, which is no code and meets 7 where one is given
+-- whether bit 15, which is reserved, is 0; true also for a number over 16 bits, which is no code
+-- and meets 7 where one is given
 unfoldable pub reservedClear : ℕ → Bool
 reservedClear code = ltb code 32768 || ltb 65535 code
 
@@ -14,11 +15,13 @@ reservedClear code = ltb code 32768 || ltb 65535 code
 unfoldable pub codesClear : ℕ → ℕ → ℕ → Bool
 codesClear a b c = reservedClear a && (reservedClear b && reservedClear c)
 
--- bit 14 is nz, bits 13 to 9 the exponent e, bits 8 to 0 the mantissa m: 2^e × (512 + m) with nz, else 0; higher bits are not looked at, since whoever reads a code tests them first
+-- Bit 14 is nz, bits 13 to 9 are the exponent e, bits 8 to 0 the mantissa m. The rate is 2^e × (512 + m) with nz,
+-- else 0. Higher bits are not looked at, since whoever reads a code tests them first.
 unfoldable pub rateOf : ℕ → ℕ
 rateOf code = cond (eqb (code / 16384 % 2) 1) (2 ^ (code / 512 % 32) * (512 + code % 512)) 0
 
--- the code of x among those with an exponent below the first argument: the highest exponent whose lowest rate is not above x
+-- the code of x among those with an exponent below the first argument: it has the highest exponent
+-- whose lowest rate is not above x
 unfoldable pub codeBelow : ℕ → ℕ → ℕ
 codeBelow zero x = 0
 codeBelow (suc e) x = cond (leb (512 * 2 ^ e) x) (16384 + e * 512 + (x / 2 ^ e - 512)) (codeBelow e x)

@@ -4,6 +4,16 @@ ghost use Rattle.rate.specs.Code.{reservedClear, codesClear, rateOf, cod
 use crate::units::LARGEST_RATE;
 use laws::refusals::REFUSED_TOO_LARGE;
 
+// Of the 16 bits of a code, bit 14 is nz and bit 15 is reserved.
+pub const NZ: u32 = 16384;
+
+pub const RESERVED: u32 = 32768;
+
+// The greatest number of 16 bits, and the greatest code whose bit 15 is 0.
+pub const SIXTEEN_BITS_MOST: u32 = 65535;
+
+pub const CODE_MOST: u32 = 32767;
+
 // A rate's code, or the number of the refusal.
 pub enum Coded {
     Code(u32),
@@ -14,7 +24,7 @@ pub enum Coded {
 pub fn reserved_clear(code: u32) -> bool
     ensures { λ b. ⌜ b ≡ reservedClear code ⌝ }
 {
-    (code < 32768) | (65535 < code)
+    (code < RESERVED) | (SIXTEEN_BITS_MOST < code)
 }
 
 // The same of three codes.
@@ -28,7 +38,7 @@ pub fn codes_clear(a: u32, b: u32, c: u32) -> bool
 pub fn rate_of(code: u32) -> u64
     ensures { λ r. ⌜ r ≡ rateOf code ⌝ }
 {
-    if code / 16384 % 2 == 1 {
+    if code / NZ % 2 == 1 {
         (512 + (code % 512) as u64) << (code / 512 % 32)
     } else {
         0
@@ -47,7 +57,7 @@ pub fn code_or_zero(rate: u64) -> u32
         return 0;
     }
     let e = 54 - u64::leading_zeros(rate);
-    16384 + e * 512 + ((rate >> e) - 512) as u32
+    NZ + e * 512 + ((rate >> e) - 512) as u32
 }
 
 // Coding a rate, with refusal 9 above the largest.

@@ -1,4 +1,5 @@
--- Doubles as fractions: a quotient of two whole numbers is rounded once, and not at all where it is a number of 53 digits over a power of two.
+-- Doubles as fractions. A quotient of two whole numbers is rounded once, and not at all where it is a number of
+-- 53 digits over a power of two.
 use Prim.Native.Nat.{ℕ, _+_, _-_, _*_, _^_, _≤_, _<_}
 use mathlib.Core.Path.{_≡_, refl, sym, ap, _∙_}
 use mathlib.Core.Bool.{true, false, true≢false}

@@ -1,4 +1,5 @@
--- A double by its digits: the leading ones are its code, and those below them are what is left when the code's rate is taken off.
+-- A double by its digits. The leading ones are its code. Those below them are what is left after
+-- the code's rate is subtracted.
 use Prim.Native.Nat.{ℕ, _+_, _-_, _*_, _/_, _^_, _≤_, _<_}
 use mathlib.Core.Path.{_≡_, ap, subst, _∙_}
 use mathlib.Core.Bool.{false}
@@ -15,7 +16,7 @@ use Rattle.rate.proofs.Codes.{rate-parts, greatest-in}
 use Rattle.rate_doubles.specs.Import.{remainderOf}
 use Rattle.rate_doubles.proofs.Fractions.{power-parts}
 
--- a / d cells per second are the rate of this code, and low / whole besides
+-- a / d cells per second are the rate of this code plus low / whole
 pub record Split (a d code low whole : ℕ) : Type 0 where
   pub coded : codeOf (a * 512 / d) ≡ code
   pub greatest : GreatestCode (a * 512 / d) code

@@ -1,4 +1,5 @@
--- The comparisons that `import` makes of a double are those of its value, so that each way to a refusal or to 0x0000 is the definition's.
+-- The comparisons that `import` makes of a double are those of its value. So each way to a refusal or
+-- to 0x0000 is the definition's.
 use Prim.Native.Nat.{ℕ, _*_, _^_}
 use mathlib.Core.Path.{_≡_, refl, sym, _∙_}
 use mathlib.Core.Bool.{Bool, true, false, not, _&&_, _||_, Bool·beq, true≢false}

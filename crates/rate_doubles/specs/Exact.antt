@@ -1,4 +1,5 @@
--- Import rounds nothing, and its code is the greatest. Said of the values of doubles, as fractions of whole numbers, and not of sums of doubles. (Document 02, L8.)
+-- Import rounds nothing, and its code is the greatest. This is stated for the values of doubles, as fractions of
+-- whole numbers, and not for sums of doubles. (Document 02, L8.)
 use Prim.Native.Nat.{ℕ, _+_, _*_, _^_, _≤_, _<_}
 use mathlib.Core.Path.{_≡_}
 use mathlib.Core.Bool.{false}
@@ -12,7 +13,8 @@ use Rattle.rate.specs.Code.{rateOf}
 use Rattle.rate_doubles.specs.Import.{Imported, Refused, Exact, Below, remainderOf, importOf}
 use Rattle.rate_doubles.specs.Refused.{Unfit}
 
--- x is the rate over 512 plus y: y is part / whole, and x is rate / 512 + part / whole. `Equals` leaves the sign of x aside, since import takes -0.
+-- x is the rate over 512 plus y: y is part / whole, and x is rate / 512 + part / whole. `Equals` ignores the sign
+-- of x, since import takes -0.
 pub record IsSum (x : Float) (rate : ℕ) (y : Float) : Type 0 where
   pub part : ℕ
   pub whole : ℕ

@@ -1,4 +1,5 @@
--- Doubles and what importing them answers, computed. A double is m × 2^e; `negsuc k` is the exponent -(k + 1). (Document 02, L8.)
+-- Doubles and what importing them answers, computed. A double is m × 2^e; `negsuc k` is the exponent
+-- -(k + 1). (Document 02, L8.)
 use mathlib.Core.Path.{_≡_}
 use mathlib.Core.Bool.{true, false}
 use lib.IntN.{pos, negsuc}

@@ -12,13 +12,14 @@ pub enum Imported {
     Below { code: u32, remainder: f64 },
 }
 
-// 2^52 and 2^43: a double has 52 binary digits behind its leading one, and the lower 43 of them do not fit into a code's mantissa.
+// 2^52 and 2^43. A double has 52 binary digits after its leading one. The lower 43 of them do
+// not fit into a code's mantissa.
 const DIGITS: u64 = 0x10_0000_0000_0000;
 
 const LOW_DIGITS: u64 = 0x800_0000_0000;
 
-// The bit pattern of a double from 1 on and below 2^32. Its exponent's field and its leading digits are the code, and the digits below
-// them, at their place, the remainder.
+// The bit pattern of a double from 1 on and below 2^32. Its exponent field and its leading digits are the code.
+// The digits below them, at their place, are the remainder.
 fn split(bits: u64) -> Imported
     requires { ⌜ (1023 ≤ bits / 2 ^ 52) × (bits / 2 ^ 52 ≤ 1054) ⌝ }
     ensures { λ r. ⌜ r ≡ patternSplit bits ⌝ }

@@ -1,4 +1,5 @@
--- The four moves of the allowed rate keep it between MCR and PCR, keep the parameters, and put no lower rate above a higher one.
+-- The four moves of the allowed rate keep it between MCR and PCR, keep the parameters, and put no
+-- lower rate above a higher one.
 use mathlib.Core.Path.{_≡_}
 use mathlib.Core.Bool.{Bool, true, false, cond, _&&_, not}
 use Prim.Native.Nat.{ℕ, _≤_}

@@ -1,4 +1,5 @@
--- The rate record and the four moves of the allowed rate. (Document 01, "Four moves of the allowed rate"; document 02, L14.)
+-- The rate record and the four moves of the allowed rate. (Document 01, "Four moves of the
+-- allowed rate"; document 02, L14.)
 use Prim.Native.Nat.{ℕ, _+_, _-_, _*_, _/_, _^_, min, max}
 use mathlib.Core.Bool.{Bool, true, false, cond, _&&_, not}
 use lib.Dec.{leb, ltb, eqb}

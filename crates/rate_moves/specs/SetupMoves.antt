@@ -6,7 +6,8 @@ use lib.Dec.{leb, ltb, eqb}
 use Rattle.rate_params.specs.Params.{least, initial, initialUsed, crm, adtfTime}
 use Rattle.rate_moves.specs.Moves.{Rate, moved, opened, firstCell, idle, reducedBy, unanswered}
 
--- the moves that ICR and CRM have a part in, as document 01 has them, for the initial rate i and the CRM m; feedback uses neither
+-- the moves that use ICR or CRM, as document 01 has them, for the initial rate i and the
+-- CRM m; feedback uses neither
 pub record MovesBy (i m : ℕ) (q : Rate) : Type 0 where
   pub opens : opened (q .params) ≡ moved q i
   pub first : firstCell q ≡ moved q (min (q .acr) i)

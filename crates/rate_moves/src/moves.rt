@@ -3,8 +3,8 @@
 ghost use mathlib.Core.Path.{_≡_};
 ghost use Prim.Native.Nat.{_+_, _/_, _^_, min};
 ghost use Rattle.rate_moves.specs.Moves.{moved, opened, firstCell, idle, unanswered, reducedBy, rateByMarks, feedback};
-use rate_params::extremes::higher;
-use rate_params::extremes::lower;
+use laws::arithmetic::higher;
+use laws::arithmetic::lower;
 use rate_params::params::Params;
 
 pub struct Rate {
@@ -52,7 +52,7 @@ impl Rate {
     }
 
     // The same parameters at another allowed rate.
-    pub fn moved(mut self, a: u64) -> Rate
+    fn moved(mut self, a: u64) -> Rate
         ensures { λ q. ⌜ q ≡ moved self a ⌝ }
     {
         self.acr = a;
@@ -83,7 +83,7 @@ impl Rate {
         if y < self.params.crm() {
             return self;
         }
-        if self.params.c == 7 {
+        if self.params.c == Params::CDF_ZERO {
             return self;
         }
         self.moved(higher(self.params.least(), reduced_by(self.params.c, self.acr)))

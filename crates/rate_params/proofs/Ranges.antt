@@ -8,7 +8,7 @@ use lib.Dec.{leb}
 use lib.ListN.{getD, List·getD-eq-default}
 use borrow.Author.Tests.{leb-true, le-leb}
 use Rattle.laws.proofs.Tests.{both}
-use Rattle.rate_params.specs.Params.{Params, peak, least, initial, within, codesFit, ratesFit, numbersFit, paramsFit, tbeFits, frttFits, trmTimes, trmTime}
+use Rattle.rate_params.specs.Params.{Params, peak, least, initial, within, codesFit, ratesFit, numbersFit, paramsFit, tbeFits, frttFits, trmTimes, trmTime, nMost, rMost, dMost, cMost, tbeMost, adtfMost, trmMost}
 use Rattle.rate_params.specs.Ranges.{Fits, SetupFits, RangesExact}
 
 pub in-range : (low high x : ℕ) → within low high x ≡ true → (low ≤ x) × (x ≤ high)
@@ -25,16 +25,16 @@ fits p e =
     let code₂ = both (leb (p .mcr) 65535) (leb (p .icr) 65535) (code .1) in
     let rate = both (leb 512 (peak p)) (leb (least p) (initial p) && leb (initial p) (peak p)) (g .0) in
     let rate₂ = both (leb (least p) (initial p)) (leb (initial p) (peak p)) (rate .1) in
-    let trm = leb (p .trm) 7 in
-    let adtf = within 1 1023 (p .adtf) && trm in
-    let cdf = leb (p .c) 7 && adtf in
-    let rdf = leb (p .d) 15 && cdf in
-    let n = both (within 1 8 (p .n)) (leb (p .r) 15 && rdf) (g .1) in
-    let steps = in-range 1 8 (p .n) (n .0) in
-    let r = both (leb (p .r) 15) rdf (n .1) in
-    let d = both (leb (p .d) 15) cdf (r .1) in
-    let c = both (leb (p .c) 7) adtf (d .1) in
-    let a = both (within 1 1023 (p .adtf)) trm (c .1) in
+    let trm = leb (p .trm) trmMost in
+    let adtf = within 1 adtfMost (p .adtf) && trm in
+    let cdf = leb (p .c) cMost && adtf in
+    let rdf = leb (p .d) dMost && cdf in
+    let n = both (within 1 nMost (p .n)) (leb (p .r) rMost && rdf) (g .1) in
+    let steps = in-range 1 nMost (p .n) (n .0) in
+    let r = both (leb (p .r) rMost) rdf (n .1) in
+    let d = both (leb (p .d) dMost) cdf (r .1) in
+    let c = both (leb (p .c) cMost) adtf (d .1) in
+    let a = both (within 1 adtfMost (p .adtf)) trm (c .1) in
     record {
       pcrCode = leb-true _ _ (code .0);
       mcrCode = leb-true _ _ (code₂ .0);
@@ -47,8 +47,8 @@ fits p e =
       rMost = leb-true _ _ (r .0);
       dMost = leb-true _ _ (d .0);
       cMost = leb-true _ _ (c .0);
-      adtfLeast = in-range 1 1023 (p .adtf) (a .0) .0;
-      adtfMost = in-range 1 1023 (p .adtf) (a .0) .1;
+      adtfLeast = in-range 1 adtfMost (p .adtf) (a .0) .0;
+      adtfMost = in-range 1 adtfMost (p .adtf) (a .0) .1;
       trmMost = leb-true _ _ (a .1);
     }
 
@@ -77,7 +77,7 @@ unfolding tbeFits frttFits within
 ranges-exact = record {
   fit = fits;
   admitted = admits;
-  tbe = λ p e. in-range 1 16_777_215 (p .tbe) e;
+  tbe = λ p e. in-range 1 tbeMost (p .tbe) e;
   tbeAdmitted = λ p a b. simp (le-leb _ _ a, le-leb _ _ b);
   frtt = λ p e. leb-true _ _ e;
   frttAdmitted = λ p a. le-leb _ _ a;
@@ -86,8 +86,8 @@ ranges-exact = record {
 pub setup-fits : (p : Params) → tbeFits p ≡ true → frttFits p ≡ true → SetupFits p
 setup-fits p e f = let h = ranges-exact .tbe p e in record { tbeLeast = h .0; tbeMost = h .1; frttMost = ranges-exact .frtt p f }
 
--- a Trm number over 7 has no time
-pub trm-none : (n : ℕ) → 7 < n → 0 ≡ trmTime n
+-- a Trm number over the most has no time
+pub trm-none : (n : ℕ) → trmMost < n → 0 ≡ trmTime n
 unfolding trmTime trmTimes
 trm-none n h = sym (List·getD-eq-default trmTimes 0 h)
 

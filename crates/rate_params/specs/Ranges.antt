@@ -1,4 +1,6 @@
 -- Parameters within their ranges. (Document 01, "Opening"; document 02, L14.)
+-- The bounds stand here as the documents give them, not by the names of `Params`, so that one changed by mistake is
+-- refused.
 use Prim.Native.Nat.{_≤_}
 use mathlib.Core.Path.{_≡_}
 use mathlib.Core.Bool.{true}

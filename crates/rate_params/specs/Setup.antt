@@ -25,12 +25,13 @@ pub record InitialRate : Type 0 where
   -- a longer round trip never raises it, more TBE never lowers it
   pub longer : (p : Params) (tbe f g : ℕ) → least p ≤ initial p → f ≤ g → initialUsed (withSetup p tbe g) ≤ initialUsed (withSetup p tbe f)
   pub more : (p : Params) (a b frtt : ℕ) → a ≤ b → initialUsed (withSetup p a frtt) ≤ initialUsed (withSetup p b frtt)
-  -- at this rate no more than TBE cells leave in a round trip, or than at the minimum; where it is lowered, a rate higher by 1 would allow more; and where the minimum
-  -- allows as many, it is the minimum
+  -- At this rate no more cells leave in a round trip than TBE, or than at the minimum. Where it is lowered, a rate
+  -- higher by 1 would allow more. Where the minimum allows as many, it is the minimum.
   pub most : (p : Params) → initialUsed p * p .frtt ≤ max (512_000_000 * p .tbe) (least p * p .frtt)
   pub greatest : (p : Params) → initialUsed p < initial p → 512_000_000 * p .tbe < (initialUsed p + 1) * p .frtt
   pub minimum : (p : Params) → least p ≤ initial p → 0 < p .frtt → 512_000_000 * p .tbe ≤ least p * p .frtt → initialUsed p ≡ least p
-  -- cells a gap apart: one that comes k gaps after the first, and within the round trip of 1,000 × FRTT nanoseconds, has fewer than those allowed before it
+  -- cells a gap apart: one that comes k gaps after the first, within the round trip of 1,000 × FRTT nanoseconds,
+  -- has fewer cells before it than those allowed
   pub gaps : (p : Params) (k : ℕ) → 0 < initialUsed p → k * gap (initialUsed p) < 1000 * p .frtt → k < cellsAllowed p
 
 pub record Crm : Type 0 where

@@ -1,3 +1,2 @@
 // The parameters of an open, with their ranges, and the house set.
-pub mod extremes;
 pub mod params;

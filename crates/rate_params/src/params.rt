@@ -3,9 +3,10 @@ ghost use Prim.Native.Nat.{_+_, _-_, _/_, _^_};
 ghost use mathlib.Core.Path.{_≡_};
 ghost use mathlib.Core.Bool.{_&&_};
 ghost use lib.Dec.{leb};
-ghost use Rattle.rate_params.specs.Params.{peak, least, initial, initialUsed, within, codesFit, ratesFit, numbersFit, paramsFit, tbeFits, frttFits, crm, trmTime, houseSet};
-use crate::extremes::higher;
-use crate::extremes::lower;
+ghost use Rattle.rate_params.specs.Params.{peak, least, initial, initialUsed, within, codesFit, ratesFit, numbersFit, paramsFit, tbeFits, frttFits, crm, trmTime, houseSet, adtfMost, trmMost};
+use laws::arithmetic::higher;
+use laws::arithmetic::lower;
+use rate::code::SIXTEEN_BITS_MOST;
 use rate::code::rate_of;
 
 // Trm by its number, in nanoseconds.
@@ -23,7 +24,7 @@ const TRM_TIMES: [u64; 8] = [
 pub fn trm_time(number: u32) -> u64
     ensures { λ t. ⌜ t ≡ trmTime number ⌝ }
 {
-    if 7 < number {
+    if Params::TRM_MOST < number {
         return 0;
     }
     TRM_TIMES[number as usize]
@@ -64,22 +65,42 @@ pub struct Params {
 }
 
 impl Params {
+    // The most of each; the least is 0 of r, d, c, FRTT and Trm's number, and 1 of n, TBE and ADTF.
+    pub const N_MOST: u32 = 8;
+
+    pub const R_MOST: u32 = 15;
+
+    pub const D_MOST: u32 = 15;
+
+    pub const C_MOST: u32 = 7;
+
+    pub const TBE_MOST: u32 = 16777215;
+
+    pub const FRTT_MOST: u32 = 16700000;
+
+    pub const ADTF_MOST: u32 = 1023;
+
+    pub const TRM_MOST: u32 = 7;
+
+    // The c that means a CDF of zero.
+    pub const CDF_ZERO: u32 = 7;
+
     // The house set; its three rates come from the caller.
-    pub const N: u32 = 5;
+    pub const HOUSE_N: u32 = 5;
 
-    pub const R: u32 = 4;
+    pub const HOUSE_R: u32 = 4;
 
-    pub const D: u32 = 4;
+    pub const HOUSE_D: u32 = 4;
 
-    pub const C: u32 = 4;
+    pub const HOUSE_C: u32 = 4;
 
-    pub const TBE: u32 = 16777215;
+    pub const HOUSE_TBE: u32 = 16777215;
 
-    pub const FRTT: u32 = 0;
+    pub const HOUSE_FRTT: u32 = 0;
 
-    pub const ADTF: u32 = 50;
+    pub const HOUSE_ADTF: u32 = 50;
 
-    pub const TRM: u32 = 7;
+    pub const HOUSE_TRM: u32 = 7;
 
     pub fn house(pcr: u32, mcr: u32, icr: u32) -> Params
         ensures { λ p. ⌜ p ≡ houseSet pcr mcr icr ⌝ }
@@ -88,14 +109,14 @@ impl Params {
             pcr,
             mcr,
             icr,
-            n: Params::N,
-            r: Params::R,
-            d: Params::D,
-            c: Params::C,
-            tbe: Params::TBE,
-            frtt: Params::FRTT,
-            adtf: Params::ADTF,
-            trm: Params::TRM,
+            n: Params::HOUSE_N,
+            r: Params::HOUSE_R,
+            d: Params::HOUSE_D,
+            c: Params::HOUSE_C,
+            tbe: Params::HOUSE_TBE,
+            frtt: Params::HOUSE_FRTT,
+            adtf: Params::HOUSE_ADTF,
+            trm: Params::HOUSE_TRM,
         }
     }
 
@@ -139,7 +160,8 @@ impl Params {
     fn codes_fit(self) -> bool
         ensures { λ b. ⌜ b ≡ codesFit self ⌝ }
     {
-        self.pcr <= 65535 && (self.mcr <= 65535 && self.icr <= 65535)
+        self.pcr <= SIXTEEN_BITS_MOST
+            && (self.mcr <= SIXTEEN_BITS_MOST && self.icr <= SIXTEEN_BITS_MOST)
     }
 
     // The peak is 512 or more, the minimum may be 0, the initial rate lies between them (document 02, L5).
@@ -154,19 +176,20 @@ impl Params {
 
     // ADTF and the Trm number.
     fn limits_fit(self) -> bool
-        ensures { λ b. ⌜ b ≡ within 1 1023 (self .adtf) && leb (self .trm) 7 ⌝ }
+        ensures { λ b. ⌜ b ≡ within 1 adtfMost (self .adtf) && leb (self .trm) trmMost ⌝ }
     {
-        within(1, 1023, self.adtf) && self.trm <= 7
+        within(1, Params::ADTF_MOST, self.adtf) && self.trm <= Params::TRM_MOST
     }
 
     fn numbers_fit(self) -> bool
         ensures { λ b. ⌜ b ≡ numbersFit self ⌝ }
     {
-        within(1, 8, self.n)
-            && (self.r <= 15 && (self.d <= 15 && (self.c <= 7 && self.limits_fit())))
+        within(1, Params::N_MOST, self.n)
+            && (self.r <= Params::R_MOST
+                && (self.d <= Params::D_MOST && (self.c <= Params::C_MOST && self.limits_fit())))
     }
 
-    // What an open may give but for TBE and FRTT: every range of document 01 at once.
+    // What an open may give, except for TBE and FRTT: every range of document 01 at once.
     pub fn fits(self) -> bool
         ensures { λ b. ⌜ b ≡ paramsFit self ⌝ }
     {
@@ -177,12 +200,12 @@ impl Params {
     pub fn tbe_fits(self) -> bool
         ensures { λ b. ⌜ b ≡ tbeFits self ⌝ }
     {
-        within(1, 16777215, self.tbe)
+        within(1, Params::TBE_MOST, self.tbe)
     }
 
     pub fn frtt_fits(self) -> bool
         ensures { λ b. ⌜ b ≡ frttFits self ⌝ }
     {
-        self.frtt <= 16700000
+        self.frtt <= Params::FRTT_MOST
     }
 }

@@ -40,7 +40,8 @@ module _ (f : Entry → List ℕ) (w : ℕ) (wide : (x : Entry) → length (f x)
       → f (getD ss i free) ≡ k ++ (q ++ r) → f x ≡ k ++ (v ++ r) → length q ≡ length v → put (h ++ (flat f ss ++ t)) p v ≡ h ++ (flat f (set ss i x) ++ t)
   replace-part k q v r at ss x l a b e = rw (← at) (part-flat f w wide h ss t i free x k q v r l a b e)
 
--- The words with the four columns of four rows of entries, behind a header and before what is behind them: a store changes one column at a time.
+-- The words with the four columns of four rows of entries, after a header and before what follows them. A store
+-- changes one column at a time.
 abbrev pub mixed : (h : List ℕ) (k n l m : List Entry) (t : List ℕ) → List ℕ
 mixed h k n l m t = h ++ (flat keyOf k ++ (flat nameWords n ++ (flat liveOf l ++ (flat fixedOf m ++ t))))
 

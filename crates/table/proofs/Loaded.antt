@@ -1,4 +1,5 @@
--- Loading gives back the connection that stands in the entry: no number of a connection that calls made lies outside the range it is brought into.
+-- Loading gives back the connection that stands in the entry. No number of a connection that calls made lies
+-- outside the range that loading brings it into.
 use Prim.Native.Nat.{ℕ, _+_, _*_, _/_, _%_, _^_, _≤_, _<_, _-_}
 use mathlib.Core.Path.{_≡_, refl}
 use mathlib.Core.Bool.{Bool, true, false, cond}

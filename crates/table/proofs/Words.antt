@@ -1,4 +1,5 @@
--- The words of a state that calls reach: what a read finds in them, and that a store makes the words of the state with that entry changed.
+-- The words of a state that calls reach: what a read finds in them, and that a store makes the words of the
+-- state with that entry changed.
 use Prim.Native.Nat.{ℕ, suc, _+_, _-_, _*_, _≤_, _<_}
 use mathlib.Core.Path.{_≡_, refl, sym, ap, ap₂, _∙_}
 use mathlib.Core.List.{List, [], _∷_, _++_}
@@ -101,14 +102,15 @@ module _ (s : State) (g : length (s .entries) ≡ capacity) (i : ℕ) (h : i < c
   long : (x : Entry) → length (set (s .entries) i x) ≡ capacity
   long x = length-set (s .entries) i x ∙ g
 
-  -- the words of the state but for the columns, which are those of these entries
+  -- the words of the state, except that the columns are those of these entries
   abbrev columnsOf : List Entry → List ℕ
   columnsOf xs = tableWords (s .level) (s .last) (used (s .entries)) (directory (s .entries)) (nodes (s .entries)) xs (s .members)
 
   to-columns : (xs : List Entry) → header s ++ columns xs (s .members) ≡ columnsOf xs
   to-columns xs = sym (columns-split (s .level) (s .last) (used (s .entries)) (directory (s .entries)) (nodes (s .entries)) xs (s .members))
 
-  -- Entry i is given to x in the columns, one after the other: what a part of the live words, the key, the fixed words and the name make of them.
+  -- Entry i is set to x in the columns, one after the other: what the words become with a part of the live words,
+  -- the key, the fixed words and the name.
   module _ (x : Entry) where
     abbrev xs : List Entry
     xs = set (s .entries) i x
@@ -140,7 +142,8 @@ module _ (s : State) (g : length (s .entries) ≡ capacity) (i : ℕ) (h : i < c
         ∙ name-in
         ∙ to-columns xs
 
-  -- a connection that keeps its entry, its name and what its open fixed: the live words and the key are all that is stored
+  -- a connection that keeps its entry, its name and what its open fixed: only the live
+  -- words and the key are stored
   module _ (c d : Connection) (e : getD (s .entries) i free ≡ taken c) (p : d .name ≡ c .name) (q : fixedWords d ≡ fixedWords c) where
     abbrev ys : List Entry
     ys = set (s .entries) i (taken d)
@@ -173,7 +176,8 @@ module _ (s : State) (g : length (s .entries) ≡ capacity) (i : ℕ) (h : i < c
         part-at (sourceWords c) (destinationWords (c .destination)) (destinationWords (d .destination)) (outOfRateWords c) refl
         (ap₂ (λ (y : List ℕ) (z : Instant). y ++ (destinationWords (d .destination) ++ (instantWord z ∷ []))) f o) refl
 
-    -- A part of the live words that moves no ready instant: the key is already there, no winner changes, and the words are those of the state with the entry changed.
+    -- A part of the live words that moves no ready instant. The key is already there, no winner changes, and the
+    -- words are those of the state with the entry changed.
     silent-at :
         (k o v z : List ℕ) → liveWords c ≡ k ++ (o ++ z) → liveWords d ≡ k ++ (v ++ z) → length o ≡ length v → readyInstant d ≡ readyInstant c
         → put (words s) (liveFrom + length k + i * liveWidth) v ≡ words (with (taken d))

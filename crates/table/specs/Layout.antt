@@ -1,7 +1,7 @@
--- The words of a table in the lent memory. A state has one list of words; all zero is the empty table.
--- A header: the level, the last time, the bits of the taken entries, the directory of the names, by which one is found in ten probes, and the
--- winners of the tournament; then four columns with one block an entry: ready keys, names, the live part of each connection and the part that its open fixed;
--- then the members of paths.
+-- The words of a table in the lent memory. A state has one list of words; all zero is the empty table. First comes
+-- a header: the level, the last time, the bits of the taken entries, the directory of the names, which finds a
+-- name in ten probes, and the winners of the tournament. Then come four columns with one block an entry: ready
+-- keys, names, the live part of each connection and the part that its open fixed. Then come the members of paths.
 use Prim.Native.Nat.{ℕ, zero, suc, _+_, _-_, _*_, _^_}
 use mathlib.Core.Bool.{Bool, true, false, cond}
 use mathlib.Core.List.{List, [], _∷_, _++_}
@@ -10,7 +10,7 @@ use lib.ListN.{length, take, drop, replicate}
 use Rattle.rate_params.specs.declared.params.Params.{Params}
 use Rattle.laws.specs.Blocks.{flat}
 use Rattle.laws.specs.Rows.{row}
-use Rattle.cell_crc.specs.declared.payload.Payload.{Payload}
+use Rattle.cell_payload.specs.declared.payload.Payload.{Payload}
 use Rattle.connection.specs.declared.parts.Pace.{Pace}
 use Rattle.connection.specs.declared.parts.Pace.the-variants.{Unsent, Running}
 use Rattle.connection.specs.declared.parts.Queue.{Queue}
@@ -27,8 +27,9 @@ use Rattle.connection_members.specs.Members.{Member, memberCapacity}
 use Rattle.model.specs.State.{State, Entry, free, taken, capacity}
 use Rattle.model.specs.Tournament.{levels, winnerAt, winnerWord}
 
--- Where they stand: in the header the level, the last accepted time, the bits of the entries in use, 64 in a word, the directory of names and the
--- winners; behind them a word that is always 0, the key of no entry, so that the key of a winner's word w stands at noKeyAt + w;
+-- Where they stand. The header has the level, the last accepted time, the bits of the entries in use, 64 in a
+-- word, the directory of names and the winners. After them comes a word that is always 0, the key of no entry. So
+-- the key of a winner's word w stands at noKeyAt + w.
 abbrev pub levelAt : ℕ
 levelAt = 0
 
@@ -88,7 +89,8 @@ membersFrom = fixedFrom + capacity * fixedWidth
 abbrev pub size : ℕ
 size = membersFrom + memberCapacity
 
--- a pace in four words: 0 if no cell was sent, 1 if no turned or made cell went since the last forward cell, else 2; its instants; k
+-- a pace in four words: 0 if no cell was sent, 1 if no turned or made cell went since the last forward
+-- cell, else 2; its instants; k
 abbrev pub paceTag : Pace → ℕ
 paceTag Unsent = 0
 paceTag (Running sent forward k turned) = cond turned 2 1
@@ -127,7 +129,8 @@ payloadWords p = p .a ∷ p .b ∷ p .c ∷ p .d ∷ p .e ∷ p .f ∷ []
 abbrev pub queueWord : Queue → ℕ
 queueWord l = l .served * 2 ^ 32 + l .cells
 
--- what moves while a connection is open: the words of its source, the last of them those of its change, then those of its destination
+-- what moves while a connection is open: the words of its source, with those of its change last,
+-- then those of its destination
 abbrev pub sourceWords : Connection → List ℕ
 sourceWords c =
     c .rate .acr ∷ c .unanswered ∷ queueWord (c .queue) ∷ paceTag (c .pace) ∷ paceSent (c .pace) ∷ paceForward (c .pace) ∷ paceK (c .pace)
@@ -186,7 +189,8 @@ abbrev pub fixedOf : Entry → List ℕ
 fixedOf free = replicate fixedWidth 0
 fixedOf (taken c) = fixedWords c
 
--- A member in one word: the greater the lower its name. So the words of members, which rise by name, fall, and those of no member, which are 0, stand behind.
+-- A member in one word, which is greater for a lower name. Members rise by name, so their words fall. The words of
+-- no member are 0 and come last.
 abbrev pub memberWord : Member → ℕ
 memberWord m = (noName - m .name) * 65536 + m .cells
 
@@ -217,7 +221,8 @@ group g ss = take 64 (drop (g * 64) ss)
 abbrev pub used : List Entry → List ℕ
 used ss = row (λ g. bitmap isTaken (group g ss)) 0 groups
 
--- The directory: for each entry in use a word that holds its name and its number, in falling order; the words of the others are 0 and stand behind.
+-- The directory has a word for each entry in use, with its name and its number, in falling order. The words of
+-- the others are 0 and come last.
 unfoldable pub directoryWord : (entry : ℕ) → Entry → ℕ
 directoryWord i free = 0
 directoryWord i (taken c) = (c .name + 1) * capacity + i
@@ -237,7 +242,8 @@ sortDescending (x ∷ xs) = insertDescending x (sortDescending xs)
 abbrev pub directory : List Entry → List ℕ
 directory ss = sortDescending (directoryWords 0 ss)
 
--- The winners: word p is that of place p; how many levels a place stands above the leaves is how often it doubles before it reaches them.
+-- The winners: word p is that of place p. A place is n levels above the leaves if it reaches
+-- them after it doubles n times.
 unfoldable pub height : (most place : ℕ) → ℕ
 height zero p = 0
 height (suc n) p = cond (leb capacity p) 0 (suc (height n (2 * p)))
@@ -249,7 +255,8 @@ nodeWord ss (suc p) = winnerWord (winnerAt ss (height levels (suc p)) (suc p))
 abbrev pub nodes : List Entry → List ℕ
 nodes ss = row (nodeWord ss) 0 capacity
 
--- the words with these bits of the entries in use, this directory and these winners, and the columns of these entries and members
+-- the words with these bits of the entries in use, this directory and these winners, and the columns
+-- of these entries and members
 abbrev pub tableWords : (level last : ℕ) (us ds ns : List ℕ) → List Entry → List Member → List ℕ
 tableWords a b us ds ns ss ms = a ∷ b ∷ (us ++ (ds ++ (ns ++ (0 ∷ columns ss ms))))
 

@@ -1,12 +1,12 @@
--- The connection that an entry's words stand for, whatever they are. Each number is brought into the range in which the engine adds without
--- wrapping; that changes none of a table that calls made.
+-- The connection that an entry's words stand for, whatever they are. Each number is brought into the range in
+-- which the engine adds without wrapping. That changes no number of a table that calls made.
 use Prim.Native.Nat.{ℕ, _+_, _-_, _*_, _/_, _%_, _^_}
 use mathlib.Core.Bool.{cond}
 use mathlib.Core.List.{List}
 use lib.Dec.{ltb, eqb}
 use lib.ListN.{getD}
 use Rattle.rate_params.specs.declared.params.Params.{Params}
-use Rattle.cell_crc.specs.declared.payload.Payload.{Payload}
+use Rattle.cell_payload.specs.declared.payload.Payload.{Payload}
 use Rattle.cell.specs.Name.{noName}
 use Rattle.connection.specs.declared.parts.Pace.{Pace}
 use Rattle.connection.specs.declared.parts.Pace.the-variants.{Unsent, Running}

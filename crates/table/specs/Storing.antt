@@ -11,11 +11,11 @@ use Rattle.connection.specs.Ready.{readyInstant}
 use Rattle.model.specs.State.{Entry}
 use Rattle.table.specs.Layout.{destinationTag, key, sourceWords, destinationWords, sideWords, keyOf, nameWords, liveOf, fixedOf, usedFrom, namesFrom, keysFrom, liveFrom, liveWidth, destinationFrom, outOfRateFrom, instantWord, fixedFrom, fixedWidth}
 
--- a connection whose sending side has moved
+-- a connection whose source has moved
 abbrev pub sourceUpdated : List ℕ → (entry : ℕ) → Connection → List ℕ
 sourceUpdated l i c = set (put l (liveFrom + i * liveWidth) (sourceWords c)) (keysFrom + i) (key (readyInstant c))
 
--- a connection whose receiving side has moved
+-- a connection whose destination has moved
 abbrev pub destinationUpdated : List ℕ → (entry : ℕ) → Connection → List ℕ
 destinationUpdated l i c = set (put l (destinationFrom + i * liveWidth) (destinationWords (c .destination))) (keysFrom + i) (key (readyInstant c))
 
@@ -23,7 +23,7 @@ destinationUpdated l i c = set (put l (destinationFrom + i * liveWidth) (destina
 abbrev pub efciUpdated : List ℕ → (entry : ℕ) → Destination → List ℕ
 efciUpdated l i b = set l (destinationFrom + i * liveWidth) (destinationTag b)
 
--- a connection of which only the last out-of-rate cell has moved
+-- a connection where only the last out-of-rate cell has moved
 abbrev pub outOfRateUpdated : List ℕ → (entry : ℕ) → Instant → List ℕ
 outOfRateUpdated l i o = set l (outOfRateFrom + i * liveWidth) (instantWord o)
 

@@ -1,2 +1,3 @@
-// The words of a table in the lent memory, with their laws; the code is in falling, names, member_words, tournament, loading, entry_words and storing.
+// The words of a table in the lent memory, with their laws; the crates table_column to table_store have the code.
+pub mod found;
 pub mod layout;

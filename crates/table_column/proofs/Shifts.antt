@@ -1,4 +1,4 @@
--- A word that enters a falling list, and one that leaves it: the list is falling again, and of its counts only those of that word change.
+-- A word enters a falling list, or leaves it. The list is falling again, and only the counts of that word change.
 use Prim.Native.Nat.{ℕ, zero, suc, _+_, _≤_, _<_}
 use mathlib.Core.Path.{_≡_, refl, ap, _∙_}
 use mathlib.Core.List.{List, [], _∷_, _++_}
@@ -52,10 +52,10 @@ unfolding shifted
 shifted-first w [] = omega arith
 shifted-first w (x ∷ xs) = omega arith
 
-shifted-falls : (w : ℕ) (xs : List ℕ) → Descending xs → getD xs 0 0 ≤ w → Descending (shifted w xs)
+shifted-descends : (w : ℕ) (xs : List ℕ) → Descending xs → getD xs 0 0 ≤ w → Descending (shifted w xs)
 unfolding shifted
-shifted-falls w [] f h = tt
-shifted-falls w (x ∷ xs) f h = (omega (arith, shifted-first x xs, h), shifted-falls x xs (f .1) (f .0))
+shifted-descends w [] f h = tt
+shifted-descends w (x ∷ xs) f h = (omega (arith, shifted-first x xs, h), shifted-descends x xs (f .1) (f .0))
 
 inserted-first : (p w y : ℕ) (xs : List ℕ) → w ≤ y → getD xs 0 0 ≤ y → getD (insertedAt p w xs) 0 0 ≤ y
 unfolding insertedAt
@@ -74,7 +74,7 @@ inserted-descends w (x ∷ xs) f = go (reach w x) (inserted-descends w xs (f .1)
         rw e (inserted-first (atLeast w xs) w x xs h (f .0), r)
     go (below h) r =
         let e : reaches w x + atLeast w xs ≡ 0 = omega (arith, reaches-not w x h, at-least-none w xs (f .1) (omega (arith, f .0, h))) in
-        rw e (shifted-falls w (x ∷ xs) f (omega (arith, h)))
+        rw e (shifted-descends w (x ∷ xs) f (omega (arith, h)))
 
 -- behind a 0 there are zeros only
 pub shifted-zeros : (xs : List ℕ) → Descending xs → getD xs 0 0 ≤ 0 → shifted 0 xs ≡ xs
@@ -116,9 +116,9 @@ snoc-first : (xs : List ℕ) (y : ℕ) → getD xs 0 0 ≤ y → getD (xs ++ (0 
 snoc-first [] y h = omega arith
 snoc-first (x ∷ xs) y h = h
 
-snoc-falls : (xs : List ℕ) → Descending xs → Descending (xs ++ (0 ∷ []))
-snoc-falls [] f = (omega arith, tt)
-snoc-falls (x ∷ xs) f = (snoc-first xs x (f .0), snoc-falls xs (f .1))
+snoc-descends : (xs : List ℕ) → Descending xs → Descending (xs ++ (0 ∷ []))
+snoc-descends [] f = (omega arith, tt)
+snoc-descends (x ∷ xs) f = (snoc-first xs x (f .0), snoc-descends xs (f .1))
 
 removed-first : (p : ℕ) (xs : List ℕ) → Descending xs → (y : ℕ) → getD xs 0 0 ≤ y → getD (removedAt p xs) 0 0 ≤ y
 unfolding removedAt
@@ -129,7 +129,7 @@ removed-first (suc p) (x ∷ xs) f y h = h
 pub removed-descends : (p : ℕ) (xs : List ℕ) → Descending xs → Descending (removedAt p xs)
 unfolding removedAt
 removed-descends p [] f = tt
-removed-descends zero (x ∷ xs) f = snoc-falls xs (f .1)
+removed-descends zero (x ∷ xs) f = snoc-descends xs (f .1)
 removed-descends (suc p) (x ∷ xs) f = (removed-first p xs (f .1) x (f .0), removed-descends p xs (f .1))
 
 pub snoc-zeros : (xs : List ℕ) → Descending xs → getD xs 0 0 ≤ 0 → xs ++ (0 ∷ []) ≡ 0 ∷ xs

@@ -1,4 +1,5 @@
--- Falling lists of words: how many are at least a number, and what one word more or less makes of a list that keeps its length.
+-- Falling lists of words: how many are at least a number, and what one word more or less does to
+-- a list that keeps its length.
 use Prim.Native.Nat.{ℕ, zero, suc, _+_, _≤_}
 use mathlib.Core.Bool.{cond, _&&_}
 use mathlib.Core.List.{List, [], _∷_, _++_}

@@ -6,7 +6,8 @@ ghost use lib.Dec.{leb, ltb};
 ghost use Rattle.table_column.specs.Column.{Column, AtLeast, CountsAtLeast, CountsUpTo, Inserts, RemovesWord, RemovesRun};
 use table::layout::WORDS;
 
-// Where a halving goes on, behind the word that it looked at or before it: as a number, so that no branch depends on it.
+// Where a halving goes on: behind the word that it looked at, or before it. This is a number, so
+// that no branch depends on it.
 fn passed(word: u64, e: u64, behind: usize, p: usize) -> usize
     ensures { λ r. ⌜ r ≡ cond (leb word e) behind p ⌝ }
 {
@@ -111,8 +112,8 @@ fn left(word: u64, high: u64, low: u64) -> u64
     if word < high { 0 } else { word }
 }
 
-// The words that are at least `low` and below `high` leave, and those behind them move down: one pass from the first of them on, without a branch that depends on
-// which leave.
+// The words that are at least `low` and below `high` leave, and those behind them move down. This is one pass from
+// the first of them on, without a branch that depends on which leave.
 pub fn remove_run(t: &mut [u64; WORDS], from: usize, len: usize, high: u64, low: u64)
     requires { ⌜ Column from len ⌝ }
     ensures { λ _. ⌜ RemovesRun from len high low (now (t .entry)) (now (t .exit)) ⌝ }

@@ -1,14 +1,14 @@
-// The words of the receiving side of a connection, and of an instant.
+// The words of the destination of a connection, and of an instant.
 ghost use mathlib.Core.Path.{_≡_};
-ghost use mathlib.Core.Bool.{cond};
 ghost use Prim.Native.Nat.{_+_, _≤_};
 ghost use Rattle.laws.specs.Blocks.{put};
 ghost use Rattle.table.specs.Layout.{waitTag, destinationTag, instantWord, waitingPayload, destinationWords, size};
 ghost use Rattle.connection.specs.Range.{InstantInRange};
-use cell_crc::payload::Payload;
+use cell_payload::payload::Payload;
 use connection::parts::Destination;
 use connection::parts::Waiting;
 use connection::ready::Instant;
+use laws::arithmetic::bit;
 use table::layout::WORDS;
 
 fn wait_tag(w: Waiting) -> u64
@@ -36,12 +36,6 @@ fn waiting_payload(w: Waiting) -> Payload
     }
 }
 
-fn bit(b: bool) -> u64
-    ensures { λ r. ⌜ (r ≡ cond b 1 0) × (r ≤ 1) ⌝ }
-{
-    if b { 1 } else { 0 }
-}
-
 pub fn destination_tag(destination: Destination) -> u64
     ensures { λ r. ⌜ r ≡ destinationTag destination ⌝ }
 {
@@ -59,7 +53,7 @@ pub fn instant_word(i: Instant) -> u64
     }
 }
 
-// The words of the receiving side, from index b on.
+// The words of the destination, from index b on.
 pub fn put_destination(t: &mut [u64; WORDS], b: usize, destination: Destination)
     requires { ⌜ (b + 9 ≤ size) × InstantInRange (destination .made .last) ⌝ }
     ensures { λ _. ⌜ now (t .exit) ≡ put (now (t .entry)) b (destinationWords destination) ⌝ }

@@ -6,13 +6,14 @@ ghost use Rattle.laws.specs.Blocks.{put};
 ghost use Rattle.table.specs.Layout.{setupWord, fixedWords, fixedWidth, size};
 use connection::parts::Connection;
 use rate_params::params::Params;
+use table::layout::HALF;
 use table::layout::WORDS;
 
 // TBE and FRTT.
 fn setup_word(p: Params) -> u64
     ensures { λ r. ⌜ r ≡ setupWord p ⌝ }
 {
-    p.frtt as u64 * 4294967296 + p.tbe as u64
+    p.frtt as u64 * HALF + p.tbe as u64
 }
 
 // The words that its open fixed, from index b on.

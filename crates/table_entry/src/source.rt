@@ -1,4 +1,4 @@
-// The words of the sending side of a connection.
+// The words of the source of a connection.
 ghost use mathlib.Core.Path.{_≡_};
 ghost use mathlib.Core.Bool.{cond};
 ghost use Prim.Native.Nat.{_+_, _≤_};
@@ -7,6 +7,7 @@ ghost use Rattle.table.specs.Layout.{paceTag, paceSent, paceForward, paceK, que
 use connection::parts::Connection;
 use connection::parts::Pace;
 use connection::parts::Queue;
+use table::layout::HALF;
 use table::layout::WORDS;
 
 struct PaceWords {
@@ -50,10 +51,10 @@ fn pace_words(p: Pace) -> PaceWords
 fn queue_word(q: Queue) -> u64
     ensures { λ r. ⌜ r ≡ queueWord q ⌝ }
 {
-    q.served as u64 * 4294967296 + q.cells as u64
+    q.served as u64 * HALF + q.cells as u64
 }
 
-// The words of the sending side, from index b on.
+// The words of the source, from index b on.
 pub fn put_source(t: &mut [u64; WORDS], b: usize, c: Connection)
     requires { ⌜ b + 9 ≤ size ⌝ }
     ensures { λ _. ⌜ now (t .exit) ≡ put (now (t .entry)) b (sourceWords c) ⌝ }

@@ -1,4 +1,5 @@
--- What the search for a name finds in the words of a table, what waits on a member there, and whether there is room for another.
+-- What the search for a name finds in the words of a table, what waits on a member there, and
+-- whether there is room for another.
 use Prim.Native.Nat.{ℕ, suc, _+_, _-_, _*_, _/_, _%_, _<_, min}
 use mathlib.Core.Path.{_≡_, refl, sym, ap, subst, _∙_}
 use mathlib.Core.Bool.{Bool, true, false}
@@ -12,7 +13,7 @@ use Rattle.connection_members.specs.Members.{Member, memberCapacity, isMember, 
 use Rattle.connection_members.specs.Invariant.{ValidMember, ValidMembers}
 use Rattle.connection_members.proofs.Valid.{cells-fit}
 use Rattle.table.specs.Layout.{membersFrom, memberWords}
-use Rattle.table_names.specs.declared.find.Found.the-variants.{At, Nothing}
+use Rattle.table.specs.declared.found.Found.the-variants.{At, Nothing}
 use Rattle.table_column.specs.Column.{AtLeast}
 use Rattle.table_column.proofs.Halving.{in-column as column-word}
 use Rattle.table_members.specs.Place.{below, wordLimit, MemberAt}

@@ -47,16 +47,16 @@ zeros-fall : (n : ℕ) → Descending (replicate n 0)
 zeros-fall zero = tt
 zeros-fall (suc n) = (first-zero n, zeros-fall n)
 
-packed-falls : (n : ℕ) (ms : List Member) → Rising ms → All ValidMember ms → Descending (packed ms ++ replicate n 0)
+packed-descends : (n : ℕ) (ms : List Member) → Rising ms → All ValidMember ms → Descending (packed ms ++ replicate n 0)
 unfolding packed
-packed-falls n [] r v = zeros-fall n
-packed-falls n (m ∷ []) r v = (omega (arith, first-zero n), zeros-fall n)
-packed-falls n (m ∷ k ∷ ms) r v =
-    (omega (arith, r .0 .0, v .1 .0 .coded, v .1 .0 .stocked), packed-falls n (k ∷ ms) (r .1) (v .1))
+packed-descends n [] r v = zeros-fall n
+packed-descends n (m ∷ []) r v = (omega (arith, first-zero n), zeros-fall n)
+packed-descends n (m ∷ k ∷ ms) r v =
+    (omega (arith, r .0 .0, v .1 .0 .coded, v .1 .0 .stocked), packed-descends n (k ∷ ms) (r .1) (v .1))
 
 pub words-fall : (ms : List Member) → ValidMembers ms → Descending (memberWords ms)
 unfolding memberWords
-words-fall ms v = packed-falls (memberCapacity - length ms) ms (v .rising) (v .each)
+words-fall ms v = packed-descends (memberCapacity - length ms) ms (v .rising) (v .each)
 
 -- the members' words in a table
 pub in-column : (l h : List ℕ) (ms : List Member) → WithMembers l h ms → InColumn membersFrom memberCapacity l h (memberWords ms) []

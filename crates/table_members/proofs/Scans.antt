@@ -13,7 +13,7 @@ use Rattle.cell.specs.Name.{noName}
 use Rattle.connection_members.specs.Members.{Member, memberCapacity}
 use Rattle.connection_members.specs.Invariant.{ValidMember}
 use Rattle.table.specs.Layout.{membersFrom, memberWord}
-use Rattle.table_names.specs.declared.find.Found.the-variants.{At, Nothing}
+use Rattle.table.specs.declared.found.Found.the-variants.{At, Nothing}
 use Rattle.table_members.specs.Place.{wordLimit, firstBelow}
 use Rattle.table_members.specs.Words.{WithMembers, Next}
 use Rattle.table_members.proofs.Places.{none-there, words-at, words-behind, each-at, member-at}

@@ -19,8 +19,8 @@ use Rattle.connection_members.proofs.Lists.{all-map, all-named}
 use Rattle.connection_members.proofs.Turns.{turn-none}
 use Rattle.connection_members.proofs.Valid.{cells-fit}
 use Rattle.table.specs.Layout.{membersFrom, memberWords}
-use Rattle.table_names.specs.declared.find.Found.{Found}
-use Rattle.table_names.specs.declared.find.Found.the-variants.{At, Nothing}
+use Rattle.table.specs.declared.found.Found.{Found}
+use Rattle.table.specs.declared.found.Found.the-variants.{At, Nothing}
 use Rattle.table_column.specs.Descending.{atLeast}
 use Rattle.table_column.specs.Column.{CountsAtLeast, CountsUpTo}
 use Rattle.table_column.proofs.Descending.{at-least-fewer}

@@ -1,5 +1,6 @@
--- What the functions say and make of the members in the words of a table: of any table that what they find is a word of the members', of one whose words end
--- with those of valid members the rest. (Document 02, L13.)
+-- What the functions say of the members in the words of a table, and do to them. In any table, what they
+-- find is a word of the members'. The rest holds for a table whose words end with those of valid
+-- members. (Document 02, L13.)
 use Prim.Native.Nat.{ℕ, _+_, _%_, _≤_, _<_}
 use mathlib.Core.Path.{_≡_}
 use mathlib.Core.Bool.{Bool, true, false}
@@ -12,8 +13,8 @@ use Rattle.connection_members.specs.Path.{firstVci}
 use Rattle.connection_members.specs.Members.{Member, memberCapacity, isMember, cellsOf, withMember, withoutMember, withoutPath, withCells}
 use Rattle.connection_members.specs.Turn.{turn, afterServing}
 use Rattle.connection_members.specs.Invariant.{ValidMembers}
-use Rattle.table_names.specs.declared.find.Found.{Found}
-use Rattle.table_names.specs.declared.find.Found.the-variants.{At, Nothing}
+use Rattle.table.specs.declared.found.Found.{Found}
+use Rattle.table.specs.declared.found.Found.the-variants.{At, Nothing}
 use Rattle.table.specs.Layout.{membersFrom, memberWords}
 use Rattle.table_members.specs.Place.{MemberAt, firstBelow}
 

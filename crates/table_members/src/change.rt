@@ -5,9 +5,14 @@ ghost use Rattle.connection_members.specs.Members.{memberCapacity};
 ghost use Rattle.cell.specs.Name.{noName};
 ghost use Rattle.table_members.specs.Words.{SetsCells, Adds, RemovesMember, RemovesPath};
 use crate::find::word_limit;
+use cell::name::VCIS;
+use cell::name::VPIS;
 use connection_members::path::PATH_VCI;
 use table::layout::MEMBER_CAPACITY;
+use table::layout::MEMBER_LIMIT;
 use table::layout::MEMBERS;
+use table::layout::NAME_LIMIT;
+use table::layout::VCI_LIMIT;
 use table::layout::WORDS;
 use table_column::column;
 
@@ -16,7 +21,7 @@ fn with_cells(word: u64, n: u32) -> u64
     requires { ⌜ n ≤ 65535 ⌝ }
     ensures { λ r. ⌜ r ≡ word / 65536 * 65536 + n ⌝ }
 {
-    word / 65536 * 65536 + n as u64
+    word / MEMBER_LIMIT * MEMBER_LIMIT + n as u64
 }
 
 // n cells wait on the member in word i.
@@ -36,7 +41,7 @@ pub fn add(t: &mut [u64; WORDS], name: u32)
         t,
         MEMBERS,
         MEMBER_CAPACITY,
-        (16777216 - name as u64) * 65536,
+        (NAME_LIMIT - name as u64) * MEMBER_LIMIT,
     );
 }
 
@@ -51,15 +56,15 @@ pub fn remove(t: &mut [u64; WORDS], name: u32)
 pub fn remove_path(t: &mut [u64; WORDS], name: u32)
     ensures { λ _. ⌜ RemovesPath name (now (t .entry)) (now (t .exit)) ⌝ }
 {
-    if name % 65536 != PATH_VCI {
+    if name % VCIS != PATH_VCI {
         return;
     }
-    let first = (name / 65536 % 256) as u64 * 65536;
+    let first = (name / VCIS % VPIS) as u64 * VCI_LIMIT;
     column::remove_run(
         t,
         MEMBERS,
         MEMBER_CAPACITY,
         word_limit(first),
-        word_limit(first + 65536),
+        word_limit(first + VCI_LIMIT),
     );
 }

@@ -3,13 +3,18 @@ ghost use Prim.Native.Nat.{_≤_, _<_};
 ghost use Rattle.cell.specs.Name.{noName};
 ghost use Rattle.table_members.specs.Words.{Next, Turns, Serves};
 use crate::find::word_limit;
+use cell::name::VCIS;
+use cell::name::VPIS;
 use connection_members::path::PATH_VCI;
+use table::found::Found;
 use table::layout::MEMBER_CAPACITY;
+use table::layout::MEMBER_LIMIT;
 use table::layout::MEMBERS;
+use table::layout::NAME_LIMIT;
+use table::layout::VCI_LIMIT;
 use table::layout::WORDS;
 use table_column::column::count;
 use table_column::column::count_up_to;
-use table_names::find::Found;
 
 // The first member with data from word `first` on whose name is below `top`.
 fn next(t: &[u64; WORDS], first: usize, top: u64) -> Found
@@ -23,7 +28,7 @@ fn next(t: &[u64; WORDS], first: usize, top: u64) -> Found
         if word < low {
             return Found::Nothing;
         }
-        if 0 < word % 65536 {
+        if 0 < word % MEMBER_LIMIT {
             return Found::At(i);
         }
         i += 1;
@@ -35,11 +40,11 @@ fn next(t: &[u64; WORDS], first: usize, top: u64) -> Found
 pub fn turn(t: &[u64; WORDS], name: u32, last: u16) -> Found
     ensures { λ r. ⌜ Turns (now (t .entry)) name last r ⌝ }
 {
-    if name % 65536 != PATH_VCI {
+    if name % VCIS != PATH_VCI {
         return Found::Nothing;
     }
-    let first = (name / 65536 % 256) as u64 * 65536;
-    let top = first + 65536;
+    let first = (name / VCIS % VPIS) as u64 * VCI_LIMIT;
+    let top = first + VCI_LIMIT;
     let after = count(
         t,
         MEMBERS,
@@ -65,7 +70,7 @@ pub fn serve(t: &mut [u64; WORDS], name: u32, last: u16) -> u32
         Found::At(i) => {
             let word = t[MEMBERS + i];
             t[MEMBERS + i] = word - 1;
-            (16777216 - word / 65536 % 16777216) as u32
+            (NAME_LIMIT - word / MEMBER_LIMIT % NAME_LIMIT) as u32
         },
     }
 }

@@ -42,10 +42,10 @@ insert-descends x (y ∷ ys) f = go (ltb x y) refl (insert-descends x ys (f .1))
     go true e r = (insert-first x y ys (omega (arith, ltb-true x y e)) (f .0), r)
     go false e r = (ltb-false x y e, f)
 
-sort-falls : (xs : List ℕ) → Descending (sortDescending xs)
+sort-descends : (xs : List ℕ) → Descending (sortDescending xs)
 unfolding sortDescending
-sort-falls [] = tt
-sort-falls (x ∷ xs) = insert-descends x (sortDescending xs) (sort-falls xs)
+sort-descends [] = tt
+sort-descends (x ∷ xs) = insert-descends x (sortDescending xs) (sort-descends xs)
 
 insert-count : (w x : ℕ) (ys : List ℕ) → atLeast w (insertDescending x ys) ≡ reaches w x + atLeast w ys
 unfolding atLeast insertDescending
@@ -63,7 +63,7 @@ sort-count w [] = refl
 sort-count w (x ∷ xs) = insert-count w x (sortDescending xs) ∙ ap (λ (n : ℕ). reaches w x + n) (sort-count w xs)
 
 pub descending-directory : (ss : List Entry) → Descending (directory ss)
-descending-directory ss = sort-falls (directoryWords 0 ss)
+descending-directory ss = sort-descends (directoryWords 0 ss)
 
 pub directory-count : (w : ℕ) (ss : List Entry) → atLeast w (directory ss) ≡ atLeast w (directoryWords 0 ss)
 directory-count w ss = sort-count w (directoryWords 0 ss)

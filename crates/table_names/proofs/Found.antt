@@ -15,7 +15,7 @@ use Rattle.table.specs.Layout.{words, used, bitmap, isTaken, group, directory, 
 use Rattle.table_column.specs.Descending.{atLeast}
 use Rattle.table_column.specs.Column.{InColumn, AtLeast}
 use Rattle.table_names.specs.Finding.{Located, FindsName, FindsFree}
-use Rattle.table_names.specs.declared.find.Found.the-variants.{At, Nothing}
+use Rattle.table.specs.declared.found.Found.the-variants.{At, Nothing}
 use Rattle.model.proofs.Entries.{entry-place, find-name, taken-in}
 use Rattle.table.proofs.Directory.{length-words, length-directory}
 use Rattle.table.proofs.Splits.{length-before-directory, beforeDirectory, behindDirectory, directory-split}

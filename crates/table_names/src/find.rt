@@ -1,14 +1,10 @@
 // A name's entry, by the directory.
 ghost use Rattle.table_names.specs.Finding.{FindsName};
+use table::found::Found;
 use table::layout::CAPACITY;
 use table::layout::DIRECTORY;
 use table::layout::WORDS;
 use table_column::column::at_least;
-
-pub enum Found {
-    At(usize),
-    Nothing,
-}
 
 // The first word below those of higher names is the name's, if it has one.
 pub fn find(t: &[u64; WORDS], name: u32) -> Found

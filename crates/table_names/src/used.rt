@@ -5,12 +5,12 @@ ghost use lib.Count.{trailingZeros};
 ghost use Rattle.table_names.specs.Finding.{FindsFree};
 ghost use Rattle.table.specs.Storing.{entryFlipped};
 ghost use Rattle.model.specs.State.{capacity};
-use crate::find::Found;
+use table::found::Found;
 use table::layout::GROUPS;
 use table::layout::USED;
 use table::layout::WORDS;
 
-// The lowest of some entries of one word, of which each is a bit.
+// The lowest of some entries of one word, where each entry is a bit.
 fn lowest(entries: u64) -> usize
     requires { ⌜ 0 < entries ⌝ }
     ensures { λ i. ⌜ (i ≡ trailingZeros 64 entries) × (i < 64) ⌝ }

@@ -1,4 +1,5 @@
--- The words of a state after an entry was stored and the matches of its leaf replayed: those of the state with that entry changed.
+-- The words of a state after an entry was stored and the matches of its leaf were replayed. They are those of the
+-- state with that entry changed.
 use Prim.Native.Nat.{ℕ, _+_, _*_, _<_}
 use mathlib.Core.Path.{_≡_, sym, ap, subst, _∙_}
 use mathlib.Core.Bool.{not}

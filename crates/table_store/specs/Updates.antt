@@ -1,4 +1,5 @@
--- What storing an entry makes of the words of a state, and how many comparisons it makes in the tournament. (Document 02, L4.)
+-- What storing an entry does to the words of a state, and how many comparisons it makes in the
+-- tournament. (Document 02, L4.)
 use Prim.Native.Nat.{ℕ}
 use mathlib.Core.Path.{_≡_}
 use mathlib.Core.List.{List}
@@ -9,7 +10,8 @@ use Rattle.model.specs.Tournament.{replayed}
 use Rattle.table.specs.Layout.{words, sourceWords, fixedWords}
 use Rattle.table_tournament.specs.Replaying.{Playable}
 
--- what storing asks of a state: so it may stand between two stores of one call, where members and entries do not agree yet (document 02, L13)
+-- what storing asks of a state: so the state may stand between two stores of one call, where members and entries
+-- do not agree yet (document 02, L13)
 abbrev pub Sized : State → Type 0
 Sized s = length (s .entries) ≡ capacity
 

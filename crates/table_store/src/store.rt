@@ -34,7 +34,8 @@ use table_names::directory::directory_word;
 use table_names::used::flip_entry;
 use table_tournament::replay::replay;
 
-// An entry whose connection has moved on its sending side: those words, the ready key, and the matches of its leaf, which are counted.
+// An entry whose connection has moved at its source: those words, the ready key, and the matches of its leaf, which
+// are counted.
 pub fn update_source(t: &mut [u64; WORDS], i: usize, c: Connection) -> u32
     requires { ⌜ (i < capacity) × InRange c ⌝ }
     ensures { λ n. ⌜ Updates SourceMoved (now (t .entry)) (now (t .exit)) i c n ⌝ }
@@ -44,7 +45,7 @@ pub fn update_source(t: &mut [u64; WORDS], i: usize, c: Connection) -> u32
     replay(t, i)
 }
 
-// The same on its receiving side.
+// The same at its destination.
 pub fn update_destination(t: &mut [u64; WORDS], i: usize, c: Connection) -> u32
     requires { ⌜ (i < capacity) × InRange c ⌝ }
     ensures { λ n. ⌜ Updates DestinationMoved (now (t .entry)) (now (t .exit)) i c n ⌝ }
@@ -55,7 +56,7 @@ pub fn update_destination(t: &mut [u64; WORDS], i: usize, c: Connection) -> u32
     replay(t, i)
 }
 
-// An entry of which only the saved EFCI has moved: it moves no ready instant, so that no winner changes.
+// An entry where only the saved EFCI has moved. That moves no ready instant, so no winner changes.
 pub fn update_efci(t: &mut [u64; WORDS], i: usize, destination: Destination)
     requires { ⌜ i < capacity ⌝ }
     ensures { λ _. ⌜ now (t .exit) ≡ efciUpdated (now (t .entry)) i destination ⌝ }
@@ -63,7 +64,7 @@ pub fn update_efci(t: &mut [u64; WORDS], i: usize, destination: Destination)
     t[DESTINATION + i * LIVE_WIDTH] = destination_tag(destination);
 }
 
-// An entry of which only the last out-of-rate cell has moved: it moves no ready instant either.
+// An entry where only the last out-of-rate cell has moved. That moves no ready instant either.
 pub fn update_out_of_rate(t: &mut [u64; WORDS], i: usize, last: Instant)
     requires { ⌜ (i < capacity) × InstantInRange last ⌝ }
     ensures { λ _. ⌜ now (t .exit) ≡ outOfRateUpdated (now (t .entry)) i last ⌝ }

@@ -20,7 +20,7 @@ use Rattle.model.proofs.Entries.{each-get}
 use Rattle.model.proofs.Places.{OnMatchWinner, on-map, Comes}
 use Rattle.table.specs.Layout.{key, noKeyAt, keysFrom, namesFrom}
 use Rattle.table_tournament.specs.declared.winner.KeyedWinner.{KeyedWinner}
-use Rattle.table_tournament.specs.KeyedWinner.{standing, keyedWord, keyedLeaf, wordName, matched}
+use Rattle.table_tournament.specs.KeyedWinner.{keyedWinner, keyedWord, keyedLeaf, wordName, matched}
 use Rattle.table_tournament.specs.Replaying.{withNodes}
 use Rattle.table_tournament.proofs.Keyed.{leaf-none, leaf-some}
 use Rattle.table_tournament.proofs.Stored.{keyNumber, number, Sized, no-key-in, key-in, name-in}
@@ -30,11 +30,11 @@ pub record Known (n : ℕ → ℕ) (i v x : ℕ) : Type 0 where
   pub named : n (x + 1) ≡ v
   pub keyed : i < 2 ^ 64 - 1
 
-pub matched-first : (n : ℕ → ℕ) (a b : MatchWinner) → OnMatchWinner (Known n) a → OnMatchWinner (Known n) b → matched n (standing a) (standing b) ≡ standing (first a b)
+pub matched-first : (n : ℕ → ℕ) (a b : MatchWinner) → OnMatchWinner (Known n) a → OnMatchWinner (Known n) b → matched n (keyedWinner a) (keyedWinner b) ≡ keyedWinner (first a b)
 unfolding first
 matched-first n noWinner noWinner p q = go (leb (n 0) (n 0))
   where
-    go : (t : Bool) → cond t (standing noWinner) (standing noWinner) ≡ standing noWinner
+    go : (t : Bool) → cond t (keyedWinner noWinner) (keyedWinner noWinner) ≡ keyedWinner noWinner
     go true = refl
     go false = refl
 matched-first n noWinner (wonBy j w y) p q =
@@ -46,22 +46,22 @@ matched-first n (wonBy i v x) noWinner p q =
 matched-first n (wonBy i v x) (wonBy j w y) p q = go (ltb i j) (eqb i j) refl refl
   where
     a : KeyedWinner
-    a = standing (wonBy i v x)
+    a = keyedWinner (wonBy i v x)
 
     b : KeyedWinner
-    b = standing (wonBy j w y)
+    b = keyedWinner (wonBy j w y)
 
     others : (s t : Bool) → eqb (2 ^ 64 - 1 - i) (2 ^ 64 - 1 - j) ≡ false → ltb (2 ^ 64 - 1 - i) (2 ^ 64 - 1 - j) ≡ t → isAhead i v j w ≡ s → cond t b a ≡ cond s a b
-        → matched n a b ≡ standing (cond (isAhead i v j w) (wonBy i v x) (wonBy j w y))
+        → matched n a b ≡ keyedWinner (cond (isAhead i v j w) (wonBy i v x) (wonBy j w y))
     others true t e f g h = rw (e, f, g) h
     others false t e f g h = rw (e, f, g) h
 
     tie : (t : Bool) → leb v w ≡ t → leb (n (x + 1)) (n (y + 1)) ≡ t → eqb (2 ^ 64 - 1 - i) (2 ^ 64 - 1 - j) ≡ true → isAhead i v j w ≡ t
-        → matched n a b ≡ standing (cond (isAhead i v j w) (wonBy i v x) (wonBy j w y))
+        → matched n a b ≡ keyedWinner (cond (isAhead i v j w) (wonBy i v x) (wonBy j w y))
     tie true e f g h = rw (f, g, h)
     tie false e f g h = rw (f, g, h)
 
-    go : (s e : Bool) → ltb i j ≡ s → eqb i j ≡ e → matched n a b ≡ standing (cond (isAhead i v j w) (wonBy i v x) (wonBy j w y))
+    go : (s e : Bool) → ltb i j ≡ s → eqb i j ≡ e → matched n a b ≡ keyedWinner (cond (isAhead i v j w) (wonBy i v x) (wonBy j w y))
     go true e f g =
         let l = ltb-true i j f in
         let k = p .keyed in
@@ -77,7 +77,7 @@ matched-first n (wonBy i v x) (wonBy j w y) p q = go (ltb i j) (eqb i j) refl re
 
 -- ---- what stands in the words
 
-pub keyed-word-is : (a : MatchWinner) → standing a .word ≡ winnerWord a
+pub keyed-word-is : (a : MatchWinner) → keyedWinner a .word ≡ winnerWord a
 unfolding winnerWord
 keyed-word-is noWinner = refl
 keyed-word-is (wonBy i v x) = refl
@@ -96,7 +96,7 @@ module _ (h ns : List ℕ) (ss : List Entry) (t : List ℕ) (z : Sized h ns ss) 
   all-known d p a = on-map (Comes ss d p) (Known (wordName (withNodes h ns ss t))) (known d p) a
 
   -- the standing of a winner's word
-  pub word-in : (d p : ℕ) (a : MatchWinner) → OnMatchWinner (Comes ss d p) a → keyedWord (withNodes h ns ss t) (winnerWord a) ≡ standing a
+  pub word-in : (d p : ℕ) (a : MatchWinner) → OnMatchWinner (Comes ss d p) a → keyedWord (withNodes h ns ss t) (winnerWord a) ≡ keyedWinner a
   unfolding winnerWord
   word-in d p noWinner c = rw (no-key-in h ns ss t z)
   word-in d p (wonBy i v x) c =
@@ -105,7 +105,7 @@ module _ (h ns : List ℕ) (ss : List Entry) (t : List ℕ) (z : Sized h ns ss) 
       rw (e, f, key-in h ns ss t z x (c .inside), c .here, c .readyAt)
 
   -- and at a leaf
-  pub leaf-in : (x : ℕ) → x < capacity → keyedLeaf (withNodes h ns ss t) x ≡ standing (leafWinner x (getD ss x free))
+  pub leaf-in : (x : ℕ) → x < capacity → keyedLeaf (withNodes h ns ss t) x ≡ keyedWinner (leafWinner x (getD ss x free))
   unfolding leafWinner instantWinner
   leaf-in x l = entry (getD ss x free) refl
     where
@@ -115,13 +115,13 @@ module _ (h ns : List ℕ) (ss : List Entry) (t : List ℕ) (z : Sized h ns ss) 
       keyed : getD (withNodes h ns ss t) (keysFrom + x) 0 ≡ keyNumber (getD ss x free)
       keyed = key-in h ns ss t z x l
 
-      ready : (c : Connection) → getD ss x free ≡ taken c → (r : Instant) → readyInstant c ≡ r → keyedLeaf (withNodes h ns ss t) x ≡ standing (instantWinner (c .name) x r)
+      ready : (c : Connection) → getD ss x free ≡ taken c → (r : Instant) → readyInstant c ≡ r → keyedLeaf (withNodes h ns ss t) x ≡ keyedWinner (instantWinner (c .name) x r)
       ready c e Never f = sym (leaf-none (withNodes h ns ss t) x (keyed ∙ ap keyNumber e ∙ ap key f))
       ready c e (At i) f =
           let k : getD (withNodes h ns ss t) (keysFrom + x) 0 ≡ 2 ^ 64 - 1 - i = keyed ∙ ap keyNumber e ∙ ap key f in
           let b = early x c i e f in
           sym (leaf-some (withNodes h ns ss t) x (λ z. omega arith)) ∙ ap (λ (m : ℕ). as-keyed (x + 1) m) k
 
-      entry : (s : Entry) → getD ss x free ≡ s → keyedLeaf (withNodes h ns ss t) x ≡ standing (leafWinner x s)
+      entry : (s : Entry) → getD ss x free ≡ s → keyedLeaf (withNodes h ns ss t) x ≡ keyedWinner (leafWinner x s)
       entry free e = sym (leaf-none (withNodes h ns ss t) x (keyed ∙ ap keyNumber e))
       entry (taken c) e = ready c e (readyInstant c) refl

@@ -1,4 +1,5 @@
--- The winners half-way through a replay: up to a level they are those of the entries now, above it those of the entries before.
+-- The winners half-way through a replay. Up to a level they are those of the entries now, above it
+-- those of the entries before.
 use Prim.Native.Nat.{ℕ, zero, suc, _+_, _≤_, _<_}
 use mathlib.Core.Path.{_≡_, refl, sym, ap, subst, _∙_}
 use mathlib.Core.Logic.{_≢_}

@@ -17,7 +17,7 @@ use Rattle.model.proofs.Places.{above, Stands, aside, upper, above-stands, winn
 use Rattle.table.specs.Layout.{nodes, nodesFrom}
 use Rattle.table.proofs.Nodes.{above-leaves}
 use Rattle.table_tournament.specs.declared.winner.KeyedWinner.{KeyedWinner}
-use Rattle.table_tournament.specs.KeyedWinner.{standing, keyedWord, keyedLeaf, wordName, matched}
+use Rattle.table_tournament.specs.KeyedWinner.{keyedWinner, keyedWord, keyedLeaf, wordName, matched}
 use Rattle.table_tournament.specs.Replaying.{withNodes, Playable, Replays}
 use Rattle.table_tournament.proofs.Keyed.{neighbour-below}
 use Rattle.table_tournament.proofs.Stored.{Sized, node-in, set-node}
@@ -48,8 +48,8 @@ count-done x ss rs n p l = let z : levels - n ≡ 0 = omega arith in rw z (omega
 -- the levels done, the place that they have reached, and what the code holds
 pub record Half (t : List ℕ) (x n place : ℕ) (best other : KeyedWinner) (h : List ℕ) (ss : List Entry) (y : Entry) (tail : List ℕ) : Type 0 where
   pub words : t ≡ withNodes h (midNodes x ss y n) (set ss x y) tail
-  pub won : best ≡ standing (winnerAt (set ss x y) n place)
-  pub against : n < levels → other ≡ standing (winnerAt (set ss x y) n (neighbour place))
+  pub won : best ≡ keyedWinner (winnerAt (set ss x y) n place)
+  pub against : n < levels → other ≡ keyedWinner (winnerAt (set ss x y) n (neighbour place))
   pub count : replayed x ss (set ss x y) ≡ n + replayedFrom x ss (set ss x y) (suc n) (place / 2) (levels - n)
 
 pub record Reached (before t : List ℕ) (x n place : ℕ) (best other : KeyedWinner) : Type 0 where
@@ -73,10 +73,10 @@ starts l x b e f = record {
       record {
         words = w;
         won = e ∙ ap (λ (m : List ℕ). keyedLeaf m x) w ∙ leaf-in h (midNodes x ss y 0) (set ss x y) tail z (o .below) x b
-            ∙ ap standing (sym (leaf-at (set ss x y) x (capacity + x) (omega arith)));
+            ∙ ap keyedWinner (sym (leaf-at (set ss x y) x (capacity + x) (omega arith)));
         against = λ _. f ∙ ap (λ (m : List ℕ). keyedLeaf m (neighbour x)) w
             ∙ leaf-in h (midNodes x ss y 0) (set ss x y) tail z (o .below) (neighbour x) (neighbour-below 512 x b)
-            ∙ ap standing (sym (leaf-at (set ss x y) (neighbour x) (neighbour (capacity + x)) (omega arith)));
+            ∙ ap keyedWinner (sym (leaf-at (set ss x y) (neighbour x) (neighbour (capacity + x)) (omega arith)));
         count = sym (zero-add _);
       };
 }
@@ -113,7 +113,7 @@ module _ (before t : List ℕ) (x n place : ℕ) (best other now : KeyedWinner) 
   above-there = sym (ap (λ (k : ℕ). k / 2) a)
 
   module _ (h : List ℕ) (ss : List Entry) (y : Entry) (tail : List ℕ) (e : length h ≡ nodesFrom) (o : Playable (set ss x y)) (f : Half t x n place best other h ss y tail) where
-    now-won : now ≡ standing (winnerAt (set ss x y) (suc n) (place / 2))
+    now-won : now ≡ keyedWinner (winnerAt (set ss x y) (suc n) (place / 2))
     now-won =
         let rs = set ss x y in
         let ns = midNodes x ss y n in
@@ -122,7 +122,7 @@ module _ (before t : List ℕ) (x n place : ℕ) (best other now : KeyedWinner) 
         m ∙ ap (λ (u : List ℕ). matched (wordName u) best other) (f .words) ∙ ap₂ (matched w) (f .won) (f .against l)
         ∙ matched-first w (winnerAt rs n place) (winnerAt rs n (neighbour place)) (all-known h ns rs tail z (o .below) n place (winnerAt rs n place) (winner-entry rs n place here))
         (all-known h ns rs tail z (o .below) n (neighbour place) (winnerAt rs n (neighbour place)) (winner-entry rs n (neighbour place) (aside place here)))
-        ∙ ap standing (sym (up rs (o .unique) (levels - suc n) n place here))
+        ∙ ap keyedWinner (sym (up rs (o .unique) (levels - suc n) n place here))
 
     new-word : now .word ≡ winnerWord (winnerAt (set ss x y) (suc n) (place / 2))
     new-word = ap (λ (s : KeyedWinner). s .word) now-won ∙ keyed-word-is _
@@ -166,7 +166,7 @@ module _ (before t : List ℕ) (x n place : ℕ) (best other now : KeyedWinner) 
             ∙ set-node h (midNodes x ss y n) (set ss x y) tail e (length-row (midWord x ss y n) 0 capacity) p (now .word) (above-leaves next)
             ∙ ap (λ (ns : List ℕ). withNodes h ns (set ss x y) tail) (mid-store x ss y n p (now .word) next above-there new-word)
 
-        neighbour-won : {g : ℕ} → Stands (suc g) (suc n) p → other' ≡ standing (winnerAt (set ss x y) (suc n) (neighbour p))
+        neighbour-won : {g : ℕ} → Stands (suc g) (suc n) p → other' ≡ keyedWinner (winnerAt (set ss x y) (suc n) (neighbour p))
         neighbour-won k =
             g ∙ ap (λ (u : List ℕ). keyedWord u (getD u (nodesFrom + neighbour p) 0)) stored
             ∙ ap (keyedWord (withNodes h (midNodes x ss y (suc n)) (set ss x y) tail))

@@ -1,4 +1,5 @@
--- What the winners in the words of a state say: the levels that a leaf leads, the connection that a slot goes to, and the next ready instant.
+-- What the winners in the words of a state say: the levels that a leaf leads, the connection that a slot goes
+-- to, and the next ready instant.
 use Prim.Native.Nat.{ℕ, suc, _+_, _-_, _/_, _^_, _≤_, _<_}
 use mathlib.Core.Path.{_≡_, refl, sym, ap, subst, _∙_}
 use mathlib.Core.Logic.{_≢_}
@@ -26,7 +27,7 @@ use Rattle.table.proofs.Splits.{front, length-front, winners-split}
 use Rattle.table_tournament.specs.declared.slot.SlotWinner.the-variants.{Entry as InEntry, NoneReady}
 use Rattle.table_tournament.specs.SlotWinner.{Won, FindsSlotWinner}
 use Rattle.table_tournament.specs.declared.winner.KeyedWinner.{KeyedWinner}
-use Rattle.table_tournament.specs.KeyedWinner.{standing, keyedWord, wordName}
+use Rattle.table_tournament.specs.KeyedWinner.{keyedWinner, keyedWord, wordName}
 use Rattle.table_tournament.specs.Replaying.{withNodes, CountsWon}
 use Rattle.table_tournament.specs.Next.{GivesNext}
 use Rattle.table_tournament.proofs.Orders.{ordered}
@@ -160,7 +161,7 @@ module _ (l : List ℕ) (t : ℕ) (timely : t ≤ latestTime) where
 -- ---- the next ready instant
 
 -- out of a winner's key
-key-ready : (n : ℕ → ℕ) (a : MatchWinner) → OnMatchWinner (Known n) a → 18446744073709551615 - standing a .key ≡ readyWord (winnerInstant a)
+key-ready : (n : ℕ → ℕ) (a : MatchWinner) → OnMatchWinner (Known n) a → 18446744073709551615 - keyedWinner a .key ≡ readyWord (winnerInstant a)
 unfolding readyWord winnerInstant
 key-ready n noWinner k = refl
 key-ready n (wonBy i v x) k = omega (arith, k .keyed)
@@ -173,7 +174,7 @@ gives-next l first e = record { is = go }
     go s w q =
         let ss = s .entries in
         let comes = winner-entry ss levels 1 root-stands in
-        let root : first ≡ standing (winnerAt ss levels 1) =
+        let root : first ≡ keyedWinner (winnerAt ss levels 1) =
         e ∙ ap (keyedWord l) (node-word l s w q root-stands) ∙ ap (λ (m : List ℕ). keyedWord m (winnerWord (winnerAt ss levels 1))) (q ∙ winners-split s)
         ∙ word-in (front s) (nodes ss) ss (behind s) (sized s w) (ordered w .below) levels 1 (winnerAt ss levels 1) comes in
         ap (λ (x : KeyedWinner). 18446744073709551615 - x .key) root

@@ -1,4 +1,5 @@
--- The winner at a place of the tournament, as the code holds it: a word, its leaf plus 1 or 0 for none, and its ready key, 0 for none.
+-- The winner at a place of the tournament, as the code holds it: a word, which is its leaf plus 1 or 0 for none,
+-- and its ready key, 0 for none.
 use Prim.Native.Nat.{ℕ, _+_, _-_, _*_, _%_}
 use mathlib.Core.Bool.{cond}
 use mathlib.Core.List.{List}
@@ -11,9 +12,9 @@ use Rattle.table.specs.Layout.{key, noKeyAt, keysFrom, namesFrom}
 use Rattle.table_tournament.specs.declared.winner.KeyedWinner.{KeyedWinner}
 
 -- a lead as the code holds it
-abbrev pub standing : MatchWinner → KeyedWinner
-standing noWinner = record { word = 0; key = 0 }
-standing (wonBy i v x) = record { word = x + 1; key = key (At i) }
+abbrev pub keyedWinner : MatchWinner → KeyedWinner
+keyedWinner noWinner = record { word = 0; key = 0 }
+keyedWinner (wonBy i v x) = record { word = x + 1; key = key (At i) }
 
 -- the winner that a word gives, and a leaf
 abbrev pub keyedWord : List ℕ → (word : ℕ) → KeyedWinner

@@ -21,7 +21,8 @@ pub record Playable (ss : List Entry) : Type 0 where
   pub unique : NamesUnique ss
   pub below : Each (λ c. InstantBelow (readyInstant c)) ss
 
--- Where the winners are still those of the entries before leaf x was given this content, they become those of the entries now; the rest of the words stays.
+-- If the winners are still those of the entries before leaf x was given this content, they become those of the
+-- entries now. The rest of the words stays.
 pub record Replays (before after : List ℕ) (x n : ℕ) : Type 0 where
   pub is :
       (h : List ℕ) (ss : List Entry) (now : Entry) (t : List ℕ) → length h ≡ nodesFrom → Playable (set ss x now) → before ≡ withNodes h (nodes ss) (set ss x now) t

@@ -1,4 +1,5 @@
-// The earliest ready instant of all connections, so that a transmitter can sleep until then: that of the winner of the tournament.
+// The earliest ready instant of all connections, that of the winner of the tournament. A
+// transmitter can sleep until then.
 ghost use Rattle.table_tournament.specs.Next.{GivesNext};
 use crate::winner::keyed_word;
 use table::layout::NODES;

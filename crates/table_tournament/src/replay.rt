@@ -11,8 +11,8 @@ use table::layout::LEVELS;
 use table::layout::NODES;
 use table::layout::WORDS;
 
-// Replays the matches of a leaf whose key or name has changed, and returns how many (document 02, L4): it ends at the first level whose winner is as before and is
-// not that leaf. Above it nothing changes.
+// Replays the matches of a leaf whose key or name has changed, and returns how many (document 02, L4). It ends at
+// the first level whose winner is as before and is not that leaf. Above it nothing changes.
 pub fn replay(t: &mut [u64; WORDS], leaf: usize) -> u32
     requires { ⌜ leaf < capacity ⌝ }
     ensures { λ n. ⌜ Replays (now (t .entry)) (now (t .exit)) leaf n ⌝ }
@@ -40,7 +40,8 @@ pub fn replay(t: &mut [u64; WORDS], leaf: usize) -> u32
     n
 }
 
-// The same count for a leaf whose key and name stand as before: up to the first match that the leaf does not win. Nothing is stored.
+// The same count for a leaf whose key and name are as before, up to the first match that the leaf
+// does not win. Nothing is stored.
 pub fn levels_won(t: &[u64; WORDS], leaf: usize) -> u32
     requires { ⌜ leaf < capacity ⌝ }
     ensures { λ n. ⌜ CountsWon (now (t .entry)) leaf n ⌝ }

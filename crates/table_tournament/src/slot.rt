@@ -12,7 +12,8 @@ pub enum SlotWinner {
     NoneReady,
 }
 
-// A key is above the limit if its instant is not after the time; the key 0, of an entry that is never ready or is free, is not.
+// A key is above the limit if its instant is not after the time. The key 0, of an entry that is
+// never ready or is free, is not.
 pub fn slot_winner(t: &[u64; WORDS], time: u64) -> SlotWinner
     requires { ⌜ time ≤ latestTime ⌝ }
     ensures inside { λ r. ⌜ SlotWinnerInRange r ⌝ }

@@ -1,8 +1,9 @@
-// The time to pass to a slot, so that a connection's next cell is due from the instant at which it was ready and not from the time of the slot that came late.
+// The time to pass to a slot. With it, a connection's next cell is due from the instant at which it was ready, and
+// not from the time of the slot that came late.
 ghost use Rattle.table_tournament.specs.Next.{GivesSlotTime};
 use crate::next::next_ready;
-use rate_params::extremes::higher;
-use rate_params::extremes::lower;
+use laws::arithmetic::higher;
+use laws::arithmetic::lower;
 use table::layout::LAST;
 use table::layout::WORDS;
 

@@ -53,7 +53,8 @@ fn tied(t: &[u64; WORDS], a: KeyedWinner, b: KeyedWinner) -> KeyedWinner
     b
 }
 
-// The winner of a match: a greater key is an earlier instant. Between two keys that differ, which is nearly always, the compiler makes no branch of it.
+// The winner of a match: a greater key is an earlier instant. Two keys nearly always differ, and then the
+// compiler makes no branch of it.
 pub fn winner_of(t: &[u64; WORDS], a: KeyedWinner, b: KeyedWinner) -> KeyedWinner
     requires { ⌜ (a .word < 2 * capacity) × (b .word < 2 * capacity) ⌝ }
     ensures { λ r. ⌜ r ≡ matched (wordName (now (t .entry))) a b ⌝ }

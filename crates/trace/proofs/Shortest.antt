@@ -13,7 +13,7 @@ use Rattle.trace.specs.Numbers.{Number, Value, Refused, readOn, written,
 use Rattle.trace.specs.Shortest.{Octets, ShortestOnly}
 use Rattle.trace.proofs.Written.{more-room}
 
--- the rest of a number, of which the lowest group has the weight p: what it comes to, x, is not 0 unless it is the whole number
+-- the rest of a number, whose lowest group has the weight p: its value x is not 0 unless it is the whole number
 record RestAt (n : ℕ) (s : List ℕ) (k v p y j : ℕ) : Type 0 where
   x : ℕ
   value : y ≡ v + x * p

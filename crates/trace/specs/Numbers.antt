@@ -8,12 +8,13 @@ use lib.ListN.{length, getD}
 pub use Rattle.trace.specs.declared.number.Number.{Number}
 pub use Rattle.trace.specs.declared.number.Number.the-variants.{Value, Refused}
 
--- the octet b at the offset k, in which a group's one has the weight p, after groups that come to v; `more` is what the octets after it give
--- where none follow, a group of 0 is not the shortest form, unless it is the only one
+-- The octet b at the offset k, where a group's one has the weight p, after groups that come to v. `more` is what
+-- the octets after it give. Where none follow, a group of 0 is not the shortest form, unless it is the only one.
 abbrev pub groupRead : (b k v p : ℕ) → (more : Number) → Number
 groupRead b k v p more = cond (ltb b 128) (cond (eqb b 0 && ltb 1 p) (Refused 23) (Value (v + b * p) (k + 1))) more
 
--- the rest of a number from the offset k on, where n octets come before the tenth; the tenth has the weight 2^63 and can only be 1
+-- the rest of a number from the offset k on, with n octets before the tenth; the tenth has the
+-- weight 2^63 and can only be 1
 unfoldable pub readOn : (n : ℕ) → List ℕ → (k v p : ℕ) → Number
 readOn zero s k v p = cond (ltb k (length s)) (cond (eqb (getD s k 0) 1) (Value (v + p) (k + 1)) (Refused 23)) (Refused 24)
 readOn (suc n) s k v p =

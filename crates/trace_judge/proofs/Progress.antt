@@ -1,4 +1,5 @@
--- What was read stays in its range and moves on: the offset rises with each number and each record. What was not is refused with 23, 24 or 25.
+-- What was read stays in its range and moves on: the offset rises with each number and each record. What was not
+-- read is refused with 23, 24 or 25.
 use mathlib.Core.Path.{_≡_, refl, sym, subst, _∙_}
 use mathlib.Core.Bool.{Bool, true, false, cond, _&&_}
 use mathlib.Core.List.{List}

@@ -74,7 +74,7 @@ unfolding mostSince
 most-le true time = omega arith
 most-le false time = le-refl (latestTime - time)
 
--- the cells from here on, of which at most n are read
+-- the cells from here on; at most n of them are read
 abbrev left : (n : ℕ) → List ℕ → (k : ℕ) → Sent → Parsed
 left n s k h = cellsParsed n s k (eqb (h .cells) 0) (h .time)
 

@@ -12,7 +12,7 @@ use Rattle.trace_judge.specs.Octets.{judgedOctets}
 abbrev pub verdict : List ℕ → Verdict
 verdict numbers = judgedOctets (writtenAll numbers)
 
--- 24: the trace is empty, or ends inside a record, of which n and the Trm number make the first; without a cell it passes
+-- 24: the trace is empty, or ends inside a record (n and the Trm number make the first); without a cell it passes
 pub record Ends : Type 0 where
   pub empty : judgedOctets [] ≡ Refused 24
   pub nAlone : judgedOctets (5 ∷ []) ≡ Refused 24

@@ -64,7 +64,8 @@ unfoldable pub recordThen : Record → (Cell → ℕ → Parsed) → Parsed
 recordThen (cut r) f = refusing r
 recordThen (Whole c k) f = prepended c (f c k)
 
--- the cells from an offset on, in at most n records: as many as there are octets are enough, since a record has three at least
+-- the cells from an offset on, in at most n records: as many as there are octets are enough,
+-- since a record has at least three
 unfoldable pub cellsParsed : (n : ℕ) → List ℕ → (offset : ℕ) → (first : Bool) → (sum : ℕ) → Parsed
 cellsParsed zero s k first sum = listed []
 cellsParsed (suc n) s k first sum =

@@ -1,5 +1,5 @@
--- What a passing trace says of a source before feedback: at rates up to the initial rate used, no more than TBE cells go in a round trip, or than the minimum allows.
--- (Document 02, L14.)
+-- What a passing trace says of a source before feedback. At rates up to the initial rate used, no more cells go in
+-- a round trip than TBE, or than the minimum allows. (Document 02, L14.)
 use Prim.Native.Nat.{ℕ, _+_, _*_, _≤_, _<_}
 use mathlib.Core.Path.{_≡_}
 use mathlib.Core.List.{List, [], _∷_, _++_}
@@ -19,8 +19,8 @@ abbrev pub RatesUpTo : ℕ → List Cell → Type 0
 RatesUpTo a [] = Unit {0}
 RatesUpTo a (c ∷ cs) = (c .rate ≤ a) × RatesUpTo a cs
 
--- any cells in a row, the last of which comes less than a round trip after the first: FRTT counts microseconds; where it is 0, as in the house
--- set, this says nothing
+-- Any cells in a row, the last less than a round trip after the first. FRTT counts microseconds. Where it is 0, as
+-- in the house set, this says nothing.
 abbrev pub TripBounded : Type 0
 TripBounded =
     (n trm : ℕ) (before : List Cell) (c : Cell) (later rest : List Cell) → judgedCells n trm (before ++ (c ∷ (later ++ rest))) ≡ Passes

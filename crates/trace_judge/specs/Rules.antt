@@ -29,7 +29,8 @@ withSent h c =
 unfoldable pub tooSoon : Cell → Bool
 tooSoon c = eqb (c .rate) 0 || ltb (c .since) (gap (c .rate))
 
--- the lowest rule that a cell breaks, 0 if none: the first cell is a forward one (1); a later one is not too soon (2), and is a forward one exactly when a slot would send one (3)
+-- The lowest rule that a cell breaks, 0 if none. The first cell is a forward one (1). A later one is not too soon
+-- (2), and is a forward one exactly when a slot would send one (3).
 unfoldable pub brokenRule : (nrm trm : ℕ) → Sent → Cell → ℕ
 brokenRule nrm trm h c =
     cond (eqb (h .cells) 0) (cond (isForwardCell c) 0 1)

@@ -7,7 +7,8 @@ ghost use Rattle.trace_judge.specs.Concluded.{withBroken, NextFits, Rule
 use crate::cells::Cell;
 use rate::gap::gap;
 
-// What was sent before a cell: how many cells; when the last and the last forward one went, counted from the first; and how many since the latter.
+// What was sent before a cell: how many cells; when the last one and the last forward one went, counted from the
+// first; and how many since the last forward one.
 pub struct Sent {
     pub cells: u64,
     pub time: u64,

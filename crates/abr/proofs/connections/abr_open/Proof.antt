@@ -1,10 +1,10 @@
 use borrow.Author.Needs.{needs}
-use Rattle.abr.proofs.Answered.{answers}
+use Rattle.abr.proofs.Answered.{returned}
 use Rattle.abr.proofs.connections.abr_open.Statement.{statement}
 use Rattle.abr.proofs.connections.abr_open.Tie as tie
 
 returns : tie.Need-returns
-returns c = answers (c .answer-of .ensures) (c .before .«open» .ensures)
+returns c = returned (c .answer-of .ensures) (c .before .«open» .ensures)
 
 pub abr-open-spec : {M : Type 1} → statement M
 abr-open-spec = tie.close (tie.spec (λ c κs. search needs) (λ c κs. search needs) returns)

@@ -4,12 +4,6 @@ use borrow.Author.Needs.{needs}
 use Rattle.cell_read.proofs.read.crc_right.Statement.{statement}
 use Rattle.cell_read.proofs.read.crc_right.Tie as tie
 
-payload-at-requires : tie.Need-payload-at-requires
-payload-at-requires c κs = search needs
-
-crc10-requires : tie.Need-crc10-requires
-crc10-requires c κs = search needs
-
 returns : tie.Need-returns
 returns c =
     let p = c .before .before in
@@ -19,4 +13,4 @@ returns c =
     (p .payload-at .ensures) (c .crc10 .ensures .0)
 
 pub crc-right-spec : {M : Type 1} → statement M
-crc-right-spec = tie.close (tie.spec payload-at-requires crc10-requires returns)
+crc-right-spec = tie.close (tie.spec (λ c κs. search needs) (λ c κs. search needs) returns)

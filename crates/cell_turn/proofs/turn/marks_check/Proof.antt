@@ -4,7 +4,7 @@ use Prim.Native.Nat.{ℕ, _*_, _/_, _%_, _<_}
 use lib.Bits.{bitXor}
 use Rattle.cell_crc.specs.Remainder.{bring, divide, remainder, bits, octetBits}
 use Rattle.cell_crc.specs.Checks.{payloadCheck}
-use Rattle.cell_crc.specs.Payload.{octetsOf}
+use Rattle.cell_payload.specs.Payload.{octetsOf}
 use Rattle.cell_crc.proofs.Below.{agree}
 use Rattle.cell_crc.proofs.Check.{payload-lt}
 use Rattle.cell.specs.Turning.{marksAlone}

@@ -1,5 +1,5 @@
 -- The header, and then the payload.
-use Rattle.cell_crc.specs.Payload.{octetsOf}
+use Rattle.cell_payload.specs.Payload.{octetsOf}
 use Rattle.cell.specs.Turning.{turnedCell}
 use Rattle.cell.proofs.Stores.{cell-put}
 use borrow.Author.Needs.{needs}

@@ -1,6 +1,6 @@
 -- The last word with its low ten bits written new is that of the octets with their CRC-10, whose CRC-10 is right.
 use mathlib.Core.Path.{refl, sym, subst}
-use Rattle.cell_crc.specs.Payload.{octetsOf}
+use Rattle.cell_payload.specs.Payload.{octetsOf}
 use Rattle.cell.specs.Fields.{CrcMatches}
 use Rattle.cell.proofs.OctetLists.{octets-words}
 use Rattle.cell.proofs.WithCrc.{withCrc-checked}

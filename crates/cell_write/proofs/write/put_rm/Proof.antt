@@ -2,7 +2,7 @@
 use mathlib.Core.Path.{ap, _∙_}
 use mathlib.Core.List.{List, _++_}
 use Prim.Native.Nat.{ℕ}
-use Rattle.cell_crc.specs.Payload.{octetsOf}
+use Rattle.cell_payload.specs.Payload.{octetsOf}
 use Rattle.cell.specs.Header.{header}
 use Rattle.cell.specs.Fields.{rmCell}
 use Rattle.cell.proofs.Fits.{fit}

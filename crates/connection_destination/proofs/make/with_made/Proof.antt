@@ -1,5 +1,5 @@
 use borrow.Author.Needs.{needs}
-use Rattle.connection.specs.Making.{withMade}
+use Rattle.connection.specs.Destination.{withMade}
 use Rattle.connection_destination.proofs.make.with_made.Statement.{statement}
 use Rattle.connection_destination.proofs.make.with_made.Tie as tie
 

@@ -1,5 +1,4 @@
--- `receiving::receive::after_data_cell` meets its contract.
-use Rattle.connection.specs.Receiving.{afterDataCell}
+use Rattle.connection.specs.Destination.{afterDataCell}
 use borrow.Author.Needs.{needs}
 use Rattle.connection_destination.proofs.receive.after_data_cell.Statement.{statement}
 use Rattle.connection_destination.proofs.receive.after_data_cell.Tie as tie

@@ -1,9 +1,8 @@
--- `receiving::receive::after_forward_payload` meets its contract.
 use mathlib.Core.Path.{ap, _∙_}
 use mathlib.Core.Bool.{Bool}
-use Rattle.cell_crc.specs.Payload.{octetsOf, payloadOf}
+use Rattle.cell_payload.specs.Payload.{octetsOf, payloadOf}
 use Rattle.cell.specs.Turning.{turnedPayload}
-use Rattle.connection.proofs.ReceiveCases.{kept-is, after-forward-cell-is}
+use Rattle.connection.proofs.DestinationCases.{kept-is, after-forward-cell-is}
 use borrow.Author.Needs.{needs}
 use Rattle.connection_destination.proofs.receive.after_forward_payload.Statement.{statement}
 use Rattle.connection_destination.proofs.receive.after_forward_payload.Tie as tie

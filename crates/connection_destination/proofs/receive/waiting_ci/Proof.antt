@@ -1,4 +1,4 @@
-use Rattle.connection.proofs.ReceiveCases.{ci-none, ci-cell}
+use Rattle.connection.proofs.DestinationCases.{ci-none, ci-cell}
 use borrow.Author.Needs.{needs}
 use Rattle.connection_destination.proofs.receive.waiting_ci.Statement.{statement}
 use Rattle.connection_destination.proofs.receive.waiting_ci.Tie as tie

@@ -1,4 +1,3 @@
--- `scheduling::kind::is_forward` meets its contract.
 use native.Mathlib.Omega.{arith}
 use Rattle.connection.proofs.Paces.{running}
 use Rattle.connection.proofs.KindCases.{forward-first, forward-last, forward-few, forward-trm}

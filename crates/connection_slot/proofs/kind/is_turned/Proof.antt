@@ -1,4 +1,3 @@
--- `scheduling::kind::is_turned` meets its contract.
 use Rattle.connection.proofs.KindCases.{turned-first, turned-none, turned-new, turned-alone}
 use borrow.Author.Needs.{needs}
 use Rattle.connection_slot.proofs.kind.is_turned.Statement.{statement}

@@ -1,4 +1,3 @@
--- `scheduling::kind::kind_at` meets its contract.
 use Rattle.connection.proofs.KindCases.{kind-forward, kind-turned, kind-data}
 use borrow.Author.Needs.{needs}
 use Rattle.connection_slot.proofs.kind.kind_at.Statement.{statement}

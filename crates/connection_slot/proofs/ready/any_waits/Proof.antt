@@ -1,4 +1,3 @@
--- `scheduling::ready::any_waits` meets its contract.
 use Rattle.connection.proofs.ReadyCases.{data-waits, cell-waits}
 use borrow.Author.Needs.{needs}
 use Rattle.connection_slot.proofs.ready.any_waits.Statement.{statement}

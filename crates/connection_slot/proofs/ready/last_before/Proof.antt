@@ -1,4 +1,4 @@
--- `scheduling::ready::last_before` meets its contract: the shift loses no bit.
+-- `last_before` meets its contract: the shift loses no bit.
 use lib.Pow.{pow-pos}
 use Rattle.connection.specs.Ready.{lastBefore}
 use Rattle.connection.proofs.ReadyCases.{shifted, never-last}

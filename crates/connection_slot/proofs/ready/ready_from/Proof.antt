@@ -1,4 +1,4 @@
--- `scheduling::ready::ready_from` meets its contract: each return is a case of `readyFrom`, and the gap is small.
+-- `ready_from` meets its contract: each return is a case of `readyFrom`, and the gap is small.
 use Prim.Native.Nat.{_^_, _≤_, _<_}
 use native.Mathlib.Omega.{arith}
 use Rattle.rate.proofs.Gaps.{gap-le}
@@ -59,13 +59,13 @@ returns-4 c =
     let g = c .before .before .before .before .before in
     (few-never _ (g .before .before .pace .given .1) (g .gap .ensures) (c .before .before .before .before .any-waits2 .ensures) (search needs) (c .before .before .last-before .ensures) (search needs) (search needs), tt)
 
-add-later : tie.Need-add-later
-add-later c =
+add-higher : tie.Need-add-higher
+add-higher c =
     let g = c .before .before .before .before .before .before in
     omega (arith, small g, g .before .before .before .before .pre .trm)
 
-later-requires : tie.Need-later-requires
-later-requires c κs = search needs
+higher-requires : tie.Need-higher-requires
+higher-requires c κs = search needs
 
 returns-5 : tie.Need-returns-5
 unfolding readyInstant
@@ -75,8 +75,8 @@ returns-6 : tie.Need-returns-6
 unfolding readyInstant
 returns-6 c =
     let g = c .before .before .before .before .before .before .before in (
-      due-trm _ (g .before .before .pace .given .1) (g .gap .ensures) (c .before .before .before .before .before .before .any-waits2 .ensures) (search needs) (c .before .before .before .before .last-before .ensures) (search needs) (search needs) (c .later .ensures),
-      omega (arith, small g, g .before .before .before .before .pre .trm, c .later .ensures),
+      due-trm _ (g .before .before .pace .given .1) (g .gap .ensures) (c .before .before .before .before .before .before .any-waits2 .ensures) (search needs) (c .before .before .before .before .last-before .ensures) (search needs) (search needs) (c .higher .ensures),
+      omega (arith, small g, g .before .before .before .before .pre .trm, c .higher .ensures),
     )
 
 pub ready-from-spec : {M : Type 1} → statement M
@@ -94,7 +94,7 @@ ready-from-spec =
     last-before-requires
     returns-3
     returns-4
-    add-later
-    later-requires
+    add-higher
+    higher-requires
     returns-5
     returns-6)

@@ -1,4 +1,3 @@
--- `scheduling::ready::waits` meets its contract.
 use mathlib.Core.Path.{sym, ap}
 use Rattle.connection.specs.Ready.{waits}
 use borrow.Author.Needs.{needs}

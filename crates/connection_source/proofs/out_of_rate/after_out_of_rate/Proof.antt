@@ -1,5 +1,5 @@
 use borrow.Author.Needs.{needs}
-use Rattle.connection.specs.OutOfRate.{afterOutOfRate}
+use Rattle.connection.specs.Source.{afterOutOfRate}
 use Rattle.connection_source.proofs.«out_of_rate».after_out_of_rate.Statement.{statement}
 use Rattle.connection_source.proofs.«out_of_rate».after_out_of_rate.Tie as tie
 

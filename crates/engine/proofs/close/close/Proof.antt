@@ -6,14 +6,21 @@ use Rattle.engine.proofs.CallCases.{close-missing, close-out}
 use Rattle.engine.proofs.close.close.Statement.{statement}
 use Rattle.engine.proofs.close.close.Tie as tie
 
--- the entry that was found is one
+-- where the name was looked for: the start of the call
+abbrev start : tie.After-find → tie.Start
+start c = c .before .before
+
+-- where it was found: the entry is one
+abbrev search-of : tie.After-i → tie.After-find
+search-of c = c .before .before
+
 entry : (c : tie.After-i) → c .i .given .0 .0 < capacity
-entry c = let f = c .before .before in below (f .before .before .args .t .now) (f .before .before .args .name) (f .find .ensures) (c .i .given .1)
+entry c = let f = search-of c in below (start f .args .t .now) (start f .args .name) (f .find .ensures) (c .i .given .1)
 
 returns : tie.Need-returns
 returns c =
     let f = c .before .before in
-    let v = f .before .before .args .name in
+    let v = start f .args .name in
     record { meets = λ s w e. refused-out s 11 e (close-missing s v (missing s w e v (f .find .ensures) (c .enum-told .given .1))) }
 
 load-requires : tie.Need-load-requires
@@ -27,11 +34,10 @@ returns-2 c =
     let cl = c .before .before in
     let ld = cl .before .before .before in
     let i = ld .before .before .before in
-    let f = i .before .before in
-    let v = f .before .before .args .name in
+    let f = search-of i in
     record {
       meets = λ s w e.
-          let p = entry-located s w e v (f .find .ensures) (i .i .given .1) in
+          let p = entry-located s w e (start f .args .name) (f .find .ensures) (i .i .given .1) in
           close-out s w e (entry i) p (ld .load .ensures) (cl .clear .ensures) (c .remove-path .ensures);
     }
 

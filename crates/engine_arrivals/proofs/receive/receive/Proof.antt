@@ -1,12 +1,14 @@
-use Rattle.cell.proofs.Admits.{received-checked}
+use mathlib.Core.Path.{_≡_, refl, sym, ap, _∙_}
+use lib.ListN.{length}
+use borrow.Author.Needs.{needs}
 use Rattle.cell.specs.Reading.{reading}
-use Rattle.cell.proofs.Readings.{data-same, rest, HeaderMeets, header-meets, rest-meets}
 use Rattle.cell.specs.declared.read.Reading.the-variants.{RmCell}
+use Rattle.cell.proofs.Admits.{received-checked}
+use Rattle.cell.proofs.Readings.{data-same, HeaderMeets, header-meets, rest-meets}
+use Rattle.cell_read.specs.RefusedAsRead.{RefusedAsRead}
+use Rattle.cell_read.proofs.Cases.{judged-rest}
 use Rattle.engine.proofs.Outcomes.{refused-out, same-meets}
 use Rattle.engine_arrivals.proofs.ReceiveCases.{unread, data-read, rm-read}
-use borrow.Author.Needs.{needs}
-use lib.ListN.{length}
-use mathlib.Core.Path.{_≡_, refl, sym, ap, _∙_}
 use Rattle.engine_arrivals.proofs.receive.receive.Statement.{statement}
 use Rattle.engine_arrivals.proofs.receive.receive.Tie as tie
 
@@ -14,27 +16,36 @@ use Rattle.engine_arrivals.proofs.receive.receive.Tie as tie
 meets : (c : tie.After-header-refusal) → HeaderMeets (c .before .before .args .cell .now) (c .header-refusal .result)
 meets c = header-meets (c .before .before .args .cell .now) (c .header-refusal .result) (c .header-refusal .ensures)
 
--- the header was found that of a data or an RM cell
-of-53 : (c : tie.Else1) → length (c .before .before .before .args .cell .now) ≡ 53
+-- where the header was found that of a data or an RM cell: the start of the call
+abbrev start : tie.Else1 → tie.Start
+start c = c .before .before .before
+
+of-53 : (c : tie.Else1) → length (start c .args .cell .now) ≡ 53
 of-53 c = meets (c .before) .size (c .if1 .left)
 
--- of an RM cell
-remains : (c : tie.Else2) → let o = c .before .before .before .before .before .args .cell .now in reading o ≡ rest o
-remains c =
-    let d = c .before in
-    meets (d .before .before) .rm (d .before .if1 .left) (sym (d .is-data .ensures) ∙ c .if2 .left)
+-- where the rest of an RM cell was judged
+abbrev past : tie.After-rm-refusal → tie.Else1
+past c = c .before .before .before
 
--- with these fields
-fields : (c : tie.After-fields-of) → let o = c .before .before .before .before .before .before .before .before .before .args .cell .now in reading o ≡ RmCell (c .fields-of .result)
+judged : (c : tie.After-rm-refusal) → RefusedAsRead (start (past c) .args .cell .now) (c .rm-refusal .result)
+judged c =
+    let e2 = c .before in
+    let k = past c in
+    judged-rest _ (meets (k .before)) (k .if1 .left) (sym (e2 .before .is-data .ensures) ∙ e2 .if2 .left) (rest-meets _ _ (c .rm-refusal .ensures))
+
+-- where it was found whole, with these fields
+abbrev rest : tie.After-fields-of → tie.After-rm-refusal
+rest c = c .before .before .before
+
+fields : (c : tie.After-fields-of) → reading (start (past (rest c)) .args .cell .now) ≡ RmCell (c .fields-of .result)
 fields c =
-    let e3 = c .before .before in
-    remains (e3 .before .before) ∙ rest-meets _ _ (e3 .before .rm-refusal .ensures) .taken (e3 .if3 .left) ∙ sym (ap RmCell (c .fields-of .ensures))
+    let e2 = rest c .before in
+    judged (rest c) .rm (c .before .before .if3 .left) (sym (e2 .before .is-data .ensures) ∙ e2 .if2 .left) ∙ sym (ap RmCell (c .fields-of .ensures))
 
 returns : tie.Need-returns
 returns c =
     let h = c .before in
-    let o = h .before .before .args .cell .now in
-    record { meets = λ s w e. refused-out s (h .header-refusal .result) e (unread s o (h .header-refusal .result) (meets h .refused (c .if1 .taken))) }
+    record { meets = λ s w e. refused-out s (h .header-refusal .result) e (unread s _ (h .header-refusal .result) (meets h .refused (c .if1 .taken))) }
 
 is-data-requires : tie.Need-is-data-requires
 is-data-requires c κs = of-53 c
@@ -50,16 +61,15 @@ efci-of-requires c κs = of-53 (c .before .before .before .before .before)
 
 returns-2 : tie.Need-returns-2
 returns-2 c =
-    let v = c .before .before in
+    let e = c .before in
+    let v = e .before in
     let a = v .before in
     let t = a .before .before in
-    let d = t .before in
-    let h = d .before .before in
-    let o = h .before .before .args .cell .now in
+    let k = t .before .before in
     same-meets
-    (data-read o (a .vpi-of .result) (v .vci-of .result) (c .before .efci-of .result)
-    (meets h .dataCell (d .before .if1 .left) (sym (d .is-data .ensures) ∙ t .if2 .taken)
-    ∙ sym (data-same (a .vpi-of .ensures) (v .vci-of .ensures) (c .before .efci-of .ensures))))
+    (data-read _ (a .vpi-of .result) (v .vci-of .result) (e .efci-of .result)
+    (meets (k .before) .dataCell (k .if1 .left) (sym (t .before .is-data .ensures) ∙ t .if2 .taken)
+    ∙ sym (data-same (a .vpi-of .ensures) (v .vci-of .ensures) (e .efci-of .ensures))))
     (c .receive-data .ensures)
 
 rm-refusal-requires : tie.Need-rm-refusal-requires
@@ -67,27 +77,19 @@ rm-refusal-requires c κs = of-53 (c .before .before)
 
 returns-3 : tie.Need-returns-3
 returns-3 c =
-    let e2 = c .before .before in
-    let n = c .before .rm-refusal .result in
-    let o = e2 .before .before .before .before .before .args .cell .now in
-    record { meets = λ s w e. refused-out s n e (unread s o n (remains e2 ∙ rest-meets o n (c .before .rm-refusal .ensures) .refused (c .if3 .taken))) }
+    let r = c .before in
+    record { meets = λ s w e. refused-out s (r .rm-refusal .result) e (unread s _ (r .rm-refusal .result) (judged r .refused (c .if3 .taken))) }
 
 fields-of-requires : tie.Need-fields-of-requires
-fields-of-requires c κs = of-53 (c .before .before .before .before .before)
+fields-of-requires c κs = of-53 (past (c .before .before))
 
 receive-rm-requires : tie.Need-receive-rm-requires
 receive-rm-requires c κs =
-    let e2 = c .before .before .before .before in
-    let d = e2 .before .before in
-    let k = d .before .before in
-    let o = k .before .args .cell .now in
-    (of-53 d, received-checked o (c .fields-of .result) (fields c) (record { each = λ i. k .shared-slice-known .given i .fits }) refl)
+    let k = past (rest c) in
+    (of-53 k, received-checked _ (c .fields-of .result) (fields c) (record { each = λ i. k .before .before .shared-slice-known .given i .fits }) refl)
 
 returns-4 : tie.Need-returns-4
-returns-4 c =
-    let f = c .before in
-    let o = f .before .before .before .before .before .before .before .before .before .args .cell .now in
-    same-meets (rm-read o (f .fields-of .result) (fields f)) (c .receive-rm .ensures)
+returns-4 c = let f = c .before in same-meets (rm-read _ (f .fields-of .result) (fields f)) (c .receive-rm .ensures)
 
 pub receive-spec : {M : Type 1} → statement M
 receive-spec = tie.close (tie.spec (λ c κs. search needs) returns is-data-requires vpi-of-requires vci-of-requires efci-of-requires (λ c κs. search needs) returns-2 rm-refusal-requires returns-3 fields-of-requires receive-rm-requires returns-4)

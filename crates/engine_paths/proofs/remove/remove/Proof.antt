@@ -1,9 +1,8 @@
 use Prim.Native.Nat.{ℕ, _<_}
 use mathlib.Core.Path.{_≡_, sym, ap, subst, _∙_}
-use mathlib.Core.Bool.{true}
 use borrow.Author.Needs.{needs}
-use Rattle.cell.specs.Name.{addressFits, addressName}
-use Rattle.connection_members.specs.Path.{pathVci}
+use Rattle.cell.specs.Name.{noName, addressName}
+use Rattle.connection_members.specs.Members.{cellsOf}
 use Rattle.connection.specs.declared.parts.Connection.{Connection}
 use Rattle.connection.specs.Parts.{withQueue, dequeued}
 use Rattle.connection.specs.Range.{InRange}
@@ -12,109 +11,104 @@ use Rattle.model.specs.Invariant.{WellFormed}
 use Rattle.model.specs.Step.{removeStep}
 use Rattle.model.specs.declared.answer.Answer.the-variants.{Closed}
 use Rattle.table.specs.Layout.{words}
+use Rattle.table.specs.declared.found.Found.the-variants.{At}
 use Rattle.table_store.specs.Updates.{Updates, SourceMoved}
-use Rattle.table_names.specs.Finding.{Located, FindsName}
-use Rattle.table_names.proofs.Found.{found-at}
-use Rattle.table_members.specs.Words.{FindsMember, RemovesMember}
-use Rattle.engine.proofs.Outcomes.{refused-out, below, missing, entry-located, ranged}
-use Rattle.engine.proofs.Members.{member-below, no-member, member-at}
-use Rattle.engine_paths.proofs.Cases.{cells-are, path-closed, out-of-range, not-added, fits-of, unfit-of, removed-ranged, remove-out}
+use Rattle.table_members.specs.Words.{RemovesMember}
+use Rattle.engine.proofs.Outcomes.{refused-out, below, ranged}
+use Rattle.engine_paths.specs.Member.{AddressInRange, OnPath}
+use Rattle.engine_paths.proofs.MemberCases.{no-path-open, not-added, member-found, member-inside}
+use Rattle.engine_paths.proofs.Cases.{waiting-is, removed-ranged, remove-out}
 use Rattle.engine_paths.proofs.remove.remove.Statement.{statement}
 use Rattle.engine_paths.proofs.remove.remove.Tie as tie
 
--- the names that were looked for: that of the VPI's path, and that of the pair
-finds : (c : tie.After-find) → let a = c .before .before .before .args in FindsName (a .t .now) (addressName (a .vpi) pathVci) (c .find .result)
-finds c = subst (λ (n : ℕ). FindsName (c .before .before .before .args .t .now) n (c .find .result)) (c .before .address-name .ensures) (c .find .ensures)
+-- where the path was found: the start of the call, its entry
+abbrev start : tie.After-i → tie.Start
+start c = c .before .before .before .before .before
 
-finds-member :
-    (c : tie.After-find2) → let a = c .before .before .before .before .before .before .before .before .before .before .args in FindsMember (a .t .now) (addressName (a .vpi) (a .vci)) (c .find2 .result)
-finds-member c =
-    let pn = c .before .before .before in
-    subst (λ (n : ℕ). FindsMember (pn .before .before .before .before .before .before .before .args .t .now) n (c .find2 .result)) (pn .address-name2 .ensures) (c .find2 .ensures)
+abbrev path : tie.After-i → ℕ
+path c = c .i .given .0 .0
 
--- where the path was found: the entry is one, and the path stands in it
-entry : (c : tie.After-i) → c .i .given .0 .0 < capacity
-entry c = below _ _ (finds (c .before .before)) (c .i .given .1)
+entry : (c : tie.After-i) → path c < capacity
+entry c = let f = c .before .before in below _ _ (f .find .ensures) (c .i .given .1)
 
-located :
-    (c : tie.After-i) (s : State) → WellFormed s → let a = c .before .before .before .before .before .args in a .t .now ≡ words s
-    → Located (s .entries) (addressName (a .vpi) pathVci) (c .i .given .0 .0)
-located c s w e = entry-located s w e _ (finds (c .before .before)) (c .i .given .1)
+-- where the member was found: its word
+abbrev past : tie.After-j → tie.After-i
+past c = c .before .before .before .before .before
 
--- the pair is within the ranges
-in-range : (c : tie.Else1) → let a = c .before .before .before .before .before .before .before .before .args in addressFits (a .vpi) (a .vci) ≡ true
-in-range c = fits-of _ _ (c .before .address-name2 .ensures) (c .if1 .left)
+abbrev member : tie.After-j → ℕ
+member c = c .j .given .0 .0
+
+inside : (c : tie.After-j) → AddressInRange (start (past c) .args .vpi) (start (past c) .args .vci) (At (member c))
+inside c = member-inside _ _ (c .before .before .member-at .ensures) (c .j .given .1)
+
+found : (c : tie.After-j) (s : State) → WellFormed s → start (past c) .args .t .now ≡ words s → OnPath s (start (past c) .args .vpi) (start (past c) .args .vci) (path (past c)) (member c)
+found c =
+    let i = past c in
+    let f = i .before .before in
+    member-found _ _ (f .before .address-name .ensures) (f .find .ensures) (i .i .given .1) (c .before .before .member-at .ensures) (c .j .given .1)
+
+-- what waits on it
+abbrev at : tie.After-cells-at → tie.After-j
+at c = c .before .before .before
+
+waits :
+    (c : tie.After-cells-at) (s : State) → WellFormed s → start (past (at c)) .args .t .now ≡ words s
+    → c .cells-at .result ≡ cellsOf (addressName (start (past (at c)) .args .vpi) (start (past (at c)) .args .vci)) (s .members)
+waits c s w e = waiting-is s w e (found (at c) s w e .place) (c .cells-at .ensures)
+
+-- where the path was loaded
+abbrev counted : tie.After-load → tie.After-cells-at
+counted c = c .before .before
 
 returns : tie.Need-returns
 unfolding removeStep
 returns c =
     let f = c .before .before in
-    let a = f .before .before .before .args in
-    record { meets = λ s w e. refused-out s 11 e (path-closed s (a .vpi) (a .vci) _ (missing s w e _ (finds f) (c .enum-told .given .1))) }
+    record { meets = λ s w e. refused-out s 11 e (no-path-open _ _ (f .before .address-name .ensures) (f .find .ensures) (c .enum-told .given .1) s w e _) }
 
 returns-2 : tie.Need-returns-2
 unfolding removeStep
 returns-2 c =
-    let pn = c .before in
-    let i = pn .before .before in
-    let a = i .before .before .before .before .before .args in
-    record {
-      meets = λ s w e.
-          let p = located i s w e in
-          refused-out s 28 e (out-of-range s (a .vpi) (a .vci) _ (p .holder) (found-at p) (unfit-of _ _ (pn .address-name2 .ensures) (c .if1 .taken)));
-    }
-
-returns-3 : tie.Need-returns-3
-unfolding removeStep
-returns-3 c =
-    let fm = c .before .before in
-    let e1 = fm .before .before in
-    let i = e1 .before .before .before in
-    let a = i .before .before .before .before .before .args in
-    record {
-      meets = λ s w e.
-          let p = located i s w e in
-          refused-out s 28 e (not-added s (a .vpi) (a .vci) _ (p .holder) (found-at p) (in-range e1) (no-member s w e (finds-member fm) (c .enum-told2 .given .1)));
-    }
+    let m = c .before .before in
+    let i = m .before .before .before in
+    let f = i .before .before in
+    record { meets = λ s w e. refused-out s 28 e (not-added _ _ (f .before .address-name .ensures) (f .find .ensures) (i .i .given .1) (m .member-at .ensures) (c .enum-told2 .given .1) s w e _) }
 
 cells-at-requires : tie.Need-cells-at-requires
-cells-at-requires c κs = let j = c .before .before in member-below (j .before .before .find2 .ensures) (j .j .given .1)
+cells-at-requires c κs = inside (c .before .before) .0
 
 load-requires : tie.Need-load-requires
-load-requires c κs = let j = c .before .before .before .before in entry (j .before .before .before .before .before .before .before)
+load-requires c κs = entry (past (at (c .before)))
+
+remove-requires : tie.Need-remove-requires
+remove-requires c κs = subst (λ (x : ℕ). x < noName) (sym (c .address-name2 .ensures)) (inside (at (counted (c .before .before))) .1)
 
 update-source-requires : tie.Need-update-source-requires
 update-source-requires c κs =
-    let ld = c .before .before .before .before in
-    let i = ld .before .before .before .before .before .before .before .before .before .before .before .before in
-    let a = i .before .before .before .before .before .args in
-    (entry i, subst InRange (sym (c .dequeued .ensures)) (removed-ranged _ (ld .load .result) (ranged (a .t .now) (i .i .given .0 .0) (ld .load .ensures))))
+    let ld = c .before .before .before .before .before in
+    let i = past (at (counted ld)) in
+    (entry i, subst InRange (sym (c .dequeued .ensures)) (removed-ranged _ (ld .load .result) (ranged (start i .args .t .now) (path i) (ld .load .ensures))))
 
-returns-4 : tie.Need-returns-4
-returns-4 c =
+returns-3 : tie.Need-returns-3
+returns-3 c =
     let o = c .before in
     let rm = o .before .before in
-    let ld = rm .before .before in
-    let ca = ld .before .before in
-    let j = ca .before .before .before in
-    let fm = j .before .before in
-    let e1 = fm .before .before in
-    let pn = e1 .before in
-    let i = pn .before .before in
-    let a = i .before .before .before .before .before .args in
+    let pn = rm .before in
+    let ld = pn .before .before in
+    let j = at (counted ld) in
+    let i = past j in
+    let a = start i .args in
     record {
       meets = λ s w e.
-          let at = member-at s w e (finds-member fm) (j .j .given .1) in
-          let n = cells-are s w e at (ca .cells-at .ensures) in
+          let n = waits (counted ld) s w e in
           let z =
-          remove-out s w e (a .vpi) (a .vci) (in-range e1) (located i s w e) (entry i) (ld .load .ensures) (at .member)
+          remove-out s w e (a .vpi) (a .vci) (found j s w e) (entry i) (ld .load .ensures)
           (subst (λ (x : ℕ). RemovesMember x (a .t .now) (rm .remove .last .0)) (pn .address-name2 .ensures) (rm .remove .ensures))
-          (subst (λ (x : Connection). Updates SourceMoved (rm .remove .last .0) (c .update-source .last .0) (i .i .given .0 .0) x (c .update-source .result))
+          (subst (λ (x : Connection). Updates SourceMoved (rm .remove .last .0) (c .update-source .last .0) (path i) x (c .update-source .result))
           (o .dequeued .ensures ∙ ap (λ (k : ℕ). withQueue (ld .load .result) (dequeued k (ld .load .result .queue))) n) (c .update-source .ensures)) in
           (z .0, ap (Closed (c .update-source .result)) n ∙ z .1);
     }
 
 pub remove-spec : {M : Type 1} → statement M
-remove-spec =
-    tie.close
-    (tie.spec (λ c κs. search needs) (λ c κs. search needs) (λ c. search needs) (λ c. search needs) returns (λ c κs. search needs) returns-2 (λ c κs. search needs) (λ c. search needs) (λ c. search needs) returns-3 cells-at-requires load-requires (λ c κs. search needs) (λ c κs. search needs) update-source-requires (λ c. search needs) returns-4)
+remove-spec = tie.close
+    (tie.spec (λ c κs. search needs) (λ c κs. search needs) (λ c. search needs) (λ c. search needs) returns (λ c κs. search needs) (λ c. search needs) (λ c. search needs) returns-2 cells-at-requires load-requires (λ c κs. search needs) remove-requires (λ c κs. search needs) update-source-requires (λ c. search needs) returns-3)

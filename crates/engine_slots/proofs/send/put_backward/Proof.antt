@@ -2,7 +2,7 @@ use mathlib.Core.Path.{sym, ap, _∙_}
 use borrow.Author.Needs.{needs}
 use Rattle.cell.specs.Fields.{rmCell}
 use Rattle.connection.specs.declared.parts.Waiting.{Waiting}
-use Rattle.connection.specs.Sending.{backwardCell}
+use Rattle.connection.specs.Destination.{backwardCell}
 use Rattle.engine_slots.proofs.send.put_backward.Statement.{statement}
 use Rattle.engine_slots.proofs.send.put_backward.Tie as tie
 

@@ -14,9 +14,13 @@ use Rattle.engine_slots.proofs.SendCases.{served-ranged, sent-out, serv
 use Rattle.engine_slots.proofs.send.send.Statement.{statement}
 use Rattle.engine_slots.proofs.send.send.Tie as tie
 
+-- Where the entry was loaded: the start of the call.
+abbrev start : tie.After-load → tie.Start
+start c = c .before .before .before
+
 -- what was loaded lies in range
 in-range : (c : tie.After-load) → InRange (c .load .result)
-in-range c = let start = c .before .before .before in ranged (start .args .t .now) (start .args .i) (c .load .ensures)
+in-range c = ranged (start c .args .t .now) (start c .args .i) (c .load .ensures)
 
 kind-at-requires : tie.Need-kind-at-requires
 kind-at-requires c κs = in-range c
@@ -26,36 +30,42 @@ after-requires c κs = in-range (c .before)
 
 -- its name is one
 loaded-name : (c : tie.After-load) → c .load .result .name < noName
-loaded-name c =
-    let start = c .before .before .before in
-    subst (λ (x : Connection). x .name < noName) (sym (c .load .ensures)) (load-named (start .args .t .now) (start .args .i))
+loaded-name c = subst (λ (x : Connection). x .name < noName) (sym (c .load .ensures)) (load-named (start c .args .t .now) (start c .args .i))
 
--- the name stays
+-- Where its next state was made: the name stays, and it lies in range.
+abbrev loaded : tie.After-after → tie.After-load
+loaded c = c .before .before
+
 named : (c : tie.After-after) → c .after .result .name < noName
 named c =
-    let l = c .before .before in
-    let start = l .before .before .before in
-    let k = c .before .kind-at .result in
-    let f = ap (λ (x : Connection). x .name) (c .after .ensures) ∙ after-same k (start .args .time) (l .load .result) .name in
+    let l = loaded c in
+    let f = ap (λ (x : Connection). x .name) (c .after .ensures) ∙ after-same (c .before .kind-at .result) (start l .args .time) (l .load .result) .name in
     omega (arith, loaded-name l, f)
 
 put-cell-requires : tie.Need-put-cell-requires
-put-cell-requires c κs = (search needs, (loaded-name (c .before .before .before), named (c .before)))
+put-cell-requires c κs = let a = c .before in (search needs, (loaded-name (loaded a), named a))
 
--- what comes after it lies in range
 next-range : (c : tie.After-after) → InRange (c .after .result)
 next-range c =
-    let k = c .before in
-    let l = k .before in
-    let start = l .before .before .before in
+    let l = loaded c in
+    let a = start l .args in
     subst InRange (sym (c .after .ensures))
-    (after-ranged (k .kind-at .result) (start .args .time) (l .load .result) (omega (arith, start .pre .1 .0)) (in-range l) (roomy (start .args .t .now) (start .args .i) (l .load .ensures)))
+    (after-ranged (c .before .kind-at .result) (a .time) (l .load .result) (omega (arith, start l .pre .1 .0)) (in-range l) (roomy (a .t .now) (a .i) (l .load .ensures)))
+
+-- where it was asked whether the cell is a member's: the cell that was put before it
+abbrev put : tie.After-of-member → tie.After-put-cell
+put c = c .before .before .before
+
+abbrev next : tie.After-of-member → tie.After-after
+next c = put c .before .before
 
 store-sent-requires : tie.Need-store-sent-requires
-store-sent-requires c κs = (search needs, next-range (c .before .before .before .before .before .before .before))
+store-sent-requires c κs = (search needs, next-range (next (c .before .before)))
 
 update-source-requires : tie.Need-update-source-requires
-update-source-requires c κs = let a = c .before .before .before .before .before .before .before .before .before .before .before in (search needs, subst InRange (sym (c .with-served .ensures)) (served-ranged _ (a .after .result) (next-range a)))
+update-source-requires c κs =
+    let a = next (c .before .before .before .before .before .before) in
+    (search needs, subst InRange (sym (c .with-served .ensures)) (served-ranged _ (a .after .result) (next-range a)))
 
 returns : tie.Need-returns
 returns c =
@@ -63,31 +73,31 @@ returns c =
     let sv = ws .before .before in
     let t1 = sv .before .before .before in
     let om = t1 .before in
-    let p = om .before .before .before in
-    let a = p .before .before in
-    let k = a .before in
-    let l = k .before in
-    let start = l .before .before .before in
+    let p = put om in
+    let n = next om in
+    let k = n .before in
+    let l = loaded n in
+    let a = start l .args in
     record {
       sends = λ s w last e d entry place waits.
-          served-out s w (start .args .time) last e (start .args .i) (start .pre .0) d entry place (l .load .result) (l .load .ensures) (k .kind-at .result) (k .kind-at .ensures) (a .after .result) (a .after .ensures)
-          (start .args .cell .now) (p .put-cell .last .0) (p .put-cell .ensures) (sv .serve .result) (c .update-source .result) (sym (om .of-member .ensures) ∙ t1 .if1 .taken) waits (sv .serve .ensures)
-          (subst (λ (x : Connection). Updates SourceMoved (sv .serve .last .0) (c .update-source .last .0) (start .args .i) x (c .update-source .result)) (ws .with-served .ensures) (c .update-source .ensures));
+          served-out s w (a .time) last e (a .i) (start l .pre .0) d entry place (l .load .result) (l .load .ensures) (k .kind-at .result) (k .kind-at .ensures) (n .after .result) (n .after .ensures)
+          (a .cell .now) (p .put-cell .last .0) (p .put-cell .ensures) (sv .serve .result) (c .update-source .result) (sym (om .of-member .ensures) ∙ t1 .if1 .taken) waits (sv .serve .ensures)
+          (subst (λ (x : Connection). Updates SourceMoved (sv .serve .last .0) (c .update-source .last .0) (a .i) x (c .update-source .result)) (ws .with-served .ensures) (c .update-source .ensures));
     }
 
 returns-2 : tie.Need-returns-2
 returns-2 c =
     let e1 = c .before .before in
     let om = e1 .before in
-    let p = om .before .before .before in
-    let a = p .before .before in
-    let k = a .before in
-    let l = k .before in
-    let start = l .before .before .before in
+    let p = put om in
+    let n = next om in
+    let k = n .before in
+    let l = loaded n in
+    let a = start l .args in
     record {
       sends = λ s w last e d entry place waits.
-          sent-out s w (start .args .time) last e (start .args .i) (start .pre .0) d entry place (l .load .result) (l .load .ensures) (k .kind-at .result) (k .kind-at .ensures) (a .after .result) (a .after .ensures)
-          (start .args .cell .now) (p .put-cell .last .0) (p .put-cell .ensures) (c .store-sent .result) (c .store-sent .ensures) (sym (om .of-member .ensures) ∙ e1 .if1 .left);
+          sent-out s w (a .time) last e (a .i) (start l .pre .0) d entry place (l .load .result) (l .load .ensures) (k .kind-at .result) (k .kind-at .ensures) (n .after .result) (n .after .ensures)
+          (a .cell .now) (p .put-cell .last .0) (p .put-cell .ensures) (c .store-sent .result) (c .store-sent .ensures) (sym (om .of-member .ensures) ∙ e1 .if1 .left);
     }
 
 pub send-spec : {M : Type 1} → statement M

@@ -4,48 +4,6 @@ use Rattle.port.proofs.Stores.{er-stored}
 use Rattle.port.proofs.er.put_er.Statement.{statement}
 use Rattle.port.proofs.er.put_er.Tie as tie
 
-cast-high : tie.Need-cast-high
-cast-high c = search needs
-
-cast-low : tie.Need-cast-low
-cast-low c = search needs
-
-slice-read-er-check : tie.Need-slice-read-er-check
-slice-read-er-check c = search needs
-
-slice-read-er-check-2 : tie.Need-slice-read-er-check-2
-slice-read-er-check-2 c = search needs
-
-er-check-requires : tie.Need-er-check-requires
-er-check-requires c κs = search needs
-
-slice-read-six-and-two : tie.Need-slice-read-six-and-two
-slice-read-six-and-two c = search needs
-
-cast-six-and-two : tie.Need-cast-six-and-two
-cast-six-and-two c = search needs
-
-slice-read-last : tie.Need-slice-read-last
-slice-read-last c = search needs
-
-cast-last : tie.Need-cast-last
-cast-last c = search needs
-
-slice-write-cell : tie.Need-slice-write-cell
-slice-write-cell c = search needs
-
-slice-write-cell-2 : tie.Need-slice-write-cell-2
-slice-write-cell-2 c = search needs
-
-slice-write-cell-3 : tie.Need-slice-write-cell-3
-slice-write-cell-3 c = search needs
-
-slice-write-cell-4 : tie.Need-slice-write-cell-4
-slice-write-cell-4 c = search needs
-
-same-length : tie.Need-same-length
-same-length c = search needs
-
 returns : tie.Need-returns
 returns c =
     let e = c .before .before in
@@ -57,19 +15,4 @@ returns c =
 pub put-er-spec : {M : Type 1} → statement M
 put-er-spec =
     tie.close
-    (tie.spec
-    cast-high
-    cast-low
-    slice-read-er-check
-    slice-read-er-check-2
-    er-check-requires
-    slice-read-six-and-two
-    cast-six-and-two
-    slice-read-last
-    cast-last
-    slice-write-cell
-    slice-write-cell-2
-    slice-write-cell-3
-    slice-write-cell-4
-    same-length
-    returns)
+    (tie.spec (λ c. search needs) (λ c. search needs) (λ c. search needs) (λ c. search needs) (λ c κs. search needs) (λ c. search needs) (λ c. search needs) (λ c. search needs) (λ c. search needs) (λ c. search needs) (λ c. search needs) (λ c. search needs) (λ c. search needs) (λ c. search needs) returns)

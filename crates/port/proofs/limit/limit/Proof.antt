@@ -10,21 +10,28 @@ use Rattle.port.proofs.Cases.{limit-refused, limit-data, limit-forward,
 use Rattle.port.proofs.limit.limit.Statement.{statement}
 use Rattle.port.proofs.limit.limit.Tie as tie
 
--- the cell was found whole
-of-53 : (c : tie.Else1) → length (c .before .before .before .before .args .cell .now) ≡ 53
+-- Where the cell was found whole: the start of the call.
+abbrev start : tie.Else1 → tie.Start
+start c = c .before .before .before .before
+
+of-53 : (c : tie.Else1) → length (start c .args .cell .now) ≡ 53
 of-53 c = c .before .refusal .ensures .size (c .if1 .left)
 
--- an RM cell with these fields
-fields : (c : tie.After-fields-of) → reading (c .before .before .before .before .before .before .before .before .before .args .cell .now) ≡ RmCell (c .fields-of .result)
+-- where it was found an RM cell, with these fields
+abbrev past : tie.After-fields-of → tie.Else1
+past c = c .before .before .before .before .before
+
+fields : (c : tie.After-fields-of) → reading (start (past c) .args .cell .now) ≡ RmCell (c .fields-of .result)
 fields c =
     let d = c .before .before in
-    let e = d .before .before .before in
-    e .before .refusal .ensures .rm (e .if1 .left) (sym (d .before .is-data .ensures) ∙ d .if2 .left) ∙ sym (ap RmCell (c .fields-of .ensures))
+    past c .before .refusal .ensures .rm (past c .if1 .left) (sym (d .before .is-data .ensures) ∙ d .if2 .left) ∙ sym (ap RmCell (c .fields-of .ensures))
 
--- the code that is written
-code : (c : tie.After-code-or-zero) → c .code-or-zero .result
-    ≡ heldEr (c .before .before .before .before .before .before .before .before .before .before .before .before .before .before .before .args .rate) (c .before .before .before .before .before .before .fields-of .result .er)
-code c = er-is _ _ (c .before .before .rate-of .ensures) (c .before .lesser .ensures) (c .code-or-zero .ensures)
+-- where the code that is written was made
+abbrev of : tie.After-code-or-zero → tie.After-fields-of
+of c = c .before .before .before .before .before .before
+
+code : (c : tie.After-code-or-zero) → c .code-or-zero .result ≡ heldEr (start (past (of c)) .args .rate) (of c .fields-of .result .er)
+code c = er-is _ _ (c .before .before .rate-of .ensures) (c .before .lower .ensures) (c .code-or-zero .ensures)
 
 returns : tie.Need-returns
 returns c = limit-refused _ _ (c .before .refusal .ensures .refused (c .if1 .taken))
@@ -46,16 +53,14 @@ returns-3 c = limit-forward _ _ (fields (c .before .before)) (c .if3 .taken)
 
 put-er-requires : tie.Need-put-er-requires
 put-er-requires c κs =
-    let f = c .before .before .before .before .before .before in
-    let e = f .before .before .before .before .before in
-    (of-53 e, (er-fits _ (f .fields-of .result .er) (code c), rm-received _ (f .fields-of .result) (fields f) .check))
+    let f = of c in
+    (of-53 (past f), (er-fits _ (f .fields-of .result .er) (code c), rm-received _ (f .fields-of .result) (fields f) .check))
 
 returns-4 : tie.Need-returns-4
 returns-4 c =
     let p = c .before .before in
     let k = p .before in
-    let i = k .before .before .before .before in
-    limit-backward _ _ (fields (i .before .before)) (i .if3 .left) (code k) (p .put-er .ensures)
+    limit-backward _ _ (fields (of k)) (k .before .before .before .before .if3 .left) (code k) (p .put-er .ensures)
 
 pub limit-spec : {M : Type 1} → statement M
 limit-spec =

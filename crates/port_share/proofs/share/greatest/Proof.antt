@@ -46,12 +46,6 @@ returns c =
     let b = l .before .before in
     ends-tried (b .args .capacity) (b .args .demands .now) (b .pre .1 .1) (l .loop .inv) (b .pre .1 .0) (c .before .before .pass .ensures .0) (c .if1 .taken)
 
-add-passes : tie.Need-add-passes Inv-loop μ-loop
-add-passes c = search needs
-
-loop-less : tie.Need-loop-less Inv-loop μ-loop
-loop-less c = search needs
-
 loop-again : tie.Need-loop-again Inv-loop μ-loop
 loop-again c =
     let p = c .before .before .before in
@@ -67,17 +61,4 @@ returns-2 c =
 pub greatest-spec : {M : Type 1} → statement M
 greatest-spec =
     tie.close
-    (tie.spec
-    Inv-loop
-    μ-loop
-    loop-holds
-    div-tried
-    add-tried
-    add-tried-2
-    pass-requires
-    sub-result
-    returns
-    add-passes
-    loop-less
-    loop-again
-    returns-2)
+    (tie.spec Inv-loop μ-loop loop-holds div-tried add-tried add-tried-2 pass-requires sub-result returns (λ c. search needs) (λ c. search needs) loop-again returns-2)

@@ -1,4 +1,3 @@
--- `rate::code::code_of` meets its contract.
 use mathlib.Core.Path.{ap, _∙_}
 use borrow.Author.Tests.{le-leb, lt-leb}
 use borrow.Author.Needs.{needs}

@@ -1,4 +1,4 @@
--- `rate::code::code_or_zero` meets its contract: the zeros above a rate's highest digit give its octave.
+-- `code_or_zero` meets its contract: the zeros above a rate's highest digit give its octave.
 use native.Mathlib.Omega.{arith}
 use borrow.Author.Tests.{lt-leb}
 use borrow.Author.Needs.{needs}

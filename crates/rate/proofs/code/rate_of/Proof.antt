@@ -1,4 +1,4 @@
--- `rate::code::rate_of` meets its contract: the shift loses no bit, since 512 + m has ten bits and e is below 32.
+-- `rate_of` meets its contract: the shift loses no bit, since 512 + m has ten bits and e is below 32.
 use mathlib.Core.Path.{_∙_}
 use native.Mathlib.Nat.{mul-comm}
 use native.Mathlib.Omega.{arith}

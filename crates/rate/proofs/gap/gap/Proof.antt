@@ -1,4 +1,3 @@
--- `rate::gap::gap` meets its contract.
 use mathlib.Core.Path.{sym}
 use native.Mathlib.Nat.{div-le-self}
 use native.Mathlib.Omega.{arith}

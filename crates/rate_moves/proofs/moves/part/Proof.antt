@@ -1,4 +1,3 @@
--- `moves::moves::part` meets its contract.
 use borrow.Author.Needs.{needs}
 use Rattle.rate_moves.proofs.Cuts.{part-none}
 use Rattle.rate_moves.proofs.moves.part.Statement.{statement}

@@ -1,4 +1,3 @@
--- `moves::moves::cut` meets its contract.
 use native.Mathlib.Nat.{div-le-self}
 use native.Mathlib.Omega.{arith}
 use borrow.Author.Needs.{needs}

@@ -1,4 +1,3 @@
--- `params::params::rounded_up` meets its contract.
 use Prim.Native.Nat.{_-_, _^_}
 use native.Mathlib.Nat.{div-le-self}
 use native.Mathlib.Omega.{arith}

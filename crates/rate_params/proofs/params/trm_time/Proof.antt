@@ -1,4 +1,3 @@
--- `params::params::trm_time` meets its contract.
 use mathlib.Core.Path.{refl}
 use borrow.Author.Needs.{needs}
 use Rattle.rate_params.specs.Params.{trmTime, trmTimes}

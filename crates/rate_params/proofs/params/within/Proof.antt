@@ -1,4 +1,3 @@
--- `params::params::within` meets its contract.
 use borrow.Author.Tests.{le-leb, lt-leb}
 use Rattle.rate_params.specs.Params.{within}
 use Rattle.rate_params.proofs.params.within.Statement.{statement}

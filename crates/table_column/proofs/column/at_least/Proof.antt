@@ -1,4 +1,4 @@
--- The loop's invariant: what is looked for is among the words from p on, of which half is looked at next.
+-- The loop's invariant: what is looked for is among the words from p on, and half of them is looked at next.
 use borrow.Author.Needs.{needs}
 use Rattle.table_column.proofs.Halving.{Halved, halved-start, halved-next, halved-end}
 use Rattle.table_column.proofs.column.at_least.Statement.{statement}

@@ -1,4 +1,3 @@
--- `entry_words::fixed::put_fixed` meets its contract.
 use borrow.Author.Needs.{needs}
 use Rattle.table_entry.proofs.fixed.put_fixed.Statement.{statement}
 use Rattle.table_entry.proofs.fixed.put_fixed.Tie as tie

@@ -1,4 +1,5 @@
--- The loop's invariant: the winners up to place are those of the entries now, the ones above it those before (`Reached`); best has won at place, other is its neighbour.
+-- The loop's invariant: the winners up to `place` are those of the entries now, the ones above it those before
+-- (`Reached`). `best` has won at `place`, and `other` is its neighbour.
 use Prim.Native.Nat.{ℕ, _+_, _-_, _*_, _≤_, _<_}
 use borrow.Author.Needs.{needs}
 use mathlib.Core.Path.{_≡_, sym, ap, subst, refl, _∙_}

@@ -1,5 +1,6 @@
--- `trace::number::number_at` meets its contract. The invariant: what is still to be read from k on is the number that starts at the offset; the value so far is
--- below the next group's weight, which is 2^63 once no octet is left before the tenth.
+-- `trace::number::number_at` meets its contract. The invariant: what is still to be read from k on is the
+-- number that starts at the offset. The value so far is below the next group's weight, which is 2^63 once no
+-- octet is left before the tenth.
 use mathlib.Core.Path.{_≡_, refl, _∙_}
 use mathlib.Core.Logic.{⊎-elim}
 use Prim.Native.Nat.{ℕ, _-_, _*_, _^_, _≤_, _<_}
@@ -25,6 +26,13 @@ Inv-loop octets offset k₀ value₀ weight₀ left₀ k value weight left = (re
 abbrev μ-loop : tie.MeasureT-loop
 μ-loop octets offset k₀ value₀ weight₀ left₀ k value weight left = left
 
+-- where an octet is at hand: in the loop, and behind it
+abbrev inside : tie.After-shared-slice-known Inv-loop μ-loop → tie.In-loop Inv-loop μ-loop
+inside c = c .before .before
+
+abbrev behind : tie.After-shared-slice-known2 Inv-loop μ-loop → tie.After-loop Inv-loop μ-loop
+behind c = c .before .before
+
 loop-holds : tie.Need-loop-holds Inv-loop μ-loop
 loop-holds c = (refl, lit< tt, refl)
 
@@ -39,43 +47,52 @@ cast-b c = let h = c .shared-slice-known .given (c .before .before .before .loop
 
 returns-2 : tie.Need-returns-2 Inv-loop μ-loop
 returns-2 c =
-    let l = c .before .before .before .before .before .before .loop in
-    zero-group (l .left) _ (l .k) (l .value) (l .weight) (c .before .before .before .before .before .loop-test .taken) (c .before .before .before .before .if1 .left) (c .before .if3 .taken) (c .if4 .taken) ∙ l .inv .0
+    let o = c .before .before .before in
+    let i = inside o in
+    let l = i .before .loop in
+    zero-group (l .left) _ (l .k) (l .value) (l .weight) (i .loop-test .taken) (o .before .if1 .left) (c .before .if3 .taken) (c .if4 .taken) ∙ l .inv .0
 
 mul-t14 : tie.Need-mul-t14 Inv-loop μ-loop
 mul-t14 c =
-    let l = c .before .before .before .before .before .loop in
-    record { fits = product-fits _ (l .weight) (l .value) (l .left) (c .before .before .before .before .loop-test .taken) (l .inv .2) (l .inv .1) (at-most (c .before .if2 .taken)) }
+    let i = inside (c .before .before) in
+    let l = i .before .loop in
+    record { fits = product-fits _ (l .weight) (l .value) (l .left) (i .loop-test .taken) (l .inv .2) (l .inv .1) (at-most (c .before .if2 .taken)) }
 
 add-t15 : tie.Need-add-t15 Inv-loop μ-loop
 add-t15 c =
-    let l = c .before .before .before .before .before .loop in
-    record { fits = sum-fits _ (l .weight) (l .value) (l .left) (c .before .before .before .before .loop-test .taken) (l .inv .2) (l .inv .1) (at-most (c .before .if2 .taken)) }
+    let i = inside (c .before .before) in
+    let l = i .before .loop in
+    record { fits = sum-fits _ (l .weight) (l .value) (l .left) (i .loop-test .taken) (l .inv .2) (l .inv .1) (at-most (c .before .if2 .taken)) }
 
 add-t16 : tie.Need-add-t16 Inv-loop μ-loop
 add-t16 c = omega arith
 
 returns-3 : tie.Need-returns-3 Inv-loop μ-loop
 returns-3 c =
-    let l = c .before .before .before .before .before .loop in
-    let b = getD (c .before .before .before .before .before .before .args .octets .now) (l .k) 0 in
-    last-group (l .left) _ (l .k) (l .value) (l .weight) (c .before .before .before .before .loop-test .taken) (c .before .before .before .if1 .left) (c .before .if2 .taken)
+    let o = c .before .before in
+    let i = inside o in
+    let l = i .before .loop in
+    let b = getD (i .before .before .args .octets .now) (l .k) 0 in
+    last-group (l .left) _ (l .k) (l .value) (l .weight) (i .loop-test .taken) (o .before .if1 .left) (c .before .if2 .taken)
     (⊎-elim (λ x. only-one b (l .weight) (x .1 .left)) (λ x. not-zero b (l .weight) (x .left)) (c .if3 .came)) ∙ l .inv .0
 
 mul-value : tie.Need-mul-value Inv-loop μ-loop
 mul-value c =
-    let l = c .before .before .before .before .loop in
-    record { fits = product-fits _ (l .weight) (l .value) (l .left) (c .before .before .before .loop-test .taken) (l .inv .2) (l .inv .1) (seven-bits (c .before .shared-slice-known .given (l .k) .fits)) }
+    let i = inside (c .before) in
+    let l = i .before .loop in
+    record { fits = product-fits _ (l .weight) (l .value) (l .left) (i .loop-test .taken) (l .inv .2) (l .inv .1) (seven-bits (c .before .shared-slice-known .given (l .k) .fits)) }
 
 add-value : tie.Need-add-value Inv-loop μ-loop
 add-value c =
-    let l = c .before .before .before .before .loop in
-    record { fits = sum-fits _ (l .weight) (l .value) (l .left) (c .before .before .before .loop-test .taken) (l .inv .2) (l .inv .1) (seven-bits (c .before .shared-slice-known .given (l .k) .fits)) }
+    let i = inside (c .before) in
+    let l = i .before .loop in
+    record { fits = sum-fits _ (l .weight) (l .value) (l .left) (i .loop-test .taken) (l .inv .2) (l .inv .1) (seven-bits (c .before .shared-slice-known .given (l .k) .fits)) }
 
 mul-weight : tie.Need-mul-weight Inv-loop μ-loop
 mul-weight c =
-    let l = c .before .before .before .before .loop in
-    let h = next-most (l .weight) (l .left) (c .before .before .before .loop-test .taken) (l .inv .2) in
+    let i = inside (c .before) in
+    let l = i .before .loop in
+    let h = next-most (l .weight) (l .left) (i .loop-test .taken) (l .inv .2) in
     record { fits = omega arith }
 
 add-k : tie.Need-add-k Inv-loop μ-loop
@@ -89,10 +106,11 @@ loop-less c = omega arith
 
 loop-again : tie.Need-loop-again Inv-loop μ-loop
 loop-again c =
-    let l = c .before .before .before .before .loop in (
-      more-groups (l .left) _ (l .k) (l .value) (l .weight) (c .before .before .before .loop-test .taken) (c .before .before .if1 .left) (c .if2 .left) ∙ l .inv .0,
+    let i = inside (c .before) in
+    let l = i .before .loop in (
+      more-groups (l .left) _ (l .k) (l .value) (l .weight) (i .loop-test .taken) (c .before .before .if1 .left) (c .if2 .left) ∙ l .inv .0,
       group-below _ (l .weight) (l .value) (seven-bits (c .before .shared-slice-known .given (l .k) .fits)) (l .inv .1),
-      next-weight (l .weight) (l .left) (c .before .before .before .loop-test .taken) (l .inv .2),
+      next-weight (l .weight) (l .left) (i .loop-test .taken) (l .inv .2),
     )
 
 returns-4 : tie.Need-returns-4 Inv-loop μ-loop
@@ -103,7 +121,8 @@ shared-slice-read-if6 c = omega arith
 
 add-t24 : tie.Need-add-t24 Inv-loop μ-loop
 add-t24 c =
-    let l = c .before .before .before .before .loop in
+    let e = behind (c .before) in
+    let l = e .before .loop in
     let h = weight-most (l .weight) (7 * l .left) (l .inv .2) in
     record { fits = omega arith }
 
@@ -112,13 +131,15 @@ add-t25 c = omega arith
 
 returns-5 : tie.Need-returns-5 Inv-loop μ-loop
 returns-5 c =
-    let l = c .before .before .before .before .loop in
-    tenth-one (l .left) _ (l .k) (l .value) (l .weight) (c .before .before .before .loop-test .left) (c .before .before .if5 .left) (c .if6 .taken) ∙ l .inv .0
+    let e = behind (c .before) in
+    let l = e .before .loop in
+    tenth-one (l .left) _ (l .k) (l .value) (l .weight) (e .loop-test .left) (c .before .before .if5 .left) (c .if6 .taken) ∙ l .inv .0
 
 returns-6 : tie.Need-returns-6 Inv-loop μ-loop
 returns-6 c =
-    let l = c .before .before .before .before .loop in
-    tenth-other (l .left) _ (l .k) (l .value) (l .weight) (c .before .before .before .loop-test .left) (c .before .before .if5 .left) (c .if6 .left) ∙ l .inv .0
+    let e = behind (c .before) in
+    let l = e .before .loop in
+    tenth-other (l .left) _ (l .k) (l .value) (l .weight) (e .loop-test .left) (c .before .before .if5 .left) (c .if6 .left) ∙ l .inv .0
 
 pub number-at-spec : {M : Type 1} → statement M
 number-at-spec =

@@ -1,5 +1,9 @@
--- `trace::reader::number_from` meets its contract: a walk of its MIR, by hand. A `Reader` that one call returns is held in a local and passed to the read. All that the proof knows of `over` and of `read` is that each meets its contract.
--- The machine value that `over` returns is stored and passed on as it is. In a local of a body MIR erases the lifetime of the struct's type, so the value is shown to have the type at `erased`: what the struct owns does not say the lifetime's name.
+-- `trace::reader::number_from` meets its contract: a walk of its MIR, by hand. A `Reader` that one
+-- call returns is held in a local and passed to the read. The proof knows of `over` and of `read` only
+-- that each meets its contract.
+-- The machine value that `over` returns is stored and passed on as it is. In a local of a body MIR erases the
+-- lifetime of the struct's type. So the value is shown to have the type at `erased`: what the struct owns does
+-- not say the lifetime's name.
 use mathlib.Core.Path.{_≡_, refl, ap, _∙_}
 use Prim.Native.Nat.{ℕ, _<_, _^_}
 use mathlib.Core.List.{List, [], _∷_}

@@ -1,5 +1,7 @@
--- `trace::reader::over` meets its contract: a walk of its MIR, by hand. A `Reader` is made of the octets and the offset passed, in the result's local.
--- A `&[u8]` is Copy, so what it owns is had twice: once for the octets at exit, and once inside the result, beside the offset's facts.
+-- `trace::reader::over` meets its contract: a walk of its MIR, by hand. A `Reader` is made of the octets and the
+-- offset passed, in the result's local.
+-- A `&[u8]` is Copy, so there are two copies of what it owns: one for the octets at exit, and one inside the
+-- result, beside the offset's facts.
 use mathlib.Core.Path.{refl}
 use Prim.Native.Nat.{ℕ, _<_, _^_}
 use mathlib.Core.List.{List, [], _∷_}

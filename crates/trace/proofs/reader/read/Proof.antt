@@ -1,5 +1,7 @@
--- `trace::reader::read` meets its contract: a walk of its MIR, by hand. The struct is taken apart, and `number_at` is called on the octets and the offset. All that the proof knows of `number_at` is that it meets its contract.
--- The struct is Copy: what it owns is had twice, one copy is kept whole for the exit, and of the other what the octets own goes to the callee, beside the lifetime's token, which comes back.
+-- `trace::reader::read` meets its contract: a walk of its MIR, by hand. The struct is taken apart, and `number_at`
+-- is called on the octets and the offset. The proof knows of `number_at` only that it meets its contract.
+-- The struct is Copy, so there are two copies of what it owns. One is kept whole for the exit. From the other,
+-- what the octets own goes to the callee, beside the lifetime's token, which comes back.
 use mathlib.Core.Path.{_≡_, refl}
 use Prim.Native.Nat.{_<_, _^_}
 use mathlib.Core.List.{[], _∷_}

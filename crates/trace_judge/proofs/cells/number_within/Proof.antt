@@ -4,15 +4,6 @@ use borrow.Author.Needs.{needs}
 use Rattle.trace_judge.proofs.cells.number_within.Statement.{statement}
 use Rattle.trace_judge.proofs.cells.number_within.Tie as tie
 
-number-from-requires : tie.Need-number-from-requires
-number-from-requires c κs = search needs
-
-enum-known-r : tie.Need-enum-known-r
-enum-known-r c = search needs
-
-enum-known-v : tie.Need-enum-known-v
-enum-known-v c = search needs
-
 returns : tie.Need-returns
 returns c = number-low _ _ _ _ (c .before .before .before .before .number-from .ensures) (c .before .before .v .given .1) (search needs)
 
@@ -28,4 +19,4 @@ returns-4 c = number-within _ _ _ _ (c .before .before .before .before .before .
 pub number-within-spec : {M : Type 1} → statement M
 number-within-spec =
     tie.close
-    (tie.spec number-from-requires enum-known-r enum-known-v returns returns-2 returns-3 returns-4)
+    (tie.spec (λ c κs. search needs) (λ c. search needs) (λ c. search needs) returns returns-2 returns-3 returns-4)

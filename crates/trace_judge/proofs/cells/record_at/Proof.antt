@@ -4,18 +4,6 @@ use borrow.Author.Needs.{needs}
 use Rattle.trace_judge.proofs.cells.record_at.Statement.{statement}
 use Rattle.trace_judge.proofs.cells.record_at.Tie as tie
 
-number-within-requires : tie.Need-number-within-requires
-number-within-requires c κs = search needs
-
-enum-known-r : tie.Need-enum-known-r
-enum-known-r c = search needs
-
-enum-known-since : tie.Need-enum-known-since
-enum-known-since c = search needs
-
-with-since-requires : tie.Need-with-since-requires
-with-since-requires c κs = search needs
-
 returns : tie.Need-returns
 returns c = since-refused _ _ _ (c .before .before .before .number-within .ensures) (c .before .r .given .1)
 
@@ -25,10 +13,4 @@ returns-2 c = since-read _ _ _ (c .before .before .before .before .number-within
 pub record-at-spec : {M : Type 1} → statement M
 record-at-spec =
     tie.close
-    (tie.spec
-    number-within-requires
-    enum-known-r
-    enum-known-since
-    with-since-requires
-    returns
-    returns-2)
+    (tie.spec (λ c κs. search needs) (λ c. search needs) (λ c. search needs) (λ c κs. search needs) returns returns-2)

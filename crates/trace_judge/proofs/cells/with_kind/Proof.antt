@@ -4,15 +4,6 @@ use borrow.Author.Needs.{needs}
 use Rattle.trace_judge.proofs.cells.with_kind.Statement.{statement}
 use Rattle.trace_judge.proofs.cells.with_kind.Tie as tie
 
-number-within-requires : tie.Need-number-within-requires
-number-within-requires c κs = search needs
-
-enum-known-r : tie.Need-enum-known-r
-enum-known-r c = search needs
-
-enum-known-rate : tie.Need-enum-known-rate
-enum-known-rate c = search needs
-
 returns : tie.Need-returns
 returns c = rate-refused _ _ _ _ (c .before .before .before .number-within .ensures) (c .before .r .given .1)
 
@@ -20,5 +11,4 @@ returns-2 : tie.Need-returns-2
 returns-2 c = rate-read _ _ _ _ (c .before .before .before .number-within .ensures) (c .before .rate .given .1)
 
 pub with-kind-spec : {M : Type 1} → statement M
-with-kind-spec =
-    tie.close (tie.spec number-within-requires enum-known-r enum-known-rate returns returns-2)
+with-kind-spec = tie.close (tie.spec (λ c κs. search needs) (λ c. search needs) (λ c. search needs) returns returns-2)

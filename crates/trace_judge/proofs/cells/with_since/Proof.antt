@@ -4,18 +4,6 @@ use borrow.Author.Needs.{needs}
 use Rattle.trace_judge.proofs.cells.with_since.Statement.{statement}
 use Rattle.trace_judge.proofs.cells.with_since.Tie as tie
 
-number-within-requires : tie.Need-number-within-requires
-number-within-requires c κs = search needs
-
-enum-known-r : tie.Need-enum-known-r
-enum-known-r c = search needs
-
-enum-known-kind : tie.Need-enum-known-kind
-enum-known-kind c = search needs
-
-with-kind-requires : tie.Need-with-kind-requires
-with-kind-requires c κs = search needs
-
 returns : tie.Need-returns
 returns c = kind-refused _ _ _ (c .before .before .before .number-within .ensures) (c .before .r .given .1)
 
@@ -25,10 +13,4 @@ returns-2 c = kind-read _ _ _ (c .before .before .before .before .number-within 
 pub with-since-spec : {M : Type 1} → statement M
 with-since-spec =
     tie.close
-    (tie.spec
-    number-within-requires
-    enum-known-r
-    enum-known-kind
-    with-kind-requires
-    returns
-    returns-2)
+    (tie.spec (λ c κs. search needs) (λ c. search needs) (λ c. search needs) (λ c κs. search needs) returns returns-2)

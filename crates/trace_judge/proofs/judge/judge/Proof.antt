@@ -5,15 +5,6 @@ use borrow.Author.Needs.{needs}
 use Rattle.trace_judge.proofs.judge.judge.Statement.{statement}
 use Rattle.trace_judge.proofs.judge.judge.Tie as tie
 
-number-within-requires : tie.Need-number-within-requires
-number-within-requires c κs = search needs
-
-enum-known-r : tie.Need-enum-known-r
-enum-known-r c = search needs
-
-enum-known-n : tie.Need-enum-known-n
-enum-known-n c = search needs
-
 with-n-requires : tie.Need-with-n-requires
 with-n-requires c κs = value-fits _ 0 1 8 (c .before .before .before .number-within .ensures) (c .before .n .given .1) .1
 
@@ -26,4 +17,4 @@ returns-2 c = n-read _ (c .before .before .before .before .number-within .ensure
 pub judge-spec : {M : Type 1} → statement M
 judge-spec =
     tie.close
-    (tie.spec number-within-requires enum-known-r enum-known-n with-n-requires returns returns-2)
+    (tie.spec (λ c κs. search needs) (λ c. search needs) (λ c. search needs) with-n-requires returns returns-2)

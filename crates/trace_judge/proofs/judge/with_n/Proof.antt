@@ -5,15 +5,6 @@ use borrow.Author.Needs.{needs}
 use Rattle.trace_judge.proofs.judge.with_n.Statement.{statement}
 use Rattle.trace_judge.proofs.judge.with_n.Tie as tie
 
-number-within-requires : tie.Need-number-within-requires
-number-within-requires c κs = search needs
-
-enum-known-r : tie.Need-enum-known-r
-enum-known-r c = search needs
-
-enum-known-trm : tie.Need-enum-known-trm
-enum-known-trm c = search needs
-
 judge-cells-requires : tie.Need-judge-cells-requires
 judge-cells-requires c κs = (search needs, value-fits _ _ 0 7 (c .before .before .before .number-within .ensures) (c .before .trm .given .1) .1)
 
@@ -26,10 +17,4 @@ returns-2 c = trm-read _ _ _ (c .before .before .before .before .number-within .
 pub with-n-spec : {M : Type 1} → statement M
 with-n-spec =
     tie.close
-    (tie.spec
-    number-within-requires
-    enum-known-r
-    enum-known-trm
-    judge-cells-requires
-    returns
-    returns-2)
+    (tie.spec (λ c κs. search needs) (λ c. search needs) (λ c. search needs) judge-cells-requires returns returns-2)

@@ -7,11 +7,8 @@ use Rattle.trace_judge.proofs.rules.too_soon.Tie as tie
 returns : tie.Need-returns
 returns c = soon-zero _ (search needs)
 
-gap-requires : tie.Need-gap-requires
-gap-requires c κs = search needs
-
 returns-2 : tie.Need-returns-2
 returns-2 c = soon-gap _ (search needs) (c .before .gap .ensures)
 
 pub too-soon-spec : {M : Type 1} → statement M
-too-soon-spec = tie.close (tie.spec returns gap-requires returns-2)
+too-soon-spec = tie.close (tie.spec returns (λ c κs. search needs) returns-2)

@@ -7,14 +7,8 @@ use Rattle.trace_judge.proofs.rules.with_broken.Tie as tie
 returns : tie.Need-returns
 returns c = broken-before _ _ _ _ _ (c .if1 .taken)
 
-add-t7 : tie.Need-add-t7
-add-t7 c = search needs
-
-broken-rule-requires : tie.Need-broken-rule-requires
-broken-rule-requires c κs = search needs
-
 returns-2 : tie.Need-returns-2
 returns-2 c = broken-now _ _ _ _ _ (search needs) (c .broken-rule .ensures)
 
 pub with-broken-spec : {M : Type 1} → statement M
-with-broken-spec = tie.close (tie.spec returns add-t7 broken-rule-requires returns-2)
+with-broken-spec = tie.close (tie.spec returns (λ c. search needs) (λ c κs. search needs) returns-2)

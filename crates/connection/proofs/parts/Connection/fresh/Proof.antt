@@ -1,4 +1,3 @@
--- `connection::parts::Connection::fresh` meets its contract.
 use Rattle.connection.specs.Parts.{fresh}
 use borrow.Author.Needs.{needs}
 use Rattle.connection.proofs.parts.Connection.fresh.Statement.{statement}

@@ -1,4 +1,3 @@
--- `moves::moves::Rate::feedback` meets its contract.
 use borrow.Author.Needs.{needs}
 use Rattle.rate_moves.specs.Moves.{feedback}
 use Rattle.rate_moves.proofs.moves.Rate.feedback.Statement.{statement}

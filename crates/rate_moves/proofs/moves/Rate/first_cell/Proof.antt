@@ -1,4 +1,3 @@
--- `moves::moves::Rate::first_cell` meets its contract.
 use borrow.Author.Needs.{needs}
 use Rattle.rate_moves.specs.Moves.{firstCell}
 use Rattle.rate_moves.proofs.moves.Rate.first_cell.Statement.{statement}

@@ -1,4 +1,3 @@
--- `moves::moves::Rate::idle` meets its contract.
 use borrow.Author.Tests.{lt-ltb, le-ltb}
 use borrow.Author.Needs.{needs}
 use Rattle.rate_moves.specs.Moves.{firstCell, idle}

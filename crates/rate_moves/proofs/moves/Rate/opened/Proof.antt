@@ -1,4 +1,3 @@
--- `moves::moves::Rate::opened` meets its contract.
 use borrow.Author.Needs.{needs}
 use Rattle.rate_moves.proofs.moves.Rate.opened.Statement.{statement}
 use Rattle.rate_moves.proofs.moves.Rate.opened.Tie as tie

@@ -1,4 +1,3 @@
--- `moves::moves::Rate::rate_by_marks` meets its contract.
 use mathlib.Core.Path.{_∙_}
 use borrow.Author.Needs.{needs}
 use Rattle.rate_moves.specs.Moves.{rateByMarks}

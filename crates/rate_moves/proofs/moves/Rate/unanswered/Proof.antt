@@ -1,4 +1,3 @@
--- `moves::moves::Rate::unanswered` meets its contract.
 use mathlib.Core.Path.{sym}
 use borrow.Author.Tests.{le-leb, lt-leb, eq-eqb, ne-eqb}
 use borrow.Author.Needs.{needs}

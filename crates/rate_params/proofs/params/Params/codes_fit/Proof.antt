@@ -1,4 +1,3 @@
--- `params::params::Params::codes_fit` meets its contract.
 use borrow.Author.Tests.{le-leb, lt-leb}
 use Rattle.rate_params.specs.Params.{codesFit}
 use Rattle.rate_params.proofs.params.Params.codes_fit.Statement.{statement}

@@ -1,4 +1,3 @@
--- `params::params::Params::crm` meets its contract.
 use borrow.Author.Needs.{needs}
 use Rattle.rate_params.specs.Params.{crm}
 use Rattle.rate_params.proofs.params.Params.crm.Statement.{statement}

@@ -1,4 +1,3 @@
--- `params::params::Params::fits` meets its contract.
 use mathlib.Core.Path.{sym, _∙_}
 use borrow.Author.Needs.{needs}
 use Rattle.rate_params.specs.Params.{paramsFit}

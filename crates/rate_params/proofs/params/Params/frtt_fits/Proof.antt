@@ -1,4 +1,3 @@
--- `params::params::Params::frtt_fits` meets its contract.
 use mathlib.Core.Path.{refl}
 use Rattle.rate_params.specs.Params.{frttFits}
 use Rattle.rate_params.proofs.params.Params.frtt_fits.Statement.{statement}

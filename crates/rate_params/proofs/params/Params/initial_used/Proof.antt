@@ -1,4 +1,3 @@
--- `params::params::Params::initial_used` meets its contract.
 use borrow.Author.Tests.{eq-eqb, ne-eqb}
 use borrow.Author.Needs.{needs}
 use Rattle.rate_params.specs.Params.{initialUsed}

@@ -1,4 +1,3 @@
--- `params::params::Params::limits_fit` meets its contract.
 use mathlib.Core.Path.{sym, _∙_}
 use borrow.Author.Needs.{needs}
 use Rattle.rate_params.proofs.params.Params.limits_fit.Statement.{statement}

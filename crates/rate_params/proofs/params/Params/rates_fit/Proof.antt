@@ -1,4 +1,3 @@
--- `params::params::Params::rates_fit` meets its contract.
 use mathlib.Core.Path.{sym}
 use borrow.Author.Tests.{le-leb, lt-leb}
 use borrow.Author.Needs.{needs}

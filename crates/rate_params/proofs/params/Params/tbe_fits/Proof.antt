@@ -1,4 +1,3 @@
--- `params::params::Params::tbe_fits` meets its contract.
 use borrow.Author.Needs.{needs}
 use Rattle.rate_params.specs.Params.{tbeFits}
 use Rattle.rate_params.proofs.params.Params.tbe_fits.Statement.{statement}

@@ -1,0 +1,2 @@
+// A payload's 48 octets in six words.
+pub mod payload;

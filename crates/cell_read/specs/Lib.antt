@@ -1,0 +1,2 @@
+-- What the code's own functions find in a cell.
+pub mod RefusedAsRead

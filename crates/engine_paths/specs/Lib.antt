@@ -1,0 +1,2 @@
+-- What the search for a member and its path finds.
+pub mod Member

@@ -1,2 +1,0 @@
-// An entry's connection out of its words.
-pub mod load;
