@@ -1,4 +1,4 @@
-// The engine's calls on a lent table. Those that write or read a cell are in the crates slots and arrivals. Each
+// The engine's calls on a lent table. Those that write or read a cell are in engine_slots and engine_arrivals. Each
 // has no requires. Its ensures is the equation with the definition of its step.
 pub mod acr;
 pub mod close;

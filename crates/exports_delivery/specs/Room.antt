@@ -1,5 +1,5 @@
 -- The contracted minimum, always. A transmitter lets in no open and no backward cell above the room of
--- its name (`delivery_caps/specs/Room`). Calling abr_limit on each backward cell before abr_receive
+-- its name (`promise_caps/specs/Room`). Calling abr_limit on each backward cell before abr_receive
 -- meets this. A bucket holds its opens and rises. Then its caps fit at every slot, and a leased circuit
 -- needs only that something waits.
 use Prim.Native.Nat.{ℕ, _+_, _*_, _≤_}

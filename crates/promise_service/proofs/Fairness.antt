@@ -1,5 +1,5 @@
 -- The data slots of a path in a list of calls are a stretch of turns among its members. These
--- turns are fair (crate members).
+-- turns are fair (connection_members).
 use Prim.Native.Nat.{ℕ, _+_, _≤_, _<_}
 use mathlib.Core.Path.{_≡_, refl, sym, ap, subst, _∙_}
 use mathlib.Core.Logic.{_≢_}

@@ -1,4 +1,4 @@
--- The directory's words, in falling order: how many they are, those of an empty table, and that they stay
+-- The directory's words, in descending order: how many they are, those of an empty table, and that they stay
 -- while no entry is taken or freed.
 use Prim.Native.Nat.{ℕ, zero, suc}
 use mathlib.Core.Path.{_≡_, refl, ap, _∙_}

@@ -221,7 +221,7 @@ group g ss = take 64 (drop (g * 64) ss)
 abbrev pub used : List Entry → List ℕ
 used ss = row (λ g. bitmap isTaken (group g ss)) 0 groups
 
--- The directory has a word for each entry in use, with its name and its number, in falling order. The words of
+-- The directory has a word for each entry in use, with its name and its number, in descending order. The words of
 -- the others are 0 and come last.
 unfoldable pub directoryWord : (entry : ℕ) → Entry → ℕ
 directoryWord i free = 0

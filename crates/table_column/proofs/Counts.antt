@@ -1,4 +1,4 @@
--- Two falling lists: one has a word w where the other has a 0. The word w enters the one, and leaves the other.
+-- Two descending lists: one has a word w where the other has a 0. The word w enters the one, and leaves the other.
 use Prim.Native.Nat.{ℕ, suc, _+_, _≤_, _<_}
 use mathlib.Core.Path.{_≡_, refl, sym, ap, subst, _∙_}
 use mathlib.Core.List.{List, [], _∷_}

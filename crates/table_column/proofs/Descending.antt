@@ -80,7 +80,7 @@ at-least-among w (x ∷ xs) h = go (λ q. at-least-among w xs q) (reach w x) (re
     go rest (above l) (below m) = record { place = 0; inside = omega arith; is = omega (arith, l, m) }
     go rest (below l) m = behind (rest (omega (arith, h, reaches-not w x l)))
 
--- ---- falling lists
+-- ---- descending lists
 
 pub at-least-none : (w : ℕ) (xs : List ℕ) → Descending xs → getD xs 0 0 < w → atLeast w xs ≡ 0
 unfolding atLeast
@@ -117,7 +117,7 @@ at-least-self xs f j l = go (reach (suc j) (atLeast (getD xs j 0) xs))
     go (above h) = h
     go (below h) = absurd (omega (arith, at-least-out (getD xs j 0) xs f j (omega (arith, h)) l))
 
--- so two falling lists with the same counts are one list
+-- so two descending lists with the same counts are one list
 pub descending-same : (xs ys : List ℕ) → Descending xs → Descending ys → length xs ≡ length ys → ((w : ℕ) → atLeast w xs ≡ atLeast w ys) → xs ≡ ys
 descending-same xs ys f g n e =
     ext-getD 0 xs ys n (λ j l. le-antisymm (up xs ys f g (λ w. e w) j l) (up ys xs g f (λ w. sym (e w)) j (omega (arith, n, l))))

@@ -1,4 +1,4 @@
--- A word enters a falling list, or leaves it. The list is falling again, and only the counts of that word change.
+-- A word enters a descending list, or leaves it. The list is descending again, and only the counts of that word change.
 use Prim.Native.Nat.{ℕ, zero, suc, _+_, _≤_, _<_}
 use mathlib.Core.Path.{_≡_, refl, ap, _∙_}
 use mathlib.Core.List.{List, [], _∷_, _++_}

@@ -1,4 +1,4 @@
--- What the functions make of a column of falling words that stands in a table between other words.
+-- What the functions make of a column of descending words that stands in a table between other words.
 use Prim.Native.Nat.{ℕ, _+_, _-_, _^_, _≤_, _<_, min}
 use mathlib.Core.Path.{_≡_}
 use mathlib.Core.List.{List, _++_}

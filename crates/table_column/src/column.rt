@@ -1,4 +1,4 @@
-// A column of falling words in a table, which starts at word `from` and has `len` words.
+// A column of descending words in a table, which starts at word `from` and has `len` words.
 ghost use mathlib.Core.Path.{_≡_};
 ghost use mathlib.Core.Bool.{cond, _&&_};
 ghost use Prim.Native.Nat.{_≤_};

@@ -1,2 +1,2 @@
-// A column of words in falling order, the unused ones 0 and behind the others: found by halving, and kept in order.
+// A column of words in descending order, the unused ones 0 and behind the others: found by halving, and kept in order.
 pub mod column;

@@ -1,4 +1,4 @@
--- `judge::cells::number_within` meets its contract.
+-- `trace_judge::cells::number_within` meets its contract.
 use Rattle.trace_judge.proofs.ReadCases.{number-low, number-high, number-refused, number-within}
 use borrow.Author.Needs.{needs}
 use Rattle.trace_judge.proofs.cells.number_within.Statement.{statement}

@@ -1,4 +1,4 @@
--- `judge::cells::record_at` meets its contract.
+-- `trace_judge::cells::record_at` meets its contract.
 use Rattle.trace_judge.proofs.ReadCases.{since-refused, since-read}
 use borrow.Author.Needs.{needs}
 use Rattle.trace_judge.proofs.cells.record_at.Statement.{statement}

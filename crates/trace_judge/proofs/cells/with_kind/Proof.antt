@@ -1,4 +1,4 @@
--- `judge::cells::with_kind` meets its contract.
+-- `trace_judge::cells::with_kind` meets its contract.
 use Rattle.trace_judge.proofs.ReadCases.{rate-refused, rate-read}
 use borrow.Author.Needs.{needs}
 use Rattle.trace_judge.proofs.cells.with_kind.Statement.{statement}

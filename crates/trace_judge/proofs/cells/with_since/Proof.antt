@@ -1,4 +1,4 @@
--- `judge::cells::with_since` meets its contract.
+-- `trace_judge::cells::with_since` meets its contract.
 use Rattle.trace_judge.proofs.ReadCases.{kind-refused, kind-read}
 use borrow.Author.Needs.{needs}
 use Rattle.trace_judge.proofs.cells.with_since.Statement.{statement}

@@ -1,4 +1,4 @@
--- `judge::judge::conclude` meets its contract.
+-- `trace_judge::judge::conclude` meets its contract.
 use Rattle.trace_judge.proofs.RuleCases.{ends-unbroken, ends-broken}
 use Rattle.trace_judge.proofs.judge.conclude.Statement.{statement}
 use Rattle.trace_judge.proofs.judge.conclude.Tie as tie

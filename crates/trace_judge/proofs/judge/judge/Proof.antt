@@ -1,4 +1,4 @@
--- `judge::judge::judge` meets its contract.
+-- `trace_judge::judge::judge` meets its contract.
 use Rattle.trace_judge.proofs.ReadCases.{n-refused, n-read}
 use Rattle.trace_judge.proofs.Progress.{value-fits}
 use borrow.Author.Needs.{needs}

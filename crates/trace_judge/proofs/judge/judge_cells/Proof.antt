@@ -1,4 +1,4 @@
--- `judge::judge::judge_cells` meets its contract. The invariant: what is left to read, judged from what is
+-- `trace_judge::judge::judge_cells` meets its contract. The invariant: what is left to read, judged from what is
 -- kept, gives the answer (`Rest`).
 use mathlib.Core.Path.{_∙_}
 use mathlib.Core.Bool.{true}

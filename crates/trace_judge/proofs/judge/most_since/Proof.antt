@@ -1,4 +1,4 @@
--- `judge::judge::most_since` meets its contract.
+-- `trace_judge::judge::most_since` meets its contract.
 use Rattle.trace_judge.proofs.RuleCases.{most-first, most-later}
 use borrow.Author.Needs.{needs}
 use Rattle.trace_judge.proofs.judge.most_since.Statement.{statement}

@@ -1,4 +1,4 @@
--- `judge::judge::with_n` meets its contract.
+-- `trace_judge::judge::with_n` meets its contract.
 use Rattle.trace_judge.proofs.ReadCases.{trm-refused, trm-read}
 use Rattle.trace_judge.proofs.Progress.{value-fits}
 use borrow.Author.Needs.{needs}

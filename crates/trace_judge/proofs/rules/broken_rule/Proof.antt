@@ -1,4 +1,4 @@
--- `judge::rules::broken_rule` meets its contract.
+-- `trace_judge::rules::broken_rule` meets its contract.
 use Rattle.trace_judge.proofs.RuleCases.{first-forward, first-other, later-soon, due-forward, due-other, early-forward, early-other}
 use borrow.Author.Needs.{needs}
 use Rattle.trace_judge.proofs.rules.broken_rule.Statement.{statement}

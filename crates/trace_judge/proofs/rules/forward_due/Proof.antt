@@ -1,4 +1,4 @@
--- `judge::rules::forward_due` meets its contract.
+-- `trace_judge::rules::forward_due` meets its contract.
 use Rattle.trace_judge.proofs.RuleCases.{due-last, due-few, due-trm}
 use borrow.Author.Needs.{needs}
 use Rattle.trace_judge.proofs.rules.forward_due.Statement.{statement}

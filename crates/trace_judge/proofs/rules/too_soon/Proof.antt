@@ -1,4 +1,4 @@
--- `judge::rules::too_soon` meets its contract.
+-- `trace_judge::rules::too_soon` meets its contract.
 use Rattle.trace_judge.proofs.RuleCases.{soon-zero, soon-gap}
 use borrow.Author.Needs.{needs}
 use Rattle.trace_judge.proofs.rules.too_soon.Statement.{statement}

@@ -1,4 +1,4 @@
--- `judge::rules::with_broken` meets its contract.
+-- `trace_judge::rules::with_broken` meets its contract.
 use Rattle.trace_judge.proofs.RuleCases.{broken-before, broken-now}
 use borrow.Author.Needs.{needs}
 use Rattle.trace_judge.proofs.rules.with_broken.Statement.{statement}

@@ -1,4 +1,4 @@
--- `judge::rules::with_sent` meets its contract.
+-- `trace_judge::rules::with_sent` meets its contract.
 use Rattle.trace_judge.proofs.RuleCases.{sent-forward, sent-other}
 use borrow.Author.Needs.{needs}
 use Rattle.trace_judge.proofs.rules.with_sent.Statement.{statement}
