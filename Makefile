@@ -14,7 +14,7 @@
 #
 # ABR_LIB names another archive than the proved one, which then is not built.
 
-VERSION := 0.18.0
+VERSION := 0.19.0
 PREFIX ?= /usr/local
 DESTDIR ?=
 CC ?= gcc

@@ -5,7 +5,8 @@
  * or the path's. Nothing waits then where that can be, since Trm is looked at only if nothing waits. Where the
  * directory moves, it has the highest name, VPI 255, and VCI 65,535 or the path's, with all other words behind its own,
  * and the others are never ready. A forward cell makes both of its moves, and a received one replaces another. A path
- * has all 256 members, or all but one. A port has 1,024 demands. A trace has 1,000 cells of fifteen octets.
+ * has all 256 members, or all but one. What is read is read of the last leaf and of the lowest member. A port has 1,024
+ * demands. A trace has 1,000 cells of fifteen octets.
  * bench/worst.c counts the instructions of these calls, bench/cold.c measures their time with table and cell in the
  * caches and with both flushed from them, tests/c/stack.c their stack.
  */
@@ -51,23 +52,29 @@ typedef struct {
     enum need need;
     enum name at;
     void (*call)(void);
-    uint32_t kind; /* of a slot or of a cell that is read, else 0 */
+    uint32_t kind; /* of a slot, of a cell that is received or read, of a pair that is read; else 0 */
 } abr_case;
 
 static abr_table table;
 static uint8_t cell[ABR_CELL_OCTETS];
 static abr_rm rm = {0, 0, 0, 0, 0, 0, 0, 0x53E8, 0x5000, 0x4000, 7, 9};
 static abr_params params;
-static address at; /* of the one concerned */
+static address at; /* of the one concerned, which is the last opened: the others have the leaves before its own */
+static uint32_t read_vci; /* of the pair that is read */
 static uint64_t demands[ABR_DEMANDS_MAX], capacity;
 static uint8_t trace[2 + TRACE_CELLS * TRACE_CELL];
 static size_t trace_len;
 
 /* The answers of the calls. */
 static uint32_t refusal;
+static abr_opened opened;
 static abr_answer answer;
+static abr_received received;
 static abr_closed closed;
 static abr_sent sent;
+static abr_connection connection;
+static abr_member listed;
+static abr_totals totals;
 static abr_cell content;
 static abr_allowed allowed;
 static abr_coded coded;
@@ -79,14 +86,14 @@ static abr_verdict verdict;
 static uint64_t next, passed;
 
 static void call_slot(void) { sent = abr_slot(&table, CALL_AT, cell, sizeof cell); }
-static void call_receive(void) { answer = abr_receive(&table, cell, sizeof cell); }
-static void call_open(void) { answer = abr_open(&table, at.vpi, at.vci, 3 * SECOND, params); }
+static void call_receive(void) { received = abr_receive(&table, cell, sizeof cell); }
+static void call_open(void) { opened = abr_open(&table, at.vpi, at.vci, 3 * SECOND, params); }
 static void call_close(void) { closed = abr_close(&table, at.vpi, at.vci); }
 static void call_offer(void) { answer = abr_offer(&table, at.vpi, at.vci, 0); }
-static void call_open_path(void) { answer = abr_open_path(&table, at.vpi, 3 * SECOND, params); }
-static void call_add(void) { answer = abr_add(&table, at.vpi, MEMBER_VCI); }
+static void call_open_path(void) { opened = abr_open_path(&table, at.vpi, 3 * SECOND, params); }
+static void call_add_member(void) { answer = abr_add_member(&table, at.vpi, MEMBER_VCI); }
 static void call_offer_member(void) { answer = abr_offer_member(&table, at.vpi, MEMBER_VCI, 0); }
-static void call_remove(void) { closed = abr_remove(&table, at.vpi, MEMBER_VCI); }
+static void call_remove_member(void) { closed = abr_remove_member(&table, at.vpi, MEMBER_VCI); }
 static void call_set_level(void) { refusal = abr_set_level(&table, 2); }
 static void call_make(void) { answer = abr_make(&table, at.vpi, at.vci, 3 * SECOND); }
 static void call_out_of_rate(void)
@@ -94,7 +101,11 @@ static void call_out_of_rate(void)
     refusal = abr_out_of_rate(&table, at.vpi, at.vci, 3 * SECOND, cell, sizeof cell);
 }
 static void call_acr(void) { allowed = abr_acr(&table, at.vpi, at.vci); }
-static void call_next(void) { next = abr_next(&table); }
+static void call_status(void) { connection = abr_status(&table, at.vpi, read_vci); }
+static void call_at(void) { connection = abr_at(&table, OTHERS); }
+static void call_member_at(void) { listed = abr_member_at(&table, 0); }
+static void call_link(void) { totals = abr_link(&table); }
+static void call_next_ready(void) { next = abr_next_ready(&table); }
 static void call_slot_time(void) { passed = abr_slot_time(&table, 2 * SECOND, 2 * SECOND); }
 static void call_export(void) { contract = abr_export(&table, at.vpi, at.vci, &refusal); }
 static void call_write_rm(void) { refusal = abr_write_rm(rm, cell, sizeof cell); }
@@ -114,26 +125,33 @@ static const abr_case cases[] = {
     {"slot, made cell", MADE_WAITS, LOWEST, call_slot, ABR_SENT_TURNED},
     {"slot, data", DATA_WAITS, LOWEST, call_slot, ABR_SENT_DATA},
     {"slot, idle", NOTHING, LOWEST, call_slot, ABR_SENT_IDLE},
-    {"receive, forward cell", TURNED_REPLACED, LOWEST, call_receive, 0},
-    {"receive, backward cell", BACKWARD_CELL, LOWEST, call_receive, 0},
-    {"receive, data", DATA_CELL, LOWEST, call_receive, 0},
+    {"receive, forward cell", TURNED_REPLACED, LOWEST, call_receive, ABR_RECEIVED_FORWARD},
+    {"receive, backward cell", BACKWARD_CELL, LOWEST, call_receive, ABR_RECEIVED_BACKWARD},
+    {"receive, data", DATA_CELL, LOWEST, call_receive, ABR_RECEIVED_DATA},
     {"open", CLOSED, HIGHEST, call_open, 0},
     {"close", NOTHING, HIGHEST, call_close, 0},
     {"offer", NOTHING, LOWEST, call_offer, 0},
     {"slot, next member's data", NEXT_MEMBER, LOWEST, call_slot, ABR_SENT_DATA},
     {"slot, same member's data", SAME_MEMBER, LOWEST, call_slot, ABR_SENT_DATA},
-    {"receive, member's data", MEMBER_CELL, LOWEST, call_receive, 0},
+    {"receive, member's data", MEMBER_CELL, LOWEST, call_receive, ABR_RECEIVED_DATA},
     {"open path", CLOSED_PATH, HIGHEST, call_open_path, 0},
     {"close path", MEMBERS, HIGHEST, call_close, 0},
-    {"add member", MISSING_MEMBER, LOWEST, call_add, 0},
+    {"add member", MISSING_MEMBER, LOWEST, call_add_member, 0},
     {"offer to a member", MEMBERS, LOWEST, call_offer_member, 0},
-    {"remove member", MEMBERS, LOWEST, call_remove, 0},
+    {"remove member", MEMBERS, LOWEST, call_remove_member, 0},
     {"set level", NOTHING, LOWEST, call_set_level, 0},
     {"make", MADE_REPLACED, LOWEST, call_make, 0},
     {"out-of-rate cell", OUTSIDE, LOWEST, call_out_of_rate, 0},
     {"acr", NOTHING, LOWEST, call_acr, 0},
+    {"status, channel", NOTHING, LOWEST, call_status, ABR_CHANNEL},
+    {"status, path", MEMBERS, LOWEST, call_status, ABR_PATH},
+    {"status, member", MEMBERS, LOWEST, call_status, ABR_MEMBER},
+    {"at, channel", NOTHING, LOWEST, call_at, ABR_CHANNEL},
+    {"at, path", MEMBERS, LOWEST, call_at, ABR_PATH},
+    {"member at", MEMBERS, LOWEST, call_member_at, 0},
+    {"link", MEMBERS, LOWEST, call_link, 0},
     {"export", NOTHING, LOWEST, call_export, 0},
-    {"next", NOTHING, LOWEST, call_next, 0},
+    {"next", NOTHING, LOWEST, call_next_ready, 0},
     {"slot time", NOTHING, LOWEST, call_slot_time, 0},
     {"write", NOTHING, LOWEST, call_write_rm, 0},
     {"read, RM cell", FORWARD_CELL, LOWEST, call_read, ABR_CELL_RM},
@@ -192,7 +210,7 @@ static int open_concerned(const abr_case *which)
     }
     wrong = abr_open_path(&table, at.vpi, 0, params).refusal != ABR_OK;
     for (uint32_t vci = lowest_member(which); vci <= LAST_MEMBER_VCI; vci++) {
-        wrong |= abr_add(&table, at.vpi, vci).refusal != ABR_OK;
+        wrong |= abr_add_member(&table, at.vpi, vci).refusal != ABR_OK;
     }
     return wrong;
 }
@@ -302,6 +320,7 @@ static int prepare(const abr_case *which)
 {
     at.vpi = which->at == LOWEST ? 0 : ABR_VPI_MAX;
     at.vci = which->need >= MEMBERS ? ABR_PATH_VCI : which->at == LOWEST ? ABR_VCI_MIN : ABR_VCI_MAX;
+    read_vci = which->call == call_status && which->kind == ABR_MEMBER ? MEMBER_VCI : at.vci;
     rm.vpi = at.vpi;
     rm.vci = at.vci;
     memset(&table, 0, sizeof table);
@@ -331,13 +350,29 @@ static int prepare(const abr_case *which)
     }
 }
 
+/* Whether a slot went to the one concerned, of a path to the right member, with a cell of the right kind. */
+static int accepted_slot(const abr_case *which)
+{
+    uint32_t turn = which->need == NEXT_MEMBER ? lowest_member(which) : LAST_MEMBER_VCI;
+    uint32_t vci = which->kind == ABR_SENT_IDLE ? 0 : at.vci == ABR_PATH_VCI ? turn : at.vci;
+    return sent.refusal == ABR_OK && sent.kind == which->kind && sent.vpi == at.vpi && sent.vci == vci &&
+           sent.made == (which->need == MADE_WAITS) && sent.leaf == (which->kind == ABR_SENT_IDLE ? 0 : OTHERS);
+}
+
 /* Whether the call of a case was accepted, with an answer of the right kind. */
 static int accepted(const abr_case *which)
 {
     if (which->call == call_slot) {
-        uint32_t member = which->need == NEXT_MEMBER ? lowest_member(which) : LAST_MEMBER_VCI;
-        uint32_t vci = which->kind == ABR_SENT_IDLE ? 0 : at.vci == ABR_PATH_VCI ? member : at.vci;
-        return sent.refusal == ABR_OK && sent.kind == which->kind && sent.vpi == at.vpi && sent.vci == vci;
+        return accepted_slot(which);
+    }
+    if (which->call == call_receive) {
+        return received.refusal == ABR_OK && received.kind == which->kind && received.leaf == OTHERS;
+    }
+    if (which->call == call_status || which->call == call_at) {
+        return connection.refusal == ABR_OK && connection.kind == which->kind && connection.leaf == OTHERS;
+    }
+    if (which->call == call_link) {
+        return totals.connections == ABR_CONNECTIONS_MAX && totals.members == ABR_MEMBERS_MAX;
     }
     if (which->call == call_read) {
         return content.refusal == ABR_OK && content.kind == which->kind;
@@ -348,14 +383,14 @@ static int accepted(const abr_case *which)
     if (which->call == call_export) {
         return refusal == ABR_OK && contract.pcr > 0;
     }
-    if (which->call == call_next) {
+    if (which->call == call_next_ready) {
         return next == SECOND;
     }
     if (which->call == call_slot_time) {
         return passed == SECOND;
     }
-    return (refusal | answer.refusal | closed.refusal | sent.refusal | allowed.refusal | coded.refusal | rated.refusal |
-            imported.refusal | share.refusal | verdict.refusal | verdict.rule) == ABR_OK;
+    return (refusal | opened.refusal | answer.refusal | closed.refusal | allowed.refusal | listed.refusal |
+            coded.refusal | rated.refusal | imported.refusal | verdict.refusal | verdict.rule) == ABR_OK;
 }
 
 #endif

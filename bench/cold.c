@@ -85,7 +85,7 @@ static int measure(const abr_case *which, uint64_t nothing)
     return !accepted(which);
 }
 
-/* The calls on a table come first in the list of cases, up to the next ready instant. */
+/* The calls on a table come first in the list of cases, up to the first that has none. */
 int main(void)
 {
     int wrong = 0;

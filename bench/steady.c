@@ -23,7 +23,7 @@ static int slot(void)
 
 static int receive(void) { return abr_receive(&table, cell, sizeof cell).refusal != ABR_OK; }
 static int offer(void) { return abr_offer(&table, 0, 32 + CONNECTIONS - 1, 0).refusal != ABR_OK; }
-static int next(void) { return abr_next(&table) == ABR_NEVER; }
+static int next(void) { return abr_next_ready(&table) == ABR_NEVER; }
 static int nothing(void) { return 0; }
 
 static const struct {

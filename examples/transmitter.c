@@ -67,6 +67,7 @@ typedef struct {
     const char *name;
     abr_table table;
     connection connections[CONNECTIONS];
+    connection *in_leaf[ABR_CONNECTIONS_MAX]; /* by the leaf that the engine's answers carry: no search by address */
     line in;
     uint64_t passed;  /* the time of the last slot, as it was passed */
     uint64_t unknown; /* received cells of connections that are not open */
@@ -161,17 +162,14 @@ static void put(line *to, uint64_t arrival, const uint8_t *cell)
     memcpy(to->cell[place], cell, ABR_CELL_OCTETS);
 }
 
-/* The connection of a pair at an end. */
-static connection *at(station *end, uint32_t vpi, uint32_t vci)
+/* The connection of a cell. The network has no engine, and looks for its address. */
+static int connection_of(uint32_t vpi, uint32_t vci)
 {
-    for (int which = 0; which < CONNECTIONS; which++) {
-        connection *found = &end->connections[which];
-        if (found->vpi == vpi && found->vci == vci) {
-            return found;
-        }
+    int which = 0;
+    while (ends[NEAR].connections[which].vpi != vpi || ends[NEAR].connections[which].vci != vci) {
+        must(++which < CONNECTIONS, "a known connection");
     }
-    fail("a connection", "not known");
-    return NULL;
+    return which;
 }
 
 static int during(int phase, uint64_t now)
@@ -202,7 +200,7 @@ static void towards_far(uint64_t now, uint8_t *cell)
     abr_cell read = abr_read(cell, ABR_CELL_OCTETS);
     accepted("read", read.refusal);
     if (read.kind == ABR_CELL_DATA) {
-        last_data[at(&ends[NEAR], read.rm.vpi, read.rm.vci) - ends[NEAR].connections] = now;
+        last_data[connection_of(read.rm.vpi, read.rm.vci)] = now;
         if (queue_length(now) > 12) {
             write_header(cell, read.rm.vpi, read.rm.vci, 2);
             marked++;
@@ -213,8 +211,8 @@ static void towards_far(uint64_t now, uint8_t *cell)
 }
 
 /* The explicit rate for those that sent data in the last 20 ms: a fair share of what the leased circuit leaves of 15/16
- * of the room. */
-static abr_share share(uint64_t now)
+ * of the room. If there is no limit, it is the largest rate, which limits nothing. */
+static uint64_t share(uint64_t now)
 {
     uint64_t demands[CONNECTIONS];
     size_t count = 0;
@@ -225,20 +223,16 @@ static abr_share share(uint64_t now)
     }
     abr_share found = abr_fair_share((room(now) * 15 / 16 - LEASED_RATE) * ABR_RATE_ONE, demands, count);
     accepted("share", found.refusal);
-    return found;
+    return found.rate;
 }
 
 /* A cell from the far end; if it is a backward one, its explicit rate is limited. */
 static void towards_near(uint64_t now, uint8_t *cell)
 {
-    abr_share limit = share(now);
     abr_cell read = abr_read(cell, ABR_CELL_OCTETS);
     accepted("read", read.refusal);
-    if (during(NO_RATE, now) && read.rm.vpi == 1) {
-        accepted("limit", abr_limit(0, cell, ABR_CELL_OCTETS));
-    } else if (limit.limited) {
-        accepted("limit", abr_limit(limit.rate, cell, ABR_CELL_OCTETS));
-    }
+    uint64_t rate = during(NO_RATE, now) && read.rm.vpi == 1 ? 0 : share(now);
+    accepted("limit", abr_limit(rate, cell, ABR_CELL_OCTETS));
     put(&ends[NEAR].in, now + DELAY, cell);
 }
 
@@ -271,7 +265,7 @@ static void ask_for_a_rate(station *end, uint64_t now)
                 send(end, now, cell);
                 return; /* the slot is used */
             }
-            must(refusal == ABR_REFUSED_TOO_OFTEN, "an out-of-rate cell");
+            must(refusal == ABR_REFUSED_OUT_OF_RATE_TOO_SOON, "an out-of-rate cell");
         }
     }
 }
@@ -288,7 +282,7 @@ static void transmit(station *end, uint64_t now)
         ask_for_a_rate(end, now);
         return;
     }
-    connection *it = at(end, sent.vpi, sent.vci);
+    connection *it = end->in_leaf[sent.leaf];
     it->sent[sent.kind]++;
     if (sent.kind == ABR_SENT_DATA) {
         write_data(cell, sent.vpi, sent.vci, it->next_out++);
@@ -305,21 +299,22 @@ static void take_data(connection *it, const uint8_t *cell)
     it->next_in++;
 }
 
-/* All cells that have arrived. Those of a connection that was closed are refused, and no others. */
+/* All cells that have arrived. Those of a connection that was closed are refused. */
 static void receive(station *end, uint64_t now)
 {
     line *in = &end->in;
     while (in->count > 0 && in->arrival[in->first] <= now) {
         const uint8_t *cell = in->cell[in->first];
-        abr_cell read = abr_read(cell, ABR_CELL_OCTETS);
-        accepted("read", read.refusal);
-        connection *it = at(end, read.rm.vpi, read.rm.vci);
-        uint32_t refusal = abr_receive(&end->table, cell, ABR_CELL_OCTETS).refusal;
-        must(refusal == (it->open ? ABR_OK : ABR_REFUSED_NOT_OPEN), "who is open receives");
-        if (!it->open) {
+        abr_received received = abr_receive(&end->table, cell, ABR_CELL_OCTETS);
+        if (received.refusal == ABR_REFUSED_NOT_OPEN) {
             end->unknown++;
-        } else if (read.kind == ABR_CELL_DATA) {
-            take_data(it, cell);
+        } else {
+            accepted("receive", received.refusal);
+            connection *it = end->in_leaf[received.leaf];
+            must(it->open && it->vpi == received.vpi && it->vci == received.vci, "the leaf is the connection's");
+            if (received.kind == ABR_RECEIVED_DATA) {
+                take_data(it, cell);
+            }
         }
         in->first = (in->first + 1) % LINE;
         in->count--;
@@ -347,7 +342,9 @@ static void open_both(uint64_t now, int which, uint32_t vpi, uint32_t vci, abr_p
         it->vpi = vpi;
         it->vci = vci;
         it->open = 1;
-        accepted("open", abr_open(&ends[end].table, vpi, vci, ends[end].passed, params).refusal);
+        abr_opened opened = abr_open(&ends[end].table, vpi, vci, ends[end].passed, params);
+        accepted("open", opened.refusal);
+        ends[end].in_leaf[opened.leaf] = it;
     }
     printf("%5.1f ms  %u/%u is opened\n", (double)now / 1e6, (unsigned)vpi, (unsigned)vci);
 }

@@ -16,12 +16,18 @@
  *
  * Paths. One rate loop may serve many channels (section 10): abr_open_path opens
  * a connection for a whole VPI, which is named VPI * 65,536 + 6 and whose RM cells have
- * VCI 6. VCIs on that VPI are made its members by abr_add; each has data of its own,
- * offered by abr_offer_member, and no rate. The other calls for an open connection
+ * VCI 6. VCIs on that VPI are made its members by abr_add_member; each has data of
+ * its own, offered by abr_offer_member, and no rate. The other calls for an open connection
  * take a path by its VPI and ABR_PATH_VCI as they take a channel, but for abr_offer
- * (28); a member's pair is no connection to them (11), and none that abr_open could
- * open (27). A received data cell of a member is one of its path. Channels that are
- * no members may be open on the same VPI.
+ * (28). abr_status takes a member's pair too; to the others that is no connection (11),
+ * and none that abr_open could open (27). A received data cell of a member is one of its
+ * path. Channels that are no members may be open on the same VPI.
+ *
+ * Leaves. An open takes the lowest free leaf of the tournament (sections 13 and 21), a
+ * number from 0 to 1,023, and keeps it until its close. The answers of the open, of each
+ * slot that sends its cells and of each cell received for it carry that number: an index
+ * for arrays of the caller's own. No two open connections share one. A member's cells
+ * carry its path's.
  *
  * Language. C99 or later, C++11 or later, or C++98 with <stdint.h>.
  *
@@ -42,10 +48,12 @@
  *
  * Answers. Parameters and fields are passed by value, and so is every answer: a
  * number, or a struct whose first field is the refusal. Only the answer of abr_export
- * is three doubles, beside which it writes the refusal. The refusal is ABR_OK (0) or
- * the first one that applies in the order given at the call. A refused call has
- * written nothing else, and every other field of its answer is 0. An answer with a
- * refusal must not be ignored; compilers that can warn of it do.
+ * is three doubles, beside which it writes the refusal, and those of abr_link and
+ * abr_house have none. The refusal is ABR_OK (0) or the first one that applies in the
+ * order given at the call. A refused call has written nothing else, and every other
+ * field of its answer is 0. An answer with a refusal must not be ignored; compilers that
+ * can warn of it do. No answer has padding, and a field named reserved is 0: two answers
+ * are the same exactly if their octets are.
  *
  * Comparisons. The ready instants of the connections play a tournament of ten
  * rounds, neighbours paired in each (section 13). An accepted open, close,
@@ -95,8 +103,8 @@ extern "C" {
 
 /* ---- Version ------------------------------------------------------------ */
 
-/* 0.18.0: major, minor and patch number, eight bits each. */
-#define ABR_VERSION 0x001200u
+/* 0.19.0: major, minor and patch number, eight bits each. */
+#define ABR_VERSION 0x001300u
 
 /* The words of a table, which has 288,920 octets. */
 #define ABR_TABLE_WORDS 36115u
@@ -128,7 +136,8 @@ extern "C" {
 /* The latest time, 2^62 nanoseconds. */
 #define ABR_TIME_MAX UINT64_C(4611686018427387904)
 
-/* The answer of abr_next if no connection is ever ready as things stand; later than every time. */
+/* An instant that does not come, as that of abr_next_ready if no connection is ever ready as
+ * things stand, or that never was (abr_connection); later than every time. */
 #define ABR_NEVER UINT64_C(18446744073709551615)
 
 /* The most data cells that wait on one channel, and on one member of a path. */
@@ -188,7 +197,17 @@ extern "C" {
 #define ABR_SENT_TURNED 2u
 #define ABR_SENT_DATA 3u
 
-/* What a cell is (abr_cell.kind). */
+/* What was received (abr_received.kind), with the numbers of what a slot sends. */
+#define ABR_RECEIVED_FORWARD 1u
+#define ABR_RECEIVED_BACKWARD 2u
+#define ABR_RECEIVED_DATA 3u
+
+/* What a pair stands for (abr_connection.kind). */
+#define ABR_CHANNEL 1u
+#define ABR_PATH 2u
+#define ABR_MEMBER 3u
+
+/* What a cell is (abr_cell.kind): other numbers than those of abr_received.kind. */
 #define ABR_CELL_DATA 1u
 #define ABR_CELL_RM 2u
 
@@ -221,14 +240,14 @@ extern "C" {
 #define ABR_REFUSED_TIME_BACKWARD 14u /* time is before the last accepted open, slot, made or out-of-rate cell */
 #define ABR_REFUSED_TOO_MUCH_DATA 15u /* waiting data would pass 65,535 cells */
 #define ABR_REFUSED_NOT_CONGESTED 16u /* congestion level is 0 */
-#define ABR_REFUSED_TOO_SOON 17u      /* less than 100 ms since the last cell made on this connection */
-#define ABR_REFUSED_TOO_OFTEN 18u     /* less than 100 ms since the last out-of-rate cell on this connection */
+#define ABR_REFUSED_MADE_TOO_SOON 17u /* less than 100 ms since the last cell made on this connection */
+#define ABR_REFUSED_OUT_OF_RATE_TOO_SOON 18u /* less than 100 ms since the last out-of-rate cell on this connection */
 
 /* Because of the input, added later. */
 #define ABR_REFUSED_RESERVED_BIT 19u /* reserved bit of a rate code is set */
 #define ABR_REFUSED_DOUBLE 20u /* not a rate: not a number, infinite, below 0, between 0 and 1, or 2^32 and more */
-#define ABR_REFUSED_DEMANDS 21u      /* over 1,024 demands */
-#define ABR_REFUSED_DEMAND 22u       /* a demand is above the largest rate */
+#define ABR_REFUSED_TOO_MANY_DEMANDS 21u /* over 1,024 demands */
+#define ABR_REFUSED_DEMAND_TOO_LARGE 22u /* a demand is above the largest rate */
 #define ABR_REFUSED_TRACE_NUMBER 23u /* a number of a trace is not in shortest form or over 64 bits */
 #define ABR_REFUSED_TRACE_END 24u    /* trace is empty or ends inside a record */
 #define ABR_REFUSED_TRACE_RANGE 25u  /* n, Trm number, kind, rate or summed time of a trace is out of range */
@@ -281,11 +300,29 @@ typedef struct {
     uint32_t sn;  /* carried only */
 } abr_rm;
 
-/* The answer of an open, an offer, a received and a made cell, and of adding a member. */
+/* The answer of an open. */
+typedef struct {
+    uint32_t refusal;
+    uint32_t comparisons; /* 1; 0 if it is refused */
+    uint32_t leaf;        /* the connection's, until its close; 0 if it is refused */
+} abr_opened;
+
+/* The answer of an offer and of a made cell, and of adding a member. */
 typedef struct {
     uint32_t refusal;
     uint32_t comparisons; /* 1 to ABR_COMPARISONS_MAX; 0 if it is refused, and of adding a member */
 } abr_answer;
+
+/* The answer of a received cell. If it is refused, all others are 0. */
+typedef struct {
+    uint32_t refusal;
+    uint32_t comparisons; /* 1 to ABR_COMPARISONS_MAX */
+    uint32_t kind;        /* ABR_RECEIVED_... */
+    uint32_t vpi;         /* the cell's own, this and the next; of a member's data cell the member's */
+    uint32_t vci;
+    uint32_t leaf;        /* its connection's; for a member's data cell its path's */
+    uint64_t acr;         /* the allowed rate of that connection afterwards */
+} abr_received;
 
 /* The answer of a close and of removing a member. */
 typedef struct {
@@ -294,22 +331,75 @@ typedef struct {
     uint64_t cells;       /* the data cells that waited, of a path those of all members; 0 if it is refused */
 } abr_closed;
 
-/* The answer of a slot. An idle slot has 0 in all six. */
+/* The answer of a slot. An idle slot has 0 in all. */
 typedef struct {
     uint32_t refusal;
     uint32_t comparisons; /* ABR_COMPARISONS_MAX if a cell is sent */
     uint32_t kind;        /* ABR_SENT_... */
     uint32_t vpi;         /* the connection that sends, this and the next; for data of a path its member */
     uint32_t vci;
+    uint32_t leaf;        /* of the connection that sends; for data of a path, the path's */
     uint64_t acr;         /* its allowed rate afterwards */
+    uint64_t acr_before;  /* and before the cell: the rate that a trace wants (abr_judge) */
+    uint32_t made;        /* 1: the turned cell is one that abr_make made */
+    uint32_t reserved;
 } abr_sent;
 
 /* The answer of abr_acr. */
 typedef struct {
     uint32_t refusal;
+    uint32_t reserved;
     uint64_t acr;   /* the allowed rate; 0 is possible if the minimum is 0 */
     int64_t change; /* by its last accepted backward cell: new minus old, below 0 if it fell, 0 before the first */
 } abr_allowed;
+
+/* The answer of abr_status and of abr_at. Of a member everything but kind, vpi, vci and waiting is
+ * its path's. A cell from a slot is one that abr_slot answered; out-of-rate cells are none.
+ * Rates are in units; those in params are codes. */
+typedef struct {
+    uint32_t refusal;
+    uint32_t kind;             /* ABR_CHANNEL, ABR_PATH or ABR_MEMBER */
+    uint32_t vpi;
+    uint32_t vci;
+    uint32_t leaf;
+    uint32_t waiting;          /* data cells that wait: of a path those of all members, of a member its own */
+    abr_params params;         /* as its open gave them */
+    uint32_t crm;              /* CRM: TBE / Nrm, rounded up */
+    uint64_t icr_used;         /* the initial rate that is used; params has the one that was given */
+    uint64_t acr;              /* the allowed rate, and its last change: as abr_acr answers them */
+    int64_t change;
+    uint64_t opened;           /* the time of its open */
+    uint64_t last_sent;        /* the time of its last cell from a slot; ABR_NEVER before the first */
+    uint64_t last_forward;     /* the time of its last forward cell from a slot; ABR_NEVER before the first */
+    uint64_t ready;            /* its ready instant; ABR_NEVER if it is never ready as things stand */
+    uint64_t last_made;        /* the time of its last accepted abr_make; ABR_NEVER before the first */
+    uint64_t last_out_of_rate; /* the time of its last out-of-rate cell; ABR_NEVER before the first */
+    uint32_t k;                /* its cells from slots since the last forward one */
+    uint32_t unanswered;       /* Y: forward cells from slots since the last backward cell with BN 0, up to 8,388,608 */
+    uint32_t backward_sent;    /* 1: a turned or made cell is among those k */
+    uint32_t efci;             /* the saved congestion mark, 0 or 1 */
+    uint32_t turned;           /* 1: a turned cell waits */
+    uint32_t made_level;       /* the level at which the made cell that waits was made; 0: none waits */
+    uint32_t served;           /* of a path: the VCI of the last member whose data went, removed or not; 0 before any */
+    uint32_t reserved;
+} abr_connection;
+
+/* The answer of abr_member_at. */
+typedef struct {
+    uint32_t refusal;
+    uint32_t vpi;
+    uint32_t vci;
+    uint32_t waiting; /* its data cells that wait */
+} abr_member;
+
+/* The answer of abr_link. */
+typedef struct {
+    uint32_t connections;     /* how many are open, channels and paths */
+    uint32_t connections_max; /* how many can be: ABR_CONNECTIONS_MAX */
+    uint32_t members;         /* how many all paths have together */
+    uint32_t level;           /* the congestion level */
+    uint64_t last;            /* the last accepted time, that of refusal 14; 0 before any, a time like others */
+} abr_totals;
 
 /* The answer of abr_read. */
 typedef struct {
@@ -328,6 +418,7 @@ typedef struct {
 /* The answer of abr_rate. */
 typedef struct {
     uint32_t refusal;
+    uint32_t reserved;
     uint64_t rate;
 } abr_rated;
 
@@ -351,7 +442,7 @@ typedef struct {
 typedef struct {
     uint32_t refusal;
     uint32_t limited; /* 1: rate is the share; 0: there is no limit */
-    uint64_t rate;    /* the share; 0 if there is no limit */
+    uint64_t rate;    /* the share; ABR_RATE_MAX, which limits nothing, if there is no limit */
 } abr_share;
 
 /* The answer of abr_judge. */
@@ -382,8 +473,8 @@ static inline int abr_matches(void)
  * under MCR; with FRTT 0 it is the given one. The first cell of a connection, and a
  * forward cell more than ADTF after the last, bring the allowed rate down to it. The
  * connection starts at that rate with nothing sent and nothing waiting, also if its
- * address was open before, and takes the lowest free place of the tournament. Nothing
- * waits yet, so that the winners stay and 1 comparison is made.
+ * address was open before, and takes the lowest free leaf of the tournament, which it
+ * answers. Nothing waits yet, so that the winners stay and 1 comparison is made.
  * Refusals in order:
  *   10  vci under 32, whatever vpi is
  *   19  bit 15 set in pcr, mcr or icr, if that code has no bit above it
@@ -399,7 +490,7 @@ static inline int abr_matches(void)
  *   14  time before that of the last accepted open, slot, made or out-of-rate
  *       cell
  */
-ABR_MUST_USE abr_answer abr_open(abr_table *table, uint32_t vpi, uint32_t vci, uint64_t time, abr_params params);
+ABR_MUST_USE abr_opened abr_open(abr_table *table, uint32_t vpi, uint32_t vci, uint64_t time, abr_params params);
 
 /*
  * Closes a connection and drops all that waits on it. It answers how
@@ -437,6 +528,35 @@ ABR_MUST_USE abr_answer abr_offer(abr_table *table, uint32_t vpi, uint32_t vci, 
  */
 ABR_MUST_USE abr_allowed abr_acr(const abr_table *table, uint32_t vpi, uint32_t vci);
 
+/*
+ * Reads everything of a channel, of a path, or of a member with its path, but the octets of
+ * a turned cell that waits (section 21).
+ * Refusal: 11 the pair is neither an open connection nor a member, vpi over 255 or vci
+ * over 65,535.
+ */
+ABR_MUST_USE abr_connection abr_status(const abr_table *table, uint32_t vpi, uint32_t vci);
+
+/*
+ * Reads the same of the connection in a leaf, a channel or a path (section 21). So a
+ * loop from 0 to ABR_CONNECTIONS_MAX - 1 lists all that are open.
+ * Refusal: 11 no connection is open in that leaf, or leaf over 1,023.
+ */
+ABR_MUST_USE abr_connection abr_at(const abr_table *table, uint32_t leaf);
+
+/*
+ * Reads the member with this number, counted from 0 in ascending order of VPI and VCI over
+ * all paths (section 21). So a loop from 0 until the first refusal lists them. A member's
+ * number changes as others are added and removed.
+ * Refusal: 11 no member has that number.
+ */
+ABR_MUST_USE abr_member abr_member_at(const abr_table *table, uint32_t number);
+
+/*
+ * Reads what belongs to no single connection: how many connections and members there are,
+ * the congestion level and the last accepted time (section 21). Nothing is refused.
+ */
+abr_totals abr_link(const abr_table *table);
+
 #ifndef ABR_NO_DOUBLES
 /*
  * The peak, minimum and initial rate of a connection as doubles in cells per second,
@@ -466,7 +586,7 @@ ABR_MUST_USE abr_contract abr_export(const abr_table *table, uint32_t vpi, uint3
  *   14  time before that of the last accepted open, slot, made or out-of-rate
  *       cell
  */
-ABR_MUST_USE abr_answer abr_open_path(abr_table *table, uint32_t vpi, uint64_t time, abr_params params);
+ABR_MUST_USE abr_opened abr_open_path(abr_table *table, uint32_t vpi, uint64_t time, abr_params params);
 
 /*
  * Makes a VCI a member of the path of its VPI, with no data waiting. The path's ready
@@ -478,7 +598,7 @@ ABR_MUST_USE abr_answer abr_open_path(abr_table *table, uint32_t vpi, uint64_t t
  *   27  the pair is a member already
  *   26  the paths of this table have 256 members already
  */
-ABR_MUST_USE abr_answer abr_add(abr_table *table, uint32_t vpi, uint32_t vci);
+ABR_MUST_USE abr_answer abr_add_member(abr_table *table, uint32_t vpi, uint32_t vci);
 
 /*
  * Adds data cells to those that wait on a member of a path, as abr_offer does on a
@@ -500,7 +620,7 @@ ABR_MUST_USE abr_answer abr_offer_member(abr_table *table, uint32_t vpi, uint32_
  *   11  the path is not open, or vpi over 255
  *   28  the VCI is no member of the path, as none over 65,535 is
  */
-ABR_MUST_USE abr_closed abr_remove(abr_table *table, uint32_t vpi, uint32_t vci);
+ABR_MUST_USE abr_closed abr_remove_member(abr_table *table, uint32_t vpi, uint32_t vci);
 
 /* ---- The receive path --------------------------------------------------- */
 
@@ -510,7 +630,8 @@ ABR_MUST_USE abr_closed abr_remove(abr_table *table, uint32_t vpi, uint32_t vci)
  * turned one that waited, and has CI 1 also if that one had;
  * of a data cell the congestion mark is saved and the payload not used. A data cell of
  * a member saves its mark as that of the path, whichever member it is of
- * (section 10).
+ * (section 10). The answer says what was received: kind, address, the leaf of its
+ * connection and that connection's allowed rate afterwards.
  * Comparisons: 1 to 10, for a data cell too.
  * Refusals in order:
  *    1  len is not 53
@@ -522,7 +643,7 @@ ABR_MUST_USE abr_closed abr_remove(abr_table *table, uint32_t vpi, uint32_t vci)
  *   11  no connection with its VPI and VCI is open; an RM cell of a member, and a data
  *       cell with the name of a path itself, are cells of none
  */
-ABR_MUST_USE abr_answer abr_receive(abr_table *table, const uint8_t *cell, size_t len);
+ABR_MUST_USE abr_received abr_receive(abr_table *table, const uint8_t *cell, size_t len);
 
 /*
  * Sets the congestion level of the whole engine, which marks the cells that
@@ -558,8 +679,8 @@ ABR_MUST_USE abr_answer abr_make(abr_table *table, uint32_t vpi, uint32_t vci, u
 /*
  * Gives the slot at a time to the connection with the earliest ready instant
  * (section 5), of several with the same one to that with the lowest VPI *
- * 65,536 + VCI, and says which it is, what kind of cell it sends and its
- * allowed rate afterwards. The 53 octets of a forward, a turned or a made cell
+ * 65,536 + VCI, and says which it is, its leaf, what kind of cell it sends and its
+ * allowed rate afterwards and before. The 53 octets of a forward, a turned or a made cell
  * are written to the buffer. For data the buffer is unchanged and the caller sends
  * a data cell of that address. Data of a path is that of one of its members, which the
  * answer names: the first with data above the one served last, in rising VCI and round
@@ -589,12 +710,12 @@ ABR_MUST_USE abr_sent abr_slot(abr_table *table, uint64_t time, uint8_t *cell, s
  * slot that sends may make it earlier or later: ask again after each. No other call does.
  * Nothing is refused, the table is only read, and no comparison is made.
  */
-uint64_t abr_next(const abr_table *table);
+uint64_t abr_next_ready(const abr_table *table);
 
 /*
  * The time to pass to abr_slot in a slot whose own time is now (section 20):
  *
- *     min(now, max(abr_next(table), last, now - lag))
+ *     min(now, max(abr_next_ready(table), last, now - lag))
  *
  * with last the time of the last accepted open, slot, made or out-of-rate cell, and 0 for
  * now - lag if lag is greater. A connection is due a gap after the time that was passed
@@ -615,7 +736,7 @@ uint64_t abr_slot_time(const abr_table *table, uint64_t now, uint64_t lag);
  * Writes an out-of-rate forward RM cell of a connection (section 9; source
  * rule 11) to the buffer, complete, for the caller to send beside the slots: with
  * CLP 1, CCR the code of the allowed rate as it stands, and all else as in a forward
- * cell of a slot. A source whose allowed rate is 0 learns in this way when it may
+ * cell from a slot. A source whose allowed rate is 0 learns in this way when it may
  * rise; any other may call it too, also before its first cell. The cell counts for
  * nothing: the allowed rate, the unanswered cells and the ready instant stay, and
  * no comparison is made. Its time then counts for refusal 14 as a slot's does.
@@ -685,7 +806,8 @@ abr_params abr_house(uint32_t pcr, uint32_t mcr, uint32_t icr);
  * Shares a capacity among demanded rates (section 18). With a share each demand has what
  * it asks for, but no more than the share; it is the greatest whole rate with which all of
  * them together stay within the capacity. If the demands themselves stay within it, as
- * they do where there are none, there is no limit. The order of the demands does not
+ * they do where there are none, there is no limit: limited is 0 and rate the largest rate,
+ * with which abr_limit lowers no explicit rate. The order of the demands does not
  * matter, and more capacity never means a lower share, no limit counting as the highest.
  * Capacity and demands are rates; the capacity may be any number. The demands are read
  * only.
@@ -706,6 +828,9 @@ ABR_MUST_USE abr_share abr_fair_share(uint64_t capacity, const uint64_t *demands
 ABR_MUST_USE uint32_t abr_limit(uint64_t rate, uint8_t *cell, size_t len);
 
 /*
+ * For connections without a minimum rate: the share knows none, and a cell may be limited
+ * below its contract's MCR. Where contracts have minimums, share what is left above them
+ * and call abr_limit with minimum plus share.
  * A passing cell at the port of a switch (section 18): abr_fair_share and, if there
  * is a limit, abr_limit with that share. With no limit every octet stays, but the cell is
  * looked at all the same.
@@ -730,7 +855,7 @@ ABR_MUST_USE uint32_t abr_port(uint64_t capacity, const uint64_t *demands, size_
  *   time         nanoseconds since the cell before, 0 for the first cell
  *   kind         1 forward, 2 backward, 3 data (ABR_SENT_FORWARD, _TURNED, _DATA)
  *   rate         the one in force before the cell, in units of 1/512 cell per second, at
- *                most ABR_RATE_MAX; abr_acr reads it before the slot that sends the cell
+ *                most ABR_RATE_MAX; abr_slot answers it (acr_before)
  * The sum of the times is at most 2^62. Out-of-rate cells are left out.
  *
  * The rules (sections 5 and 18), with the gap ceil(512,000,000,000 / rate), the last forward
@@ -742,7 +867,8 @@ ABR_MUST_USE uint32_t abr_port(uint64_t capacity, const uint64_t *demands, size_
  *      Trm has passed since the last forward cell
  * The rate of the first cell is not judged. A trace without a cell passes. The answer is
  * the first cell that breaks a rule and the lowest rule that it breaks, or two zeros. What
- * abr_slot sends on one connection, from its open on, always passes.
+ * abr_slot sends on one connection, from its open on, always passes, with the times that
+ * the slots were passed (section 20).
  *
  * Refusals:
  *   23  a number is not in shortest form, seen at its last octet, or over 64 bits, seen at
@@ -782,12 +908,12 @@ static inline const char *abr_refusal_text(uint32_t refusal)
     case ABR_REFUSED_TIME_BACKWARD: return "time is before the last accepted open, slot, made or out-of-rate cell";
     case ABR_REFUSED_TOO_MUCH_DATA: return "waiting data would pass 65,535 cells";
     case ABR_REFUSED_NOT_CONGESTED: return "congestion level is 0";
-    case ABR_REFUSED_TOO_SOON: return "less than 100 ms since the last cell made on this connection";
-    case ABR_REFUSED_TOO_OFTEN: return "less than 100 ms since the last out-of-rate cell on this connection";
+    case ABR_REFUSED_MADE_TOO_SOON: return "less than 100 ms since the last cell made on this connection";
+    case ABR_REFUSED_OUT_OF_RATE_TOO_SOON: return "less than 100 ms since the last out-of-rate cell on this connection";
     case ABR_REFUSED_RESERVED_BIT: return "reserved bit of a rate code is set";
     case ABR_REFUSED_DOUBLE: return "not a rate: not a number, infinite, below 0, between 0 and 1, or 2^32 and more";
-    case ABR_REFUSED_DEMANDS: return "over 1,024 demands";
-    case ABR_REFUSED_DEMAND: return "a demand is above the largest rate";
+    case ABR_REFUSED_TOO_MANY_DEMANDS: return "over 1,024 demands";
+    case ABR_REFUSED_DEMAND_TOO_LARGE: return "a demand is above the largest rate";
     case ABR_REFUSED_TRACE_NUMBER: return "a number of a trace is not in shortest form or over 64 bits";
     case ABR_REFUSED_TRACE_END: return "trace is empty or ends inside a record";
     case ABR_REFUSED_TRACE_RANGE: return "n, Trm number, kind, rate or summed time of a trace is out of range";
@@ -817,25 +943,52 @@ ABR_LAYOUT(rm_size, sizeof(abr_rm) == 48);
 ABR_LAYOUT(rm_vci, offsetof(abr_rm, vci) == 4);
 ABR_LAYOUT(rm_er, offsetof(abr_rm, er) == 28);
 ABR_LAYOUT(rm_sn, offsetof(abr_rm, sn) == 44);
+ABR_LAYOUT(opened_size, sizeof(abr_opened) == 12);
+ABR_LAYOUT(opened_comparisons, offsetof(abr_opened, comparisons) == 4);
+ABR_LAYOUT(opened_leaf, offsetof(abr_opened, leaf) == 8);
 ABR_LAYOUT(answer_size, sizeof(abr_answer) == 8);
 ABR_LAYOUT(answer_comparisons, offsetof(abr_answer, comparisons) == 4);
+ABR_LAYOUT(received_size, sizeof(abr_received) == 32);
+ABR_LAYOUT(received_kind, offsetof(abr_received, kind) == 8);
+ABR_LAYOUT(received_vpi, offsetof(abr_received, vpi) == 12);
+ABR_LAYOUT(received_leaf, offsetof(abr_received, leaf) == 20);
+ABR_LAYOUT(received_acr, offsetof(abr_received, acr) == 24);
 ABR_LAYOUT(closed_size, sizeof(abr_closed) == 16);
 ABR_LAYOUT(closed_comparisons, offsetof(abr_closed, comparisons) == 4);
 ABR_LAYOUT(closed_cells, offsetof(abr_closed, cells) == 8);
-ABR_LAYOUT(sent_size, sizeof(abr_sent) == 32);
+ABR_LAYOUT(sent_size, sizeof(abr_sent) == 48);
 ABR_LAYOUT(sent_comparisons, offsetof(abr_sent, comparisons) == 4);
 ABR_LAYOUT(sent_vpi, offsetof(abr_sent, vpi) == 12);
 ABR_LAYOUT(sent_vci, offsetof(abr_sent, vci) == 16);
+ABR_LAYOUT(sent_leaf, offsetof(abr_sent, leaf) == 20);
 ABR_LAYOUT(sent_acr, offsetof(abr_sent, acr) == 24);
+ABR_LAYOUT(sent_acr_before, offsetof(abr_sent, acr_before) == 32);
+ABR_LAYOUT(sent_made, offsetof(abr_sent, made) == 40);
+ABR_LAYOUT(sent_reserved, offsetof(abr_sent, reserved) == 44);
 ABR_LAYOUT(allowed_size, sizeof(abr_allowed) == 24);
+ABR_LAYOUT(allowed_reserved, offsetof(abr_allowed, reserved) == 4);
 ABR_LAYOUT(allowed_acr, offsetof(abr_allowed, acr) == 8);
 ABR_LAYOUT(allowed_change, offsetof(abr_allowed, change) == 16);
+ABR_LAYOUT(connection_size, sizeof(abr_connection) == 176);
+ABR_LAYOUT(connection_leaf, offsetof(abr_connection, leaf) == 16);
+ABR_LAYOUT(connection_params, offsetof(abr_connection, params) == 24);
+ABR_LAYOUT(connection_crm, offsetof(abr_connection, crm) == 68);
+ABR_LAYOUT(connection_icr_used, offsetof(abr_connection, icr_used) == 72);
+ABR_LAYOUT(connection_ready, offsetof(abr_connection, ready) == 120);
+ABR_LAYOUT(connection_k, offsetof(abr_connection, k) == 144);
+ABR_LAYOUT(connection_reserved, offsetof(abr_connection, reserved) == 172);
+ABR_LAYOUT(member_size, sizeof(abr_member) == 16);
+ABR_LAYOUT(member_waiting, offsetof(abr_member, waiting) == 12);
+ABR_LAYOUT(totals_size, sizeof(abr_totals) == 24);
+ABR_LAYOUT(totals_level, offsetof(abr_totals, level) == 12);
+ABR_LAYOUT(totals_last, offsetof(abr_totals, last) == 16);
 ABR_LAYOUT(cell_size, sizeof(abr_cell) == 60);
 ABR_LAYOUT(cell_efci, offsetof(abr_cell, efci) == 8);
 ABR_LAYOUT(cell_rm, offsetof(abr_cell, rm) == 12);
 ABR_LAYOUT(coded_size, sizeof(abr_coded) == 8);
 ABR_LAYOUT(coded_code, offsetof(abr_coded, code) == 4);
 ABR_LAYOUT(rated_size, sizeof(abr_rated) == 16);
+ABR_LAYOUT(rated_reserved, offsetof(abr_rated, reserved) == 4);
 ABR_LAYOUT(rated_rate, offsetof(abr_rated, rate) == 8);
 #ifndef ABR_NO_DOUBLES
 ABR_LAYOUT(contract_size, sizeof(abr_contract) == 24);

@@ -55,7 +55,8 @@ static slice rates(const uint64_t *at, size_t count)
 #pragma GCC visibility push(hidden)
 
 void RAW(acr)(abr_allowed *, const abr_table *, uint32_t, uint32_t);
-void RAW(add)(abr_answer *, abr_table *, uint32_t, uint32_t);
+void RAW(add_member)(abr_answer *, abr_table *, uint32_t, uint32_t);
+void RAW(at)(abr_connection *, const abr_table *, uint32_t);
 void RAW(close)(abr_closed *, abr_table *, uint32_t, uint32_t);
 void RAW(code)(abr_coded *, uint64_t);
 #ifndef ABR_NO_DOUBLES
@@ -66,21 +67,24 @@ void RAW(fair_share)(abr_share *, uint64_t, const slice *);
 void RAW(house)(abr_params *, uint32_t, uint32_t, uint32_t);
 void RAW(judge)(abr_verdict *, const slice *);
 uint32_t RAW(limit)(uint64_t, const slice *);
+void RAW(link)(abr_totals *, const abr_table *);
 void RAW(make)(abr_answer *, abr_table *, uint32_t, uint32_t, uint64_t);
-uint64_t RAW(next)(const abr_table *);
+void RAW(member_at)(abr_member *, const abr_table *, uint32_t);
+uint64_t RAW(next_ready)(const abr_table *);
 void RAW(offer)(abr_answer *, abr_table *, uint32_t, uint32_t, uint64_t);
 void RAW(offer_member)(abr_answer *, abr_table *, uint32_t, uint32_t, uint64_t);
-void RAW(open)(abr_answer *, abr_table *, uint32_t, uint32_t, uint64_t, const abr_params *);
-void RAW(open_path)(abr_answer *, abr_table *, uint32_t, uint64_t, const abr_params *);
+void RAW(open)(abr_opened *, abr_table *, uint32_t, uint32_t, uint64_t, const abr_params *);
+void RAW(open_path)(abr_opened *, abr_table *, uint32_t, uint64_t, const abr_params *);
 uint32_t RAW(out_of_rate)(abr_table *, uint32_t, uint32_t, uint64_t, const slice *);
 uint32_t RAW(port)(uint64_t, const slice *, const slice *);
 void RAW(rate)(abr_rated *, uint32_t);
 void RAW(read)(abr_cell *, const slice *);
-void RAW(receive)(abr_answer *, abr_table *, const slice *);
-void RAW(remove)(abr_closed *, abr_table *, uint32_t, uint32_t);
+void RAW(receive)(abr_received *, abr_table *, const slice *);
+void RAW(remove_member)(abr_closed *, abr_table *, uint32_t, uint32_t);
 uint32_t RAW(set_level)(abr_table *, uint32_t);
 void RAW(slot)(abr_sent *, abr_table *, uint64_t, const slice *);
 uint64_t RAW(slot_time)(const abr_table *, uint64_t, uint64_t);
+void RAW(status)(abr_connection *, const abr_table *, uint32_t, uint32_t);
 uint32_t RAW(table_words)(void);
 uint32_t RAW(version)(void);
 uint32_t RAW(write_rm)(const abr_rm *, const slice *);
@@ -96,9 +100,9 @@ uint32_t abr_table_words(void)
     return RAW(table_words)();
 }
 
-abr_answer abr_open(abr_table *table, uint32_t vpi, uint32_t vci, uint64_t time, abr_params params)
+abr_opened abr_open(abr_table *table, uint32_t vpi, uint32_t vci, uint64_t time, abr_params params)
 {
-    abr_answer answer;
+    abr_opened answer;
     RAW(open)(&answer, table, vpi, vci, time, &params);
     return answer;
 }
@@ -124,17 +128,45 @@ abr_allowed abr_acr(const abr_table *table, uint32_t vpi, uint32_t vci)
     return answer;
 }
 
-abr_answer abr_open_path(abr_table *table, uint32_t vpi, uint64_t time, abr_params params)
+abr_connection abr_status(const abr_table *table, uint32_t vpi, uint32_t vci)
 {
-    abr_answer answer;
+    abr_connection answer;
+    RAW(status)(&answer, table, vpi, vci);
+    return answer;
+}
+
+abr_connection abr_at(const abr_table *table, uint32_t leaf)
+{
+    abr_connection answer;
+    RAW(at)(&answer, table, leaf);
+    return answer;
+}
+
+abr_member abr_member_at(const abr_table *table, uint32_t number)
+{
+    abr_member answer;
+    RAW(member_at)(&answer, table, number);
+    return answer;
+}
+
+abr_totals abr_link(const abr_table *table)
+{
+    abr_totals answer;
+    RAW(link)(&answer, table);
+    return answer;
+}
+
+abr_opened abr_open_path(abr_table *table, uint32_t vpi, uint64_t time, abr_params params)
+{
+    abr_opened answer;
     RAW(open_path)(&answer, table, vpi, time, &params);
     return answer;
 }
 
-abr_answer abr_add(abr_table *table, uint32_t vpi, uint32_t vci)
+abr_answer abr_add_member(abr_table *table, uint32_t vpi, uint32_t vci)
 {
     abr_answer answer;
-    RAW(add)(&answer, table, vpi, vci);
+    RAW(add_member)(&answer, table, vpi, vci);
     return answer;
 }
 
@@ -145,16 +177,16 @@ abr_answer abr_offer_member(abr_table *table, uint32_t vpi, uint32_t vci, uint64
     return answer;
 }
 
-abr_closed abr_remove(abr_table *table, uint32_t vpi, uint32_t vci)
+abr_closed abr_remove_member(abr_table *table, uint32_t vpi, uint32_t vci)
 {
     abr_closed answer;
-    RAW(remove)(&answer, table, vpi, vci);
+    RAW(remove_member)(&answer, table, vpi, vci);
     return answer;
 }
 
-abr_answer abr_receive(abr_table *table, const uint8_t *cell, size_t len)
+abr_received abr_receive(abr_table *table, const uint8_t *cell, size_t len)
 {
-    abr_answer answer;
+    abr_received answer;
     slice s = octets(cell, len);
     RAW(receive)(&answer, table, &s);
     return answer;
@@ -180,9 +212,9 @@ abr_sent abr_slot(abr_table *table, uint64_t time, uint8_t *cell, size_t len)
     return answer;
 }
 
-uint64_t abr_next(const abr_table *table)
+uint64_t abr_next_ready(const abr_table *table)
 {
-    return RAW(next)(table);
+    return RAW(next_ready)(table);
 }
 
 uint64_t abr_slot_time(const abr_table *table, uint64_t now, uint64_t lag)

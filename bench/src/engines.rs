@@ -25,17 +25,18 @@ pub trait Engine {
     fn close(&mut self, at: Address);
     fn offer(&mut self, at: Address, cells: u64);
     fn open_path(&mut self, vpi: u32, time: u64, params: &Self::Params);
-    fn add(&mut self, at: Address);
+    fn add_member(&mut self, at: Address);
     fn offer_member(&mut self, at: Address, cells: u64);
-    fn remove(&mut self, at: Address);
+    fn remove_member(&mut self, at: Address);
     fn receive(&mut self, cell: &Octets);
     fn slot(&mut self, time: u64, buffer: &mut Octets);
     fn set_level(&mut self, level: u32);
     fn make(&mut self, at: Address, time: u64);
     fn out_of_rate(&mut self, at: Address, time: u64, buffer: &mut Octets);
     fn acr(&self, at: Address);
+    fn status(&self, at: Address);
     fn export(&self, at: Address);
-    fn next(&self);
+    fn next_ready(&self);
     fn slot_time(&self, now: u64, lag: u64);
 
     fn write_rm(rm: &Self::Rm, buffer: &mut Octets);
@@ -95,9 +96,9 @@ impl Engine for Library {
         black_box(unsafe { ffi::abr_open_path(&mut *self.table, vpi, time, *params) });
     }
 
-    fn add(&mut self, at: Address) {
+    fn add_member(&mut self, at: Address) {
         // SAFETY: the pointer is live for the call.
-        black_box(unsafe { ffi::abr_add(&mut *self.table, at.vpi, at.vci) });
+        black_box(unsafe { ffi::abr_add_member(&mut *self.table, at.vpi, at.vci) });
     }
 
     fn offer_member(&mut self, at: Address, cells: u64) {
@@ -105,9 +106,9 @@ impl Engine for Library {
         black_box(unsafe { ffi::abr_offer_member(&mut *self.table, at.vpi, at.vci, cells) });
     }
 
-    fn remove(&mut self, at: Address) {
+    fn remove_member(&mut self, at: Address) {
         // SAFETY: the pointer is live for the call.
-        black_box(unsafe { ffi::abr_remove(&mut *self.table, at.vpi, at.vci) });
+        black_box(unsafe { ffi::abr_remove_member(&mut *self.table, at.vpi, at.vci) });
     }
 
     fn receive(&mut self, cell: &Octets) {
@@ -143,6 +144,11 @@ impl Engine for Library {
         black_box(&unsafe { ffi::abr_acr(&*self.table, at.vpi, at.vci) });
     }
 
+    fn status(&self, at: Address) {
+        // SAFETY: the pointer is live for the call.
+        black_box(&unsafe { ffi::abr_status(&*self.table, at.vpi, at.vci) });
+    }
+
     fn export(&self, at: Address) {
         let mut refusal = 0;
         // SAFETY: both pointers are live for the call.
@@ -150,9 +156,9 @@ impl Engine for Library {
         black_box(refusal);
     }
 
-    fn next(&self) {
+    fn next_ready(&self) {
         // SAFETY: the pointer is live for the call.
-        black_box(unsafe { ffi::abr_next(&*self.table) });
+        black_box(unsafe { ffi::abr_next_ready(&*self.table) });
     }
 
     fn slot_time(&self, now: u64, lag: u64) {
@@ -257,8 +263,8 @@ impl Engine for Reference {
     }
 
     #[inline(never)]
-    fn add(&mut self, at: Address) {
-        black_box(&self.engine.add(at));
+    fn add_member(&mut self, at: Address) {
+        black_box(&self.engine.add_member(at));
     }
 
     #[inline(never)]
@@ -267,8 +273,8 @@ impl Engine for Reference {
     }
 
     #[inline(never)]
-    fn remove(&mut self, at: Address) {
-        black_box(&self.engine.remove(at));
+    fn remove_member(&mut self, at: Address) {
+        black_box(&self.engine.remove_member(at));
     }
 
     #[inline(never)]
@@ -302,13 +308,18 @@ impl Engine for Reference {
     }
 
     #[inline(never)]
+    fn status(&self, at: Address) {
+        black_box(&self.engine.status(at));
+    }
+
+    #[inline(never)]
     fn export(&self, at: Address) {
         black_box(&self.engine.export(at));
     }
 
     #[inline(never)]
-    fn next(&self) {
-        black_box(&self.engine.next());
+    fn next_ready(&self) {
+        black_box(&self.engine.next_ready());
     }
 
     #[inline(never)]

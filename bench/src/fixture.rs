@@ -91,7 +91,7 @@ impl<E: Engine> Fixture<E> {
     fn open_path(&mut self, members: u32) {
         self.engine.open_path(PATH, 0, &self.params);
         for place in 0..members {
-            self.engine.add(member(place));
+            self.engine.add_member(member(place));
         }
     }
 
@@ -161,8 +161,8 @@ impl<E: Engine> Fixture<E> {
                 self.engine.offer_member(black_box(member(members - 1)), 0);
             }),
             Workload::AddRemove { .. } => repeat(times, |_| {
-                self.engine.add(black_box(below_members()));
-                self.engine.remove(black_box(below_members()));
+                self.engine.add_member(black_box(below_members()));
+                self.engine.remove_member(black_box(below_members()));
             }),
             Workload::OpenClose => self.open_close(times, highest()),
             Workload::OpenCloseLow => self.open_close(times, lowest()),
@@ -176,8 +176,12 @@ impl<E: Engine> Fixture<E> {
                 self.engine.out_of_rate(at, self.time, &mut buffer);
             }),
             Workload::Acr => repeat(times, |_| self.engine.acr(black_box(self.last))),
+            Workload::Status => repeat(times, |_| self.engine.status(black_box(self.last))),
+            Workload::StatusMember { members } => repeat(times, |_| {
+                self.engine.status(black_box(member(members - 1)));
+            }),
             Workload::Export => repeat(times, |_| self.engine.export(black_box(self.last))),
-            Workload::Next => repeat(times, |_| self.engine.next()),
+            Workload::Next => repeat(times, |_| self.engine.next_ready()),
             Workload::SlotTime => repeat(times, |_| {
                 self.time += self.step;
                 self.engine.slot_time(self.time, black_box(LAG));

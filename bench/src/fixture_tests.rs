@@ -72,8 +72,8 @@ fn members_take_turns() {
 fn members_are_added_and_offered_to() {
     let mut fixture = Fixture::<Reference>::new(0, Workload::AddRemove { members: 255 });
     let engine = &mut fixture.engine.engine;
-    assert_eq!(engine.add(below_members()), Ok(()));
-    assert_eq!(engine.remove(below_members()).unwrap().cells, 0);
+    assert_eq!(engine.add_member(below_members()), Ok(()));
+    assert_eq!(engine.remove_member(below_members()).unwrap().cells, 0);
     assert_eq!(engine.offer_member(member(254), 0), Ok(1));
 }
 
@@ -182,9 +182,9 @@ fn a_next_ready_instant_is_found() {
         let library = Fixture::<Library>::new(connections, Workload::Next);
         let reference = Fixture::<Reference>::new(connections, Workload::Next);
         // SAFETY: the pointer is live for the call.
-        let ours = unsafe { ffi::abr_next(&*library.engine.table) };
+        let ours = unsafe { ffi::abr_next_ready(&*library.engine.table) };
         assert_ne!(ours, ffi::ABR_NEVER);
-        assert_eq!(reference.engine.engine.next(), Some(ours));
+        assert_eq!(reference.engine.engine.next_ready(), Some(ours));
     }
 }
 
@@ -199,6 +199,27 @@ fn a_slot_time_is_behind() {
         let ours = unsafe { ffi::abr_slot_time(&*library.engine.table, now, LAG) };
         assert!(ours < now);
         assert_eq!(reference.engine.engine.slot_time(now, LAG), ours);
+    }
+}
+
+/// What is read of a connection and of a member is there, and is that of both sides.
+#[test]
+fn readings_are_accepted() {
+    for row in ROWS {
+        let (library, reference) = (
+            Fixture::<Library>::new(row.connections, row.workload),
+            Fixture::<Reference>::new(row.connections, row.workload),
+        );
+        let at = match row.workload {
+            Workload::Status => library.last,
+            Workload::StatusMember { members } => member(members - 1),
+            _ => continue,
+        };
+        // SAFETY: the pointer is live for the call.
+        let ours = unsafe { ffi::abr_status(&*library.engine.table, at.vpi, at.vci) };
+        let theirs = reference.engine.engine.status(at).unwrap();
+        assert_eq!((ours.refusal, ours.leaf), (0, theirs.leaf), "{}", row.name);
+        assert_eq!((ours.vpi, ours.vci, ours.acr), (at.vpi, at.vci, theirs.acr));
     }
 }
 
@@ -246,7 +267,7 @@ fn opens_are_accepted() {
     let time = fixture.time;
     let engine = &mut fixture.engine.engine;
     for at in [highest(), lowest()] {
-        assert_eq!(engine.open(at, time, &fixture.params), Ok(1));
+        assert_eq!(engine.open(at, time, &fixture.params).unwrap().leaf, 1_023);
         assert_eq!(engine.close(at).unwrap().comparisons, 1);
     }
 }

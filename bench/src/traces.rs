@@ -1,6 +1,6 @@
 //! The traces that are judged (document 02, L11). Both pass, so that every cell is judged.
 
-use abr::{Kind, Params, RATE_MAX};
+use abr::{Kind, Params, Sent, COMPARISONS_MAX, RATE_MAX};
 use abr_tools::record::Recorder;
 
 /// What a trace is like.
@@ -29,7 +29,17 @@ pub fn octets(cells: u32, numbers: Numbers) -> Vec<u8> {
             0 => Kind::Forward,
             _ => Kind::Data,
         };
-        recorder.sent(u64::from(cell) * step, kind, rate);
+        let sent = Sent {
+            vpi: 0,
+            vci: 32,
+            leaf: 0,
+            kind,
+            made: false,
+            acr: rate,
+            acr_before: rate,
+            comparisons: COMPARISONS_MAX,
+        };
+        recorder.sent(u64::from(cell) * step, &sent);
     }
     recorder.octets()
 }

@@ -56,6 +56,10 @@ pub enum Workload {
     OutOfRate,
     /// The rate of the last connection.
     Acr,
+    /// All that can be read of the last connection.
+    Status,
+    /// The same of the last of so many members of a path.
+    StatusMember { members: u32 },
     /// The contract of the last connection as doubles.
     Export,
     /// The next ready instant; data waits on every connection.
@@ -105,7 +109,8 @@ impl Workload {
             Workload::Members { members }
             | Workload::LoneMember { members }
             | Workload::OfferMember { members }
-            | Workload::AddRemove { members } => Some(members),
+            | Workload::AddRemove { members }
+            | Workload::StatusMember { members } => Some(members),
             _ => None,
         }
     }
@@ -212,6 +217,10 @@ rows! {
     "acr-1": "ask for the rate, 1 open", 1, Acr;
     "acr-64": "ask for the rate, last of 64", 64, Acr;
     "acr-1024": "ask for the rate, last of 1,024", 1_024, Acr;
+    "status-1": "read a connection, 1 open", 1, Status;
+    "status-64": "read a connection, last of 64", 64, Status;
+    "status-1024": "read a connection, last of 1,024", 1_024, Status;
+    "status-member-256": "read a member, last of 256", 0, StatusMember { members: 256 };
     "export-1": "export a contract as doubles, 1 open", 1, Export;
     "export-64": "export a contract as doubles, last of 64", 64, Export;
     "export-1024": "export a contract as doubles, last of 1,024", 1_024, Export;

@@ -5,7 +5,7 @@ use std::collections::BTreeMap;
 use crate::cell::LENGTH;
 use crate::engine::{Closed, Engine};
 use crate::engine_tests::{
-    at, backward, draws, engine_with, forward, kind, octets, params, refused, MS,
+    at, backward, draws, engine_with, forward, kind, octets, params, refused, waiting, MS,
 };
 use crate::{Address, Kind, Refusal};
 
@@ -35,14 +35,14 @@ fn accepted_offers_less_data_slots() {
         engine.offer(at(32), 65_529)
     });
     assert_eq!(kind(&mut engine, 0), Some(Kind::Forward)); // no data cell
-    assert_eq!(engine.waiting(at(32)), 7);
+    assert_eq!(waiting(&engine, at(32)), 7);
     assert_eq!(kind(&mut engine, MS), Some(Kind::Data));
     engine.receive(&octets(&forward(32))).unwrap();
     assert_eq!(kind(&mut engine, 2 * MS), Some(Kind::Turned)); // nor is this
     assert_eq!(kind(&mut engine, 3 * MS), Some(Kind::Data));
-    assert_eq!(engine.waiting(at(32)), 5);
+    assert_eq!(waiting(&engine, at(32)), 5);
     assert_eq!(closed(&mut engine, 32), 5);
-    assert_eq!(engine.waiting(at(32)), 0);
+    assert_eq!(waiting(&engine, at(32)), 0);
 }
 
 #[test]
@@ -103,7 +103,7 @@ fn every_cell_is_accounted_for_in_long_lists() {
             }
         }
         for (address, cells) in &rest {
-            assert_eq!(engine.waiting(*address) as i64, *cells);
+            assert_eq!(waiting(&engine, *address) as i64, *cells);
         }
     }
     assert!(rest.len() == 2);

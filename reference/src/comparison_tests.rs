@@ -2,7 +2,9 @@
 
 use crate::cell::LENGTH;
 use crate::engine::{Engine, CONNECTIONS_MAX};
-use crate::engine_tests::{at, backward, data, engine_with, forward, octets, params, refused, MS};
+use crate::engine_tests::{
+    at, backward, data, engine_with, forward, octets, opened, params, receive, refused, MS,
+};
 use crate::{Params, Refusal, Rm};
 
 /// An engine with VCIs 32, 33, .. opened at these times, on leaves 0, 1, ..; one
@@ -30,21 +32,21 @@ fn close(engine: &mut Engine, vci: u32) -> u32 {
 #[test]
 fn one_connection() {
     let mut engine = Engine::new();
-    assert_eq!(engine.open(at(32), 0, &params()), Ok(1)); // never ready: no winner, as before
-    assert_eq!(engine.receive(&data(32, true)), Ok(1));
-    assert_eq!(engine.receive(&octets(&backward(32))), Ok(1));
+    assert_eq!(engine.open(at(32), 0, &params()), opened(0)); // never ready: no winner, as before
+    assert_eq!(receive(&mut engine, &data(32, true)), Ok(1));
+    assert_eq!(receive(&mut engine, &octets(&backward(32))), Ok(1));
     assert_eq!(engine.offer(at(32), 0), Ok(1));
     assert_eq!(slot(&mut engine, 0), None);
     assert_eq!(engine.offer(at(32), 1), Ok(10)); // ready: it wins at every level
     assert_eq!(engine.offer(at(32), 0), Ok(10)); // as before, but that leaf
-    assert_eq!(engine.receive(&data(32, true)), Ok(10));
+    assert_eq!(receive(&mut engine, &data(32, true)), Ok(10));
     assert_eq!(slot(&mut engine, 0), Some((32, 10)));
     assert_eq!(slot(&mut engine, MS - 1), None);
     assert_eq!(slot(&mut engine, MS), Some((32, 10)));
     assert_eq!(engine.offer(at(32), 0), Ok(1)); // k is 1 and nothing waits
-    assert_eq!(engine.receive(&octets(&forward(32))), Ok(10));
+    assert_eq!(receive(&mut engine, &octets(&forward(32))), Ok(10));
     assert_eq!(close(&mut engine, 32), 10);
-    assert_eq!(engine.open(at(32), MS, &params()), Ok(1));
+    assert_eq!(engine.open(at(32), MS, &params()), opened(0));
     assert_eq!(close(&mut engine, 32), 1);
 }
 
@@ -55,17 +57,19 @@ fn a_made_cell_replays_as_an_offer_does() {
     assert_eq!(engine.make(at(32), 0), Ok(10));
     engine.open(at(33), 0, &params()).unwrap();
     assert_eq!(engine.make(at(33), 0), Ok(1)); // VCI 32 wins as before
-    refused(&engine, Refusal::TooSoon, |engine| engine.make(at(33), 0));
+    refused(&engine, Refusal::MadeTooSoon, |engine| {
+        engine.make(at(33), 0)
+    });
 }
 
 #[test]
 fn a_cell_for_a_leaf_that_leads_some_levels() {
     // Leaf 4 is the earliest of leaves 4 to 7; leaf 0 is the earliest of all.
     let mut engine = waiting(&[0, 1, 2, 3, 4, 5, 6, 7]);
-    assert_eq!(engine.receive(&data(36, false)), Ok(3));
-    assert_eq!(engine.receive(&data(37, false)), Ok(1));
-    assert_eq!(engine.receive(&data(38, false)), Ok(2));
-    assert_eq!(engine.receive(&data(32, false)), Ok(10));
+    assert_eq!(receive(&mut engine, &data(36, false)), Ok(3));
+    assert_eq!(receive(&mut engine, &data(37, false)), Ok(1));
+    assert_eq!(receive(&mut engine, &data(38, false)), Ok(2));
+    assert_eq!(receive(&mut engine, &data(32, false)), Ok(10));
     assert_eq!(close(&mut engine, 36), 3); // leaf 5 at levels 1 and 2, leaf 0 at level 3
     assert_eq!(close(&mut engine, 32), 10); // leaf 1 at every level
     assert_eq!(slot(&mut engine, 7), Some((33, 10)));
@@ -82,12 +86,12 @@ fn feedback_moves_a_ready_instant_and_with_it_the_winners() {
         er: 0x4000,
         ..backward(34)
     };
-    assert_eq!(engine.receive(&octets(&slowest)), Ok(2)); // later, and still the only one at level 1
+    assert_eq!(receive(&mut engine, &octets(&slowest)), Ok(2)); // later, and still the only one at level 1
     let faster = Rm {
         ni: 0,
         ..backward(34)
     };
-    assert_eq!(engine.receive(&octets(&faster)), Ok(10)); // now before VCI 32
+    assert_eq!(receive(&mut engine, &octets(&faster)), Ok(10)); // now before VCI 32
     assert_eq!(slot(&mut engine, MS), Some((34, 10)));
     assert_eq!(slot(&mut engine, MS), Some((32, 10)));
 }
@@ -95,8 +99,9 @@ fn feedback_moves_a_ready_instant_and_with_it_the_winners() {
 #[test]
 fn ties_go_to_the_lower_vci_whatever_the_leaves() {
     let mut engine = Engine::new();
-    for (vci, comparisons) in [(50, 10), (60, 1), (40, 10), (41, 1), (45, 3)] {
-        assert_eq!(engine.open(at(vci), 0, &params()), Ok(1));
+    let offers = [(50, 10), (60, 1), (40, 10), (41, 1), (45, 3)];
+    for (leaf, (vci, comparisons)) in (0..).zip(offers) {
+        assert_eq!(engine.open(at(vci), 0, &params()), opened(leaf));
         assert_eq!(engine.offer(at(vci), 1), Ok(comparisons));
     }
     let served = [0; 5].map(|_| slot(&mut engine, 0));
@@ -111,8 +116,8 @@ fn an_open_takes_the_lowest_free_leaf() {
     }
     // On leaf 2 against leaf 3, which is earlier; on leaf 6 against nobody, then
     // leaf 4; on leaf 7 against leaf 6 with a higher VCI, then leaf 4.
-    for (vci, comparisons) in [(99, 1), (98, 2), (97, 2)] {
-        engine.open(at(vci), 7, &params()).unwrap();
+    for (vci, leaf, comparisons) in [(99, 2, 1), (98, 6, 2), (97, 7, 2)] {
+        assert_eq!(engine.open(at(vci), 7, &params()), opened(leaf));
         assert_eq!(engine.offer(at(vci), 1), Ok(comparisons));
     }
 }
@@ -121,8 +126,8 @@ fn an_open_takes_the_lowest_free_leaf() {
 fn the_table_filled_and_emptied() {
     let mut engine = Engine::new();
     let vcis = 32..32 + CONNECTIONS_MAX as u32;
-    for vci in vcis.clone() {
-        assert_eq!(engine.open(at(vci), 0, &params()), Ok(1));
+    for (leaf, vci) in (0..).zip(vcis.clone()) {
+        assert_eq!(engine.open(at(vci), 0, &params()), opened(leaf));
     }
     refused(&engine, Refusal::Full, |engine| {
         engine.open(at(5_000), 0, &params())
@@ -140,7 +145,7 @@ fn the_table_filled_and_emptied() {
     for vci in vcis {
         assert_eq!(close(&mut engine, vci), 10); // the first of those that are left
     }
-    assert_eq!(engine.open(at(32), 0, &params()), Ok(1));
+    assert_eq!(engine.open(at(32), 0, &params()), opened(0));
 }
 
 #[test]

@@ -27,6 +27,17 @@ pub enum Kind {
     Data,
 }
 
+/// A cell that a connection sends.
+#[derive(Debug, Clone, Copy, PartialEq, Eq)]
+pub struct Departed {
+    /// What it is.
+    pub kind: Kind,
+    /// The connection's address; of a path's data that of the member.
+    pub at: Address,
+    /// Whether it is a made cell, which counts as a turned one.
+    pub made: bool,
+}
+
 /// What reading a connection's allowed rate gives (document 02, L9).
 #[derive(Debug, Clone, Copy, PartialEq, Eq)]
 pub struct Allowed {
@@ -114,35 +125,35 @@ pub fn forward_due(k: u32, nrm: u32, passed: u64, trm: u64) -> bool {
 
 /// What a connection has sent, from its first cell on.
 #[derive(Debug, Clone, Copy, PartialEq, Eq)]
-struct History {
+pub struct History {
     /// When it last sent a cell.
-    last_send: u64,
+    pub last_sent: u64,
     /// When it last sent a forward cell.
-    last_forward: u64,
+    pub last_forward: u64,
     /// The cells sent since that forward cell.
-    k: u32,
+    pub k: u32,
     /// Whether one of them was a turned or a made cell.
-    turned: bool,
+    pub turned: bool,
 }
 
 /// An open connection.
 #[derive(Debug, Clone, PartialEq, Eq)]
 pub struct Connection {
-    at: Address,
-    opened: u64,
-    rate: RateRecord,
+    pub(crate) at: Address,
+    pub(crate) opened: u64,
+    pub(crate) rate: RateRecord,
     /// The new allowed rate less the old one, of the last backward cell.
     change: i64,
     /// Nothing before the first cell.
-    history: Option<History>,
+    pub(crate) history: Option<History>,
     /// Waiting data cells.
     load: Load,
     /// The receiving side, with the backward cells that wait.
-    destination: Destination,
+    pub(crate) destination: Destination,
     /// Forward cells sent since the last answer, the document's Y.
-    unanswered: u32,
+    pub(crate) unanswered: u32,
     /// When it last had an out-of-rate cell.
-    out_of_rate: Spacing,
+    pub(crate) out_of_rate: Spacing,
 }
 
 impl Connection {
@@ -238,7 +249,7 @@ impl Connection {
     /// CLP is 1. Nothing changes but the instant of the last such cell. Refusal: 18.
     pub fn out_of_rate(&mut self, time: u64) -> Result<Octets, Refusal> {
         if !self.out_of_rate.allow(time) {
-            return Err(Refusal::TooOften);
+            return Err(Refusal::OutOfRateTooSoon);
         }
         let mut cell = self.forward_octets();
         cell::set_clp(&mut cell);
@@ -252,7 +263,7 @@ impl Connection {
         let Some(history) = self.history else {
             return waiting.then_some(self.opened);
         };
-        let due = history.last_send + gap;
+        let due = history.last_sent + gap;
         if waiting || history.k == self.rate.contract.nrm - 1 {
             Some(due)
         } else if history.k >= MRM {
@@ -278,22 +289,22 @@ impl Connection {
         }
     }
 
-    /// Sends a cell at this time, on a connection that is ready, and says of which
-    /// kind and with which address: that of a path's member, if it is a data cell.
-    pub fn send(&mut self, time: u64, buffer: &mut Octets) -> (Kind, Address) {
+    /// Sends a cell at this time, on a connection that is ready, and says what it is.
+    pub fn send(&mut self, time: u64, buffer: &mut Octets) -> Departed {
         let kind = self.next_kind(time);
-        let mut at = self.at;
+        let (mut at, mut made) = (self.at, false);
         match kind {
             Kind::Forward => *buffer = self.forward_cell(time),
             Kind::Turned => {
-                if let Some(cell) = self.destination.take() {
-                    *buffer = cell;
+                if let Some(backward) = self.destination.take() {
+                    *buffer = backward.cell;
+                    made = backward.made_at.is_some();
                 }
             }
             Kind::Data => at.vci = self.load.take().unwrap_or(at.vci),
         }
         self.record(kind, time);
-        (kind, at)
+        Departed { kind, at, made }
     }
 
     /// Makes the moves that go before a forward cell, counts the cell as
@@ -327,13 +338,13 @@ impl Connection {
     fn record(&mut self, kind: Kind, time: u64) {
         self.history = match (kind, self.history) {
             (Kind::Forward, _) | (_, None) => Some(History {
-                last_send: time,
+                last_sent: time,
                 last_forward: time,
                 k: 0,
                 turned: false,
             }),
             (_, Some(history)) => Some(History {
-                last_send: time,
+                last_sent: time,
                 last_forward: history.last_forward,
                 k: history.k + 1,
                 turned: history.turned || kind == Kind::Turned,

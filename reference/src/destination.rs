@@ -7,17 +7,26 @@ use crate::rate::code_within;
 use crate::refusal::Refusal;
 use crate::spacing::Spacing;
 
+/// A backward cell that waits.
+#[derive(Debug, Clone, PartialEq, Eq)]
+pub struct Backward {
+    /// Its octets.
+    pub cell: Octets,
+    /// The congestion level at which it was made; nothing if it is a turned one.
+    pub made_at: Option<u32>,
+}
+
 /// What a connection's receiving side keeps.
 #[derive(Debug, Clone, PartialEq, Eq, Default)]
 pub struct Destination {
     /// The saved EFCI.
-    efci: bool,
+    pub(crate) efci: bool,
     /// The waiting turned cell.
-    turned: Option<Octets>,
+    pub(crate) turned: Option<Backward>,
     /// The waiting made cell.
-    made: Option<Octets>,
+    pub(crate) made: Option<Backward>,
     /// When a cell was last made, sent since or not.
-    makings: Spacing,
+    pub(crate) makings: Spacing,
 }
 
 impl Destination {
@@ -30,9 +39,13 @@ impl Destination {
     /// level, and replaces the turned one that waited, whose CI it keeps. The
     /// saved mark becomes 0.
     pub fn receive_forward(&mut self, at: Address, cell: &Octets, level: u32) {
-        let ci = self.efci || level == 2 || self.turned.as_ref().is_some_and(cell::has_ci);
+        let waiting = self.turned.as_ref().map(|turned| &turned.cell);
+        let ci = self.efci || level == 2 || waiting.is_some_and(cell::has_ci);
         let ni = level == 1;
-        self.turned = Some(cell::turn(cell, at, ci, ni));
+        self.turned = Some(Backward {
+            cell: cell::turn(cell, at, ci, ni),
+            made_at: None,
+        });
         self.efci = false;
     }
 
@@ -43,9 +56,9 @@ impl Destination {
             return Err(Refusal::NotCongested);
         }
         if !self.makings.allow(time) {
-            return Err(Refusal::TooSoon);
+            return Err(Refusal::MadeTooSoon);
         }
-        self.made = Some(cell::rm_octets(&Rm {
+        let cell = cell::rm_octets(&Rm {
             vpi: at.vpi,
             vci: at.vci,
             dir: 1,
@@ -54,7 +67,9 @@ impl Destination {
             ni: u32::from(level == 1),
             er: code_within(pcr),
             ..Rm::default()
-        }));
+        });
+        let made_at = Some(level);
+        self.made = Some(Backward { cell, made_at });
         Ok(())
     }
 
@@ -65,7 +80,7 @@ impl Destination {
 
     /// The next cell to send, which then no longer waits: the turned one, else
     /// the made one.
-    pub fn take(&mut self) -> Option<Octets> {
+    pub fn take(&mut self) -> Option<Backward> {
         self.turned.take().or_else(|| self.made.take())
     }
 }

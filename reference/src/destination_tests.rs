@@ -11,7 +11,7 @@ const RATE: u64 = 512_000;
 
 /// Octet 7 of the next cell to send, which then no longer waits.
 fn bits(destination: &mut Destination) -> u8 {
-    destination.take().expect("a cell waits")[6]
+    destination.take().expect("a cell waits").cell[6]
 }
 
 /// A forward cell without marks.
@@ -66,7 +66,7 @@ fn a_made_cell_octet_by_octet() {
     for (level, bits) in [(1, 0xD0), (2, 0xE0)] {
         let mut destination = Destination::default();
         assert_eq!(destination.make(AT, 0, level, RATE), Ok(()));
-        let cell = destination.take().expect("a cell waits");
+        let cell = destination.take().expect("a cell waits").cell;
         assert_eq!(cell[..4], [0x0A, 0x50, 0x02, 0x0C]);
         assert_eq!(cell[4], cell::header_check(&cell[..4]));
         assert_eq!(cell[5..7], [0x01, bits]);
@@ -113,7 +113,10 @@ fn the_interval_counts_from_the_last_accepted_making() {
     let start = 7;
     assert_eq!(destination.make(AT, start, 1, RATE), Ok(()));
     for time in [start, start + INTERVAL - 1] {
-        assert_eq!(destination.make(AT, time, 1, RATE), Err(Refusal::TooSoon));
+        assert_eq!(
+            destination.make(AT, time, 1, RATE),
+            Err(Refusal::MadeTooSoon)
+        );
         assert_eq!(
             destination.make(AT, time, 0, RATE),
             Err(Refusal::NotCongested)
@@ -121,7 +124,7 @@ fn the_interval_counts_from_the_last_accepted_making() {
     }
     destination.take(); // sent or not
     let refused = destination.make(AT, start + INTERVAL - 1, 2, RATE);
-    assert_eq!(refused, Err(Refusal::TooSoon));
+    assert_eq!(refused, Err(Refusal::MadeTooSoon));
     assert!(!destination.waits());
     let next = start + INTERVAL;
     assert_eq!(
@@ -131,7 +134,7 @@ fn the_interval_counts_from_the_last_accepted_making() {
     assert_eq!(destination.make(AT, next, 1, RATE), Ok(()));
     assert_eq!(
         destination.make(AT, next + INTERVAL - 1, 1, RATE),
-        Err(Refusal::TooSoon)
+        Err(Refusal::MadeTooSoon)
     );
     assert_eq!(destination.make(AT, next + INTERVAL, 1, RATE), Ok(()));
 }

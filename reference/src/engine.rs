@@ -10,7 +10,7 @@ use std::collections::BTreeMap;
 
 use crate::address::{Address, PATH_VCI};
 use crate::cell::{self, Cell, Octets};
-use crate::connection::{Allowed, Connection, Kind};
+use crate::connection::{Allowed, Connection, Departed, Kind};
 use crate::double::Exported;
 use crate::load::{Load, Members, MEMBERS_MAX};
 use crate::params::Params;
@@ -32,14 +32,56 @@ pub const LEVEL_MAX: u32 = 2;
 /// The least VCI that may be opened or made a member, on any VPI.
 pub const VCI_MIN: u32 = 32;
 
+/// The answer of an open.
+#[derive(Debug, Clone, Copy, PartialEq, Eq)]
+pub struct Opened {
+    /// The comparisons made.
+    pub comparisons: u32,
+    /// The connection's leaf in the tournament, until its close.
+    pub leaf: u32,
+}
+
+/// The kinds of cell that are received.
+#[derive(Debug, Clone, Copy, PartialEq, Eq)]
+pub enum Arrival {
+    /// A forward RM cell, which is turned round.
+    Forward,
+    /// A backward RM cell, which moves the allowed rate.
+    Backward,
+    /// A data cell, whose mark is saved.
+    Data,
+}
+
+/// The answer of a received cell.
+#[derive(Debug, Clone, Copy, PartialEq, Eq)]
+pub struct Received {
+    /// What it is.
+    pub kind: Arrival,
+    /// The cell's own address; for data of a path that of the member.
+    pub vpi: u32,
+    pub vci: u32,
+    /// The leaf of the connection that it is for.
+    pub leaf: u32,
+    /// The allowed rate of that connection afterwards.
+    pub acr: u64,
+    /// The comparisons made.
+    pub comparisons: u32,
+}
+
 /// The answer of a slot that goes to a connection.
 #[derive(Debug, Clone, Copy, PartialEq, Eq)]
 pub struct Sent {
     /// The connection, by both numbers; for data of a path its member.
     pub vpi: u32,
     pub vci: u32,
+    /// The leaf of the connection; for data of a path that of the path.
+    pub leaf: u32,
     /// What it sends.
     pub kind: Kind,
+    /// Whether it is a turned cell that was made (document 02, L1).
+    pub made: bool,
+    /// Its allowed rate before the cell, the one that a trace has (document 02, L11).
+    pub acr_before: u64,
     /// Its allowed rate, after the moves of a forward cell.
     pub acr: u64,
     /// The comparisons made.
@@ -55,12 +97,13 @@ pub struct Closed {
     pub comparisons: u32,
 }
 
-/// An open connection and its leaf in the tournament.
+/// An open connection with the parameters that its open gave, and its leaf in the tournament.
 #[derive(Debug, Clone, PartialEq, Eq)]
-struct Entry {
+pub(crate) struct Entry {
     name: u32,
-    leaf: usize,
-    connection: Connection,
+    pub(crate) leaf: u32,
+    pub(crate) params: Params,
+    pub(crate) connection: Connection,
 }
 
 /// The whole engine: the open connections by address, the tournament, the congestion
@@ -68,10 +111,10 @@ struct Entry {
 /// (0 before any, which refuses nothing).
 #[derive(Debug, Clone, PartialEq, Eq, Default)]
 pub struct Engine {
-    table: BTreeMap<Address, Entry>,
+    pub(crate) table: BTreeMap<Address, Entry>,
     tournament: Tournament,
-    level: u32,
-    last: u64,
+    pub(crate) level: u32,
+    pub(crate) last: u64,
 }
 
 impl Engine {
@@ -80,16 +123,16 @@ impl Engine {
         Self::default()
     }
 
-    /// Opens a channel on the lowest free leaf and answers the comparisons.
+    /// Opens a channel on the lowest free leaf and answers that leaf and the comparisons.
     /// Refusals: 10, 19, 7, 29, 30, 8, 12, 27, 13, 14.
-    pub fn open(&mut self, at: Address, time: u64, params: &Params) -> Result<u32, Refusal> {
+    pub fn open(&mut self, at: Address, time: u64, params: &Params) -> Result<Opened, Refusal> {
         check_vci(at)?;
         self.open_with(Load::channel(), at, time, params)
     }
 
-    /// Opens a path on the lowest free leaf, without members, and answers the
+    /// Opens a path on the lowest free leaf, without members, and answers that leaf and the
     /// comparisons. Refusals: 19, 7, 29, 30, 8, 12, 13, 14.
-    pub fn open_path(&mut self, vpi: u32, time: u64, params: &Params) -> Result<u32, Refusal> {
+    pub fn open_path(&mut self, vpi: u32, time: u64, params: &Params) -> Result<Opened, Refusal> {
         self.open_with(Load::path(), Address::of_path(vpi), time, params)
     }
 
@@ -100,7 +143,7 @@ impl Engine {
         at: Address,
         time: u64,
         params: &Params,
-    ) -> Result<u32, Refusal> {
+    ) -> Result<Opened, Refusal> {
         params.check()?; // 19 before 7, which the name has too
         let name = at.name().ok_or(Refusal::Range)?;
         let contract = params.contract()?;
@@ -115,15 +158,17 @@ impl Engine {
             return Err(Refusal::Full);
         }
         self.advance(time)?;
-        let leaf = self.tournament.take().ok_or(Refusal::Full)?;
+        let leaf = self.tournament.take().ok_or(Refusal::Full)? as u32;
         let connection = Connection::new(at, time, contract, load);
         let entry = Entry {
             name,
             leaf,
+            params: *params,
             connection,
         };
         self.table.insert(at, entry);
-        self.replay(at)
+        let comparisons = self.replay(at)?;
+        Ok(Opened { comparisons, leaf })
     }
 
     /// Closes a connection, a path with all its members, drops all that waits on it and
@@ -132,24 +177,43 @@ impl Engine {
         let entry = self.table.remove(&at).ok_or(Refusal::NotOpen)?;
         Ok(Closed {
             cells: entry.connection.waiting(),
-            comparisons: self.tournament.release(entry.leaf),
+            comparisons: self.tournament.release(entry.leaf as usize),
         })
     }
 
-    /// Receives a cell and answers the comparisons; a data cell of a member is one of its
+    /// Receives a cell and answers what it was; a data cell of a member is one of its
     /// path. Refusals: 1, 2, 4, for RM cells 5, 6 and 19, then 11.
-    pub fn receive(&mut self, cell: &[u8]) -> Result<u32, Refusal> {
+    pub fn receive(&mut self, cell: &[u8]) -> Result<Received, Refusal> {
         let content = cell::read(cell)?;
         let octets: &Octets = cell.try_into().map_err(|_| Refusal::Length)?;
         let level = self.level;
         let at = self.receiver(&content)?;
         let connection = self.connection(at)?;
-        match content {
-            Cell::Data { efci, .. } => connection.receive_data(efci),
-            Cell::Rm(rm) if rm.dir == 0 => connection.receive_forward(octets, level),
-            Cell::Rm(rm) => connection.receive_backward(&rm),
-        }
-        self.replay(at)
+        let kind = match content {
+            Cell::Data { efci, .. } => {
+                connection.receive_data(efci);
+                Arrival::Data
+            }
+            Cell::Rm(rm) if rm.dir == 0 => {
+                connection.receive_forward(octets, level);
+                Arrival::Forward
+            }
+            Cell::Rm(rm) => {
+                connection.receive_backward(&rm);
+                Arrival::Backward
+            }
+        };
+        let comparisons = self.replay(at)?;
+        let Address { vpi, vci } = content.address();
+        let entry = self.entry(at)?;
+        Ok(Received {
+            kind,
+            vpi,
+            vci,
+            leaf: entry.leaf,
+            acr: entry.connection.acr(),
+            comparisons,
+        })
     }
 
     /// Adds data to what waits on a channel and answers the comparisons.
@@ -161,7 +225,7 @@ impl Engine {
 
     /// Adds a member to its path. The path's ready instant stays, so that no match is
     /// replayed. Refusals: 10, 11 also for a pair out of range, 12, 27, 26.
-    pub fn add(&mut self, at: Address) -> Result<(), Refusal> {
+    pub fn add_member(&mut self, at: Address) -> Result<(), Refusal> {
         check_vci(at)?;
         if self.path_of(at).is_none() {
             return Err(Refusal::NotOpen);
@@ -188,7 +252,7 @@ impl Engine {
 
     /// Removes a member, drops the data that waits on it and answers how many cells that
     /// were, and the comparisons of its path. Refusals: 11, 28 whatever VCI is no member's.
-    pub fn remove(&mut self, at: Address) -> Result<Closed, Refusal> {
+    pub fn remove_member(&mut self, at: Address) -> Result<Closed, Refusal> {
         let cells = self.members(at.vpi)?.remove(at.vci)?;
         let comparisons = self.replay(Address::of_path(at.vpi))?;
         Ok(Closed { cells, comparisons })
@@ -245,13 +309,17 @@ impl Engine {
             return Ok(None);
         };
         let connection = self.connection(at)?;
-        let (kind, sent) = connection.send(time, buffer);
+        let acr_before = connection.acr();
+        let Departed { kind, at: of, made } = connection.send(time, buffer);
         let acr = connection.acr();
         let comparisons = self.replay(at)?;
         Ok(Some(Sent {
-            vpi: sent.vpi,
-            vci: sent.vci,
+            vpi: of.vpi,
+            vci: of.vci,
+            leaf: self.entry(at)?.leaf,
             kind,
+            made,
+            acr_before,
             acr,
             comparisons,
         }))
@@ -259,7 +327,7 @@ impl Engine {
 
     /// The earliest ready instant of all open connections; nothing if none of them is ever
     /// ready as things stand.
-    pub fn next(&self) -> Option<u64> {
+    pub fn next_ready(&self) -> Option<u64> {
         let connections = self.table.values().map(|entry| &entry.connection);
         connections.filter_map(Connection::ready).min()
     }
@@ -269,7 +337,7 @@ impl Engine {
     /// more than `lag` before `now`, nor after it. Due then counts from that instant (document
     /// 01, "Slots"), so that a slot that comes late costs the connection nothing.
     pub fn slot_time(&self, now: u64, lag: u64) -> u64 {
-        let ready = self.next().unwrap_or(NEVER);
+        let ready = self.next_ready().unwrap_or(NEVER);
         now.min(ready.max(self.last).max(now.saturating_sub(lag)))
     }
 
@@ -295,13 +363,6 @@ impl Engine {
         self.table.len()
     }
 
-    /// The data cells that wait on a channel, a path or a member; none if it is not open.
-    pub fn waiting(&self, at: Address) -> u64 {
-        let of_member = self.path_of(at).and_then(|path| path.waiting(at.vci).ok());
-        let of_connection = self.entry(at).map(|entry| entry.connection.waiting());
-        of_member.or(of_connection.ok()).unwrap_or(0)
-    }
-
     /// Who wins the tournament, whatever the time: ready instant and name.
     #[cfg(test)]
     pub(crate) fn top(&self) -> Option<(u64, u32)> {
@@ -309,7 +370,7 @@ impl Engine {
     }
 
     /// The entry with this address. Refusal: 11.
-    fn entry(&self, at: Address) -> Result<&Entry, Refusal> {
+    pub(crate) fn entry(&self, at: Address) -> Result<&Entry, Refusal> {
         self.table.get(&at).ok_or(Refusal::NotOpen)
     }
 
@@ -320,7 +381,7 @@ impl Engine {
     }
 
     /// The members of the path that an address is on, if it is in range and open.
-    fn path_of(&self, at: Address) -> Option<&Members> {
+    pub(crate) fn path_of(&self, at: Address) -> Option<&Members> {
         let entry = self.table.get(&Address::of_path(at.vpi))?;
         entry.connection.members().filter(|_| at.fits())
     }
@@ -338,7 +399,7 @@ impl Engine {
     }
 
     /// The members of all paths.
-    fn member_count(&self) -> usize {
+    pub(crate) fn member_count(&self) -> usize {
         let connections = self.table.values().map(|entry| &entry.connection);
         connections
             .flat_map(Connection::members)
@@ -362,7 +423,7 @@ impl Engine {
     fn replay(&mut self, at: Address) -> Result<u32, Refusal> {
         let entry = self.entry(at)?;
         let entrant = entry.connection.ready().map(|ready| (ready, entry.name));
-        Ok(self.tournament.replay(entry.leaf, entrant))
+        Ok(self.tournament.replay(entry.leaf as usize, entrant))
     }
 
     /// Refuses a time before the last accepted one with 14.

@@ -3,7 +3,9 @@
 use crate::address_tests::on;
 use crate::cell::{crc10, header_check, LENGTH};
 use crate::engine::{Engine, TIME_MAX};
-use crate::{code_of, rate_of, read, write_rm, Address, Cell, Kind, Params, Refusal, Rm, Sent};
+use crate::{
+    code_of, rate_of, read, write_rm, Address, Cell, Kind, Opened, Params, Refusal, Rm, Sent,
+};
 
 /// One millisecond, the gap at 1,000 cells per second.
 pub(crate) const MS: u64 = 1_000_000;
@@ -30,6 +32,33 @@ pub(crate) fn engine_with(params: &Params) -> Engine {
     let mut engine = Engine::new();
     engine.open(at(32), 0, params).unwrap();
     engine
+}
+
+/// The answer of an accepted open, which makes one comparison since nothing waits yet.
+pub(crate) fn opened(leaf: u32) -> Result<Opened, Refusal> {
+    Ok(Opened {
+        comparisons: 1,
+        leaf,
+    })
+}
+
+/// The comparisons of a received cell.
+pub(crate) fn receive(engine: &mut Engine, cell: &[u8]) -> Result<u32, Refusal> {
+    engine.receive(cell).map(|received| received.comparisons)
+}
+
+/// The answer of a slot for VCI 32 on leaf 0, whose rate of 1,000 cells per second stays.
+pub(crate) fn sent(kind: Kind) -> Sent {
+    Sent {
+        vpi: 0,
+        vci: 32,
+        leaf: 0,
+        kind,
+        made: false,
+        acr_before: RATE,
+        acr: RATE,
+        comparisons: 10,
+    }
 }
 
 /// The octets of an RM cell.
@@ -84,6 +113,11 @@ pub(crate) fn with_crc(mut cell: [u8; LENGTH]) -> [u8; LENGTH] {
     cell
 }
 
+/// The data cells that wait on a channel, a path or a member; none if it is not open.
+pub(crate) fn waiting(engine: &Engine, at: Address) -> u64 {
+    engine.status(at).map_or(0, |status| status.waiting)
+}
+
 /// A slot whose kind alone counts; nothing when idle.
 pub(crate) fn kind(engine: &mut Engine, time: u64) -> Option<Kind> {
     let sent = engine.slot(time, &mut [0; LENGTH]).unwrap();
@@ -116,17 +150,8 @@ fn the_first_cell_is_forward() {
     let mut engine = engine_with(&params());
     assert_eq!(kind(&mut engine, 5), None);
     engine.offer(at(32), 1).unwrap();
-    let (sent, rm) = slot_rm(&mut engine, 5);
-    assert_eq!(
-        sent,
-        Sent {
-            vpi: 0,
-            vci: 32,
-            kind: Kind::Forward,
-            acr: RATE,
-            comparisons: 10
-        }
-    );
+    let (answer, rm) = slot_rm(&mut engine, 5);
+    assert_eq!(answer, sent(Kind::Forward));
     let expected = Rm {
         vci: 32,
         er: 0x7FFF,
@@ -396,17 +421,8 @@ fn a_turned_cell_alone_makes_a_connection_ready() {
     let mut engine = engine_with(&params());
     engine.receive(&octets(&forward(32))).unwrap();
     assert_eq!(kind(&mut engine, 0), Some(Kind::Forward));
-    let (sent, rm) = slot_rm(&mut engine, MS);
-    assert_eq!(
-        sent,
-        Sent {
-            vpi: 0,
-            vci: 32,
-            kind: Kind::Turned,
-            acr: RATE,
-            comparisons: 10
-        }
-    );
+    let (answer, rm) = slot_rm(&mut engine, MS);
+    assert_eq!(answer, sent(Kind::Turned));
     assert_eq!(
         rm,
         Rm {
@@ -529,14 +545,7 @@ fn data_and_idle_slots_do_not_write_the_buffer() {
     assert_eq!(buffer, [0xA5; LENGTH]);
     engine.offer(at(32), 1).unwrap();
     assert_eq!(kind(&mut engine, 0), Some(Kind::Forward));
-    let sent = Sent {
-        vpi: 0,
-        vci: 32,
-        kind: Kind::Data,
-        acr: RATE,
-        comparisons: 10,
-    };
-    assert_eq!(engine.slot(MS, &mut buffer), Ok(Some(sent)));
+    assert_eq!(engine.slot(MS, &mut buffer), Ok(Some(sent(Kind::Data))));
     assert_eq!(buffer, [0xA5; LENGTH]);
 }
 
@@ -828,6 +837,20 @@ pub(crate) fn draws(seed: u64) -> impl FnMut(u32) -> u32 {
     }
 }
 
+/// A random RM cell for an address.
+fn random_rm(at: Address, mut draw: impl FnMut(u32) -> u32) -> Rm {
+    Rm {
+        vpi: at.vpi,
+        vci: at.vci,
+        dir: draw(2),
+        bn: draw(2),
+        ci: draw(2),
+        ni: draw(2),
+        er: draw(0x8000),
+        ..Rm::default()
+    }
+}
+
 /// A random call on the engine, on one of those, accepted or refused. Its
 /// comparisons, 0 for a set level, an out-of-rate cell and an idle slot.
 fn random_call(
@@ -838,10 +861,13 @@ fn random_call(
     let at = RANDOM[draw(4) as usize];
     match draw(10) {
         0 if draw(8) == 0 => engine.close(at).map(|closed| closed.comparisons),
-        0 => engine.open(at, *time, &random_params(at)),
+        0 => {
+            let opened = engine.open(at, *time, &random_params(at));
+            opened.map(|opened| opened.comparisons)
+        }
         1 => engine.offer(at, u64::from(draw(9))),
         2 => engine.set_level(draw(4)).map(|()| 0),
-        3 => engine.receive(&on(data(at.vci, draw(2) == 1), 0, at.vpi)),
+        3 => receive(engine, &on(data(at.vci, draw(2) == 1), 0, at.vpi)),
         6 => engine.make(at, *time),
         7 => {
             let top = engine.top();
@@ -849,20 +875,7 @@ fn random_call(
             assert_eq!(engine.top(), top);
             answer.map(|()| 0)
         }
-        4 | 5 => {
-            let (dir, bn, ci, ni) = (draw(2), draw(2), draw(2), draw(2));
-            let rm = Rm {
-                vpi: at.vpi,
-                vci: at.vci,
-                dir,
-                bn,
-                ci,
-                ni,
-                er: draw(0x8000),
-                ..Rm::default()
-            };
-            engine.receive(&octets(&rm))
-        }
+        4 | 5 => receive(engine, &octets(&random_rm(at, draw))),
         _ => {
             *time += u64::from(draw(40_000_000));
             slot_of_the_top(engine, *time)

@@ -27,7 +27,7 @@ struct Traced {
 
 /// What the cells before have left to look at.
 struct History {
-    last_send: u64,
+    last_sent: u64,
     last_forward: u64,
     /// The cells since that forward cell.
     k: u32,
@@ -87,7 +87,7 @@ impl Judge {
         let Some(history) = &self.history else {
             return (!forward).then_some(1);
         };
-        let passed = cell.time - history.last_send;
+        let passed = cell.time - history.last_sent;
         if gap(cell.rate).is_none_or(|gap| passed < gap) {
             return Some(2);
         }
@@ -101,12 +101,12 @@ impl Judge {
     fn add(&mut self, cell: &Traced) {
         let after = match &self.history {
             Some(history) if cell.kind != Kind::Forward => History {
-                last_send: cell.time,
+                last_sent: cell.time,
                 last_forward: history.last_forward,
                 k: history.k + 1,
             },
             _ => History {
-                last_send: cell.time,
+                last_sent: cell.time,
                 last_forward: cell.time,
                 k: 0,
             },

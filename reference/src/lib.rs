@@ -16,6 +16,7 @@
 //! * [`connection`]: the four moves of the allowed rate, and pacing;
 //! * [`tournament`]: the matches between ready instants, and their count;
 //! * [`engine`]: the table of connections and the calls on it;
+//! * [`status`]: what a connection, a member and the whole link are at the moment;
 //! * [`port`]: the share of a capacity, and the port of a switch that limits ER by it;
 //! * [`trace`], [`judge`]: the numbers of a trace, and the judge of one;
 //! * [`refusal`]: the refusals and their numbers.
@@ -35,6 +36,7 @@ pub mod port;
 pub mod rate;
 pub mod refusal;
 pub mod spacing;
+pub mod status;
 pub mod tournament;
 pub mod trace;
 
@@ -66,14 +68,17 @@ mod reserved_bit_tests;
 mod setup_tests;
 #[cfg(test)]
 mod slot_time_tests;
+#[cfg(test)]
+mod status_tests;
 
 pub use address::Address;
 pub use cell::{read, write_rm, Cell, Rm};
 pub use connection::{Allowed, Kind};
 pub use double::{import, Exported, Imported};
-pub use engine::{Closed, Engine, Sent};
+pub use engine::{Arrival, Closed, Engine, Opened, Received, Sent};
 pub use judge::Breach;
 pub use params::Params;
 pub use port::{fair_share, limit};
 pub use rate::{code_of, gap, rate, rate_of};
 pub use refusal::Refusal;
+pub use status::{Member, Sort, Status, Totals};

@@ -71,9 +71,9 @@ impl Load {
 /// The members of a path by VCI, each with its data, and the one served last.
 #[derive(Debug, Clone, PartialEq, Eq, Default)]
 pub struct Members {
-    cells: BTreeMap<u32, u64>,
+    pub(crate) cells: BTreeMap<u32, u64>,
     /// Nothing before any was served. It stays when that member is removed.
-    served: Option<u32>,
+    pub(crate) served: Option<u32>,
 }
 
 impl Members {

@@ -3,7 +3,7 @@
 use crate::cell::LENGTH;
 use crate::engine::{Engine, TIME_MAX};
 use crate::engine_tests::{
-    at, engine_with, forward, kind, octets, params, refused, slot_rm, MS, RATE, THOUSAND,
+    self, at, engine_with, forward, kind, octets, params, refused, slot_rm, MS, THOUSAND,
 };
 use crate::spacing::INTERVAL;
 use crate::{Kind, Params, Refusal, Rm, Sent};
@@ -55,7 +55,9 @@ fn the_order_of_refusals_when_making() {
         engine.make(at(33), 9)
     });
     engine.set_level(1).unwrap();
-    refused(&engine, Refusal::TooSoon, |engine| engine.make(at(33), 9));
+    refused(&engine, Refusal::MadeTooSoon, |engine| {
+        engine.make(at(33), 9)
+    });
     assert!(engine.make(at(32), 9).is_ok()); // another connection
 }
 
@@ -63,7 +65,9 @@ fn the_order_of_refusals_when_making() {
 fn its_time_counts_for_opens_and_slots_and_a_refused_ones_does_not() {
     let mut engine = engine_at(2, &params());
     engine.make(at(32), 10).unwrap();
-    refused(&engine, Refusal::TooSoon, |engine| engine.make(at(32), 20));
+    refused(&engine, Refusal::MadeTooSoon, |engine| {
+        engine.make(at(32), 20)
+    });
     refused(&engine, Refusal::NotOpen, |engine| engine.make(at(33), 30));
     refused(&engine, Refusal::TimeBackward, |engine| {
         engine.slot(9, &mut [0; LENGTH])
@@ -94,11 +98,9 @@ fn a_made_cell_alone_makes_a_connection_ready_from_its_opening_on() {
     assert_eq!(engine.slot(MS + 6, &mut [0; LENGTH]), Ok(None));
     let (sent, rm) = slot_rm(&mut engine, MS + 7);
     let expected = Sent {
-        vpi: 0,
-        vci: 32,
-        kind: Kind::Turned,
-        acr: RATE,
-        comparisons: 10,
+        leaf: 1,
+        made: true,
+        ..engine_tests::sent(Kind::Turned)
     };
     assert_eq!((sent, rm), (expected, made(2)));
 }
@@ -201,7 +203,7 @@ fn each_connection_has_its_own_made_cell_and_interval() {
     engine.open(at(33), 0, &params()).unwrap();
     engine.make(at(32), 0).unwrap();
     engine.make(at(33), MS).unwrap();
-    refused(&engine, Refusal::TooSoon, |engine| {
+    refused(&engine, Refusal::MadeTooSoon, |engine| {
         engine.make(at(33), INTERVAL)
     });
     assert!(engine.make(at(32), INTERVAL).is_ok());

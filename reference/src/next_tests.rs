@@ -17,7 +17,7 @@ fn started(cells: u64) -> Engine {
 
 /// Asserts when the next cell goes: a slot before is idle, and one then is not.
 fn next_is(engine: &Engine, next: u64) {
-    assert_eq!(engine.next(), Some(next));
+    assert_eq!(engine.next_ready(), Some(next));
     if let Some(before) = next.checked_sub(1) {
         let early = engine.clone().slot(before, &mut [0; 53]);
         assert!(
@@ -30,7 +30,7 @@ fn next_is(engine: &Engine, next: u64) {
 
 /// Asserts that nothing goes, however late.
 fn never(engine: &Engine) {
-    assert_eq!(engine.next(), None);
+    assert_eq!(engine.next_ready(), None);
     assert_eq!(kind(&mut engine.clone(), TIME_MAX), None);
 }
 
@@ -54,7 +54,7 @@ fn before_the_first_cell_it_is_the_opening_also_long_after() {
     engine.receive(&octets(&forward(32))).unwrap();
     next_is(&engine, 7);
     engine.open(at(33), 9 * MS, &params()).unwrap();
-    assert_eq!(engine.next(), Some(7)); // it has passed
+    assert_eq!(engine.next_ready(), Some(7)); // it has passed
 }
 
 #[test]
@@ -107,7 +107,7 @@ fn feedback_moves_it() {
     engine.receive(&explicit(0x4000)).unwrap(); // one cell per second
     next_is(&engine, 1_000 * MS);
     engine.receive(&explicit(0x7FFF)).unwrap();
-    assert!(engine.next().is_some_and(|next| next < MS));
+    assert!(engine.next_ready().is_some_and(|next| next < MS));
 }
 
 #[test]
@@ -126,22 +126,22 @@ fn of_several_it_is_the_earliest_whatever_the_names() {
         engine.open(Address::new(vpi, 32), time, &params()).unwrap();
         engine.offer(Address::new(vpi, 32), 1).unwrap();
     }
-    assert_eq!(engine.next(), Some(3));
+    assert_eq!(engine.next_ready(), Some(3));
     engine.close(Address::new(9, 32)).unwrap();
-    assert_eq!(engine.next(), Some(4));
+    assert_eq!(engine.next_ready(), Some(4));
     engine.close(Address::new(255, 32)).unwrap();
-    assert_eq!(engine.next(), Some(4));
+    assert_eq!(engine.next_ready(), Some(4));
 }
 
 #[test]
 fn a_path_is_ready_by_its_members() {
     let mut engine = Engine::new();
     engine.open_path(3, 2, &params()).unwrap();
-    engine.add(Address::new(3, 40)).unwrap();
+    engine.add_member(Address::new(3, 40)).unwrap();
     never(&engine);
     engine.offer_member(Address::new(3, 40), 1).unwrap();
     next_is(&engine, 2);
-    engine.remove(Address::new(3, 40)).unwrap();
+    engine.remove_member(Address::new(3, 40)).unwrap();
     never(&engine);
 }
 
@@ -150,5 +150,5 @@ fn a_path_is_ready_by_its_members() {
 fn it_may_be_after_the_latest_time() {
     let mut engine = started(2);
     assert_eq!(kind(&mut engine, TIME_MAX), Some(Kind::Data));
-    assert_eq!(engine.next(), Some(TIME_MAX + MS));
+    assert_eq!(engine.next_ready(), Some(TIME_MAX + MS));
 }

@@ -4,7 +4,7 @@
 use crate::cell::LENGTH;
 use crate::engine::{Engine, TIME_MAX};
 use crate::engine_tests::{
-    at, backward, engine_with, forward, kind, octets, slot_rm, MS, RATE, THOUSAND,
+    at, backward, engine_with, forward, kind, octets, receive, slot_rm, MS, RATE, THOUSAND,
 };
 use crate::{Kind, Params, Rm};
 
@@ -23,7 +23,7 @@ fn explicit(er: u32) -> Rm {
 }
 
 /// Receives such a cell on VCI 32 and gives the allowed rate afterwards.
-fn receive(engine: &mut Engine, er: u32) -> u64 {
+fn rate_after(engine: &mut Engine, er: u32) -> u64 {
     engine.receive(&octets(&explicit(er))).unwrap();
     engine.acr(at(32)).unwrap()
 }
@@ -33,7 +33,7 @@ fn receive(engine: &mut Engine, er: u32) -> u64 {
 fn stopped(params: &Params) -> Engine {
     let mut engine = engine_with(params);
     engine.offer(at(32), 9).unwrap();
-    assert_eq!(receive(&mut engine, 0), 0);
+    assert_eq!(rate_after(&mut engine, 0), 0);
     engine
 }
 
@@ -65,7 +65,7 @@ fn at_rate_0_nothing_is_ready_before_the_first_cell() {
     engine.set_level(2).unwrap();
     engine.make(at(32), 0).unwrap();
     never_ready(&engine);
-    assert_eq!(receive(&mut engine, 0x7FFF), RATE / 16);
+    assert_eq!(rate_after(&mut engine, 0x7FFF), RATE / 16);
     let (sent, rm) = slot_rm(&mut engine, 0); // ready from its opening on
     assert_eq!((sent.kind, sent.acr), (Kind::Forward, RATE / 16));
     assert_eq!(rm.mcr, 0);
@@ -77,9 +77,9 @@ fn at_rate_0_nothing_is_ready_later() {
     engine.offer(at(32), 2).unwrap();
     assert_eq!(kind(&mut engine, 0), Some(Kind::Forward));
     assert_eq!(kind(&mut engine, MS), Some(Kind::Data));
-    assert_eq!(receive(&mut engine, 0), 0);
+    assert_eq!(rate_after(&mut engine, 0), 0);
     never_ready(&engine); // data waits
-    assert_eq!(receive(&mut engine, THOUSAND), RATE / 16);
+    assert_eq!(rate_after(&mut engine, THOUSAND), RATE / 16);
     // Due sixteen gaps of the full rate after the last send.
     assert_eq!(kind(&mut engine, 17 * MS - 1), None);
     assert_eq!(kind(&mut engine, 17 * MS), Some(Kind::Data));
@@ -92,9 +92,9 @@ fn at_rate_0_no_forward_cell_is_due_at_nrm_less_1() {
     assert_eq!(kind(&mut engine, 0), Some(Kind::Forward));
     assert_eq!(kind(&mut engine, MS), Some(Kind::Data));
     assert_eq!(kind(&mut engine.clone(), 2 * MS), Some(Kind::Forward)); // k is 1
-    assert_eq!(receive(&mut engine, 0), 0);
+    assert_eq!(rate_after(&mut engine, 0), 0);
     never_ready(&engine);
-    assert_eq!(receive(&mut engine, THOUSAND), RATE / 16);
+    assert_eq!(rate_after(&mut engine, THOUSAND), RATE / 16);
     assert_eq!(kind(&mut engine, 17 * MS - 1), None);
     assert_eq!(kind(&mut engine, 17 * MS), Some(Kind::Forward));
 }
@@ -106,7 +106,7 @@ fn at_rate_0_no_forward_cell_is_due_after_trm() {
     let kinds = [0, 1, 2].map(|time| kind(&mut engine, time * MS));
     assert_eq!(kinds, [Kind::Forward, Kind::Data, Kind::Data].map(Some));
     assert_eq!(kind(&mut engine.clone(), 3 * MS), Some(Kind::Forward)); // k is 2
-    assert_eq!(receive(&mut engine, 0), 0);
+    assert_eq!(rate_after(&mut engine, 0), 0);
     never_ready(&engine);
 }
 
@@ -116,11 +116,11 @@ fn an_initial_rate_of_0_needs_a_backward_cell_and_limits_the_first_cell() {
     assert_eq!(engine.acr(at(32)), Ok(0));
     engine.offer(at(32), 1).unwrap();
     never_ready(&engine);
-    assert_eq!(receive(&mut engine, 0x7FFF), RATE / 16);
+    assert_eq!(rate_after(&mut engine, 0x7FFF), RATE / 16);
     let (sent, rm) = slot_rm(&mut engine, 5);
     assert_eq!((sent.kind, sent.acr, rm.ccr), (Kind::Forward, 0, 0)); // min(ACR, ICR)
     never_ready(&engine);
-    assert_eq!(receive(&mut engine, 0x7FFF), RATE / 16);
+    assert_eq!(rate_after(&mut engine, 0x7FFF), RATE / 16);
     assert_eq!(kind(&mut engine, 5 + 16 * MS), Some(Kind::Data)); // not a first cell again
 }
 
@@ -133,9 +133,9 @@ fn an_idle_connection_falls_to_an_initial_rate_of_0() {
     };
     let mut engine = engine_with(&params);
     engine.offer(at(32), 1).unwrap();
-    receive(&mut engine, 0x7FFF);
+    rate_after(&mut engine, 0x7FFF);
     assert_eq!(kind(&mut engine, 0), Some(Kind::Forward));
-    receive(&mut engine, 0x7FFF);
+    rate_after(&mut engine, 0x7FFF);
     assert_eq!(kind(&mut engine, 16 * MS), Some(Kind::Data));
     let (sent, rm) = slot_rm(&mut engine, 32 * MS);
     assert_eq!((sent.kind, sent.acr, rm.ccr), (Kind::Forward, 0, 0));
@@ -168,11 +168,11 @@ fn rates_below_one_cell_per_second() {
     };
     let mut engine = engine_with(&params);
     engine.offer(at(32), 9).unwrap();
-    let rates = [1, 2, 3].map(|_| receive(&mut engine, 0x4000));
+    let rates = [1, 2, 3].map(|_| rate_after(&mut engine, 0x4000));
     assert_eq!(rates, [1, 2, 3]); // PCR / 2^r is one unit
     let (sent, rm) = slot_rm(&mut engine, 0);
     assert_eq!((sent.acr, rm.ccr), (0, 0)); // the first cell, ICR being 0
-    assert_eq!(receive(&mut engine, 0x4000), 1);
+    assert_eq!(rate_after(&mut engine, 0x4000), 1);
     assert_eq!(kind(&mut engine, 512_000 * MS - 1), None);
     assert_eq!(kind(&mut engine, 512_000 * MS), Some(Kind::Data));
     let cut = Rm {
@@ -191,7 +191,7 @@ fn the_code_of_a_rate_below_one_cell_per_second_is_0x0000() {
         ..Params::house(0x4000, 0, 0x4000)
     };
     let mut engine = stopped(&params);
-    assert_eq!(receive(&mut engine, 0x4000), 256);
+    assert_eq!(rate_after(&mut engine, 0x4000), 256);
     let (sent, rm) = slot_rm(&mut engine, 0);
     assert_eq!((sent.acr, rm.ccr), (256, 0));
 }
@@ -203,7 +203,7 @@ fn nothing_raises_the_rate_when_the_increase_is_0() {
         ..Params::house(0x4000, 0, 0)
     };
     let mut engine = stopped(&params);
-    assert_eq!(receive(&mut engine, 0x7FFF), 0); // PCR / 2^r is half a unit
+    assert_eq!(rate_after(&mut engine, 0x7FFF), 0); // PCR / 2^r is half a unit
     never_ready(&engine);
 }
 
@@ -249,13 +249,13 @@ fn a_leaf_at_rate_0_wins_no_match() {
     assert_eq!(engine.offer(at(32), 1), Ok(10));
     assert_eq!(engine.offer(at(33), 1), Ok(1));
     let stop = octets(&explicit(0));
-    assert_eq!(engine.receive(&stop), Ok(10)); // leaf 1 wins at every level
-    assert_eq!(engine.receive(&stop), Ok(1));
+    assert_eq!(receive(&mut engine, &stop), Ok(10)); // leaf 1 wins at every level
+    assert_eq!(receive(&mut engine, &stop), Ok(1));
     assert_eq!(engine.offer(at(32), 1), Ok(1));
     let closed = engine.close(at(33)).unwrap();
     assert_eq!(closed.comparisons, 10); // nobody is left
-    assert_eq!(engine.receive(&stop), Ok(1));
-    assert_eq!(engine.receive(&octets(&explicit(0x7FFF))), Ok(10));
+    assert_eq!(receive(&mut engine, &stop), Ok(1));
+    assert_eq!(receive(&mut engine, &octets(&explicit(0x7FFF))), Ok(10));
     assert_eq!(engine.top(), Some((0, 32)));
 }
 
@@ -263,6 +263,6 @@ fn a_leaf_at_rate_0_wins_no_match() {
 fn a_contract_with_a_minimum_never_falls_below_it() {
     let mut engine = engine_with(&Params::house(THOUSAND, 0x4000, THOUSAND));
     engine.offer(at(32), 1).unwrap();
-    assert_eq!(receive(&mut engine, 0), 512);
+    assert_eq!(rate_after(&mut engine, 0), 512);
     assert_eq!(kind(&mut engine, 0), Some(Kind::Forward));
 }

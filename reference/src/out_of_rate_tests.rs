@@ -128,7 +128,7 @@ fn the_order_of_refusals() {
     }
     refuses(&engine, Refusal::TimeBackward, 33, 8, LENGTH); // before 18
     refuses(&engine, Refusal::TimeBackward, 32, 8, LENGTH);
-    refuses(&engine, Refusal::TooOften, 33, 9, LENGTH);
+    refuses(&engine, Refusal::OutOfRateTooSoon, 33, 9, LENGTH);
     cell(&mut engine, 32, 9); // another connection
 }
 
@@ -136,12 +136,24 @@ fn the_order_of_refusals() {
 fn exactly_100_ms_later_the_next_is_accepted() {
     let mut engine = engine_with(&params());
     cell(&mut engine, 32, 7);
-    refuses(&engine, Refusal::TooOften, 32, 7, LENGTH);
-    refuses(&engine, Refusal::TooOften, 32, 7 + INTERVAL - 1, LENGTH);
+    refuses(&engine, Refusal::OutOfRateTooSoon, 32, 7, LENGTH);
+    refuses(
+        &engine,
+        Refusal::OutOfRateTooSoon,
+        32,
+        7 + INTERVAL - 1,
+        LENGTH,
+    );
     cell(&mut engine, 32, 7 + INTERVAL);
-    refuses(&engine, Refusal::TooOften, 32, 6 + 2 * INTERVAL, LENGTH);
+    refuses(
+        &engine,
+        Refusal::OutOfRateTooSoon,
+        32,
+        6 + 2 * INTERVAL,
+        LENGTH,
+    );
     cell(&mut engine, 32, TIME_MAX);
-    refuses(&engine, Refusal::TooOften, 32, TIME_MAX, LENGTH);
+    refuses(&engine, Refusal::OutOfRateTooSoon, 32, TIME_MAX, LENGTH);
     refuses(&engine, Refusal::Time, 32, TIME_MAX + 1, LENGTH);
 }
 
@@ -165,11 +177,11 @@ fn each_connection_has_its_own_interval_and_made_cells_another() {
     engine.make(at(32), 0).unwrap();
     cell(&mut engine, 33, MS);
     engine.make(at(33), 2 * MS).unwrap();
-    refuses(&engine, Refusal::TooOften, 33, INTERVAL, LENGTH);
+    refuses(&engine, Refusal::OutOfRateTooSoon, 33, INTERVAL, LENGTH);
     cell(&mut engine, 32, INTERVAL);
     engine.make(at(32), INTERVAL).unwrap();
     cell(&mut engine, 33, INTERVAL + MS);
-    refused(&engine, Refusal::TooSoon, |engine| {
+    refused(&engine, Refusal::MadeTooSoon, |engine| {
         engine.make(at(33), INTERVAL + MS)
     });
 }
@@ -180,7 +192,7 @@ fn its_time_counts_for_14_and_a_refused_ones_does_not() {
     engine.open(at(33), 0, &params()).unwrap();
     engine.set_level(2).unwrap();
     cell(&mut engine, 32, 10);
-    refuses(&engine, Refusal::TooOften, 32, 20, LENGTH);
+    refuses(&engine, Refusal::OutOfRateTooSoon, 32, 20, LENGTH);
     refuses(&engine, Refusal::NotOpen, 34, 20, LENGTH);
     refuses(&engine, Refusal::Length, 33, 20, 0);
     refused(&engine, Refusal::TimeBackward, |engine| {
@@ -230,19 +242,20 @@ fn slots(outside: bool) -> (Vec<Option<Sent>>, Vec<Octets>) {
         if round % 5 == 0 {
             engine.offer(at(32), 3).unwrap();
         }
-        match round % 31 {
-            3 => engine.receive(&octets(&forward(32))).unwrap(),
-            7 => engine
-                .receive(&octets(&Rm {
-                    ni: 0,
-                    ..backward(32)
-                }))
-                .unwrap(),
-            _ => 0,
+        let arriving = match round % 31 {
+            3 => Some(forward(32)),
+            7 => Some(Rm {
+                ni: 0,
+                ..backward(32)
+            }),
+            _ => None,
         };
+        if let Some(rm) = arriving {
+            engine.receive(&octets(&rm)).unwrap();
+        }
         if outside {
             let answer = engine.out_of_rate(at(32), time, &mut [0; LENGTH]);
-            assert!(matches!(answer, Ok(()) | Err(Refusal::TooOften)));
+            assert!(matches!(answer, Ok(()) | Err(Refusal::OutOfRateTooSoon)));
         }
         let mut buffer = [FILL; LENGTH];
         sent.push(engine.slot(time, &mut buffer).unwrap());

@@ -4,7 +4,8 @@ use crate::address_tests::on;
 use crate::cell::{Octets, LENGTH};
 use crate::engine::{Closed, Engine, TIME_MAX};
 use crate::engine_tests::{
-    at, backward, data, draws, forward, kind, octets, params, refused, slot_rm, MS, RATE,
+    at, backward, data, draws, forward, kind, octets, opened, params, receive, refused, slot_rm,
+    waiting, MS, RATE,
 };
 use crate::{Address, Kind, Params, Refusal, Rm};
 
@@ -22,9 +23,9 @@ const fn of(vci: u32) -> Address {
 /// An engine with the path, opened at time 0, and these members, with so many cells each.
 fn path_with(members: &[(u32, u64)]) -> Engine {
     let mut engine = Engine::new();
-    assert_eq!(engine.open_path(VPI, 0, &params()), Ok(1));
+    assert_eq!(engine.open_path(VPI, 0, &params()), opened(0));
     for (vci, cells) in members {
-        engine.add(of(*vci)).unwrap();
+        engine.add_member(of(*vci)).unwrap();
         engine.offer_member(of(*vci), *cells).unwrap();
     }
     engine
@@ -79,8 +80,8 @@ fn the_refusals_of_opening_a_path_in_their_order() {
             engine.open_path(vpi, time, &params())
         });
     }
-    assert_eq!(engine.open_path(0, 7, &params()), Ok(1));
-    assert_eq!(engine.open_path(255, 7, &params()), Ok(1));
+    assert_eq!(engine.open_path(0, 7, &params()), opened(1));
+    assert_eq!(engine.open_path(255, 7, &params()), opened(2));
     for vci in 32..1_053 {
         engine.open(at(vci), 7, &params()).unwrap();
     }
@@ -108,29 +109,52 @@ fn the_refusals_of_adding_in_their_order() {
     let mut engine = path_with(&[(40, 0)]);
     engine.open(of(50), 0, &params()).unwrap();
     for vci in [0, 6, 31] {
-        refused(&engine, Refusal::LowVci, |engine| engine.add(of(vci)));
         refused(&engine, Refusal::LowVci, |engine| {
-            engine.add(Address::new(256, vci))
+            engine.add_member(of(vci))
+        });
+        refused(&engine, Refusal::LowVci, |engine| {
+            engine.add_member(Address::new(256, vci))
         });
     }
-    refused(&engine, Refusal::NotOpen, |engine| engine.add(at(40)));
     refused(&engine, Refusal::NotOpen, |engine| {
-        engine.add(Address::new(VPI + 256, 41))
+        engine.add_member(at(40))
     });
-    refused(&engine, Refusal::NotOpen, |engine| engine.add(of(65_536)));
     refused(&engine, Refusal::NotOpen, |engine| {
-        engine.add(of(65_536 + 41))
+        engine.add_member(Address::new(VPI + 256, 41))
     });
-    refused(&engine, Refusal::AlreadyOpen, |engine| engine.add(of(50)));
-    refused(&engine, Refusal::AlreadyMember, |engine| engine.add(of(40)));
+    refused(&engine, Refusal::NotOpen, |engine| {
+        engine.add_member(of(65_536))
+    });
+    refused(&engine, Refusal::NotOpen, |engine| {
+        engine.add_member(of(65_536 + 41))
+    });
+    refused(&engine, Refusal::AlreadyOpen, |engine| {
+        engine.add_member(of(50))
+    });
+    refused(&engine, Refusal::AlreadyMember, |engine| {
+        engine.add_member(of(40))
+    });
+}
+
+/// With 256 members 26 comes last.
+#[test]
+fn the_refusals_of_adding_to_256_members() {
+    let mut engine = path_with(&[(40, 0)]);
+    engine.open(of(50), 0, &params()).unwrap();
     for vci in 100..355 {
-        engine.add(of(vci)).unwrap();
+        engine.add_member(of(vci)).unwrap();
     }
-    refused(&engine, Refusal::MembersFull, |engine| engine.add(of(41)));
-    refused(&engine, Refusal::AlreadyMember, |engine| engine.add(of(40)));
-    refused(&engine, Refusal::AlreadyOpen, |engine| engine.add(of(50)));
-    engine.remove(of(40)).unwrap();
-    assert_eq!(engine.add(of(41)), Ok(()));
+    refused(&engine, Refusal::MembersFull, |engine| {
+        engine.add_member(of(41))
+    });
+    refused(&engine, Refusal::AlreadyMember, |engine| {
+        engine.add_member(of(40))
+    });
+    refused(&engine, Refusal::AlreadyOpen, |engine| {
+        engine.add_member(of(50))
+    });
+    engine.remove_member(of(40)).unwrap();
+    assert_eq!(engine.add_member(of(41)), Ok(()));
 }
 
 /// The 256 are those of all paths together; a closed path has none.
@@ -139,18 +163,20 @@ fn all_paths_share_the_members() {
     let mut engine = path_with(&[]);
     engine.open_path(200, 0, &params()).unwrap();
     for vci in 0..128 {
-        engine.add(of(32 + vci)).unwrap();
-        engine.add(Address::new(200, 65_535 - vci)).unwrap();
+        engine.add_member(of(32 + vci)).unwrap();
+        engine.add_member(Address::new(200, 65_535 - vci)).unwrap();
     }
     refused(&engine, Refusal::MembersFull, |engine| {
-        engine.add(Address::new(200, 32))
+        engine.add_member(Address::new(200, 32))
     });
     refused(&engine, Refusal::NotOpen, |engine| {
-        engine.add(Address::new(201, 32))
+        engine.add_member(Address::new(201, 32))
     });
     engine.close(PATH).unwrap();
-    assert_eq!(engine.add(Address::new(200, 32)), Ok(()));
-    refused(&engine, Refusal::NotOpen, |engine| engine.add(of(32)));
+    assert_eq!(engine.add_member(Address::new(200, 32)), Ok(()));
+    refused(&engine, Refusal::NotOpen, |engine| {
+        engine.add_member(of(32))
+    });
 }
 
 #[test]
@@ -163,7 +189,9 @@ fn a_pair_is_a_channel_or_a_member() {
         engine.open(of(40), TIME_MAX + 1, &params())
     });
     engine.open(of(41), 5, &params()).unwrap();
-    refused(&engine, Refusal::AlreadyOpen, |engine| engine.add(of(41)));
+    refused(&engine, Refusal::AlreadyOpen, |engine| {
+        engine.add_member(of(41))
+    });
     refused(&engine, Refusal::AlreadyOpen, |engine| {
         engine.open(of(41), 4, &params())
     });
@@ -173,7 +201,7 @@ fn a_pair_is_a_channel_or_a_member() {
     refused(&engine, Refusal::TimeBackward, |engine| {
         engine.open(of(42), 4, &params())
     });
-    assert_eq!(engine.open(at(40), 5, &params()), Ok(1)); // on another VPI
+    assert_eq!(engine.open(at(40), 5, &params()), opened(2)); // on another VPI
     for vci in 100..1_121 {
         engine.open(at(vci), 5, &params()).unwrap();
     }
@@ -183,12 +211,12 @@ fn a_pair_is_a_channel_or_a_member() {
     refused(&engine, Refusal::AlreadyMember, |engine| {
         engine.open(of(40), 5, &params())
     });
-    engine.remove(of(40)).unwrap();
+    engine.remove_member(of(40)).unwrap();
     engine.close(of(41)).unwrap();
-    assert_eq!(engine.open(of(40), 5, &params()), Ok(1));
-    assert_eq!(engine.add(of(41)), Ok(()));
+    assert_eq!(engine.open(of(40), 5, &params()), opened(1));
+    assert_eq!(engine.add_member(of(41)), Ok(()));
     engine.close(PATH).unwrap();
-    assert_eq!(engine.open(of(41), 5, &params()), Ok(1));
+    assert_eq!(engine.open(of(41), 5, &params()), opened(0));
 }
 
 #[test]
@@ -200,14 +228,16 @@ fn the_refusals_of_a_members_offer_and_removal() {
             engine.offer_member(of(vci), u64::MAX)
         });
         refused(&engine, Refusal::NotAMember, |engine| {
-            engine.remove(of(vci))
+            engine.remove_member(of(vci))
         });
     }
     for pair in [at(40), Address::new(VPI + 256, 40)] {
         refused(&engine, Refusal::NotOpen, |engine| {
             engine.offer_member(pair, u64::MAX)
         });
-        refused(&engine, Refusal::NotOpen, |engine| engine.remove(pair));
+        refused(&engine, Refusal::NotOpen, |engine| {
+            engine.remove_member(pair)
+        });
     }
     refused(&engine, Refusal::TooMuchData, |engine| {
         engine.offer_member(of(40), 6)
@@ -235,8 +265,10 @@ fn a_vci_out_of_range_is_no_member_of_an_open_path() {
             refused(&engine, Refusal::NotAMember, |engine| {
                 engine.offer_member(pair, u64::MAX)
             });
-            refused(&engine, Refusal::NotAMember, |engine| engine.remove(pair));
-            refused(&engine, Refusal::NotOpen, |engine| engine.add(pair));
+            refused(&engine, Refusal::NotAMember, |engine| {
+                engine.remove_member(pair)
+            });
+            refused(&engine, Refusal::NotOpen, |engine| engine.add_member(pair));
             refused(&engine, Refusal::NotOpen, |engine| engine.offer(pair, 0));
         }
         for path in [0, 256, VPI + 256, u32::MAX] {
@@ -244,8 +276,10 @@ fn a_vci_out_of_range_is_no_member_of_an_open_path() {
             refused(&engine, Refusal::NotOpen, |engine| {
                 engine.offer_member(pair, u64::MAX)
             });
-            refused(&engine, Refusal::NotOpen, |engine| engine.remove(pair));
-            refused(&engine, Refusal::NotOpen, |engine| engine.add(pair));
+            refused(&engine, Refusal::NotOpen, |engine| {
+                engine.remove_member(pair)
+            });
+            refused(&engine, Refusal::NotOpen, |engine| engine.add_member(pair));
         }
     }
     engine.close(PATH).unwrap();
@@ -253,7 +287,7 @@ fn a_vci_out_of_range_is_no_member_of_an_open_path() {
         engine.offer_member(of(70_000), 0)
     });
     refused(&engine, Refusal::NotOpen, |engine| {
-        engine.remove(of(70_000))
+        engine.remove_member(of(70_000))
     });
 }
 
@@ -261,7 +295,7 @@ fn a_vci_out_of_range_is_no_member_of_an_open_path() {
 #[test]
 fn members_fill_one_by_one() {
     let mut engine = path_with(&[(40, 65_535), (41, 65_535), (42, 0)]);
-    assert_eq!(engine.waiting(PATH), 131_070);
+    assert_eq!(waiting(&engine, PATH), 131_070);
     assert_eq!(engine.offer_member(of(42), 65_535), Ok(10));
     assert_eq!(engine.close(PATH).unwrap().cells, 3 * 65_535);
 }
@@ -312,14 +346,14 @@ fn rm_cells_have_vci_6() {
     let (sent, rm) = slot_rm(&mut engine, 0);
     assert_eq!((sent.vpi, sent.vci, sent.kind), (VPI, 6, Kind::Forward));
     assert_eq!((rm.vpi, rm.vci, rm.dir), (VPI, 6, 0));
-    assert_eq!(engine.receive(&arriving()), Ok(10));
+    assert_eq!(receive(&mut engine, &arriving()), Ok(10));
     engine.set_level(2).unwrap();
     assert_eq!(engine.make(PATH, 0), Ok(10));
     let (sent, rm) = slot_rm(&mut engine, MS);
     assert_eq!((sent.vci, sent.kind), (6, Kind::Turned));
     assert_eq!((rm.vpi, rm.vci, rm.dir, rm.bn), (VPI, 6, 1, 0));
     assert_eq!(served(&mut engine, 2 * MS), Some((40, Kind::Data)));
-    let cells = engine.remove(of(40)).unwrap().cells;
+    let cells = engine.remove_member(of(40)).unwrap().cells;
     assert_eq!(cells, 8);
     let (sent, rm) = slot_rm(&mut engine, 3 * MS);
     assert_eq!((sent.vci, sent.kind, rm.vci), (6, Kind::Turned, 6));
@@ -357,7 +391,7 @@ fn members_share_the_saved_mark() {
         assert_eq!(kind(&mut engine, 0), Some(Kind::Forward));
         for (vci, efci) in marks {
             let cell = on(data(vci, efci), 0, VPI);
-            assert_eq!(engine.receive(&cell), Ok(10));
+            assert_eq!(receive(&mut engine, &cell), Ok(10));
         }
         engine.receive(&arriving()).unwrap();
         let (sent, rm) = slot_rm(&mut engine, MS);
@@ -370,7 +404,7 @@ fn members_share_the_saved_mark() {
 fn a_saved_mark_outlives_its_member() {
     let mut engine = path_with(&[(40, 1)]);
     engine.receive(&on(data(40, true), 0, VPI)).unwrap();
-    engine.remove(of(40)).unwrap();
+    engine.remove_member(of(40)).unwrap();
     engine.receive(&arriving()).unwrap();
     assert_eq!(kind(&mut engine, 0), Some(Kind::Forward));
     assert_eq!(slot_rm(&mut engine, MS).1.ci, 1);
@@ -412,7 +446,7 @@ fn the_last_served_goes_with_the_path() {
         engine.offer_member(of(40), 0)
     });
     for vci in [40, 50] {
-        engine.add(of(vci)).unwrap();
+        engine.add_member(of(vci)).unwrap();
         engine.offer_member(of(vci), 1).unwrap();
     }
     assert_eq!(served(&mut engine, MS), Some((6, Kind::Forward)));
@@ -424,25 +458,25 @@ fn comparisons_of_the_paths_leaf() {
     let mut engine = Engine::new();
     engine.open(at(32), 0, &params()).unwrap(); // leaf 0
     engine.open_path(VPI, 0, &params()).unwrap(); // leaf 1
-    assert_eq!(engine.add(of(40)), Ok(()));
+    assert_eq!(engine.add_member(of(40)), Ok(()));
     assert_eq!(engine.offer_member(of(40), 0), Ok(1)); // nobody is ready
-    assert_eq!(engine.receive(&on(data(40, true), 0, VPI)), Ok(1));
+    assert_eq!(receive(&mut engine, &on(data(40, true), 0, VPI)), Ok(1));
     assert_eq!(engine.offer_member(of(40), 1), Ok(10)); // it wins at every level
     assert_eq!(engine.offer(at(32), 1), Ok(10)); // now leaf 0, with the lower name
     assert_eq!(engine.offer_member(of(40), 1), Ok(1)); // it wins nowhere
-    assert_eq!(engine.receive(&on(data(40, true), 0, VPI)), Ok(1));
+    assert_eq!(receive(&mut engine, &on(data(40, true), 0, VPI)), Ok(1));
     engine.close(at(32)).unwrap();
     let removed = Closed {
         cells: 2,
         comparisons: 10,
     };
-    assert_eq!(engine.remove(of(40)), Ok(removed)); // it is no longer ready
-    engine.add(of(40)).unwrap();
+    assert_eq!(engine.remove_member(of(40)), Ok(removed)); // it is no longer ready
+    engine.add_member(of(40)).unwrap();
     let removed = Closed {
         cells: 0,
         comparisons: 1,
     };
-    assert_eq!(engine.remove(of(40)), Ok(removed));
+    assert_eq!(engine.remove_member(of(40)), Ok(removed));
 }
 
 /// A path's name is lower than that of every channel on its VPI.
@@ -456,7 +490,7 @@ fn ties_by_the_paths_name() {
         .unwrap();
     engine.offer(Address::new(VPI - 1, 65_535), 1).unwrap();
     engine.open_path(VPI, 0, &params()).unwrap();
-    engine.add(of(65_535)).unwrap();
+    engine.add_member(of(65_535)).unwrap();
     engine.offer_member(of(65_535), 1).unwrap();
     let mut order = Vec::new();
     for _ in 0..3 {
@@ -477,9 +511,9 @@ fn two_members_with_data_have_equal_shares() {
         for ms in 0..400 {
             let other = of(32 + draw(300));
             match draw(4) {
-                0 => drop(engine.add(other)),
+                0 => drop(engine.add_member(other)),
                 1 => drop(engine.offer_member(other, draw(3).into())),
-                2 if ![100, 200].contains(&other.vci) => drop(engine.remove(other)),
+                2 if ![100, 200].contains(&other.vci) => drop(engine.remove_member(other)),
                 _ => {}
             }
             match served(&mut engine, ms * MS) {

@@ -16,10 +16,10 @@ pub const DEMANDS_MAX: usize = 1_024;
 /// first for which it is less gets that part, and so do all that follow.
 pub fn fair_share(capacity: u64, demands: &[u64]) -> Result<Option<u64>, Refusal> {
     if demands.len() > DEMANDS_MAX {
-        return Err(Refusal::Demands);
+        return Err(Refusal::TooManyDemands);
     }
     if demands.iter().any(|demand| *demand > LARGEST) {
-        return Err(Refusal::Demand);
+        return Err(Refusal::DemandTooLarge);
     }
     let mut rising = demands.to_vec();
     rising.sort_unstable();

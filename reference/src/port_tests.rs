@@ -94,10 +94,13 @@ fn the_most_and_the_largest_demands() {
 fn over_1_024_demands_are_refused_with_21_before_22() {
     let mut demands = vec![1; DEMANDS_MAX + 1];
     assert_eq!(fair_share(0, &demands[..DEMANDS_MAX]), Ok(Some(0)));
-    assert_eq!(fair_share(0, &demands), Err(Refusal::Demands));
+    assert_eq!(fair_share(0, &demands), Err(Refusal::TooManyDemands));
     demands[0] = LARGEST + 1;
-    assert_eq!(fair_share(0, &demands), Err(Refusal::Demands));
-    assert_eq!(fair_share(0, &demands[..DEMANDS_MAX]), Err(Refusal::Demand));
+    assert_eq!(fair_share(0, &demands), Err(Refusal::TooManyDemands));
+    assert_eq!(
+        fair_share(0, &demands[..DEMANDS_MAX]),
+        Err(Refusal::DemandTooLarge)
+    );
 }
 
 #[test]
@@ -105,9 +108,9 @@ fn a_demand_above_the_largest_rate_is_refused_with_22_wherever_it_is() {
     for place in 0..5 {
         let mut demands = [LARGEST; 5];
         demands[place] += 1;
-        assert_eq!(fair_share(u64::MAX, &demands), Err(Refusal::Demand));
+        assert_eq!(fair_share(u64::MAX, &demands), Err(Refusal::DemandTooLarge));
         demands[place] = u64::MAX;
-        assert_eq!(fair_share(0, &demands), Err(Refusal::Demand));
+        assert_eq!(fair_share(0, &demands), Err(Refusal::DemandTooLarge));
     }
 }
 
@@ -249,8 +252,8 @@ fn the_refusals_of_a_cell_with_or_without_a_limit() {
 fn the_demands_are_looked_at_before_the_cell() {
     let many = [LARGEST + 1; DEMANDS_MAX + 1];
     for cell in [&mut [0; 52][..], &mut [0; LENGTH]] {
-        assert_eq!(port(0, &many, cell), Err(Refusal::Demands));
-        assert_eq!(port(0, &many[..1], cell), Err(Refusal::Demand));
+        assert_eq!(port(0, &many, cell), Err(Refusal::TooManyDemands));
+        assert_eq!(port(0, &many[..1], cell), Err(Refusal::DemandTooLarge));
     }
 }
 

@@ -56,18 +56,18 @@ refusals! {
     /// A backward cell was to be made at level 0.
     NotCongested = 16,
     /// Less than 100 ms have passed since the last made cell of the connection.
-    TooSoon = 17,
+    MadeTooSoon = 17,
     /// Less than 100 ms have passed since the connection's last out-of-rate cell.
-    TooOften = 18,
+    OutOfRateTooSoon = 18,
     /// A rate code that was read has the reserved bit set.
     ReservedBit = 19,
     /// A double that is no rate: not a number, infinite, below 0, between 0 and 1, or 2^32
     /// and more.
     Double = 20,
     /// More than 1,024 demands.
-    Demands = 21,
+    TooManyDemands = 21,
     /// A demand above the largest rate.
-    Demand = 22,
+    DemandTooLarge = 22,
     /// A number of a trace that isn't in shortest form, or has more than 64 bits.
     TraceNumber = 23,
     /// A trace that is empty, or ends inside a record.

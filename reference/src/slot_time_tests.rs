@@ -126,7 +126,7 @@ fn the_ends_of_both_numbers() {
     assert_eq!(kind(&mut engine, TIME_MAX), Some(Kind::Forward));
     assert_eq!(engine.slot_time(TIME_MAX, u64::MAX), TIME_MAX);
     assert_eq!(engine.slot_time(TIME_MAX + 2 * MS, u64::MAX), TIME_MAX + MS);
-    assert_eq!(engine.next(), Some(TIME_MAX + MS));
+    assert_eq!(engine.next_ready(), Some(TIME_MAX + MS));
 }
 
 /// A path's ready instant counts like a channel's, and a rate of 0 has none.
@@ -136,7 +136,7 @@ fn whose_ready_instant_it_is() {
     engine.offer(at(32), 1).unwrap();
     assert_eq!(engine.slot_time(7, u64::MAX), 7);
     engine.open_path(3, 2, &params()).unwrap();
-    engine.add(Address::new(3, 40)).unwrap();
+    engine.add_member(Address::new(3, 40)).unwrap();
     assert_eq!(engine.slot_time(7, u64::MAX), 7);
     engine.offer_member(Address::new(3, 40), 1).unwrap();
     assert_eq!(engine.slot_time(7, u64::MAX), 2);

@@ -7,7 +7,7 @@ pub const INTERVAL: u64 = 100_000_000;
 /// When a connection last had a cell of one such sort; nothing before the first.
 #[derive(Debug, Clone, Copy, PartialEq, Eq, Default)]
 pub struct Spacing {
-    last: Option<u64>,
+    pub(crate) last: Option<u64>,
 }
 
 impl Spacing {

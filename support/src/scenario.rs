@@ -13,7 +13,7 @@ const SLOT: u64 = 50_000;
 /// From a forward cell to its answer.
 const ROUND_TRIP: u64 = 20 * MS;
 
-/// The two connections.
+/// The two connections; the place of each is its leaf, since they are opened in this order.
 pub const CONNECTIONS: [Address; 2] = [Address::new(1, 32), Address::new(1, 33)];
 
 /// A span of time in which the network marks backward cells.
@@ -62,11 +62,9 @@ pub const PHASES: [Phase; 3] = [
 pub struct Slot {
     /// Its time.
     pub time: u64,
-    /// The allowed rates of both connections before it.
-    pub before: [u64; 2],
     /// What is sent in it.
     pub sent: Option<Sent>,
-    /// The allowed rates afterwards.
+    /// The allowed rates of both connections afterwards.
     pub after: [u64; 2],
 }
 
@@ -92,7 +90,6 @@ pub fn run(mut see: impl FnMut(&Slot)) -> Result<(), Refusal> {
             offered.or_else(accepted_too(Refusal::TooMuchData))?;
         }
         let mut cell = [0; CELL_OCTETS];
-        let before = rates(&table)?;
         let sent = table.slot(time, &mut cell)?;
         if let Some(sent) = sent {
             if sent.kind == Kind::Forward {
@@ -101,7 +98,6 @@ pub fn run(mut see: impl FnMut(&Slot)) -> Result<(), Refusal> {
         }
         see(&Slot {
             time,
-            before,
             sent,
             after: rates(&table)?,
         });

@@ -93,7 +93,7 @@ static uint32_t open_paths(abr_table *table, abr_params params)
         refused |= abr_open_path(table, vpi, 0, params).refusal;
         for (uint64_t member = next() % 90; member > 0; member--) {
             uint32_t vci = 32 + (uint32_t)(next() % 200);
-            refused |= abr_add(table, vpi, vci).refusal;
+            refused |= abr_add_member(table, vpi, vci).refusal;
             refused |= abr_offer_member(table, vpi, vci, next() & 3).refusal;
         }
     }

@@ -9,10 +9,13 @@ void ignored(abr_table *table, uint8_t *cell, abr_params params, abr_rm rm, uint
     abr_close(table, 1, 32);
     abr_offer(table, 1, 32, 1);
     abr_open_path(table, 1, 0, params);
-    abr_add(table, 1, 32);
+    abr_add_member(table, 1, 32);
     abr_offer_member(table, 1, 32, 1);
-    abr_remove(table, 1, 32);
+    abr_remove_member(table, 1, 32);
     abr_acr(table, 1, 32);
+    abr_status(table, 1, 32);
+    abr_at(table, 0);
+    abr_member_at(table, 0);
     abr_export(table, 1, 32, refusal);
     abr_receive(table, cell, ABR_CELL_OCTETS);
     abr_set_level(table, 1);

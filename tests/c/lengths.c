@@ -21,16 +21,18 @@ static void put_cell(uint8_t *octets)
     CHECK(abr_write_rm(rm, octets, ABR_CELL_OCTETS) == ABR_OK);
 }
 
-/* A refused read and a refused slot have 0 in every other field. */
+/* A refused read, slot and received cell have 0 in every other field. */
 static void zeros(uint8_t *octets, size_t len)
 {
-    static const abr_rm no_rm;
+    static const abr_cell no_cell = {.refusal = ABR_REFUSED_LENGTH};
+    static const abr_sent not_sent = {.refusal = ABR_REFUSED_LENGTH};
+    static const abr_received not_received = {.refusal = ABR_REFUSED_LENGTH};
     abr_cell read = abr_read(octets, len);
     abr_sent sent = abr_slot(&table, 1000, octets, len);
-    CHECK(read.refusal == ABR_REFUSED_LENGTH && read.kind == 0 && read.efci == 0);
-    CHECK(memcmp(&read.rm, &no_rm, sizeof no_rm) == 0);
-    CHECK(sent.refusal == ABR_REFUSED_LENGTH && sent.comparisons == 0 && sent.kind == 0);
-    CHECK(sent.vpi == 0 && sent.vci == 0 && sent.acr == 0);
+    abr_received received = abr_receive(&table, octets, len);
+    CHECK(memcmp(&read, &no_cell, sizeof read) == 0);
+    CHECK(memcmp(&sent, &not_sent, sizeof sent) == 0);
+    CHECK(memcmp(&received, &not_received, sizeof received) == 0);
 }
 
 static void refused(uint8_t *octets, size_t len)
@@ -41,8 +43,6 @@ static void refused(uint8_t *octets, size_t len)
     abr_rm rm = {1, 33, 0, 0, 0, 0, 0, 0, 0, 0, 0, 0};
     memcpy(&before, &table, sizeof before);
     memcpy(kept, octets, sizeof kept);
-    abr_answer answer = abr_receive(&table, octets, len);
-    CHECK(answer.refusal == ABR_REFUSED_LENGTH && answer.comparisons == 0);
     CHECK(abr_write_rm(rm, octets, len) == ABR_REFUSED_LENGTH);
     CHECK(abr_out_of_rate(&table, 1, 32, 1000, octets, len) == ABR_REFUSED_LENGTH);
     CHECK(abr_limit(1000, octets, len) == ABR_REFUSED_LENGTH);
@@ -66,8 +66,8 @@ static void too_many(size_t count)
     }
     put_cell(octets);
     share = abr_fair_share(0, demands, count);
-    CHECK(share.refusal == ABR_REFUSED_DEMANDS && share.limited == 0 && share.rate == 0);
-    CHECK(abr_port(0, demands, count, octets, sizeof octets) == ABR_REFUSED_DEMANDS);
+    CHECK(share.refusal == ABR_REFUSED_TOO_MANY_DEMANDS && share.limited == 0 && share.rate == 0);
+    CHECK(abr_port(0, demands, count, octets, sizeof octets) == ABR_REFUSED_TOO_MANY_DEMANDS);
     munmap((void *)demands, size);
 }
 

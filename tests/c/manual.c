@@ -47,7 +47,7 @@ static void offer(uint64_t cells)
 /* Every slot is idle exactly before the earliest ready instant. */
 static abr_sent slot(uint64_t time)
 {
-    int early = time < abr_next(&table);
+    int early = time < abr_next_ready(&table);
     abr_sent sent = abr_slot(&table, time, cell, sizeof cell);
     CHECK(sent.refusal == ABR_OK && early == (sent.kind == ABR_SENT_IDLE));
     return sent;
@@ -58,6 +58,13 @@ static uint64_t acr(void)
     abr_allowed allowed = abr_acr(&table, PAIR);
     CHECK(allowed.refusal == ABR_OK);
     return allowed.acr;
+}
+
+/* What a received cell of the example's pair answers. */
+static void received_as(uint32_t kind, abr_received received)
+{
+    CHECK(received.refusal == ABR_OK && received.kind == kind && received.comparisons >= 1);
+    CHECK(received.vpi == 0 && received.vci == 32 && received.leaf == 0 && received.acr == acr());
 }
 
 /* A cell of the example's pair is received, with these fields. */
@@ -71,7 +78,7 @@ static void receive(uint32_t dir, uint32_t bn, uint32_t ci, uint32_t ni, uint32_
     rm.ni = ni;
     rm.er = er;
     CHECK(abr_write_rm(rm, octets, sizeof octets) == ABR_OK);
-    CHECK(abr_receive(&table, octets, sizeof octets).refusal == ABR_OK);
+    received_as(dir ? ABR_RECEIVED_BACKWARD : ABR_RECEIVED_FORWARD, abr_receive(&table, octets, sizeof octets));
 }
 
 static void forward_arrives(void) { receive(0, 0, 0, 0, ABR_CODE_MAX); }
@@ -82,7 +89,40 @@ static void data_arrives(int efci)
 {
     uint8_t octets[ABR_CELL_OCTETS] = {0};
     write_header(octets, PAIR, efci ? 2 : 0);
-    CHECK(abr_receive(&table, octets, sizeof octets).refusal == ABR_OK);
+    received_as(ABR_RECEIVED_DATA, abr_receive(&table, octets, sizeof octets));
+}
+
+/* The connection that goes next, of all that are open: the earliest ready instant, then the lowest name. */
+static abr_connection earliest(void)
+{
+    abr_connection first = abr_at(&table, 0);
+    for (uint32_t leaf = 1; leaf < ABR_CONNECTIONS_MAX; leaf++) {
+        abr_connection it = abr_at(&table, leaf);
+        int lower = (it.vpi << 16 | it.vci) < (first.vpi << 16 | first.vci);
+        int sooner = it.ready < first.ready || (it.ready == first.ready && lower);
+        if (it.refusal == ABR_OK && (first.refusal != ABR_OK || sooner)) {
+            first = it;
+        }
+    }
+    return first;
+}
+
+/* A slot that does what the readings before it say. */
+static abr_sent foreseen_slot(uint64_t time)
+{
+    static const abr_sent nothing;
+    abr_connection next = earliest();
+    CHECK(next.refusal == ABR_OK && next.ready == abr_next_ready(&table));
+    abr_sent sent = slot(time);
+    if (next.ready > time) {
+        CHECK(memcmp(&sent, &nothing, sizeof sent) == 0);
+        return sent;
+    }
+    CHECK(sent.leaf == next.leaf && sent.vpi == next.vpi && sent.kind == next_kind(next, time));
+    CHECK(sent.acr_before == next.acr && sent.acr == abr_at(&table, sent.leaf).acr && sent.reserved == 0);
+    CHECK(sent.made == (sent.kind == ABR_SENT_TURNED && !next.turned));
+    CHECK(sent.kind == ABR_SENT_FORWARD || sent.acr == sent.acr_before);
+    return sent;
 }
 
 /* Slots from a time to another, a step apart; how many sent, all of them of one kind. */
@@ -163,12 +203,13 @@ static void line_of_slots(void)
     offer(7);
     for (int at = 0; at < SLOTS; at++) {
         line_events(at, arrives);
-        abr_sent sent = slot((uint64_t)at * MS / 2);
+        abr_sent sent = foreseen_slot((uint64_t)at * MS / 2);
         lower[at] = sent.vci == 33 ? '.' : letters[sent.kind];
         upper[at] = sent.vci == 33 ? letters[sent.kind] : '.';
         if (sent.vci == 32) {
             k = sent.kind == ABR_SENT_FORWARD ? 0 : k + 1;
             since[at] = (char)('0' + k);
+            CHECK(abr_at(&table, sent.leaf).k == (uint32_t)k);
         }
     }
     print_milliseconds();
@@ -389,7 +430,7 @@ static void answer_one(uint32_t which, int port, own_line *line)
     if (port) {
         uint64_t share = line->least[which] + abr_fair_share(line->capacity - minimums, demands, PARTIES).rate;
         CHECK(line_receive(line, &table, which, share, cell) == ABR_OK);
-        CHECK(line->total <= line->capacity && line->level <= line->depth && acr_of(which) <= line->cap[which]);
+        CHECK(line->total <= line->capacity && line->filled <= line->depth && acr_of(which) <= line->cap[which]);
     } else {
         CHECK(abr_receive(&table, cell, sizeof cell).refusal == ABR_OK);
     }
@@ -457,7 +498,7 @@ static void last_of_any_call(void)
 {
     begin(house(20000, 1, 20000));
     offer(9);
-    CHECK(slot(0).kind == ABR_SENT_FORWARD && abr_next(&table) == 50000);
+    CHECK(slot(0).kind == ABR_SENT_FORWARD && abr_next_ready(&table) == 50000);
     CHECK(abr_slot_time(&table, 51000, SLOT) == 50000 && abr_slot_time(&table, 51000, 0) == 51000);
     CHECK(abr_set_level(&table, 1) == ABR_OK && abr_make(&table, PAIR, 51000).refusal == ABR_OK);
     CHECK(abr_slot(&table, 50000, cell, sizeof cell).refusal == ABR_REFUSED_TIME_BACKWARD);
@@ -515,6 +556,7 @@ static void unanswered(void)
     for (int number = 1; number <= 5; number++) {
         char what[80];
         CHECK(slot(time).kind == ABR_SENT_FORWARD);
+        CHECK(abr_status(&table, PAIR).unanswered == (uint32_t)number && abr_status(&table, PAIR).crm == 2);
         sprintf(what, "forward cell %d, of which %d had no answer before", number, number - 1);
         print_rate(what, acr());
         CHECK(run(time + 2 * MS, time + 62 * MS, 2 * MS, ABR_SENT_DATA) == 31);
@@ -523,7 +565,9 @@ static void unanswered(void)
     receive(1, 1, 0, 1, ABR_CODE_MAX);
     CHECK(slot(time).kind == ABR_SENT_FORWARD);
     print_rate("a backward cell with BN 1 and NI 1, then forward cell 6", acr());
+    CHECK(abr_status(&table, PAIR).unanswered == 6);
     receive(1, 0, 0, 1, ABR_CODE_MAX);
+    CHECK(abr_status(&table, PAIR).unanswered == 0);
     CHECK(run(time + 2 * MS, time + 62 * MS, 2 * MS, ABR_SENT_DATA) == 31);
     CHECK(slot(time + 64 * MS).kind == ABR_SENT_FORWARD);
     print_rate("a backward cell with BN 0 and NI 1, then forward cell 7", acr());
@@ -564,8 +608,10 @@ static void print_setup(uint32_t tbe, uint32_t frtt)
     params.frtt = frtt;
     begin(params);
     CHECK(abr_export(&table, PAIR, &refusal).icr == 1000.0 && refusal == ABR_OK);
+    abr_connection status = abr_status(&table, PAIR);
+    CHECK(status.icr_used == acr() && memcmp(&status.params, &params, sizeof params) == 0);
     printf("TBE %8u  FRTT %8u us   CRM %7u   starts at %7.1f cells/s\n", (unsigned)tbe, (unsigned)frtt,
-           (unsigned)((tbe + 31) / 32), (double)acr() / ABR_RATE_ONE);
+           (unsigned)status.crm, (double)acr() / ABR_RATE_ONE);
 }
 
 static void setup(void)
@@ -588,7 +634,7 @@ static void slow_start(void)
     offer(1);
     CHECK(acr() == 30 && acr() < ABR_RATE_ONE / 10);
     CHECK(slot(0).kind == ABR_SENT_FORWARD && abr_read(cell, sizeof cell).rm.ccr == 0x0000);
-    CHECK(abr_next(&table) == UINT64_C(17066666667));
+    CHECK(abr_next_ready(&table) == UINT64_C(17066666667));
     CHECK(abr_code(ABR_RATE_ONE - 1).code == 0x0000);
 }
 
@@ -621,9 +667,10 @@ static void print_marks(const char *events, const char *words)
     }
     printf("%-52s", words);
     for (time = MS; time < 5 * MS; time += MS) {
-        if (slot(time).kind == ABR_SENT_TURNED) {
+        abr_sent sent = foreseen_slot(time);
+        if (sent.kind == ABR_SENT_TURNED) {
             abr_rm rm = abr_read(cell, sizeof cell).rm;
-            CHECK(rm.dir == 1 && rm.er == (rm.bn ? code(1000) : ABR_CODE_MAX));
+            CHECK(rm.dir == 1 && rm.er == (rm.bn ? code(1000) : ABR_CODE_MAX) && rm.bn == sent.made);
             printf("  BN %u CI %u NI %u", (unsigned)rm.bn, (unsigned)rm.ci, (unsigned)rm.ni);
         }
     }
@@ -695,7 +742,7 @@ static void ignored_bits(void)
     octets[4] = header_check(octets);
     abr_cell read = abr_read(octets, sizeof octets);
     CHECK(read.refusal == ABR_OK && read.efci == 1 && read.rm.vpi == 1 && read.rm.vci == 100);
-    CHECK(header_check(idle_cell) == 0x52);
+    CHECK((octets[3] >> 1 & 1) == 1 && header_check(idle_cell) == 0x52);
     memset(&table, 0, sizeof table);
     CHECK(abr_receive(&table, idle_cell, sizeof idle_cell).refusal == ABR_REFUSED_NOT_OPEN);
     write_header(octets, 0, 0, 0);
@@ -710,7 +757,7 @@ static void ignored_bits(void)
     }
 }
 
-/* A forward cell of a slot, whole. */
+/* A forward cell from a slot, whole. */
 static void rm_octets(void)
 {
     begin(house(2000, 100, 1000));
@@ -805,7 +852,7 @@ static void made_first(void)
     CHECK(abr_set_level(&table, 2) == ABR_OK);
     CHECK(abr_make(&table, PAIR, 0).refusal == ABR_OK);
     CHECK(slot(0).kind == ABR_SENT_FORWARD && slot(MS).kind == ABR_SENT_TURNED);
-    CHECK(abr_make(&table, PAIR, 100 * MS - 1).refusal == ABR_REFUSED_TOO_SOON);
+    CHECK(abr_make(&table, PAIR, 100 * MS - 1).refusal == ABR_REFUSED_MADE_TOO_SOON);
     CHECK(abr_make(&table, PAIR, 100 * MS).refusal == ABR_OK);
     CHECK(abr_set_level(&table, 1) == ABR_OK);
     CHECK(abr_make(&table, PAIR, 200 * MS).refusal == ABR_OK); /* instead of the one before, with its own mark */
@@ -821,17 +868,17 @@ static void made_first(void)
 static void sleeping(void)
 {
     begin(house(1000, 1, 1000));
-    CHECK(abr_next(&table) == ABR_NEVER);
+    CHECK(abr_next_ready(&table) == ABR_NEVER);
     offer(2);
-    CHECK(abr_next(&table) == 0);
-    CHECK(slot(3 * MS).kind == ABR_SENT_FORWARD && abr_next(&table) == 4 * MS);
+    CHECK(abr_next_ready(&table) == 0);
+    CHECK(slot(3 * MS).kind == ABR_SENT_FORWARD && abr_next_ready(&table) == 4 * MS);
     CHECK(slot(4 * MS).kind == ABR_SENT_DATA && slot(5 * MS).kind == ABR_SENT_DATA);
-    CHECK(abr_next(&table) == 103 * MS); /* Trm after the forward cell */
+    CHECK(abr_next_ready(&table) == 103 * MS); /* Trm after the forward cell */
     forward_arrives();
-    CHECK(abr_next(&table) == 6 * MS);
+    CHECK(abr_next_ready(&table) == 6 * MS);
     receive(1, 0, 0, 0, code(500));
-    CHECK(abr_next(&table) == 7 * MS && slot(8 * MS).kind == ABR_SENT_TURNED);
-    CHECK(abr_close(&table, PAIR).refusal == ABR_OK && abr_next(&table) == ABR_NEVER);
+    CHECK(abr_next_ready(&table) == 7 * MS && slot(8 * MS).kind == ABR_SENT_TURNED);
+    CHECK(abr_close(&table, PAIR).refusal == ABR_OK && abr_next_ready(&table) == ABR_NEVER);
 }
 
 /* With Nrm 2 and cells of the far source that always wait, no data goes. */
@@ -858,7 +905,7 @@ static void adtf_too_short(void)
     CHECK(slot(0).kind == ABR_SENT_FORWARD);
     receive(1, 0, 0, 0, code(33));
     CHECK(acr() == CELLS(33));
-    for (last = abr_next(&table); slot(last).kind == ABR_SENT_DATA; last = abr_next(&table)) {
+    for (last = abr_next_ready(&table); slot(last).kind == ABR_SENT_DATA; last = abr_next_ready(&table)) {
         CHECK(acr() == CELLS(33));
     }
     CHECK(last > 110 * MS && last < 122 * MS && acr() == CELLS(20));
@@ -874,7 +921,7 @@ static uint64_t rate_reached(uint32_t adtf)
     begin(params);
     offer(999);
     while (answered < 100) {
-        if (slot((abr_next(&table) + SLOT - 1) / SLOT * SLOT).kind == ABR_SENT_FORWARD) {
+        if (slot((abr_next_ready(&table) + SLOT - 1) / SLOT * SLOT).kind == ABR_SENT_FORWARD) {
             backward_arrives();
             answered++;
         }
@@ -897,7 +944,7 @@ static uint64_t answers_apart(uint64_t cells)
     begin(house(cells, 1, cells));
     offer(999);
     for (int sent = 0; sent < 500; sent++) {
-        uint64_t time = abr_next(&table);
+        uint64_t time = abr_next_ready(&table);
         forward_arrives();
         if (slot(time).kind == ABR_SENT_TURNED) {
             longest = time - last > longest ? time - last : longest;
@@ -920,9 +967,10 @@ static void opened_anew(void)
     begin(house(1000, 1, 500));
     backward_arrives();
     CHECK(abr_acr(&table, PAIR).change > 0 && abr_set_level(&table, 1) == ABR_OK);
-    CHECK(abr_make(&table, PAIR, 0).refusal == ABR_OK && abr_make(&table, PAIR, 1).refusal == ABR_REFUSED_TOO_SOON);
+    CHECK(abr_make(&table, PAIR, 0).refusal == ABR_OK);
+    CHECK(abr_make(&table, PAIR, 1).refusal == ABR_REFUSED_MADE_TOO_SOON);
     CHECK(abr_out_of_rate(&table, PAIR, 1, cell, sizeof cell) == ABR_OK);
-    CHECK(abr_out_of_rate(&table, PAIR, 1, cell, sizeof cell) == ABR_REFUSED_TOO_OFTEN);
+    CHECK(abr_out_of_rate(&table, PAIR, 1, cell, sizeof cell) == ABR_REFUSED_OUT_OF_RATE_TOO_SOON);
     CHECK(abr_close(&table, PAIR).refusal == ABR_OK);
     CHECK(abr_open(&table, PAIR, 1, house(1000, 1, 500)).refusal == ABR_OK);
     CHECK(abr_acr(&table, PAIR).change == 0 && abr_make(&table, PAIR, 1).refusal == ABR_OK);
@@ -937,12 +985,13 @@ static void members(void)
     memset(&table, 0, sizeof table);
     CHECK(abr_open_path(&table, 7, 0, params).refusal == ABR_OK);
     for (uint32_t vci = 40; vci <= 60; vci += 10) {
-        CHECK(abr_add(&table, 7, vci).refusal == ABR_OK);
+        CHECK(abr_add_member(&table, 7, vci).refusal == ABR_OK);
         CHECK(abr_offer_member(&table, 7, vci, vci == 50 ? 2 : 4).refusal == ABR_OK);
     }
     for (uint64_t time = 0; time <= 10 * MS; time += MS) {
-        abr_sent sent = slot(time);
+        abr_sent sent = foreseen_slot(time);
         CHECK((sent.kind == ABR_SENT_FORWARD) == (sent.vci == ABR_PATH_VCI));
+        CHECK(abr_at(&table, 0).served == (sent.vci == ABR_PATH_VCI ? 0 : sent.vci));
         printf("%s7/%u", time == 0 ? "" : "  ", (unsigned)sent.vci);
     }
     printf("\n");
@@ -950,9 +999,9 @@ static void members(void)
     CHECK(abr_offer(&table, 7, 40, 1).refusal == ABR_REFUSED_NOT_OPEN);
     CHECK(abr_open(&table, 7, 40, 10 * MS, params).refusal == ABR_REFUSED_ALREADY_MEMBER);
     CHECK(abr_open(&table, 7, 41, 10 * MS, params).refusal == ABR_OK);
-    CHECK(abr_remove(&table, 7, 60).cells == 0); /* it was served last, and the turn stays behind it */
+    CHECK(abr_remove_member(&table, 7, 60).cells == 0); /* it was served last, and the turn stays behind it */
     CHECK(abr_offer_member(&table, 7, 40, 1).refusal == ABR_OK && abr_offer_member(&table, 7, 50, 1).refusal == ABR_OK);
-    CHECK(abr_add(&table, 7, 70).refusal == ABR_OK && abr_offer_member(&table, 7, 70, 1).refusal == ABR_OK);
+    CHECK(abr_add_member(&table, 7, 70).refusal == ABR_OK && abr_offer_member(&table, 7, 70, 1).refusal == ABR_OK);
     CHECK(slot(11 * MS).vci == 70 && slot(12 * MS).vci == 40 && slot(13 * MS).vci == 50);
     CHECK(abr_offer_member(&table, 7, 40, 3).refusal == ABR_OK && abr_offer_member(&table, 7, 50, 4).refusal == ABR_OK);
     CHECK(abr_close(&table, 7, ABR_PATH_VCI).cells == 7);
@@ -971,6 +1020,10 @@ static void minimums(void)
     CHECK(minimum[0] + share.rate + minimum[1] + share.rate == 1000);
     share = abr_fair_share(0, rest, 2); /* minimums of the whole capacity or more */
     CHECK(share.refusal == ABR_OK && share.limited == 1 && share.rate == 0);
+    share = abr_fair_share(1300, rest, 2); /* all have what they demand */
+    CHECK(share.refusal == ABR_OK && share.limited == 0 && share.rate == ABR_RATE_MAX);
+    share = abr_fair_share(1300, rest, ABR_DEMANDS_MAX + 1);
+    CHECK(share.refusal == ABR_REFUSED_TOO_MANY_DEMANDS && share.limited == 0 && share.rate == 0);
 }
 
 /* ER of a backward cell that has passed a limit. */
@@ -988,6 +1041,7 @@ static void passing_cells(void)
     abr_rm rm = {PAIR, 1, 0, 0, 0, 0, 0x8000, 0, 0, 0, 0};
     CHECK(limited_er(0x5000, 511) == 0 && limited_er(0x5000, CELLS(10000)) == 0x5000);
     CHECK(limited_er(0x3FFF, CELLS(10000)) == 0 && limited_er(0x5000, UINT64_MAX) == 0x5000);
+    CHECK(limited_er(ABR_CODE_MAX, ABR_RATE_MAX) == ABR_CODE_MAX);
     CHECK(abr_write_rm(rm, cell, sizeof cell) == ABR_REFUSED_RANGE);
     CHECK(1.0 / abr_import(-0.0).remainder > 0 && abr_import(-0.0).code == 0);
     CHECK(abr_open(&table, 9, 32, ABR_TIME_MAX, abr_house(0x5000, 0x3FFF, 0x0123)).refusal == ABR_OK);
@@ -1002,9 +1056,12 @@ static void rate_of_zero(void)
     CHECK(slot(0).kind == ABR_SENT_FORWARD);
     receive(1, 0, 0, 0, 0);
     CHECK(acr() == 0 && slot(1000 * MS).kind == ABR_SENT_IDLE);
+    CHECK(abr_status(&table, PAIR).ready == ABR_NEVER && abr_status(&table, PAIR).last_out_of_rate == ABR_NEVER);
+    CHECK(strstr(why_silent(abr_status(&table, PAIR), 1000 * MS), "section 9") != NULL);
     CHECK(abr_out_of_rate(&table, PAIR, 1000 * MS, cell, sizeof cell) == ABR_OK);
+    CHECK(abr_status(&table, PAIR).last_out_of_rate == 1000 * MS && abr_status(&table, PAIR).last_sent == 0);
     CHECK((cell[3] & 1) == 1 && abr_read(cell, sizeof cell).rm.ccr == 0);
-    CHECK(abr_out_of_rate(&table, PAIR, 1100 * MS - 1, cell, sizeof cell) == ABR_REFUSED_TOO_OFTEN);
+    CHECK(abr_out_of_rate(&table, PAIR, 1100 * MS - 1, cell, sizeof cell) == ABR_REFUSED_OUT_OF_RATE_TOO_SOON);
     CHECK(acr() == 0 && slot(1100 * MS - 1).kind == ABR_SENT_IDLE);
     backward_arrives();
     CHECK(acr() == CELLS(1000) / 16 && slot(1100 * MS - 1).kind == ABR_SENT_DATA);
@@ -1073,6 +1130,7 @@ static void time_far_ahead(void)
     CHECK(slot(MS).kind == ABR_SENT_FORWARD);
     CHECK(slot(ABR_TIME_MAX).kind == ABR_SENT_DATA);
     CHECK(abr_slot(&table, 3 * MS, cell, sizeof cell).refusal == ABR_REFUSED_TIME_BACKWARD);
+    CHECK(abr_link(&table).last == ABR_TIME_MAX);
     CHECK(abr_open(&table, 0, 33, 3 * MS, params).refusal == ABR_REFUSED_TIME_BACKWARD);
     CHECK(abr_slot(&table, ABR_TIME_MAX + 1, cell, sizeof cell).refusal == ABR_REFUSED_TIME);
     backward_arrives();
@@ -1106,6 +1164,7 @@ static void copy_goes_on(void)
     CHECK(slot(0).kind == ABR_SENT_FORWARD && slot(MS).kind == ABR_SENT_DATA);
     memcpy(&copy, &table, sizeof copy);
     CHECK(slot(5 * MS).kind == ABR_SENT_DATA);
+    CHECK(abr_link(&copy).last == MS && abr_link(&table).last == 5 * MS);
     CHECK(abr_slot(&copy, 2 * MS, cell, sizeof cell).kind == ABR_SENT_DATA);
     CHECK(abr_close(&table, PAIR).cells == 7 && abr_close(&copy, PAIR).cells == 7);
 }
@@ -1136,22 +1195,195 @@ static void steady_times(void)
     CHECK(a_second_from(&clock, (7 + 3600) * 1000 * MS) == 100 && acr() == CELLS(100));
 }
 
-/* What slots sent, written down as a trace, passes; a data cell too early is the third cell, and breaks rule 2. */
+/* What slots sent, written down as a trace, passes, though the rate falls for want of answers; the last cell a
+ * nanosecond too early breaks rule 2. */
 static void judged(void)
 {
-    uint8_t trace[64];
-    size_t length = put_number(trace, 5);
-    abr_verdict verdict;
-    length += put_number(trace + length, 7);
+    enum { CELLS_SENT = 99 };
+    uint8_t trace[2 + 16 * CELLS_SENT];
+    abr_params params = house(1000, 100, 1000);
+    uint64_t last = 0;
+    params.tbe = 32;
+    begin(params);
+    offer(CELLS_SENT);
+    size_t length = put_number(trace, params.n), before = 0;
+    length += put_number(trace + length, params.trm);
     CHECK(abr_judge(trace, length).refusal == ABR_OK);
-    for (uint64_t number = 0; number < 3; number++) {
-        length += put_number(trace + length, number == 0 ? 0 : number == 1 ? MS : MS - 1);
-        length += put_number(trace + length, number == 0 ? ABR_SENT_FORWARD : ABR_SENT_DATA);
-        length += put_number(trace + length, CELLS(1000));
-        verdict = abr_judge(trace, length);
-        CHECK(verdict.refusal == ABR_OK && verdict.rule == (number < 2 ? ABR_RULE_NONE : ABR_RULE_GAP));
+    for (int cells = 0; cells < CELLS_SENT; cells++) {
+        uint64_t time = abr_next_ready(&table), since = time - last;
+        abr_sent sent = slot(time);
+        before = length;
+        length += put_cell(trace + length, since, sent);
+        CHECK(length - before <= 16 && abr_judge(trace, length).refusal == ABR_OK);
+        CHECK(abr_judge(trace, length).rule == ABR_RULE_NONE);
+        if (cells == CELLS_SENT - 1) {
+            length = before + put_cell(trace + before, since - 1, sent);
+        }
+        last = time;
     }
-    CHECK(verdict.cell == 3 && abr_judge(trace, length - 1).refusal == ABR_REFUSED_TRACE_END);
+    abr_verdict verdict = abr_judge(trace, length);
+    CHECK(acr() < CELLS(1000) && verdict.rule == ABR_RULE_GAP && verdict.cell == CELLS_SENT);
+    CHECK(abr_judge(trace, length - 1).refusal == ABR_REFUSED_TRACE_END);
+}
+
+/* ---- Looking into the engine ------------------------------------------------ */
+
+static void opens(uint32_t vpi, uint32_t vci, abr_params params, uint32_t leaf)
+{
+    int path = vci == ABR_PATH_VCI;
+    abr_opened opened = path ? abr_open_path(&table, vpi, 0, params) : abr_open(&table, vpi, vci, 0, params);
+    own_connection it = {vpi, vci, 0, 0, 0};
+    CHECK(opened.refusal == ABR_OK && opened.comparisons == 1 && opened.leaf == leaf);
+    own[opened.leaf] = it;
+}
+
+/* 0/32 and path 7 with two members in leaves 0 and 2; leaf 1 was in use. */
+static void open_some(void)
+{
+    abr_params params = house(2000, 100, 1000);
+    params.tbe = 64;
+    memset(&table, 0, sizeof table);
+    opens(PAIR, params, 0);
+    opens(0, 33, params, 1);
+    opens(7, ABR_PATH_VCI, house(1000, 1, 1000), 2);
+    CHECK(abr_close(&table, 0, 33).refusal == ABR_OK);
+    CHECK(abr_add_member(&table, 7, 50).refusal == ABR_OK && abr_add_member(&table, 7, 40).refusal == ABR_OK);
+    CHECK(offer_own(0, 32, 5) == ABR_OK && offer_own(2, 40, 3) == ABR_OK && offer_own(2, 50, 2) == ABR_OK);
+    CHECK(own[0].offered == 5 && own[2].offered == 5);
+}
+
+/* Three cells from each, cells received for both, and one made on the path. */
+static void let_them_run(void)
+{
+    uint8_t octets[ABR_CELL_OCTETS] = {0};
+    open_some();
+    for (uint64_t time = 0; time <= 5 * MS / 2; time += MS / 2) {
+        abr_sent sent = foreseen_slot(time);
+        CHECK(sent.vpi == own[sent.leaf].vpi);
+        own[sent.leaf].sent += sent.kind == ABR_SENT_DATA;
+    }
+    backward_arrives();
+    forward_arrives();
+    write_header(octets, 7, 40, 2);
+    abr_received received = abr_receive(&table, octets, sizeof octets);
+    CHECK(received.refusal == ABR_OK && received.kind == ABR_RECEIVED_DATA && received.vpi == 7 && received.vci == 40);
+    CHECK(received.leaf == 2 && received.acr == CELLS(1000));
+    CHECK(abr_set_level(&table, 2) == ABR_OK && abr_make(&table, 7, ABR_PATH_VCI, 5 * MS / 2).refusal == ABR_OK);
+}
+
+/* What was offered is sent, closed or waiting. */
+static void sums_agree(void)
+{
+    for (uint32_t leaf = 0; leaf <= 2; leaf += 2) {
+        CHECK(own[leaf].offered == own[leaf].sent + own[leaf].closed + abr_at(&table, leaf).waiting);
+    }
+}
+
+static void looking(void)
+{
+    let_them_run();
+    print_table(&table);
+    sums_agree();
+}
+
+/* Sums by leaf: a refused offer counts nothing, a removal counts as a close, and the close answers the rest. */
+static void sums_by_leaf(void)
+{
+    let_them_run();
+    CHECK(members_of(&table, 7) == 2 && members_of(&table, 6) == 0 && members_of(&table, 8) == 0);
+    CHECK(offer_own(0, 32, 65536) == ABR_REFUSED_TOO_MUCH_DATA && offer_own(2, 60, 1) == ABR_REFUSED_NOT_A_MEMBER);
+    CHECK(remove_own(2, 60) == ABR_REFUSED_NOT_A_MEMBER && own[2].closed == 0);
+    sums_agree();
+    CHECK(abr_open_path(&table, 9, 5 * MS / 2, house(1000, 1, 1000)).leaf == 1);
+    CHECK(abr_add_member(&table, 9, 32).refusal == ABR_OK);
+    CHECK(remove_own(2, 40) == ABR_OK && own[2].closed == 2);
+    CHECK(members_of(&table, 7) == 1 && members_of(&table, 9) == 1 && abr_link(&table).members == 2);
+    sums_agree();
+    CHECK(abr_status(&table, 7, 50).leaf == 2 && abr_status(&table, 7, 50).kind == ABR_MEMBER);
+    CHECK(own[2].offered == own[2].sent + own[2].closed + abr_close(&table, 7, ABR_PATH_VCI).cells);
+}
+
+/* Field by field, where the block does not show it. */
+static void fields(void)
+{
+    abr_connection path = abr_at(&table, 2), member = abr_status(&table, 7, 50), channel = abr_status(&table, PAIR);
+    CHECK(channel.kind == ABR_CHANNEL && channel.leaf == 0 && channel.change == (int64_t)CELLS(125));
+    CHECK(channel.opened == 0 && channel.last_sent == 2 * MS && channel.last_forward == 0 && channel.backward_sent == 0);
+    CHECK(channel.last_made == ABR_NEVER && channel.last_out_of_rate == ABR_NEVER && channel.served == 0);
+    CHECK(path.kind == ABR_PATH && path.served == 50 && path.last_made == 5 * MS / 2 && path.last_forward == MS / 2);
+    CHECK(member.kind == ABR_MEMBER && member.vpi == 7 && member.vci == 50 && member.waiting == 1);
+    member.kind = path.kind, member.vci = path.vci, member.waiting = path.waiting;
+    CHECK(memcmp(&member, &path, sizeof path) == 0);
+    path = abr_status(&table, 7, ABR_PATH_VCI);
+    CHECK(memcmp(&member, &path, sizeof path) == 0);
+}
+
+/* A refused answer has 11 and else 0. */
+static int nothing_there(abr_connection it)
+{
+    abr_connection nothing;
+    memset(&nothing, 0, sizeof nothing);
+    nothing.refusal = ABR_REFUSED_NOT_OPEN;
+    return memcmp(&it, &nothing, sizeof it) == 0;
+}
+
+static void not_there(void)
+{
+    static const abr_member none = {ABR_REFUSED_NOT_OPEN, 0, 0, 0};
+    abr_member member = abr_member_at(&table, 2);
+    CHECK(nothing_there(abr_at(&table, 1)) && nothing_there(abr_at(&table, 3)));
+    CHECK(nothing_there(abr_at(&table, ABR_CONNECTIONS_MAX)) && nothing_there(abr_at(&table, UINT32_MAX)));
+    CHECK(nothing_there(abr_status(&table, 0, 33)) && nothing_there(abr_status(&table, 7, 60)));
+    CHECK(nothing_there(abr_status(&table, 256, 32)) && nothing_there(abr_status(&table, 0, 65536 + 32)));
+    CHECK(memcmp(&member, &none, sizeof none) == 0);
+    CHECK(abr_member_at(&table, UINT32_MAX).refusal == ABR_REFUSED_NOT_OPEN);
+}
+
+/* Readings leave the table, and a copy answers as the original does. */
+static void only_read(void)
+{
+    static abr_table copy;
+    memcpy(&copy, &table, sizeof copy);
+    for (uint32_t leaf = 0; leaf < ABR_CONNECTIONS_MAX; leaf++) {
+        abr_connection it = abr_at(&table, leaf), other = abr_at(&copy, leaf);
+        CHECK(memcmp(&it, &other, sizeof it) == 0 && (it.refusal != ABR_OK || it.leaf == leaf));
+    }
+    CHECK(abr_status(&table, 7, 40).refusal == ABR_OK && abr_member_at(&table, 0).refusal == ABR_OK);
+    CHECK(abr_link(&table).connections == 2 && memcmp(&copy, &table, sizeof copy) == 0);
+}
+
+/* An open takes the lowest free leaf, members are numbered as they rise, and all go with their path. */
+static void leaves_and_numbers(void)
+{
+    let_them_run();
+    fields();
+    not_there();
+    only_read();
+    CHECK(abr_close(&table, PAIR).refusal == ABR_OK && abr_link(&table).last == 5 * MS / 2);
+    abr_opened opened = abr_open(&table, 9, 99, 5 * MS / 2, house(1000, 1, 1000));
+    CHECK(opened.refusal == ABR_OK && opened.leaf == 0 && abr_status(&table, 9, 99).leaf == 0);
+    opened = abr_open(&table, 9, 99, 5 * MS / 2, house(1000, 1, 1000));
+    CHECK(opened.refusal == ABR_REFUSED_ALREADY_OPEN && opened.leaf == 0 && opened.comparisons == 0);
+    CHECK(abr_open(&table, PAIR, 5 * MS / 2, house(1000, 1, 1000)).leaf == 1);
+    CHECK(abr_add_member(&table, 7, 45).refusal == ABR_OK && abr_member_at(&table, 1).vci == 45);
+    CHECK(abr_member_at(&table, 2).vci == 50 && abr_link(&table).members == 3 && abr_link(&table).connections == 3);
+    CHECK(abr_close(&table, 7, ABR_PATH_VCI).cells == 3 && abr_link(&table).members == 0);
+    CHECK(abr_status(&table, 7, 40).refusal == ABR_REFUSED_NOT_OPEN && abr_link(&table).connections == 2);
+}
+
+/* An idle slot shows in the last time alone. */
+static void idle_slot_left_out(void)
+{
+    begin(house(1000, 1, 1000));
+    abr_connection before = abr_status(&table, PAIR), after;
+    CHECK(before.ready == ABR_NEVER && before.last_sent == ABR_NEVER && before.last_forward == ABR_NEVER);
+    CHECK(strstr(why_silent(before, MS), "nothing waits") != NULL);
+    CHECK(slot(MS).kind == ABR_SENT_IDLE && abr_link(&table).last == MS);
+    after = abr_status(&table, PAIR);
+    CHECK(memcmp(&before, &after, sizeof after) == 0);
+    offer(2);
+    CHECK(strstr(why_silent(abr_at(&table, 0), MS), "is ready") != NULL && slot(MS).kind == ABR_SENT_FORWARD);
+    CHECK(strstr(why_silent(abr_at(&table, 0), MS), "gap") != NULL && abr_at(&table, 0).ready == 2 * MS);
 }
 
 int main(void)
@@ -1164,7 +1396,7 @@ int main(void)
         {"first cell", first_cell},       {"idle", idle},                 {"unanswered", unanswered},
         {"feedback", feedback},           {"setup", setup},               {"marks", marks},
         {"headers", headers},             {"RM octets", rm_octets},       {"members", members},
-        {"delivered", delivered_shares},  {"own line", leased_beside_greedy},
+        {"delivered", delivered_shares},  {"own line", leased_beside_greedy}, {"looking", looking},
     };
     static void (*const checks[])(void) = {
         gaps,          mark_used_up, ignored_bits,    turned_keeps,   gap_after_the_last,
@@ -1172,7 +1404,7 @@ int main(void)
         clock_jumps,   copy_goes_on, steady_times,    judged,         initial_rate_of_zero,
         sleeping,      nrm_of_two,   adtf_too_short,  opened_anew,    minimums,
         passing_cells, answers,      last_of_any_call, both_ends_at_zero,
-        adtf_and_initial_rate, slow_start,
+        adtf_and_initial_rate, slow_start, idle_slot_left_out, leaves_and_numbers, sums_by_leaf,
     };
     for (size_t each = 0; each < sizeof blocks / sizeof blocks[0]; each++) {
         printf("-- %s\n", blocks[each].name);

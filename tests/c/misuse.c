@@ -3,7 +3,9 @@
  * Each call must end, and may write nothing but the table and the buffer. GUARD
  * octets on both sides of each are compared octet by octet; with GUARD 0 both
  * are heap blocks of their own size, so that memcheck sees a read outside as
- * well. An alarm ends a call that does not end.
+ * well. An alarm ends a call that does not end. A refused call answers zeros
+ * beside the refusal, a reading made twice the same octets, and every leaf is in
+ * range. On tables that calls made the readings agree with each other.
  */
 #include <stdio.h>
 #include <stdlib.h>
@@ -11,12 +13,14 @@
 
 #include "abr.h"
 #include "arbitrary.h"
+#include "filled.h"
 
 enum { TABLE, CELL, REFUSAL, DEMANDS, TRACE, OBJECTS };
 enum { TRACE_OCTETS = 48 };
 enum {
     OPEN, CLOSE, RECEIVE, OFFER, SET_LEVEL, MAKE, SLOT, OUT_OF_RATE, OPEN_PATH, ADD, OFFER_MEMBER, REMOVE, ACR, EXPORT,
-    NEXT, SLOT_TIME, WRITE_RM, READ, CODE, RATE, IMPORT, FAIR_SHARE, LIMIT, PORT, JUDGE, HOUSE, CALLS
+    NEXT, SLOT_TIME, STATUS, AT, MEMBER_AT, LINK, WRITE_RM, READ, CODE, RATE, IMPORT, FAIR_SHARE, LIMIT, PORT, JUDGE,
+    HOUSE, CALLS
 };
 
 typedef struct {
@@ -152,12 +156,26 @@ static uint32_t judge_call(void)
     return verdict.rule > 3 || (verdict.refusal && verdict.rule) || none != !verdict.cell ? ~0u : verdict.refusal;
 }
 
-/* The refusal of a share, which has zeros beside it, and no rate where there is no limit; ~0 if not. */
+/* The refusal of an answer, which stands first in it, with zeros in all octets behind it; ~0 if not. */
+static uint32_t zeros_beside(const void *answer, size_t size)
+{
+    static const uint8_t zeros[sizeof(abr_connection)];
+    uint32_t refusal;
+    memcpy(&refusal, answer, sizeof refusal);
+    return refusal && memcmp((const uint8_t *)answer + sizeof refusal, zeros, size - sizeof refusal) ? ~0u : refusal;
+}
+
+#define ZEROS_BESIDE(answer) zeros_beside(&(answer), sizeof(answer))
+
+/* The same of an answer with a leaf, which is an index for callers, whatever the table. */
+#define LEAF_BESIDE(answer) ((answer).leaf < LEAVES ? ZEROS_BESIDE(answer) : ~0u)
+
+/* The refusal of a share; where there is no limit its rate is the largest; ~0 if not. */
 static uint32_t share_call(void)
 {
     abr_share share = abr_fair_share(edge_word(), at(DEMANDS), demand_count);
-    int none = share.refusal || !share.limited;
-    return share.limited > 1 || (share.refusal && share.limited) || (none && share.rate) ? ~0u : share.refusal;
+    int none = share.refusal == ABR_OK && !share.limited;
+    return share.limited > 1 || (none && share.rate != ABR_RATE_MAX) ? ~0u : ZEROS_BESIDE(share);
 }
 
 /* The refusal of an export, which is written in every case; ~0 if it is not, or has rates beside it. */
@@ -172,25 +190,16 @@ static uint32_t export_call(address to)
 /* The refusal of a call without a table, all of whose other fields must then be 0; ~0 if one is not. */
 static uint32_t without_table(int call)
 {
-    static const abr_rm no_rm;
     abr_cell read;
     abr_coded coded;
     abr_rated rated;
     abr_imported imported;
     switch (call) {
     case WRITE_RM: return abr_write_rm(any_rm(), at(CELL), any_length());
-    case READ:
-        read = abr_read(at(CELL), any_length());
-        return read.refusal && (read.kind | read.efci | memcmp(&read.rm, &no_rm, sizeof no_rm)) ? ~0u : read.refusal;
-    case CODE:
-        coded = abr_code(edge_word());
-        return coded.refusal && coded.code ? ~0u : coded.refusal;
-    case RATE:
-        rated = abr_rate((uint32_t)edge_word());
-        return rated.refusal && rated.rate ? ~0u : rated.refusal;
-    case IMPORT:
-        imported = abr_import(any_double());
-        return imported.refusal && (imported.code || imported.remainder != 0) ? ~0u : imported.refusal;
+    case READ: read = abr_read(at(CELL), any_length()); return ZEROS_BESIDE(read);
+    case CODE: coded = abr_code(edge_word()); return ZEROS_BESIDE(coded);
+    case RATE: rated = abr_rate((uint32_t)edge_word()); return rated.reserved ? ~0u : ZEROS_BESIDE(rated);
+    case IMPORT: imported = abr_import(any_double()); return ZEROS_BESIDE(imported);
     case FAIR_SHARE: return share_call();
     case LIMIT: return abr_limit(edge_word(), at(CELL), any_length());
     case PORT: return abr_port(edge_word(), at(DEMANDS), demand_count, at(CELL), any_length());
@@ -199,10 +208,49 @@ static uint32_t without_table(int call)
     }
 }
 
-/* The refusal of a close or a removal, which has zeros beside it; ~0 if not. */
-static uint32_t zeros_beside(abr_closed closed)
+/* What a reading answers, the pair or the number being asked for. */
+typedef union {
+    abr_connection connection;
+    abr_member member;
+    abr_totals link;
+    abr_allowed allowed;
+} answer_read;
+
+/* Reads once. What the call leaves unwritten is what this function's stack had before. */
+__attribute__((noinline)) static size_t read_once(answer_read *into, int call, address to, uint32_t number)
 {
-    return closed.refusal && (closed.comparisons || closed.cells) ? ~0u : closed.refusal;
+    answer_read read;
+    switch (call) {
+    case STATUS: read.connection = abr_status(at(TABLE), to.vpi, to.vci); break;
+    case AT: read.connection = abr_at(at(TABLE), number); break;
+    case MEMBER_AT: read.member = abr_member_at(at(TABLE), number); break;
+    case LINK: read.link = abr_link(at(TABLE)); break;
+    default: read.allowed = abr_acr(at(TABLE), to.vpi, to.vci); break;
+    }
+    *into = read;
+    return call == STATUS || call == AT ? sizeof read.connection : call == MEMBER_AT ? sizeof read.member :
+           call == LINK ? sizeof read.link : sizeof read.allowed;
+}
+
+/* The refusal of a reading, which made twice gives the same octets, every one of them written; ~0 if not. */
+static uint32_t reading(int call, address to)
+{
+    answer_read first, again;
+    uint32_t number = next() % 4 ? (uint32_t)(next() % (call == AT ? LEAVES : MEMBER_WORDS)) : (uint32_t)edge_word();
+    fill_stack(0xA5);
+    size_t size = read_once(&first, call, to, number);
+    fill_stack(0x5A);
+    if (read_once(&again, call, to, number) != size || memcmp(&first, &again, size) != 0) {
+        return ~0u;
+    }
+    switch (call) {
+    case STATUS:
+    case AT:
+        return first.connection.reserved || first.connection.kind > ABR_MEMBER ? ~0u : LEAF_BESIDE(first.connection);
+    case LINK: return first.link.connections_max == ABR_CONNECTIONS_MAX ? ABR_OK : ~0u;
+    case MEMBER_AT: return ZEROS_BESIDE(first.member);
+    default: return first.allowed.reserved ? ~0u : ZEROS_BESIDE(first.allowed);
+    }
 }
 
 static volatile uint64_t next_instant; /* of a table that no call made it may be any */
@@ -218,24 +266,40 @@ static uint32_t slot_time_call(void)
 static uint32_t one_call(int call)
 {
     address to = any_address();
+    abr_opened opened;
+    abr_received received;
+    abr_sent sent;
+    abr_closed closed;
+    abr_answer answer;
     switch (call) {
-    case OPEN: return abr_open(at(TABLE), to.vpi, to.vci, any_time(), any_params()).refusal;
-    case CLOSE: return zeros_beside(abr_close(at(TABLE), to.vpi, to.vci));
-    case RECEIVE: return abr_receive(at(TABLE), at(CELL), any_length()).refusal;
-    case OFFER: return abr_offer(at(TABLE), to.vpi, to.vci, edge_word()).refusal;
+    case OPEN: opened = abr_open(at(TABLE), to.vpi, to.vci, any_time(), any_params()); return LEAF_BESIDE(opened);
+    case OPEN_PATH: opened = abr_open_path(at(TABLE), to.vpi, any_time(), any_params()); return LEAF_BESIDE(opened);
+    case RECEIVE: received = abr_receive(at(TABLE), at(CELL), any_length()); return LEAF_BESIDE(received);
+    case SLOT:
+        sent = abr_slot(at(TABLE), any_time(), at(CELL), any_length());
+        return sent.made > 1 || sent.reserved ? ~0u : LEAF_BESIDE(sent);
+    case CLOSE: closed = abr_close(at(TABLE), to.vpi, to.vci); return ZEROS_BESIDE(closed);
+    case REMOVE: closed = abr_remove_member(at(TABLE), to.vpi, to.vci); return ZEROS_BESIDE(closed);
+    case OFFER: answer = abr_offer(at(TABLE), to.vpi, to.vci, edge_word()); return ZEROS_BESIDE(answer);
+    case ADD: answer = abr_add_member(at(TABLE), to.vpi, to.vci); return ZEROS_BESIDE(answer);
+    case OFFER_MEMBER: answer = abr_offer_member(at(TABLE), to.vpi, to.vci, edge_word()); return ZEROS_BESIDE(answer);
+    case MAKE: answer = abr_make(at(TABLE), to.vpi, to.vci, any_time()); return ZEROS_BESIDE(answer);
     case SET_LEVEL: return abr_set_level(at(TABLE), (uint32_t)(next() % 4));
-    case MAKE: return abr_make(at(TABLE), to.vpi, to.vci, any_time()).refusal;
-    case SLOT: return abr_slot(at(TABLE), any_time(), at(CELL), any_length()).refusal;
     case OUT_OF_RATE: return abr_out_of_rate(at(TABLE), to.vpi, to.vci, any_time(), at(CELL), any_length());
-    case OPEN_PATH: return abr_open_path(at(TABLE), to.vpi, any_time(), any_params()).refusal;
-    case ADD: return abr_add(at(TABLE), to.vpi, to.vci).refusal;
-    case OFFER_MEMBER: return abr_offer_member(at(TABLE), to.vpi, to.vci, edge_word()).refusal;
-    case REMOVE: return zeros_beside(abr_remove(at(TABLE), to.vpi, to.vci));
-    case ACR: return abr_acr(at(TABLE), to.vpi, to.vci).refusal;
     case EXPORT: return export_call(to);
-    case NEXT: next_instant = abr_next(at(TABLE)); return ABR_OK;
+    case NEXT: next_instant = abr_next_ready(at(TABLE)); return ABR_OK;
     case SLOT_TIME: return slot_time_call();
+    case ACR: case STATUS: case AT: case MEMBER_AT: case LINK: return reading(call, to);
     default: return without_table(call);
+    }
+}
+
+/* Whether a call only reads the table that it is given. */
+static int only_reads(int call)
+{
+    switch (call) {
+    case ACR: case EXPORT: case NEXT: case SLOT_TIME: case STATUS: case AT: case MEMBER_AT: case LINK: return 1;
+    default: return 0;
     }
 }
 
@@ -247,7 +311,7 @@ static uint32_t one_call(int call)
 static int may_write(int which, int call, uint32_t refusal)
 {
     if (which == TABLE) {
-        return call != ACR && call != EXPORT && call != NEXT && call != SLOT_TIME;
+        return !only_reads(call);
     }
     if (which == REFUSAL) {
         return call == EXPORT;
@@ -301,8 +365,8 @@ static int unchanged(int call, uint32_t refusal)
 
 /*
  * The places that arbitrary.h names are those of the archive: else the wrong
- * parts would be others than meant. Also, an open takes the lowest free leaf:
- * the answers do not show it, since the highest would be the mirror image.
+ * parts would be others than meant. The leaf that an open answers is the one in
+ * whose words the connection stands.
  */
 static int places_are_right(void)
 {
@@ -310,17 +374,17 @@ static int places_are_right(void)
     abr_params params = abr_house(0x7FFF, 0x4000, 0x53E8);
     uint32_t refused = 0;
     memset(at(TABLE), 0, sizes[TABLE]);
-    refused |= abr_open(at(TABLE), 2, 40, 7, params).refusal;
-    refused |= abr_open(at(TABLE), 2, 50, 8, params).refusal;
-    refused |= abr_open(at(TABLE), 3, 33, 9, params).refusal;
+    refused |= abr_open(at(TABLE), 2, 40, 7, params).leaf != 0;
+    refused |= abr_open(at(TABLE), 2, 50, 8, params).leaf != 1;
+    refused |= abr_open(at(TABLE), 3, 33, 9, params).leaf != 2;
     refused |= abr_close(at(TABLE), 2, 50).refusal;
-    refused |= abr_open(at(TABLE), 255, 65535, 9, params).refusal;
+    refused |= abr_open(at(TABLE), 255, 65535, 9, params).leaf != 1;
     refused |= abr_offer(at(TABLE), 255, 65535, 1).refusal;
     return refused == ABR_OK && words[USED] == 7 && words[DIRECTORY] == UINT64_C(65536) * 256 * LEAVES + 1 &&
            words[DIRECTORY + 1] == (3 * 65536 + 34) * LEAVES + 2 && words[DIRECTORY + 2] == (2 * 65536 + 41) * LEAVES &&
            words[DIRECTORY + 3] == 0 && words[NODES + 1] == 2 && words[NODES + LEAVES / 2] == 2 &&
            words[NODES + LEAVES / 2 + 1] == 0 && words[NONE] == 0 && words[KEYS] == 0 &&
-           words[KEYS + 1] == ~UINT64_C(9) && abr_next(at(TABLE)) == 9 && words[NAMES] == 2 * 65536 + 40 &&
+           words[KEYS + 1] == ~UINT64_C(9) && abr_next_ready(at(TABLE)) == 9 && words[NAMES] == 2 * 65536 + 40 &&
            words[NAMES + 1] == (1 << 24) - 1;
 }
 
@@ -351,8 +415,64 @@ static int change_is_stored(void)
            change[0] == 512000 && change[1] == 480000;
 }
 
+/* The members of a table that calls made rise, and each has its path's leaf; their number. */
+static uint32_t members_listed(uint64_t *waiting)
+{
+    uint64_t before = 0;
+    uint32_t number = 0;
+    for (;; number++) {
+        abr_member member = abr_member_at(at(TABLE), number);
+        address own = {member.vpi, member.vci};
+        if (member.refusal) {
+            return number;
+        }
+        abr_connection path = abr_status(at(TABLE), member.vpi, ABR_PATH_VCI);
+        abr_connection status = abr_status(at(TABLE), member.vpi, member.vci);
+        if (name_of(own) <= before || status.kind != ABR_MEMBER || status.waiting != member.waiting ||
+            path.kind != ABR_PATH || status.leaf != path.leaf || status.acr != path.acr) {
+            return ~0u;
+        }
+        before = name_of(own);
+        *waiting += member.waiting;
+    }
+}
+
+/* On a table that calls made: leaf and pair give the same octets, and the link counts what can be listed. */
+static int readings_agree(void)
+{
+    uint32_t count = 0;
+    uint64_t waiting = 0, on_paths = 0, earliest = ABR_NEVER;
+    abr_totals link = abr_link(at(TABLE));
+    for (uint32_t leaf = 0; leaf < LEAVES; leaf++) {
+        abr_connection there = abr_at(at(TABLE), leaf);
+        if (there.refusal) {
+            continue;
+        }
+        abr_connection status = abr_status(at(TABLE), there.vpi, there.vci);
+        abr_allowed allowed = abr_acr(at(TABLE), there.vpi, there.vci);
+        if (memcmp(&there, &status, sizeof status) != 0 || there.leaf != leaf || there.acr != allowed.acr ||
+            there.change != allowed.change || there.opened > link.last) {
+            return 0;
+        }
+        on_paths += there.kind == ABR_PATH ? there.waiting : 0;
+        earliest = there.ready < earliest ? there.ready : earliest;
+        count++;
+    }
+    return count == link.connections && members_listed(&waiting) == link.members && waiting == on_paths &&
+           earliest == abr_next_ready(at(TABLE));
+}
+
+/* In every 64th round the table is first one that calls made, whose readings agree. */
 static int round_of_calls(unsigned long round)
 {
+    if (round % 64 == 0) {
+        reached_table(at(TABLE));
+        alarm(60);
+        if (!readings_agree()) {
+            printf("round %lu: readings of a reached table differ\n", round);
+            return 1;
+        }
+    }
     arbitrary_table(at(TABLE));
     for (int i = 0; i < 48; i++) {
         int call = (int)(next() % CALLS);

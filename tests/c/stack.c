@@ -48,11 +48,17 @@ static size_t depth(void (*call)(void), int pattern)
     return (size_t)(top - stack) - unchanged;
 }
 
-/* Two patterns: an octet may be written with the value that it had. */
+/*
+ * Two patterns: an octet may be written with the value that it had. The call is made once before, on the usual stack:
+ * the loader may bind memcpy when it is first called, and that is no stack of the library.
+ */
 static int measure(const abr_case *which, size_t most)
 {
     static const int patterns[] = {0xC3, 0x3C};
     size_t used = 0;
+    if (prepare(which) == 0) {
+        which->call();
+    }
     for (int i = 0; i < 2; i++) {
         if (prepare(which)) {
             printf("  %s: not prepared\n", which->name);

@@ -28,12 +28,6 @@ static void on_stack(size_t below, void *f, void *a, void *b, uint64_t c, void *
 
 static abr_table tables[2];
 
-static int same(const abr_sent *a, const abr_sent *b)
-{
-    return a->refusal == b->refusal && a->comparisons == b->comparisons && a->kind == b->kind && a->vpi == b->vpi &&
-           a->vci == b->vci && a->acr == b->acr;
-}
-
 int main(void)
 {
     unsigned sent = 0;
@@ -48,12 +42,12 @@ int main(void)
     }
     for (uint64_t time = 0; time < 2000000000; time += 40000) {
         abr_sent answers[2];
-        memset(answers, 0, sizeof answers);
         for (int i = 0; i < 2; i++) {
+            memset(&answers[i], i == 0 ? 0xA5 : 0x5A, sizeof answers[i]); /* every octet of an answer is written */
             memset(cells[i], 0, ABR_CELL_OCTETS);
             on_stack(i == 0 ? 0 : 8, (void *)(uintptr_t)abr_slot, &answers[i], &tables[i], time, cells[i], ABR_CELL_OCTETS);
         }
-        if (!same(&answers[0], &answers[1]) || memcmp(cells[0], cells[1], ABR_CELL_OCTETS)) {
+        if (memcmp(&answers[0], &answers[1], sizeof answers[0]) || memcmp(cells[0], cells[1], ABR_CELL_OCTETS)) {
             printf("misaligned: slots differ at %llu\n", (unsigned long long)time);
             return 1;
         }

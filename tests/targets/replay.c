@@ -1,8 +1,9 @@
 /*
  * Makes the calls of the differential lists again, on any processor: replay <CALLS. CALLS is what
  * tests/differential/src/bin/calls.rs writes. After every thousand calls it prints a digest of every answer, every
- * octet written, every next ready instant, slot's time and allowed rate so far, and of the words of the table: numbers,
- * so that the order of octets does not count. Two processors agree if they print the same.
+ * octet written, every next ready instant, slot's time and allowed rate so far, of all that can be read of the pair of
+ * each call, of a leaf, of a member and of the link, and of the words of the table: numbers, so that the order of
+ * octets does not count. Two processors agree if they print the same.
  */
 #include <stdio.h>
 #include <stdlib.h>
@@ -111,6 +112,13 @@ static abr_rm rm_fields(void)
     return all;
 }
 
+static void fold_opened(abr_opened a)
+{
+    fold(a.refusal);
+    fold(a.comparisons);
+    fold(a.leaf);
+}
+
 static void fold_answer(abr_answer a)
 {
     fold(a.refusal);
@@ -128,19 +136,9 @@ static void fold_acr(uint32_t vpi, uint32_t vci)
 {
     abr_allowed a = abr_acr(&table, vpi, vci);
     fold(a.refusal);
+    fold(a.reserved);
     fold(a.acr);
     fold((uint64_t)a.change);
-}
-
-static void fold_sent(abr_sent a)
-{
-    fold(a.refusal);
-    fold(a.comparisons);
-    fold(a.kind);
-    fold(a.vpi);
-    fold(a.vci);
-    fold(a.acr);
-    fold_acr(a.vpi, a.vci);
 }
 
 static void fold_rm(abr_rm f)
@@ -157,6 +155,80 @@ static void fold_params(abr_params p)
     for (size_t i = 0; i < 11; i++) {
         fold(all[i]);
     }
+}
+
+static void fold_connection(abr_connection c)
+{
+    const uint64_t times[] = {c.opened, c.last_sent, c.last_forward, c.ready, c.last_made, c.last_out_of_rate};
+    const uint32_t names[] = {c.refusal, c.kind, c.vpi, c.vci, c.leaf, c.waiting, c.crm};
+    const uint32_t counts[] = {c.k,      c.unanswered, c.backward_sent, c.efci,
+                               c.turned, c.made_level, c.served,        c.reserved};
+    for (size_t i = 0; i < sizeof names / sizeof *names; i++) {
+        fold(names[i]);
+    }
+    fold_params(c.params);
+    fold(c.icr_used);
+    fold(c.acr);
+    fold((uint64_t)c.change);
+    for (size_t i = 0; i < sizeof times / sizeof *times; i++) {
+        fold(times[i]);
+    }
+    for (size_t i = 0; i < sizeof counts / sizeof *counts; i++) {
+        fold(counts[i]);
+    }
+}
+
+/* what can be read of a pair, which may be of no connection */
+static void fold_pair(uint32_t vpi, uint32_t vci)
+{
+    fold_acr(vpi, vci);
+    fold_connection(abr_status(&table, vpi, vci));
+}
+
+static void fold_received(abr_received a)
+{
+    fold(a.refusal);
+    fold(a.comparisons);
+    fold(a.kind);
+    fold(a.vpi);
+    fold(a.vci);
+    fold(a.leaf);
+    fold(a.acr);
+    fold_pair(a.vpi, a.vci);
+}
+
+static void fold_sent(abr_sent a)
+{
+    fold(a.refusal);
+    fold(a.comparisons);
+    fold(a.kind);
+    fold(a.vpi);
+    fold(a.vci);
+    fold(a.leaf);
+    fold(a.acr);
+    fold(a.acr_before);
+    fold(a.made);
+    fold(a.reserved);
+    fold_pair(a.vpi, a.vci);
+}
+
+/* a leaf and a member, drawn from the digest, among the first or among all and past their ends; and the link */
+static void fold_drawn(void)
+{
+    uint32_t leaf = (uint32_t)(digest >> 50) & (digest & 1 ? 7u : 2047u);
+    uint32_t number = (uint32_t)(digest >> 40) & (digest & 2 ? 7u : 511u);
+    abr_totals link = abr_link(&table);
+    fold_connection(abr_at(&table, leaf));
+    abr_member member = abr_member_at(&table, number);
+    fold(member.refusal);
+    fold(member.vpi);
+    fold(member.vci);
+    fold(member.waiting);
+    fold(link.connections);
+    fold(link.connections_max);
+    fold(link.members);
+    fold(link.level);
+    fold(link.last);
 }
 
 #ifndef ABR_NO_DOUBLES
@@ -201,18 +273,18 @@ static void on_pair(uint64_t sort)
     uint32_t vpi = small(), vci = sort == OPEN_PATH ? ABR_PATH_VCI : small();
     uint64_t third = sort == CLOSE || sort == ADD || sort == REMOVE || sort == ACR ? 0 : number();
     switch (sort) {
-    case OPEN: fold_answer(abr_open(&table, vpi, vci, third, params())); break;
-    case OPEN_PATH: fold_answer(abr_open_path(&table, vpi, third, params())); break;
+    case OPEN: fold_opened(abr_open(&table, vpi, vci, third, params())); break;
+    case OPEN_PATH: fold_opened(abr_open_path(&table, vpi, third, params())); break;
     case CLOSE: fold_closed(abr_close(&table, vpi, vci)); break;
-    case REMOVE: fold_closed(abr_remove(&table, vpi, vci)); break;
-    case ADD: fold_answer(abr_add(&table, vpi, vci)); break;
+    case REMOVE: fold_closed(abr_remove_member(&table, vpi, vci)); break;
+    case ADD: fold_answer(abr_add_member(&table, vpi, vci)); break;
     case OFFER: fold_answer(abr_offer(&table, vpi, vci, third)); break;
     case OFFER_MEMBER: fold_answer(abr_offer_member(&table, vpi, vci, third)); break;
     case MAKE: fold_answer(abr_make(&table, vpi, vci, third)); break;
     case OUT_OF_RATE: fold(abr_out_of_rate(&table, vpi, vci, third, buffer, (size_t)number())); break;
     default: break;
     }
-    fold_acr(vpi, vci);
+    fold_pair(vpi, vci);
 }
 
 /* a call without a table */
@@ -243,6 +315,7 @@ static void without_table(uint64_t sort)
     case RATE: {
         abr_rated a = abr_rate(small());
         fold(a.refusal);
+        fold(a.reserved);
         fold(a.rate);
         break;
     }
@@ -276,7 +349,7 @@ static void call(uint64_t sort)
     switch (sort) {
     case OPEN: case CLOSE: case OFFER: case MAKE: case OUT_OF_RATE: case OPEN_PATH: case ADD: case OFFER_MEMBER:
     case REMOVE: case ACR: on_pair(sort); break;
-    case RECEIVE: fold_answer(abr_receive(&table, buffer, octets(buffer, LONGEST))); break;
+    case RECEIVE: fold_received(abr_receive(&table, buffer, octets(buffer, LONGEST))); break;
     case SET_LEVEL: fold(abr_set_level(&table, small())); break;
     case SLOT: {
         uint64_t time = number();
@@ -287,7 +360,8 @@ static void call(uint64_t sort)
     default: without_table(sort);
     }
     fold_octets(buffer, LONGEST);
-    uint64_t next = abr_next(&table);
+    fold_drawn();
+    uint64_t next = abr_next_ready(&table);
     fold(next);
     fold(abr_slot_time(&table, next ^ digest >> 40, digest >> 44));
 }

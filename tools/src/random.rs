@@ -101,16 +101,10 @@ fn receive(table: &mut Table, at: Address, draw: &mut Draw) -> Result<(), Refusa
     table.receive(&cell).map(drop)
 }
 
-/// A slot: the rates are read before it.
+/// A slot. The connections have the leaves of their places, since nothing else was opened.
 fn send(table: &mut Table, traces: &mut [(Address, Recorder)], time: u64) -> Result<(), Refusal> {
-    let rates: Result<Vec<u64>, Refusal> = traces.iter().map(|(at, _)| table.acr(*at)).collect();
-    let Some(sent) = table.slot(time, &mut [0; CELL_OCTETS])? else {
-        return Ok(());
-    };
-    for ((at, recorder), rate) in traces.iter_mut().zip(rates?) {
-        if *at == sent.address() {
-            recorder.sent(time, sent.kind, rate);
-        }
+    if let Some(sent) = table.slot(time, &mut [0; CELL_OCTETS])? {
+        traces[sent.leaf as usize].1.sent(time, &sent);
     }
     Ok(())
 }

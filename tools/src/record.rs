@@ -1,6 +1,6 @@
 //! A trace recorded from what a transmitter sends on one connection.
 
-use abr::Params;
+use abr::{Params, Sent};
 
 use crate::text;
 use crate::trace::{octets, Cell, Head, Kind};
@@ -25,8 +25,8 @@ impl Recorder {
         }
     }
 
-    /// A slot sent a cell on the connection, whose allowed rate had been this one.
-    pub fn sent(&mut self, time: u64, kind: abr::Kind, rate: u64) {
+    /// A slot at this time sent a cell on the connection.
+    pub fn sent(&mut self, time: u64, sent: &Sent) {
         if self.cells.is_empty() {
             self.first = time;
         }
@@ -35,12 +35,12 @@ impl Recorder {
             number: self.cells.len() as u64 + 1,
             passed: time - self.cells.last().map_or(0, |last| last.time),
             time,
-            kind: match kind {
+            kind: match sent.kind {
                 abr::Kind::Forward => Kind::Forward,
                 abr::Kind::Turned => Kind::Backward,
                 abr::Kind::Data => Kind::Data,
             },
-            rate,
+            rate: sent.acr_before,
         });
     }
 

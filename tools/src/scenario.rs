@@ -30,13 +30,8 @@ fn two() -> Result<Vec<(Address, Recorder)>, Refusal> {
     let connections = pictured::CONNECTIONS.into_iter();
     let mut traces: Vec<_> = connections.zip(recorders).collect();
     pictured::run(|slot| {
-        let Some(sent) = slot.sent else {
-            return;
-        };
-        for ((at, recorder), rate) in traces.iter_mut().zip(slot.before) {
-            if *at == sent.address() {
-                recorder.sent(slot.time, sent.kind, rate);
-            }
+        if let Some(sent) = slot.sent {
+            traces[sent.leaf as usize].1.sent(slot.time, &sent);
         }
     })?;
     Ok(traces)

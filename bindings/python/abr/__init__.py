@@ -7,11 +7,13 @@ OverflowError, before any call."""
 
 # All that is imported here is what the package offers.
 # flake8: noqa: F401, F403
+from .answers import Allowed, Closed, Kind, Opened, Received, ReceivedKind, Sent
 from .cell import Data, Rm, read, write_rm
+from .connection import Connection, ConnectionKind, Member, Totals
 from .constants import *
 from .params import Params
 from .rates import Contract, Imported, code, import_rate, rate
 from .refusal import Refusal, Refused
 from .switch import fair_share, limit, port
-from .table import Allowed, Closed, Kind, Sent, Table
+from .table import Table
 from .traces import Breach, Rule, judge

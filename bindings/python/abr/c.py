@@ -19,8 +19,16 @@ class abr_rm(Structure):
     _fields_ = [(name, c_uint32) for name in "vpi vci dir bn ci ni ra er ccr mcr ql sn".split()]
 
 
+class abr_opened(Structure):
+    _fields_ = [("refusal", c_uint32), ("comparisons", c_uint32), ("leaf", c_uint32)]
+
+
 class abr_answer(Structure):
     _fields_ = [("refusal", c_uint32), ("comparisons", c_uint32)]
+
+
+class abr_received(Structure):
+    _fields_ = [(name, c_uint32) for name in "refusal comparisons kind vpi vci leaf".split()] + [("acr", c_uint64)]
 
 
 class abr_closed(Structure):
@@ -28,11 +36,38 @@ class abr_closed(Structure):
 
 
 class abr_sent(Structure):
-    _fields_ = [(name, c_uint32) for name in "refusal comparisons kind vpi vci".split()] + [("acr", c_uint64)]
+    _fields_ = [
+        *((name, c_uint32) for name in "refusal comparisons kind vpi vci leaf".split()),
+        *((name, c_uint64) for name in "acr acr_before".split()),
+        *((name, c_uint32) for name in "made reserved".split()),
+    ]
 
 
 class abr_allowed(Structure):
-    _fields_ = [("refusal", c_uint32), ("acr", c_uint64), ("change", c_int64)]
+    _fields_ = [("refusal", c_uint32), ("reserved", c_uint32), ("acr", c_uint64), ("change", c_int64)]
+
+
+class abr_connection(Structure):
+    _fields_ = [
+        *((name, c_uint32) for name in "refusal kind vpi vci leaf waiting".split()),
+        ("params", abr_params),
+        ("crm", c_uint32),
+        *((name, c_uint64) for name in "icr_used acr".split()),
+        ("change", c_int64),
+        *((name, c_uint64) for name in "opened last_sent last_forward ready last_made last_out_of_rate".split()),
+        *((name, c_uint32) for name in "k unanswered backward_sent efci turned made_level served reserved".split()),
+    ]
+
+
+class abr_member(Structure):
+    _fields_ = [(name, c_uint32) for name in "refusal vpi vci waiting".split()]
+
+
+class abr_totals(Structure):
+    _fields_ = [
+        *((name, c_uint32) for name in "connections connections_max members level".split()),
+        ("last", c_uint64),
+    ]
 
 
 class abr_cell(Structure):
@@ -44,7 +79,7 @@ class abr_coded(Structure):
 
 
 class abr_rated(Structure):
-    _fields_ = [("refusal", c_uint32), ("rate", c_uint64)]
+    _fields_ = [("refusal", c_uint32), ("reserved", c_uint32), ("rate", c_uint64)]
 
 
 class abr_contract(Structure):
@@ -69,20 +104,24 @@ TABLE, RATES, READ, WRITTEN = POINTER(abr_table), POINTER(c_uint64), c_char_p, P
 FUNCTIONS = {
     "abr_version": (c_uint32, []),
     "abr_table_words": (c_uint32, []),
-    "abr_open": (abr_answer, [TABLE, c_uint32, c_uint32, c_uint64, abr_params]),
+    "abr_open": (abr_opened, [TABLE, c_uint32, c_uint32, c_uint64, abr_params]),
     "abr_close": (abr_closed, [TABLE, c_uint32, c_uint32]),
     "abr_offer": (abr_answer, [TABLE, c_uint32, c_uint32, c_uint64]),
     "abr_acr": (abr_allowed, [TABLE, c_uint32, c_uint32]),
+    "abr_status": (abr_connection, [TABLE, c_uint32, c_uint32]),
+    "abr_at": (abr_connection, [TABLE, c_uint32]),
+    "abr_member_at": (abr_member, [TABLE, c_uint32]),
+    "abr_link": (abr_totals, [TABLE]),
     "abr_export": (abr_contract, [TABLE, c_uint32, c_uint32, POINTER(c_uint32)]),
-    "abr_open_path": (abr_answer, [TABLE, c_uint32, c_uint64, abr_params]),
-    "abr_add": (abr_answer, [TABLE, c_uint32, c_uint32]),
+    "abr_open_path": (abr_opened, [TABLE, c_uint32, c_uint64, abr_params]),
+    "abr_add_member": (abr_answer, [TABLE, c_uint32, c_uint32]),
     "abr_offer_member": (abr_answer, [TABLE, c_uint32, c_uint32, c_uint64]),
-    "abr_remove": (abr_closed, [TABLE, c_uint32, c_uint32]),
-    "abr_receive": (abr_answer, [TABLE, READ, c_size_t]),
+    "abr_remove_member": (abr_closed, [TABLE, c_uint32, c_uint32]),
+    "abr_receive": (abr_received, [TABLE, READ, c_size_t]),
     "abr_set_level": (c_uint32, [TABLE, c_uint32]),
     "abr_make": (abr_answer, [TABLE, c_uint32, c_uint32, c_uint64]),
     "abr_slot": (abr_sent, [TABLE, c_uint64, WRITTEN, c_size_t]),
-    "abr_next": (c_uint64, [TABLE]),
+    "abr_next_ready": (c_uint64, [TABLE]),
     "abr_slot_time": (c_uint64, [TABLE, c_uint64, c_uint64]),
     "abr_out_of_rate": (c_uint32, [TABLE, c_uint32, c_uint32, c_uint64, WRITTEN, c_size_t]),
     "abr_write_rm": (c_uint32, [abr_rm, WRITTEN, c_size_t]),

@@ -1,6 +1,6 @@
 """The numbers of include/abr.h, by their names without ABR_."""
 
-VERSION = 0x001200
+VERSION = 0x001300
 TABLE_WORDS = 36_115
 
 CELL_OCTETS = 53

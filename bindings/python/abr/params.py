@@ -27,8 +27,12 @@ class Params:
     @classmethod
     def house(cls, pcr: int, mcr: int, icr: int) -> Params:
         """The house set with three rate codes; dataclasses.replace changes others."""
-        house = library.abr_house(u32("pcr", pcr), u32("mcr", mcr), u32("icr", icr))
-        return cls(*(getattr(house, name) for name, _ in abr_params._fields_))
+        return cls.from_c(library.abr_house(u32("pcr", pcr), u32("mcr", mcr), u32("icr", icr)))
+
+    @classmethod
+    def from_c(cls, params: abr_params) -> Params:
+        """Those that a call answered."""
+        return cls(*(getattr(params, name) for name, _ in abr_params._fields_))
 
     def as_c(self) -> abr_params:
         """The same for a call."""

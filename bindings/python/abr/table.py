@@ -3,49 +3,18 @@
 from __future__ import annotations
 
 import ctypes
-import enum
-from typing import NamedTuple
+from itertools import islice
+from typing import Iterator
 
-from .c import abr_answer, abr_closed, abr_table, library
+from .answers import Allowed, Closed, Kind, Opened, Received, ReceivedKind, Sent
+from .c import abr_answer, abr_closed, abr_connection, abr_opened, abr_table, library
 from .cell import Buffer
-from .constants import NEVER
+from .connection import Connection, Member, Totals, instant
+from .constants import CONNECTIONS_MAX
 from .arguments import octets, u32, u64
 from .params import Params
 from .rates import Contract
 from .refusal import accepted
-
-
-class Kind(enum.IntEnum):
-    """What a slot sends; a made cell counts as a turned one."""
-
-    FORWARD = 1
-    TURNED = 2
-    DATA = 3
-
-
-class Sent(NamedTuple):
-    """What a slot sends, and the allowed rate afterwards."""
-
-    kind: Kind
-    vpi: int
-    vci: int  # of data of a path that of the member
-    acr: int
-    cell: bytes | None  # the octets of an RM cell; the caller has those of data
-    comparisons: int
-
-
-class Closed(NamedTuple):
-    """The data cells that waited, and the comparisons."""
-
-    cells: int
-    comparisons: int
-
-
-class Allowed(NamedTuple):
-    """The allowed rate, and what the last backward cell changed."""
-
-    acr: int
-    change: int
 
 
 class Table:
@@ -62,9 +31,9 @@ class Table:
         table._table = abr_table.from_buffer_copy(self._table)
         return table
 
-    def open(self, vpi: int, vci: int, time: int, params: Params) -> int:
-        """Opens a channel; the comparisons."""
-        return _comparisons(library.abr_open(self._table, *_pair(vpi, vci), u64("time", time), params.as_c()))
+    def open(self, vpi: int, vci: int, time: int, params: Params) -> Opened:
+        """Opens a channel; its leaf and the comparisons."""
+        return _opened(library.abr_open(self._table, *_pair(vpi, vci), u64("time", time), params.as_c()))
 
     def close(self, vpi: int, vci: int) -> Closed:
         """Closes a connection, a path with its members, and drops what waits."""
@@ -80,6 +49,37 @@ class Table:
         accepted(allowed.refusal)
         return Allowed(allowed.acr, allowed.change)
 
+    def status(self, vpi: int, vci: int) -> Connection:
+        """Everything of a channel, of a path, or of a member with its path."""
+        return _connection(library.abr_status(self._table, *_pair(vpi, vci)))
+
+    def at(self, leaf: int) -> Connection:
+        """Everything of the connection in a leaf, a channel or a path."""
+        return _connection(library.abr_at(self._table, u32("leaf", leaf)))
+
+    def connections(self) -> Iterator[Connection]:
+        """All that are open at this call, channels and paths, in the order of their leaves."""
+        leaves = (library.abr_at(self._table, leaf) for leaf in range(CONNECTIONS_MAX))
+        taken = (read for read in leaves if not read.refusal)
+        return iter([Connection.from_c(read) for read in islice(taken, self.link().connections)])
+
+    def member_at(self, number: int) -> Member:
+        """The member with this number, counted from 0 in ascending order of VPI and VCI over all paths. The number
+        changes as others are added and removed."""
+        member = library.abr_member_at(self._table, u32("number", number))
+        accepted(member.refusal)
+        return Member(member.vpi, member.vci, member.waiting)
+
+    def members(self) -> Iterator[Member]:
+        """The members that all paths have at this call, in ascending order of VPI and VCI."""
+        return iter([self.member_at(number) for number in range(self.link().members)])
+
+    def link(self) -> Totals:
+        """What belongs to no single connection: how many connections and members there are, the congestion level and
+        the last accepted time."""
+        link = library.abr_link(self._table)
+        return Totals(link.connections, link.connections_max, link.members, link.level, link.last)
+
     def export(self, vpi: int, vci: int) -> Contract:
         """The rates that the open of a connection gave, as doubles in cells per second, exactly."""
         refusal = ctypes.c_uint32()
@@ -87,26 +87,29 @@ class Table:
         accepted(refusal.value)
         return Contract(contract.pcr, contract.mcr, contract.icr)
 
-    def open_path(self, vpi: int, time: int, params: Params) -> int:
-        """Opens a path, without members; the comparisons."""
-        return _comparisons(library.abr_open_path(self._table, u32("vpi", vpi), u64("time", time), params.as_c()))
+    def open_path(self, vpi: int, time: int, params: Params) -> Opened:
+        """Opens a path, without members; its leaf and the comparisons."""
+        return _opened(library.abr_open_path(self._table, u32("vpi", vpi), u64("time", time), params.as_c()))
 
-    def add(self, vpi: int, vci: int) -> None:
+    def add_member(self, vpi: int, vci: int) -> None:
         """Makes a VCI a member of the path of its VPI."""
-        _comparisons(library.abr_add(self._table, *_pair(vpi, vci)))
+        _comparisons(library.abr_add_member(self._table, *_pair(vpi, vci)))
 
     def offer_member(self, vpi: int, vci: int, cells: int) -> int:
         """Adds data cells to those that wait on a member; the comparisons."""
         return _comparisons(library.abr_offer_member(self._table, *_pair(vpi, vci), u64("cells", cells)))
 
-    def remove(self, vpi: int, vci: int) -> Closed:
+    def remove_member(self, vpi: int, vci: int) -> Closed:
         """Removes a member from its path, and drops what waits on it."""
-        return _closed(library.abr_remove(self._table, *_pair(vpi, vci)))
+        return _closed(library.abr_remove_member(self._table, *_pair(vpi, vci)))
 
-    def receive(self, cell: bytes) -> int:
-        """Receives a cell; the comparisons."""
+    def receive(self, cell: bytes) -> Received:
+        """Receives a cell; what it is, the leaf of its connection and that connection's allowed rate afterwards."""
         cell = octets("cell", cell)
-        return _comparisons(library.abr_receive(self._table, cell, len(cell)))
+        received = library.abr_receive(self._table, cell, len(cell))
+        accepted(received.refusal)
+        kind = ReceivedKind(received.kind)
+        return Received(kind, received.vpi, received.vci, received.leaf, received.acr, received.comparisons)
 
     def set_level(self, level: int) -> None:
         """Sets the congestion level: 0 none, 1 no increase, 2 congestion."""
@@ -125,14 +128,14 @@ class Table:
             return None
         kind = Kind(sent.kind)
         written = None if kind is Kind.DATA else bytes(cell)
-        return Sent(kind, sent.vpi, sent.vci, sent.acr, written, sent.comparisons)
+        rest = sent.comparisons, sent.leaf, sent.acr_before, bool(sent.made)
+        return Sent(kind, sent.vpi, sent.vci, sent.acr, written, *rest)
 
-    def next(self) -> int | None:
+    def next_ready(self) -> int | None:
         """The earliest ready instant: an accepted slot before it is idle, and one from then on is not. None if no
         connection is ever ready as things stand. An accepted offer, received RM cell, made cell, close or removal of a
         member, and a slot that sends may change it; no other call does."""
-        instant = library.abr_next(self._table)
-        return None if instant == NEVER else instant
+        return instant(library.abr_next_ready(self._table))
 
     def slot_time(self, now: int, lag: int) -> int:
         """The time to pass to a slot whose own time is now: the next ready instant if that has come, but not before the
@@ -149,6 +152,16 @@ class Table:
 
 def _pair(vpi: int, vci: int) -> tuple[int, int]:
     return u32("vpi", vpi), u32("vci", vci)
+
+
+def _opened(opened: abr_opened) -> Opened:
+    accepted(opened.refusal)
+    return Opened(opened.leaf, opened.comparisons)
+
+
+def _connection(read: abr_connection) -> Connection:
+    accepted(read.refusal)
+    return Connection.from_c(read)
 
 
 def _comparisons(answer: abr_answer) -> int:

@@ -57,8 +57,8 @@ print(f"   600 cells per second among {len(demands)}: at most {share / abr.RATE_
 wide = abr.fair_share(900 * abr.RATE_ONE, demands.values())
 print(f"   900 among them: {'no limit' if wide is None else wide / abr.RATE_ONE}")
 
-# ---- 4. A second of the link. The caller sleeps until table.next() and sends; a forward cell comes back after the
-# ---- round trip with the explicit rate of the port.
+# ---- 4. A second of the link. The caller sleeps until table.next_ready() and sends; a forward cell comes back after
+# ---- the round trip with the explicit rate of the port.
 
 
 def number(value: int) -> bytes:
@@ -74,11 +74,11 @@ returns, sent, now = [], {vpi: dict.fromkeys(abr.Kind, 0) for vpi in PLAN}, 0
 trace, last = number(5) + number(7), None  # of VPI 1: Nrm 32, Trm 100 ms
 shown = 0
 while True:
-    ready = table.next()
+    ready = table.next_ready()
     back = returns[0][0] if returns else SECOND
     now = max(now, min(SECOND if ready is None else ready, back, SECOND))  # a ready instant may have passed
     while shown <= now:
-        rates = "  ".join(f"{table.acr(vpi, VCI).acr / abr.RATE_ONE:8.3f}" for vpi in PLAN)
+        rates = "  ".join(f"{each.acr / abr.RATE_ONE:8.3f}" for each in table.connections())  # opened in this order
         print(f"   {shown // MS:5} ms  {rates}")
         shown += SECOND // 10
     if now == SECOND:
@@ -86,11 +86,10 @@ while True:
     if now == back:
         table.receive(heappop(returns)[1])
         continue
-    before = table.acr(1, VCI).acr
     slot = table.slot(now)
     sent[slot.vpi][slot.kind] += 1
     if slot.vpi == 1:
-        trace += number(now - last if last is not None else 0) + number(slot.kind) + number(before)
+        trace += number(now - last if last is not None else 0) + number(slot.kind) + number(slot.acr_before)
         last = now
     if slot.kind is abr.Kind.FORWARD:
         backward = abr.write_rm(replace(abr.read(slot.cell), dir=1))
@@ -104,5 +103,5 @@ for vpi in PLAN:
     kinds = ", ".join(f"{kind.name.lower()} {count}" for kind, count in sent[vpi].items())
     assert sent[vpi][abr.Kind.DATA] + cells == 1_000
     print(f"   VPI {vpi}: {kinds}; {cells} cells waited")
-print(f"   nothing is ready: {table.next()}")
+print(f"   nothing is ready: {table.next_ready()}")
 print(f"   the trace of VPI 1: {'passes' if abr.judge(trace) is None else abr.judge(trace)}")

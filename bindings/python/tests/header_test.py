@@ -91,9 +91,9 @@ class Header(unittest.TestCase):
             self.assertEqual(getattr(getattr(c, name), field).offset, int(offset), f"{name}.{field}")
 
     def test_the_constants(self):
-        others = ("REFUSED_", "RULE_", "SENT_", "HOUSE_")
+        others = ("REFUSED_", "RULE_", "SENT_", "RECEIVED_", "HOUSE_")
         numbers = {name: number for name, (number, _) in defined().items() if not name.startswith(others)}
-        for name in ("OK", "CELL_DATA", "CELL_RM"):
+        for name in ("OK", "CELL_DATA", "CELL_RM", "CHANNEL", "PATH", "MEMBER"):
             del numbers[name]
         self.assertGreater(len(numbers), 20)
         constants = {name: value for name, value in vars(abr.constants).items() if name.isupper()}
@@ -105,6 +105,10 @@ class Header(unittest.TestCase):
     def test_kinds_and_rules(self):
         sent = {name: number for name, (number, _) in defined("SENT_").items() if name != "IDLE"}
         self.assertEqual(sent, {each.name: each.value for each in abr.Kind})
+        received = {name: number for name, (number, _) in defined("RECEIVED_").items()}
+        self.assertEqual(received, {each.name: each.value for each in abr.ReceivedKind})
+        pairs = {name: defined()[name][0] for name in ("CHANNEL", "PATH", "MEMBER")}
+        self.assertEqual(pairs, {each.name: each.value for each in abr.ConnectionKind})
         rules = {name: number for name, (number, _) in defined("RULE_").items() if name != "NONE"}
         self.assertEqual(rules, {each.name: each.value for each in abr.Rule})
         self.assertEqual(defined("CELL_")["RM"][0], abr.cell.RM)

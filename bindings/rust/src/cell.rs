@@ -158,12 +158,12 @@ impl From<ffi::abr_cell> for Cell {
     /// The cell of an accepted read.
     fn from(read: ffi::abr_cell) -> Self {
         match read.kind {
-            1 => Cell::Data {
+            ffi::ABR_CELL_DATA => Cell::Data {
                 vpi: read.rm.vpi,
                 vci: read.rm.vci,
                 efci: read.efci == 1,
             },
-            2 => Cell::Rm(read.rm.into()),
+            ffi::ABR_CELL_RM => Cell::Rm(read.rm.into()),
             other => unreachable!("the library answered kind {other}"),
         }
     }

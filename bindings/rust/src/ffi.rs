@@ -4,13 +4,33 @@
 #![allow(non_camel_case_types, missing_docs)]
 
 /// The version of the header: major, minor and patch number, eight bits each.
-pub const ABR_VERSION: u32 = 0x00_12_00;
+pub const ABR_VERSION: u32 = 0x00_13_00;
 
 /// The words of a table.
 pub const ABR_TABLE_WORDS: usize = 36_115;
 
-/// The answer of `abr_next` if no connection is ever ready.
+/// An instant that does not come, or that never was.
 pub const ABR_NEVER: u64 = u64::MAX;
+
+/// What a slot sends.
+pub const ABR_SENT_IDLE: u32 = 0;
+pub const ABR_SENT_FORWARD: u32 = 1;
+pub const ABR_SENT_TURNED: u32 = 2;
+pub const ABR_SENT_DATA: u32 = 3;
+
+/// What was received.
+pub const ABR_RECEIVED_FORWARD: u32 = 1;
+pub const ABR_RECEIVED_BACKWARD: u32 = 2;
+pub const ABR_RECEIVED_DATA: u32 = 3;
+
+/// What a pair stands for.
+pub const ABR_CHANNEL: u32 = 1;
+pub const ABR_PATH: u32 = 2;
+pub const ABR_MEMBER: u32 = 3;
+
+/// What a cell is.
+pub const ABR_CELL_DATA: u32 = 1;
+pub const ABR_CELL_RM: u32 = 2;
 
 /// The state of an engine; all zero when empty.
 #[repr(C)]
@@ -40,12 +60,34 @@ pub struct abr_rm {
     pub sn: u32,
 }
 
-/// The answer of an open, an offer, a received and a made cell, and of adding a member.
+/// The answer of an open.
+#[repr(C)]
+#[derive(Debug, Clone, Copy, PartialEq, Eq, Default)]
+pub struct abr_opened {
+    pub refusal: u32,
+    pub comparisons: u32,
+    pub leaf: u32,
+}
+
+/// The answer of an offer and of a made cell, and of adding a member.
 #[repr(C)]
 #[derive(Debug, Clone, Copy, PartialEq, Eq, Default)]
 pub struct abr_answer {
     pub refusal: u32,
     pub comparisons: u32,
+}
+
+/// The answer of a received cell.
+#[repr(C)]
+#[derive(Debug, Clone, Copy, PartialEq, Eq, Default)]
+pub struct abr_received {
+    pub refusal: u32,
+    pub comparisons: u32,
+    pub kind: u32,
+    pub vpi: u32,
+    pub vci: u32,
+    pub leaf: u32,
+    pub acr: u64,
 }
 
 /// The answer of a close and of removing a member.
@@ -66,7 +108,11 @@ pub struct abr_sent {
     pub kind: u32,
     pub vpi: u32,
     pub vci: u32,
+    pub leaf: u32,
     pub acr: u64,
+    pub acr_before: u64,
+    pub made: u32,
+    pub reserved: u32,
 }
 
 /// The answer of `abr_acr`.
@@ -74,9 +120,54 @@ pub struct abr_sent {
 #[derive(Debug, Clone, Copy, PartialEq, Eq, Default)]
 pub struct abr_allowed {
     pub refusal: u32,
+    pub reserved: u32,
     pub acr: u64,
     pub change: i64,
 }
+
+/// The answer of `abr_status` and of `abr_at`.
+#[repr(C)]
+#[derive(Debug, Clone, Copy, PartialEq, Eq, Default)]
+pub struct abr_connection {
+    pub refusal: u32,
+    pub kind: u32,
+    pub vpi: u32,
+    pub vci: u32,
+    pub leaf: u32,
+    pub waiting: u32,
+    pub params: abr_params,
+    pub crm: u32,
+    pub icr_used: u64,
+    pub acr: u64,
+    pub change: i64,
+    pub opened: u64,
+    pub last_sent: u64,
+    pub last_forward: u64,
+    pub ready: u64,
+    pub last_made: u64,
+    pub last_out_of_rate: u64,
+    pub k: u32,
+    pub unanswered: u32,
+    pub backward_sent: u32,
+    pub efci: u32,
+    pub turned: u32,
+    pub made_level: u32,
+    pub served: u32,
+    pub reserved: u32,
+}
+
+/// The answer of `abr_member_at`.
+#[repr(C)]
+#[derive(Debug, Clone, Copy, PartialEq, Eq, Default)]
+pub struct abr_member {
+    pub refusal: u32,
+    pub vpi: u32,
+    pub vci: u32,
+    pub waiting: u32,
+}
+
+/// The answer of `abr_link`.
+pub use crate::Totals as abr_totals;
 
 /// The answer of `abr_read`.
 #[repr(C)]
@@ -101,6 +192,7 @@ pub struct abr_coded {
 #[derive(Debug, Clone, Copy, PartialEq, Eq, Default)]
 pub struct abr_rated {
     pub refusal: u32,
+    pub reserved: u32,
     pub rate: u64,
 }
 
@@ -143,23 +235,23 @@ extern "C" {
         vci: u32,
         time: u64,
         params: abr_params,
-    ) -> abr_answer;
+    ) -> abr_opened;
     pub fn abr_close(table: *mut abr_table, vpi: u32, vci: u32) -> abr_closed;
     pub fn abr_open_path(
         table: *mut abr_table,
         vpi: u32,
         time: u64,
         params: abr_params,
-    ) -> abr_answer;
-    pub fn abr_add(table: *mut abr_table, vpi: u32, vci: u32) -> abr_answer;
+    ) -> abr_opened;
+    pub fn abr_add_member(table: *mut abr_table, vpi: u32, vci: u32) -> abr_answer;
     pub fn abr_offer_member(table: *mut abr_table, vpi: u32, vci: u32, cells: u64) -> abr_answer;
-    pub fn abr_remove(table: *mut abr_table, vpi: u32, vci: u32) -> abr_closed;
-    pub fn abr_receive(table: *mut abr_table, cell: *const u8, len: usize) -> abr_answer;
+    pub fn abr_remove_member(table: *mut abr_table, vpi: u32, vci: u32) -> abr_closed;
+    pub fn abr_receive(table: *mut abr_table, cell: *const u8, len: usize) -> abr_received;
     pub fn abr_offer(table: *mut abr_table, vpi: u32, vci: u32, cells: u64) -> abr_answer;
     pub fn abr_set_level(table: *mut abr_table, level: u32) -> u32;
     pub fn abr_make(table: *mut abr_table, vpi: u32, vci: u32, time: u64) -> abr_answer;
     pub fn abr_slot(table: *mut abr_table, time: u64, cell: *mut u8, len: usize) -> abr_sent;
-    pub fn abr_next(table: *const abr_table) -> u64;
+    pub fn abr_next_ready(table: *const abr_table) -> u64;
     pub fn abr_slot_time(table: *const abr_table, now: u64, lag: u64) -> u64;
     pub fn abr_out_of_rate(
         table: *mut abr_table,
@@ -170,6 +262,10 @@ extern "C" {
         len: usize,
     ) -> u32;
     pub fn abr_acr(table: *const abr_table, vpi: u32, vci: u32) -> abr_allowed;
+    pub fn abr_status(table: *const abr_table, vpi: u32, vci: u32) -> abr_connection;
+    pub fn abr_at(table: *const abr_table, leaf: u32) -> abr_connection;
+    pub fn abr_member_at(table: *const abr_table, number: u32) -> abr_member;
+    pub fn abr_link(table: *const abr_table) -> abr_totals;
     pub fn abr_export(
         table: *const abr_table,
         vpi: u32,

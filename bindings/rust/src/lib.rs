@@ -7,7 +7,8 @@
 //! the comparisons that it made between ready instants, 1 to [`COMPARISONS_MAX`], and a
 //! close the data cells that waited. A connection is named by its [`Address`], its VPI
 //! and its VCI together, a path, which serves many channels at one rate, by its VPI and
-//! [`PATH_VCI`].
+//! [`PATH_VCI`]. From its open to its close it has a leaf, a number below
+//! [`CONNECTIONS_MAX`], which each cell sent or received for it answers.
 //!
 //! ```
 //! use abr::{Address, Kind, Params, Table, CELL_OCTETS};
@@ -24,7 +25,7 @@
 //! assert_eq!(sent.address(), at);
 //! assert_eq!((sent.kind, sent.acr), (Kind::Forward, 512_000));
 //! // The next cell is allowed a millisecond later.
-//! assert_eq!(table.next(), Some(1_000_000));
+//! assert_eq!(table.next_ready(), Some(1_000_000));
 //! assert_eq!(table.slot(999_999, &mut cell)?, None);
 //! let sent = table.slot(1_000_000, &mut cell)?.expect("data waits");
 //! assert_eq!(sent.kind, Kind::Data);
@@ -35,7 +36,9 @@
 #![warn(missing_docs)]
 
 mod address;
+mod answers;
 mod cell;
+mod connection;
 mod double;
 pub mod ffi;
 mod judge;
@@ -46,7 +49,9 @@ mod refusal;
 mod table;
 
 pub use address::{Address, PATH_VCI, VCI_MAX, VCI_MIN, VPI_MAX};
+pub use answers::{Allowed, Closed, Kind, Opened, Received, ReceivedKind, Sent};
 pub use cell::{read, write_rm, Cell, Rm, CELL_OCTETS};
+pub use connection::{Connection, ConnectionKind, Member, Totals};
 pub use double::{import, Contract, Imported};
 pub use judge::{judge, Rule, Verdict};
 pub use params::{Params, ADTF_MAX, CDF_ZERO, FRTT_MAX, TBE_MAX};
@@ -54,6 +59,6 @@ pub use port::{fair_share, limit, port, Share, DEMANDS_MAX};
 pub use rate::{code, rate, CODE_MAX, RATE_MAX, RATE_ONE};
 pub use refusal::Refusal;
 pub use table::{
-    Allowed, Closed, Kind, Sent, Table, COMPARISONS_MAX, CONNECTIONS_MAX, LEVEL_MAX, MAKE_INTERVAL,
-    MEMBERS_MAX, OUT_OF_RATE_INTERVAL, TIME_MAX, WAITING_MAX,
+    Table, COMPARISONS_MAX, CONNECTIONS_MAX, LEVEL_MAX, MAKE_INTERVAL, MEMBERS_MAX,
+    OUT_OF_RATE_INTERVAL, TIME_MAX, WAITING_MAX,
 };

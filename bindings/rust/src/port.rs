@@ -20,7 +20,7 @@ pub enum Share {
 /// demands, each cut to it, stay within the capacity.
 ///
 /// # Errors
-/// In this order: [`Refusal::Demands`] over [`DEMANDS_MAX`], [`Refusal::Demand`] if one is
+/// In this order: [`Refusal::TooManyDemands`] over [`DEMANDS_MAX`], [`Refusal::DemandTooLarge`] if one is
 /// above [`crate::RATE_MAX`].
 ///
 /// ```
@@ -28,8 +28,8 @@ pub enum Share {
 /// assert_eq!(abr::fair_share(10, &[2, 8, 8]), Ok(Share::Rate(4)));
 /// assert_eq!(abr::fair_share(18, &[2, 8, 8]), Ok(Share::NoLimit));
 /// assert_eq!(abr::fair_share(0, &[]), Ok(Share::NoLimit));
-/// assert_eq!(abr::fair_share(0, &[0; 1_025]), Err(Refusal::Demands));
-/// assert_eq!(abr::fair_share(0, &[u64::MAX]), Err(Refusal::Demand));
+/// assert_eq!(abr::fair_share(0, &[0; 1_025]), Err(Refusal::TooManyDemands));
+/// assert_eq!(abr::fair_share(0, &[u64::MAX]), Err(Refusal::DemandTooLarge));
 /// assert!(Share::Rate(u64::MAX) < Share::NoLimit);
 /// ```
 pub fn fair_share(capacity: u64, demands: &[u64]) -> Result<Share, Refusal> {

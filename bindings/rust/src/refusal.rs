@@ -71,18 +71,18 @@ refusals! {
     /// A cell was to be made, but the congestion level is 0.
     NotCongested = 16: "congestion level is 0",
     /// Less than 100 ms have passed since the connection's last made cell.
-    TooSoon = 17: "less than 100 ms since the last cell made on this connection",
+    MadeTooSoon = 17: "less than 100 ms since the last cell made on this connection",
     /// Less than 100 ms have passed since the connection's last out-of-rate cell.
-    TooOften = 18: "less than 100 ms since the last out-of-rate cell on this connection",
+    OutOfRateTooSoon = 18: "less than 100 ms since the last out-of-rate cell on this connection",
     /// A rate code that was read has the reserved bit set.
     ReservedBit = 19: "reserved bit of a rate code is set",
     /// A double is not a rate: not a number, infinite, below 0, between 0 and 1, or 2^32
     /// and more.
     Double = 20: "not a rate: not a number, infinite, below 0, between 0 and 1, or 2^32 and more",
     /// More than 1,024 demands.
-    Demands = 21: "over 1,024 demands",
+    TooManyDemands = 21: "over 1,024 demands",
     /// A demand is above the largest rate.
-    Demand = 22: "a demand is above the largest rate",
+    DemandTooLarge = 22: "a demand is above the largest rate",
     /// A number of a trace is not in shortest form, or has more than 64 bits.
     TraceNumber = 23: "a number of a trace is not in shortest form or over 64 bits",
     /// A trace is empty, or ends inside a record.

@@ -33,16 +33,24 @@ pub named-writing :
 named-writing f {before = before} {after = after} {a = a} {old = old} {new = new} e h =
     subst (λ (v : ℕ). MeetsWriting wholeAnswer (f v) before after a old new) e h
 
--- what is returned of the answer
+-- what is returned of the answer, and of a reading
 pub returned :
-    {R : Type 0} {part : Answer → R} {f : State → Outcome} {before after : List ℕ} {a : Answer} {r : R} → r ≡ part a → Meets wholeAnswer f before after a
-    → Meets part f before after r
-returned {part = part} e m = record { meets = λ s w b. let k = m .meets s w b in (k .0, e ∙ ap part (k .1)) }
+    {A R : Type 0} (part : A → R) {whole : State → Outcome → A} {f : State → Outcome} {before after : List ℕ} {a : A} {r : R} → r ≡ part a → Meets whole f before after a
+    → Meets (λ s o. part (whole s o)) f before after r
+returned part e m = record { meets = λ s w b. let k = m .meets s w b in (k .0, e ∙ ap part (k .1)) }
 
 pub returned-writing :
-    {R : Type 0} {part : Answer → R} {f : State → Outcome} {before after : List ℕ} {a : Answer} {r : R} {old new : List ℕ} → r ≡ part a
-    → MeetsWriting wholeAnswer f before after a old new → MeetsWriting part f before after r old new
-returned-writing {part = part} e m = record { meets = λ s w b. let k = m .meets s w b in (k .0, e ∙ ap part (k .1), k .2) }
+    {A R : Type 0} (part : A → R) {whole : State → Outcome → A} {f : State → Outcome} {before after : List ℕ} {a : A} {r : R} {old new : List ℕ} → r ≡ part a
+    → MeetsWriting whole f before after a old new → MeetsWriting (λ s o. part (whole s o)) f before after r old new
+returned-writing part e m = record { meets = λ s w b. let k = m .meets s w b in (k .0, e ∙ ap part (k .1), k .2) }
+
+pub read-as :
+    {A R : Type 0} (part : A → R) {of : State → A} {l : List ℕ} {a : A} {r : R} → r ≡ part a → MeetsReading (λ s. a ≡ of s) l → MeetsReading (λ s. r ≡ part (of s)) l
+read-as part e m = record { meets = λ s w b. e ∙ ap part (m .meets s w b) }
+
+-- a reading of the name that was made of a pair
+pub read-named : {A : Type 0} (of : State → ℕ → A) {n m : ℕ} {l : List ℕ} {a : A} → n ≡ m → MeetsReading (λ s. a ≡ of s n) l → MeetsReading (λ s. a ≡ of s m) l
+read-named of {l = l} {a = a} e h = subst (λ (v : ℕ). MeetsReading (λ s. a ≡ of s v) l) e h
 
 -- a call that returns its refusal alone, of a definition that makes no comparisons
 alone : {a r c : AbrAnswer} → r ≡ a → a ≡ c → c .comparisons ≡ 0 → record { refusal = r .refusal; comparisons = 0 } ≡ c

@@ -42,11 +42,11 @@ module _ (a b : ℕ) (p : a < 2 ^ 42) (q : b < 2 ^ 42) where
 -- the change that is answered, from the numbers as the code makes them
 pub acr-is :
     (a : ℕ) (x : Change) {r : Acr} → r ≡ Rate a x
-    → _≡_ {A = AbrAllowed} (record { refusal = 0; acr = a; change = toZ w64 (ofZ w64 (toZ w64 (x .after % 2 ^ 42) -ℤ toZ w64 (x .before % 2 ^ 42))) }) (allowedOf (ofRates r))
+    → _≡_ {A = AbrAllowed} (record { refusal = 0; reserved = 0; acr = a; change = toZ w64 (ofZ w64 (toZ w64 (x .after % 2 ^ 42) -ℤ toZ w64 (x .before % 2 ^ 42))) }) (allowedOf (ofRates r))
 unfolding difference
 acr-is a x e =
     rw e
-    (λ j. record { refusal = 0; acr = a; change = exact (x .after % 2 ^ 42) (x .before % 2 ^ 42) (mod-lt (x .after) (lit< tt)) (mod-lt (x .before) (lit< tt)) j })
+    (λ j. record { refusal = 0; reserved = 0; acr = a; change = exact (x .after % 2 ^ 42) (x .before % 2 ^ 42) (mod-lt (x .after) (lit< tt)) (mod-lt (x .before) (lit< tt)) j })
 
 pub low-in-range : (x : Change) → SFits w64 (toZ w64 (x .after % 2 ^ 42) -ℤ toZ w64 (x .before % 2 ^ 42))
 low-in-range x = in-range (x .after % 2 ^ 42) (x .before % 2 ^ 42) (mod-lt (x .after) (lit< tt)) (mod-lt (x .before) (lit< tt))

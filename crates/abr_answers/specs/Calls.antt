@@ -3,18 +3,15 @@
 -- "Refused because of the state"; document 02, L6, L9 and L12.)
 use Prim.Native.Nat.{ℕ}
 use lib.IntN.{pos}
-use Rattle.cell.specs.Name.{vpiIn, vciIn}
 use Rattle.connection.specs.Change.{difference, asRates}
 use Rattle.model.specs.declared.answer.Answer.{Answer}
 use Rattle.model.specs.declared.answer.Answer.the-variants.{Refused, Accepted, Closed, Idle, Sent}
 use Rattle.model.specs.Call.{closedCells}
 use Rattle.model.specs.declared.acr.Acr.{Acr}
 use Rattle.model.specs.declared.acr.Acr.the-variants.{NotOpen, Rate}
-use Rattle.connection.specs.Kind.{kindNumber}
 pub use Rattle.abr_answers.specs.declared.calls.AbrAllowed.{AbrAllowed}
 pub use Rattle.abr_answers.specs.declared.calls.AbrAnswer.{AbrAnswer}
 pub use Rattle.abr_answers.specs.declared.calls.AbrClosed.{AbrClosed}
-pub use Rattle.abr_answers.specs.declared.calls.AbrSent.{AbrSent}
 
 -- a call that makes no comparisons
 abbrev pub refusalAlone : (refusal : ℕ) → AbrAnswer
@@ -32,23 +29,10 @@ answerOf (Sent v x k a n) = record { refusal = 0; comparisons = n }
 abbrev pub closedOf : Answer → AbrClosed
 closedOf a = record { refusal = answerOf a .refusal; comparisons = answerOf a .comparisons; cells = closedCells a }
 
--- kind 0 is none
-abbrev pub noCell : (refusal comparisons : ℕ) → AbrSent
-noCell n k = record { refusal = n; comparisons = k; kind = 0; vpi = 0; vci = 0; acr = 0 }
-
--- The name that the slot answers. For a data cell of a path it is the member's (document 02, L13). No
--- slot answers Accepted or Closed.
-abbrev pub sentOf : Answer → AbrSent
-sentOf (Refused n) = noCell n 0
-sentOf (Accepted n) = noCell 0 n
-sentOf (Closed n k) = noCell 0 n
-sentOf Idle = noCell 0 0
-sentOf (Sent v x k a n) = record { refusal = 0; comparisons = n; kind = kindNumber k; vpi = vpiIn x; vci = vciIn x; acr = a }
-
 -- the allowed rate, and what the last backward cell changed of it
 abbrev pub allowedOf : Acr → AbrAllowed
-allowedOf NotOpen = record { refusal = 11; acr = 0; change = pos 0 }
-allowedOf (Rate a x) = record { refusal = 0; acr = a; change = difference x }
+allowedOf NotOpen = record { refusal = 11; reserved = 0; acr = 0; change = pos 0 }
+allowedOf (Rate a x) = record { refusal = 0; reserved = 0; acr = a; change = difference x }
 
 -- with rates below 2^42, which leaves every answer of a table that calls made as it is
 abbrev pub ofRates : Acr → Acr

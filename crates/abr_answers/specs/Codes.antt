@@ -15,8 +15,8 @@ codedOf (Refused n) = record { refusal = n; code = 0 }
 
 -- no rate beside a refusal
 abbrev pub noRate : (refusal : ℕ) → AbrRated
-noRate n = record { refusal = n; rate = 0 }
+noRate n = record { refusal = n; reserved = 0; rate = 0 }
 
 -- a code has at most 16 bits, and bit 15 clear
 abbrev pub ratedOf : (code : ℕ) → AbrRated
-ratedOf code = require (noRate 7) (leb code 65535) (require (noRate 19) (reservedClear code) (record { refusal = 0; rate = rateOf code }))
+ratedOf code = require (noRate 7) (leb code 65535) (require (noRate 19) (reservedClear code) (record { refusal = 0; reserved = 0; rate = rateOf code }))

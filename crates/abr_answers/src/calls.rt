@@ -1,9 +1,6 @@
 // What the calls on a table return (document 01, "Slots"; document 02, L4, L6, L9, L12 and L13).
 ghost use mathlib.Core.Path.{_≡_};
-ghost use Rattle.abr_answers.specs.Calls.{answerOf, closedOf, allowedOf, ofRates, noCell, sentOf};
-ghost use Rattle.connection.specs.Kind.{kindNumber};
-use cell::name::VCIS;
-use connection::kind::Kind;
+ghost use Rattle.abr_answers.specs.Calls.{answerOf, closedOf, allowedOf, ofRates};
 use laws::refusals::REFUSED_NOT_OPEN;
 use model::acr::Acr;
 use model::answer::Answer;
@@ -100,6 +97,7 @@ pub fn closed_of(a: Answer) -> AbrClosed
 #[repr(C)]
 pub struct AbrAllowed {
     pub refusal: u32,
+    pub reserved: u32,
     pub acr: u64,
     pub change: i64,
 }
@@ -111,76 +109,15 @@ pub fn allowed_of(a: Acr) -> AbrAllowed
     match a {
         Acr::NotOpen => AbrAllowed {
             refusal: REFUSED_NOT_OPEN,
+            reserved: 0,
             acr: 0,
             change: 0,
         },
         Acr::Rate { acr, change } => AbrAllowed {
             refusal: 0,
+            reserved: 0,
             acr,
             change: (change.after % 4398046511104) as i64 - (change.before % 4398046511104) as i64,
-        },
-    }
-}
-
-// kind 0: an idle slot.
-#[repr(C)]
-pub struct AbrSent {
-    pub refusal: u32,
-    pub comparisons: u32,
-    pub kind: u32,
-    pub vpi: u32,
-    pub vci: u32,
-    pub acr: u64,
-}
-
-fn kind_number(k: Kind) -> u32
-    ensures { λ r. ⌜ r ≡ kindNumber k ⌝ }
-{
-    match k {
-        Kind::Forward => 1,
-        Kind::Turned => 2,
-        Kind::Data => 3,
-    }
-}
-
-// A slot that sent no cell.
-fn no_cell(refusal: u32, comparisons: u32) -> AbrSent
-    ensures { λ r. ⌜ r ≡ noCell refusal comparisons ⌝ }
-{
-    AbrSent {
-        refusal,
-        comparisons,
-        kind: 0,
-        vpi: 0,
-        vci: 0,
-        acr: 0,
-    }
-}
-
-pub fn sent_of(a: Answer) -> AbrSent
-    ensures { λ r. ⌜ r ≡ sentOf a ⌝ }
-{
-    match a {
-        Answer::Refused(n) => no_cell(n, 0),
-        Answer::Accepted { comparisons } => no_cell(0, comparisons),
-        Answer::Closed {
-            comparisons,
-            cells: _,
-        } => no_cell(0, comparisons),
-        Answer::Idle => no_cell(0, 0),
-        Answer::Sent {
-            connection: _,
-            name,
-            kind,
-            acr,
-            comparisons,
-        } => AbrSent {
-            refusal: 0,
-            comparisons,
-            kind: kind_number(kind),
-            vpi: name / VCIS,
-            vci: name % VCIS,
-            acr,
         },
     }
 }

@@ -29,6 +29,7 @@ pub fn coded_of(a: Coded) -> AbrCoded
 #[repr(C)]
 pub struct AbrRated {
     pub refusal: u32,
+    pub reserved: u32,
     pub rate: u64,
 }
 
@@ -39,17 +40,20 @@ pub fn rated_of(code: u32) -> AbrRated
     if SIXTEEN_BITS_MOST < code {
         return AbrRated {
             refusal: REFUSED_RANGE,
+            reserved: 0,
             rate: 0,
         };
     }
     if !reserved_clear(code) {
         return AbrRated {
             refusal: REFUSED_RESERVED_BIT,
+            reserved: 0,
             rate: 0,
         };
     }
     AbrRated {
         refusal: 0,
+        reserved: 0,
         rate: rate_of(code),
     }
 }

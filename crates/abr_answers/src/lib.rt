@@ -2,6 +2,8 @@
 pub mod calls;
 pub mod cells;
 pub mod codes;
+pub mod details;
 pub mod planning;
 pub mod shares;
+pub mod status;
 pub mod traces;

@@ -2,8 +2,9 @@
 ghost use mathlib.Core.Path.{_≡_};
 ghost use Rattle.abr_answers.specs.Shares.{shareOf};
 use port_share::share::FairShare;
+use rate::units::LARGEST_RATE;
 
-// limited 0: no limit, and rate 0.
+// limited 0: no limit, and the largest rate.
 #[repr(C)]
 pub struct AbrShare {
     pub refusal: u32,
@@ -23,7 +24,7 @@ pub fn share_of(a: FairShare) -> AbrShare
         FairShare::NoLimit => AbrShare {
             refusal: 0,
             limited: 0,
-            rate: 0,
+            rate: LARGEST_RATE,
         },
         FairShare::Limit(rate) => AbrShare {
             refusal: 0,

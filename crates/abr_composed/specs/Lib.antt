@@ -1,3 +1,4 @@
 pub mod EachCall
 pub mod PathCalls
 pub mod Planning
+pub mod AllReadings

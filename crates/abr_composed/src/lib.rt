@@ -8,7 +8,7 @@ use abr::connections::abr_make;
 use abr::connections::abr_offer;
 use abr::connections::abr_open;
 use abr::connections::abr_out_of_rate;
-use abr::link::abr_next;
+use abr::link::abr_next_ready;
 use abr::link::abr_receive;
 use abr::link::abr_set_level;
 use abr::link::abr_slot;
@@ -19,6 +19,7 @@ use table::layout::WORDS;
 
 pub mod path;
 pub mod planning;
+pub mod readings;
 
 pub struct Arguments {
     pub vpi: u32,
@@ -39,7 +40,7 @@ pub fn each_call(t: &mut [u64; WORDS], a: Arguments, received: &[u8], cell: &mut
     let offered = abr_offer(t, a.vpi, a.vci, a.cells);
     let levelled = abr_set_level(t, a.level);
     let taken = abr_receive(t, received);
-    let next = abr_next(t);
+    let next = abr_next_ready(t);
     let time = abr_slot_time(t, a.time, a.lag);
     let sent = abr_slot(t, time, cell);
     let left = abr_out_of_rate(t, a.vpi, a.vci, a.time, cell);

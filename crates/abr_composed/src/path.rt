@@ -2,10 +2,10 @@
 ghost use Rattle.abr_composed.specs.PathCalls.{PathCalls};
 use crate::Arguments;
 use abr::connections::abr_close;
-use abr::path::abr_add;
+use abr::path::abr_add_member;
 use abr::path::abr_offer_member;
 use abr::path::abr_open_path;
-use abr::path::abr_remove;
+use abr::path::abr_remove_member;
 use abr_answers::calls::AbrClosed;
 use table::layout::WORDS;
 
@@ -15,8 +15,8 @@ pub fn path_calls(t: &mut [u64; WORDS], a: Arguments) -> AbrClosed
 {
     let params = a.params;
     let opened = abr_open_path(t, a.vpi, a.time, params);
-    let added = abr_add(t, a.vpi, a.vci);
+    let added = abr_add_member(t, a.vpi, a.vci);
     let offered = abr_offer_member(t, a.vpi, a.vci, a.cells);
-    let removed = abr_remove(t, a.vpi, a.vci);
+    let removed = abr_remove_member(t, a.vpi, a.vci);
     abr_close(t, a.vpi, 6)
 }

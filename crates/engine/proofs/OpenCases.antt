@@ -34,8 +34,16 @@ use Rattle.model.specs.declared.answer.Answer.the-variants.{Accepted}
 use Rattle.table_store.specs.Updates.{withEntry, OpensEntry}
 use Rattle.table_tournament.specs.Replaying.{Playable}
 use Rattle.table_tournament.proofs.Orders.{ordered}
-use Rattle.engine.proofs.Outcomes.{replayed-out, time-word}
+use Rattle.model.specs.Call.{Outcome}
+use Rattle.model.specs.Details.{openedWith, openAnswer}
+use Rattle.model.specs.declared.details.OpenAnswer.{OpenAnswer}
+use Rattle.model.specs.declared.details.OpenAnswer.the-variants.{Refused as OpenRefused, Opened}
+use Rattle.engine.proofs.Outcomes.{refused-out, replayed-out, time-word}
 use Rattle.laws.specs.Require.{require}
+
+-- a refused open
+pub open-refused : {l : List ℕ} {o : Outcome} (s : State) (n : ℕ) → l ≡ words s → o ≡ refuse s n → (l ≡ words (o .state)) × (OpenRefused n ≡ openAnswer s o)
+open-refused s n e q = let h = refused-out s n e q in (h .0, ap (openedWith (position isFree (s .entries))) (h .1))
 
 module _ (s : State) (a b t : ℕ) (p : Params) where
   pub open-low : b < firstVci → openStep s a b t p ≡ refuse s 10
@@ -140,18 +148,19 @@ later t s r q = rw q
 
 -- the entry stored, then the time
 pub open-out :
-    (s : State) → WellFormed s → {l m : List ℕ} {n : ℕ} → l ≡ words s → (a b t : ℕ) (p : Params) (i : ℕ) → position isFree (s .entries) ≡ i
+    {l m : List ℕ} {n : ℕ} (s : State) → WellFormed s → l ≡ words s → (a b t : ℕ) (p : Params) (i : ℕ) → position isFree (s .entries) ≡ i
     → t ≤ latestTime → find (addressName a b) (s .entries) ≡ free
     → openAddress s a b t p ≡ replay (position isFree (s .entries)) s (withTime t (withOpened (fresh (addressName a b) t p) s)) → OpensEntry l m i (fresh (addressName a b) t p) n
-    → (set m lastAt t ≡ words (openAddress s a b t p .state)) × (Accepted n ≡ openAddress s a b t p .answer)
-open-out s w e a b t p i q h new done u =
+    → (set m lastAt t ≡ words (openAddress s a b t p .state)) × (Opened n i ≡ openAnswer s (openAddress s a b t p))
+open-out {n = n} s w e a b t p i q h new done u =
     let c : Connection = fresh (addressName a b) t p in
     let at : withOpened c s ≡ withEntry s i (taken c) = with-opened-at s c q in
     let y =
     u .is s (w .size) e (ap (λ (k : ℕ). getD (s .entries) k free) (sym q) ∙ lowest-free (s .entries))
     (subst (λ (r : State). Playable (r .entries)) at (with-opened-ordered s w (addressName a b) t p (omega (arith, h)) new)) in
-    replayed-out (position isFree (s .entries)) s (withTime t (withOpened c s)) (
+    let z = replayed-out (position isFree (s .entries)) s (withTime t (withOpened c s)) (
       ap (λ (x : List ℕ). set x lastAt t) (y .0 ∙ ap words (sym at)) ∙ time-word (withOpened c s) t,
       y .1 ∙ ap (λ (k : ℕ). replayed k (s .entries) (set (s .entries) i (taken c))) (sym q)
           ∙ ap (λ (x : List Entry). replayed (position isFree (s .entries)) (s .entries) x) (sym (later t (withOpened c s) (withEntry s i (taken c)) at)),
-    ) done
+    ) done in
+    (z .0, ap (Opened n) (sym q) ∙ ap (openedWith (position isFree (s .entries))) (z .1))

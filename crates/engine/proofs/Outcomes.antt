@@ -29,13 +29,14 @@ use Rattle.model.specs.Step.{refuse, accept, replay, discard, step}
 use Rattle.model.specs.Tournament.{leafWinner, replayed}
 use Rattle.model.proofs.Replays.{replayed-same}
 use Rattle.model.proofs.Reached.{step-well-formed}
-use Rattle.engine.specs.Contract.{Meets, wholeAnswer}
+use Rattle.engine.specs.Contract.{Meets}
 use Rattle.table_store.specs.Updates.{Sized, EntryBecomes, Updates}
 use Rattle.table_tournament.specs.Replaying.{Playable, CountsWon}
 use Rattle.table_tournament.proofs.Orders.{entries-ordered}
 
 -- a call whose step is another's on every state
-pub same-meets : {f g : State → Outcome} {l m : List ℕ} {r : Answer} → ((s : State) → g s ≡ f s) → Meets wholeAnswer f l m r → Meets wholeAnswer g l m r
+pub same-meets :
+    {R : Type 0} {part : State → Outcome → R} {f g : State → Outcome} {l m : List ℕ} {r : R} → ((s : State) → g s ≡ f s) → Meets part f l m r → Meets part g l m r
 same-meets h k = record { meets = λ s w e. rw (h s) (k .meets s w e) }
 
 -- The two plain ways out.

@@ -4,8 +4,8 @@ ghost use Rattle.model.specs.Step.{makeStep};
 use crate::timed::timed_entry;
 use connection::interval::rested;
 use connection_destination::make::with_made;
+use laws::refusals::REFUSED_MADE_TOO_SOON;
 use laws::refusals::REFUSED_NOT_CONGESTED;
-use laws::refusals::REFUSED_TOO_SOON;
 use model::answer::Answer;
 use table::layout::CAPACITY;
 use table::layout::HALF;
@@ -33,7 +33,7 @@ pub fn make(t: &mut [u64; WORDS], name: u32, time: u64) -> Answer
     let made = destination.made;
     let last = made.last;
     if !rested(time, last) {
-        return Answer::Refused(REFUSED_TOO_SOON);
+        return Answer::Refused(REFUSED_MADE_TOO_SOON);
     }
     let comparisons = update_destination(t, i, with_made(time, level, c));
     t[LAST] = time;

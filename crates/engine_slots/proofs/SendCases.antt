@@ -1,7 +1,7 @@
 -- What a slot that goes to an entry leaves.
 use Prim.Native.Nat.{ℕ, _%_, _≤_, _<_}
 use mathlib.Core.Path.{_≡_, refl, sym, ap, subst, _∙_}
-use mathlib.Core.Bool.{true, false, true≢false}
+use mathlib.Core.Bool.{Bool, true, false, true≢false}
 use mathlib.Core.List.{List, _++_}
 use mathlib.Core.Option.{Option, none, some}
 use native.Mathlib.Omega.{arith}
@@ -22,12 +22,14 @@ use Rattle.connection.specs.Destination.{sentTurned}
 use Rattle.connection.specs.Slot.{after, memberServed, bufferSent}
 use Rattle.connection.proofs.Keeps.{KeepsIdentity, after-same, after-valid, served-same, served-valid}
 use Rattle.connection.proofs.Reached.{acr-is-rate}
-use Rattle.model.specs.State.{State, free, taken, position, holds, leafOf, withEntryOf, withMembers, capacity}
+use Rattle.model.specs.State.{State, Entry, free, taken, position, holds, find, leafOf, withEntryOf, withMembers, capacity}
 use Rattle.model.specs.Invariant.{WellFormed}
 use Rattle.model.specs.Call.{Outcome}
 use Rattle.model.specs.Step.{nameAnswered, sendFrom, sendStep}
 use Rattle.model.specs.Tournament.{replayed}
 use Rattle.model.specs.declared.answer.Answer.the-variants.{Sent}
+use Rattle.model.specs.declared.details.SlotAnswer.the-variants.{Sent as SentCell}
+use Rattle.model.specs.Details.{rateIn, isMade, sentWith, slotAnswer}
 use Rattle.model.proofs.Members.{path-sum}
 use Rattle.table.specs.Layout.{words, memberWords}
 use Rattle.table.specs.Loading.{connectionAt}
@@ -35,7 +37,7 @@ use Rattle.table_names.specs.Finding.{Located}
 use Rattle.table_names.proofs.Found.{found-at}
 use Rattle.table_members.specs.Words.{nameOrZero, Serves}
 use Rattle.engine.specs.Contract.{bufferContent}
-use Rattle.engine_slots.specs.Slots.{Carried, MovedBy, isMembers}
+use Rattle.engine_slots.specs.Slots.{Carried, MovedBy, isMembers, isMadeCell}
 use Rattle.table_store.specs.Updates.{Updates, SourceMoved}
 use Rattle.engine.proofs.Outcomes.{valid-in, loaded-is, updated-is, put-ordered}
 use Rattle.engine.proofs.Members.{front, with-members, members-changed}
@@ -66,6 +68,12 @@ of-data : (k : Kind) (v : ℕ) → isMembers k v ≡ true → k ≡ Data
 of-data Forward v e = absurd (true≢false (sym e))
 of-data Turned v e = absurd (true≢false (sym e))
 of-data Data v e = refl
+
+-- whether the cell is a made one, of the entry that it goes from
+is-made-cell : (k : Kind) (c : Connection) → isMade k (taken c) ≡ isMadeCell k (c .destination .turned)
+is-made-cell Forward c = refl
+is-made-cell Turned c = refl
+is-made-cell Data c = refl
 
 -- a slot's outcome without a member
 abbrev plain : State → (t : ℕ) → Connection → Kind → Outcome
@@ -133,12 +141,22 @@ module _ (s : State) (w : WellFormed s) (t : ℕ) (last : s .last ≡ t) {l : Li
   member-is : isMembers k (d .name) ≡ isMembers (kindAt t c) (c .name)
   member-is = ap (λ (z : Connection). isMembers k (z .name)) is ∙ ap (λ (z : Kind). isMembers z (c .name)) kind-is
 
+  -- what the slot answers of the entry: its leaf, its rate before the cell, and whether the cell was a made one
+  found : find (d .name) (s .entries) ≡ taken d
+  found = subst (λ (z : Connection). find (z .name) (s .entries) ≡ taken z) (sym is) (found-at located)
+
+  shown : (x j : ℕ) (b : Bool) → b ≡ isMadeCell k (d .destination .turned) → SentCell x k (n .rate .acr) j i (d .rate .acr) b ≡ sentWith s (Sent (d .name) x k (n .rate .acr) j)
+  shown x j b g =
+      ap (λ (z : ℕ). SentCell x k (n .rate .acr) j z (d .rate .acr) b) (sym (ap (λ (z : Connection). leafOf (z .name) s) is ∙ place))
+      ∙ ap (SentCell x k (n .rate .acr) j (leafOf (d .name) s) (d .rate .acr)) (g ∙ sym (is-made-cell k d))
+      ∙ ap (λ (z : Entry). SentCell x k (n .rate .acr) j (leafOf (d .name) s) (rateIn z) (isMade k z)) (sym found)
+
   -- from the connection itself
-  pub sent-out :
+  from-itself :
       {m : List ℕ} (old new : List ℕ) → Carried k d n old new → (j : ℕ) → Updates (MovedBy k) l m i n j → isMembers k (d .name) ≡ false
       → (m ≡ words (sendStep s t (c .name) c (kindAt t c) .state)) × (Sent (d .name) (d .name) k (n .rate .acr) j ≡ sendStep s t (c .name) c (kindAt t c) .answer)
       × (new ≡ bufferContent (sendStep s t (c .name) c (kindAt t c) .buffer) old)
-  sent-out {m} old new g j u o =
+  from-itself {m} old new g j u o =
       let f : Updates (MovedBy (kindAt t c)) l m i next j = subst (λ (y : Connection). Updates (MovedBy (kindAt t c)) l m i y j) next-is (subst (λ (y : Kind). Updates (MovedBy y) l m i n j) kind-is u) in
       let y = updated-is s (w .size) e located next (after-same (kindAt t c) t c) f (sent-moved (kindAt t c) t c) (put-ordered w (c .name) (taken next) next-valid (after-same (kindAt t c) t c .name)) in
       subst (λ (p : Outcome). (m ≡ words (p .state)) × (Sent (d .name) (d .name) k (n .rate .acr) j ≡ p .answer) × (new ≡ bufferContent (p .buffer) old))
@@ -148,14 +166,20 @@ module _ (s : State) (w : WellFormed s) (t : ℕ) (last : s .last ≡ t) {l : Li
         carried old new g,
       )
 
+  pub sent-out :
+      {m : List ℕ} (old new : List ℕ) → Carried k d n old new → (j : ℕ) → Updates (MovedBy k) l m i n j → isMembers k (d .name) ≡ false → (b : Bool) → b ≡ isMadeCell k (d .destination .turned)
+      → (m ≡ words (sendStep s t (c .name) c (kindAt t c) .state)) × (SentCell (d .name) k (n .rate .acr) j i (d .rate .acr) b ≡ slotAnswer s (sendStep s t (c .name) c (kindAt t c)))
+      × (new ≡ bufferContent (sendStep s t (c .name) c (kindAt t c) .buffer) old)
+  sent-out old new g j u o b f = let z = from-itself old new g j u o in (z .0, shown (d .name) j b f ∙ ap (sentWith s) (z .1), z .2)
+
   -- from a member: its word has one cell less, then the path's entry is stored
-  pub served-out :
+  from-member :
       {m r : List ℕ} (old new : List ℕ) → Carried k d n old new → (x j : ℕ) → isMembers k (d .name) ≡ true → (kindAt t c ≡ Data → 0 < waiting (c .queue))
       → Serves (d .name) (d .queue .served % 65536) l m x → Updates SourceMoved m r i (withServed (some x) n) j
       → (r ≡ words (sendStep s t (c .name) c (kindAt t c) .state)) × (Sent (d .name) x k (n .rate .acr) j ≡ sendStep s t (c .name) c (kindAt t c) .answer)
       × (new ≡ bufferContent (sendStep s t (c .name) c (kindAt t c) .buffer) old)
   unfolding sendFrom nameAnswered withMembers withEntryOf memberServed
-  served-out {m} {r} old new g x j o waits sv u = go (turn (c .name) (c .queue .served) (s .members)) refl
+  from-member {m} {r} old new g x j o waits sv u = go (turn (c .name) (c .queue .served) (s .members)) refl
     where
       data-kind : kindAt t c ≡ Data
       data-kind = of-data (kindAt t c) (c .name) (sym member-is ∙ o)
@@ -199,3 +223,10 @@ module _ (s : State) (w : WellFormed s) (t : ℕ) (last : s .last ≡ t) {l : Li
               let a = after-same (kindAt t c) t c in
               let b = served-same o next in
               record { name = b .name ∙ a .name; opened = b .opened ∙ a .opened; trm = b .trm ∙ a .trm; params = b .params ∙ a .params }
+
+  pub served-out :
+      {m r : List ℕ} (old new : List ℕ) → Carried k d n old new → (x j : ℕ) → isMembers k (d .name) ≡ true → (kindAt t c ≡ Data → 0 < waiting (c .queue))
+      → Serves (d .name) (d .queue .served % 65536) l m x → Updates SourceMoved m r i (withServed (some x) n) j → (b : Bool) → b ≡ isMadeCell k (d .destination .turned)
+      → (r ≡ words (sendStep s t (c .name) c (kindAt t c) .state)) × (SentCell x k (n .rate .acr) j i (d .rate .acr) b ≡ slotAnswer s (sendStep s t (c .name) c (kindAt t c)))
+      × (new ≡ bufferContent (sendStep s t (c .name) c (kindAt t c) .buffer) old)
+  served-out old new g x j o waits sv u b f = let z = from-member old new g x j o waits sv u in (z .0, shown x j b f ∙ ap (sentWith s) (z .1), z .2)

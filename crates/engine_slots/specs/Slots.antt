@@ -9,6 +9,7 @@ use Rattle.rate.specs.Units.{largestRate}
 use Rattle.cell.specs.Fields.{rmCell}
 use Rattle.connection_members.specs.Path.{isPath}
 use Rattle.connection.specs.declared.parts.Connection.{Connection}
+use Rattle.connection.specs.declared.parts.Waiting.{Waiting}
 use Rattle.connection.specs.Parts.{waiting}
 use Rattle.connection.specs.declared.kind.Kind.{Kind}
 use Rattle.connection.specs.declared.kind.Kind.the-variants.{Forward, Turned, Data}
@@ -19,7 +20,8 @@ use Rattle.model.specs.State.{State, free, taken, position, holds}
 use Rattle.model.specs.Invariant.{WellFormed}
 use Rattle.table.specs.Layout.{words}
 use Rattle.table_store.specs.Updates.{SourceMoved, BothMoved}
-use Rattle.model.specs.declared.answer.Answer.{Answer}
+use Rattle.model.specs.declared.details.SlotAnswer.{SlotAnswer}
+use Rattle.model.specs.Details.{noneTurned, slotAnswer}
 use Rattle.model.specs.Step.{sendStep}
 use Rattle.engine.specs.Contract.{bufferContent}
 
@@ -45,10 +47,16 @@ isMembers Forward v = false
 isMembers Turned v = false
 isMembers Data v = isPath v
 
+-- a cell of this kind is one that the connection made, where this turned cell waits or none
+abbrev pub isMadeCell : Kind → Waiting → Bool
+isMadeCell Forward w = false
+isMadeCell Turned w = noneTurned w
+isMadeCell Data w = false
+
 -- a slot at t that goes to entry i, in a state whose last accepted time is t; it sends data only where some waits
-pub record Sends (t i : ℕ) (before after : List ℕ) (r : Answer) (old new : List ℕ) : Type 0 where
+pub record Sends (t i : ℕ) (before after : List ℕ) (r : SlotAnswer) (old new : List ℕ) : Type 0 where
   pub sends :
       (s : State) → WellFormed s → s .last ≡ t → before ≡ words s → (c : Connection) → getD (s .entries) i free ≡ taken c → position (holds (c .name)) (s .entries) ≡ i
       → (kindAt t c ≡ Data → 0 < waiting (c .queue))
-      → (after ≡ words (sendStep s t (c .name) c (kindAt t c) .state)) × (r ≡ sendStep s t (c .name) c (kindAt t c) .answer)
+      → (after ≡ words (sendStep s t (c .name) c (kindAt t c) .state)) × (r ≡ slotAnswer s (sendStep s t (c .name) c (kindAt t c)))
       × (new ≡ bufferContent (sendStep s t (c .name) c (kindAt t c) .buffer) old)

@@ -8,7 +8,7 @@ use connection::interval::rested;
 use connection_source::out_of_rate::after_out_of_rate;
 use engine::timed::timed_entry;
 use laws::refusals::REFUSED_LENGTH;
-use laws::refusals::REFUSED_TOO_OFTEN;
+use laws::refusals::REFUSED_OUT_OF_RATE_TOO_SOON;
 use model::answer::Answer;
 use table::layout::CAPACITY;
 use table::layout::LAST;
@@ -31,7 +31,7 @@ pub fn out_of_rate(t: &mut [u64; WORDS], name: u32, time: u64, cell: &mut [u8]) 
     let c = load(t, i);
     let last = c.out_of_rate;
     if !rested(time, last) {
-        return Answer::Refused(REFUSED_TOO_OFTEN);
+        return Answer::Refused(REFUSED_OUT_OF_RATE_TOO_SOON);
     }
     let rate = c.rate;
     put_forward(cell, 1, c.name, rate);

@@ -7,7 +7,8 @@ ghost use Rattle.rate.specs.Units.{latestTime};
 ghost use Rattle.cell.specs.Name.{noName};
 ghost use Rattle.connection.specs.Range.{InRange};
 ghost use Rattle.connection.specs.Destination.{backwardCell};
-ghost use Rattle.engine_slots.specs.Slots.{ForwardIn, Carried, MovedBy, isMembers, Sends};
+ghost use Rattle.engine_slots.specs.Slots.{ForwardIn, Carried, MovedBy, isMembers, isMadeCell, Sends};
+ghost use Rattle.model.specs.Details.{noneTurned};
 ghost use Rattle.model.specs.State.{capacity};
 ghost use Rattle.table_store.specs.Updates.{Updates};
 use cell::name::VCIS;
@@ -22,7 +23,7 @@ use connection_slot::kind::kind_at;
 use connection_slot::slot::after;
 use connection_source::forward::forward_fields;
 use connection_source::queue::with_served;
-use model::answer::Answer;
+use model::details::SlotAnswer;
 use rate_moves::moves::Rate;
 use rate_params::params::Params;
 use table::layout::WORDS;
@@ -94,9 +95,29 @@ fn of_member(kind: Kind, name: u32) -> bool
     }
 }
 
+// Whether no turned cell waits: then a backward cell that goes is a made one (document 02, L1).
+fn none_turned(w: Waiting) -> bool
+    ensures { λ r. ⌜ r ≡ noneTurned w ⌝ }
+{
+    match w {
+        Waiting::Nothing => true,
+        Waiting::Cell(_) => false,
+    }
+}
+
+fn is_made_cell(kind: Kind, w: Waiting) -> bool
+    ensures { λ r. ⌜ r ≡ isMadeCell kind w ⌝ }
+{
+    match kind {
+        Kind::Forward => false,
+        Kind::Turned => none_turned(w),
+        Kind::Data => false,
+    }
+}
+
 // A data cell of a path is taken from the member whose turn it is, and the slot answers the member's name. A
 // channel is not looked for among the members.
-pub fn send(t: &mut [u64; WORDS], time: u64, i: usize, cell: &mut [u8]) -> Answer
+pub fn send(t: &mut [u64; WORDS], time: u64, i: usize, cell: &mut [u8]) -> SlotAnswer
     requires { ⌜ (i < capacity) × ((time ≤ latestTime) × (length (now cell) ≡ 53)) ⌝ }
     ensures { λ r. ⌜ Sends time i (now (t .entry)) (now (t .exit)) r (now (cell .entry)) (now (cell .exit)) ⌝ }
 {
@@ -104,23 +125,31 @@ pub fn send(t: &mut [u64; WORDS], time: u64, i: usize, cell: &mut [u8]) -> Answe
     let kind = kind_at(time, c);
     let next = after(kind, time, c);
     put_cell(cell, kind, c, next);
+    let destination = c.destination;
+    let turned = destination.turned;
+    let made = is_made_cell(kind, turned);
+    let leaf = i as u32;
     if of_member(kind, c.name) {
         let member = serve(t, c.name, (c.queue.served % VCIS) as u16);
         let comparisons = update_source(t, i, with_served(member, next));
-        return Answer::Sent {
-            connection: c.name,
+        return SlotAnswer::Sent {
             name: member,
             kind,
             acr: next.rate.acr,
             comparisons,
+            leaf,
+            acr_before: c.rate.acr,
+            made,
         };
     }
     let comparisons = store_sent(t, i, kind, next);
-    Answer::Sent {
-        connection: c.name,
+    SlotAnswer::Sent {
         name: c.name,
         kind,
         acr: next.rate.acr,
         comparisons,
+        leaf,
+        acr_before: c.rate.acr,
+        made,
     }
 }

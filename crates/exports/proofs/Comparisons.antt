@@ -33,7 +33,7 @@ use Rattle.model.proofs.Replays.{replayed-most, replayed-least, replayed-one, r
 use Rattle.model.proofs.Preserved.{empty-well-formed}
 use Rattle.model.proofs.Effects.{Effect, refuses, opens, closes, offers, receivesData, receivesRm, setsLevel, idles, sends, makes, sendsOutOfRate, opensPath, adds, offersMember, removes, effect}
 use Rattle.model.proofs.Reached.{step-well-formed, reached-well-formed}
-use Rattle.abr_answers.specs.Calls.{sentOf}
+use Rattle.abr_answers.specs.Reply.{replyOf}
 use Rattle.abr.specs.Exports.{Observation, Matches, AllMatch, neither, both}
 use Rattle.abr.proofs.Exports.{exports-are-run}
 use Rattle.exports.specs.Comparisons.{replays, opensOne, Counted, isSent, CountedAnswer, Comparisons, CountedObserved, ExportsComparisons, ScanPicksWinner}
@@ -150,7 +150,7 @@ pub scan-picks-winner : ScanPicksWinner
 scan-picks-winner cs t = root-winner t (final empty cs .entries) (reached-well-formed cs .size)
 
 -- Exported calls.
-sent-number : (a : Answer) → not (eqb (sentOf a .kind) 0) ≡ isSent a
+sent-number : (a : Answer) → not (eqb (replyOf a .kind) 0) ≡ isSent a
 sent-number (Refused n) = refl
 sent-number (Accepted n) = refl
 sent-number (Closed n k) = refl
@@ -159,7 +159,7 @@ sent-number (Sent v x Forward a n) = refl
 sent-number (Sent v x Turned a n) = refl
 sent-number (Sent v x Data a n) = refl
 
-comparisons-number : (a : Answer) → sentOf a .comparisons ≡ comparisons a
+comparisons-number : (a : Answer) → replyOf a .comparisons ≡ comparisons a
 unfolding comparisons
 comparisons-number (Refused n) = refl
 comparisons-number (Accepted n) = refl

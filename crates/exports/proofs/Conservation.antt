@@ -21,7 +21,7 @@ use Rattle.model.proofs.Preserved.{empty-well-formed}
 use Rattle.model.proofs.Reached.{step-well-formed, reached-well-formed}
 use Rattle.model.proofs.Conservation.{cond-zero, conservation}
 use Rattle.abr_answers.specs.declared.calls.AbrClosed.{AbrClosed}
-use Rattle.abr_answers.specs.Calls.{sentOf}
+use Rattle.abr_answers.specs.Reply.{replyOf}
 use Rattle.abr.specs.Exports.{Observation, Transcript, zeros, Matches, AllMatch, neither, both}
 use Rattle.abr.proofs.Exports.{exports-are-run}
 use Rattle.exports.specs.Conservation.{dataReturned, sumObserved, slotsFrom, offersObserved, slotsObserved, closesObserved, ExportsConservation}
@@ -30,7 +30,7 @@ use Rattle.exports.proofs.Returned.{Knows, none-known, knows-after, Nam
 use Rattle.exports.proofs.Exports.{accepted-seen}
 
 -- what one call returned says what its answer says
-data-number : (v : ℕ) (f : ℕ → Bool) (a : Answer) → NamesConnection f a → dataReturned v f (sentOf a) ≡ dataSlotOf v a
+data-number : (v : ℕ) (f : ℕ → Bool) (a : Answer) → NamesConnection f a → dataReturned v f (replyOf a) ≡ dataSlotOf v a
 unfolding dataSlotOf dataIn
 data-number v f (Refused n) h = refl
 data-number v f (Accepted n) h = refl

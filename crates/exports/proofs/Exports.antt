@@ -23,9 +23,9 @@ use Rattle.model.proofs.Preserved.{empty-well-formed}
 use Rattle.model.proofs.Effects.{Effect, effect}
 use Rattle.model.proofs.Reached.{step-well-formed}
 use Rattle.model.proofs.Shown.{effect-shown}
-use Rattle.abr_answers.specs.declared.calls.AbrSent.{AbrSent}
 use Rattle.abr_answers.specs.declared.calls.AbrAllowed.{AbrAllowed}
-use Rattle.abr_answers.specs.Calls.{sentOf, allowedOf}
+use Rattle.abr_answers.specs.Calls.{allowedOf}
+use Rattle.abr_answers.specs.Reply.{Reply, replyOf}
 use Rattle.abr.specs.Contract.{ReturnsAllowed}
 use Rattle.abr.specs.Exports.{Observation, Transcript, finalWords, zeros, Matches, AllMatch, neither, both}
 use Rattle.connection.specs.Slot.{Buffer, untouched}
@@ -40,7 +40,7 @@ use Rattle.promise_lists.proofs.Demand3.{demand3}
 use Rattle.promise_lists.proofs.Refusals.{shown-refused}
 
 -- What the numbers say of the answers: 0 of an accepted call alone, since no refusal's number is 0.
-answer-accepted : (a : Answer) → ((n : ℕ) → refusal a ≡ some n → 0 < n) → eqb (sentOf a .refusal) 0 ≡ isAccepted a
+answer-accepted : (a : Answer) → ((n : ℕ) → refusal a ≡ some n → 0 < n) → eqb (replyOf a .refusal) 0 ≡ isAccepted a
 unfolding refusal isAccepted
 answer-accepted (Refused n) h = let z = h n refl in ne-eqb n 0 (λ e. omega (arith, z, e))
 answer-accepted (Accepted n) h = refl
@@ -48,7 +48,7 @@ answer-accepted (Closed n k) h = refl
 answer-accepted Idle h = refl
 answer-accepted (Sent v x k a n) h = refl
 
-pub effect-accepted : {s : State} {c : Call} {o : Outcome} → Effect s c o → eqb (sentOf (o .answer) .refusal) 0 ≡ isAccepted (o .answer)
+pub effect-accepted : {s : State} {c : Call} {o : Outcome} → Effect s c o → eqb (replyOf (o .answer) .refusal) 0 ≡ isAccepted (o .answer)
 effect-accepted {s} {c} {o} e = answer-accepted (o .answer) (λ n q. shown-refused (effect-shown e) n q .number)
 
 -- the kind and the connection of a slot, and a refusal's number
@@ -56,7 +56,7 @@ orZero : Option ℕ → ℕ
 orZero none = 0
 orZero (some n) = n
 
-refusal-number : (a : Answer) → sentOf a .refusal ≡ orZero (refusal a)
+refusal-number : (a : Answer) → replyOf a .refusal ≡ orZero (refusal a)
 unfolding refusal orZero
 refusal-number (Refused n) = refl
 refusal-number (Accepted n) = refl
@@ -70,7 +70,7 @@ kindOrZero (some Forward) = 1
 kindOrZero (some Turned) = 2
 kindOrZero (some Data) = 3
 
-kind-number : (a : Answer) → sentOf a .kind ≡ kindOrZero (kindSent a)
+kind-number : (a : Answer) → replyOf a .kind ≡ kindOrZero (kindSent a)
 unfolding kindSent kindOrZero
 kind-number (Refused n) = refl
 kind-number (Accepted n) = refl
@@ -81,11 +81,11 @@ kind-number (Sent v x Turned a n) = refl
 kind-number (Sent v x Data a n) = refl
 
 -- Refusals.
-effect-leaves : {s : State} {c : Call} {o : Outcome} → Effect s c o → (sentOf (o .answer) .refusal ≡ 0 → ⊥) → (o .state ≡ s) × (o .buffer ≡ untouched)
+effect-leaves : {s : State} {c : Call} {o : Outcome} → Effect s c o → (replyOf (o .answer) .refusal ≡ 0 → ⊥) → (o .state ≡ s) × (o .buffer ≡ untouched)
 unfolding refusal
 effect-leaves {s} {c} {o} e z = go (o .answer) refl z
   where
-    go : (a : Answer) → o .answer ≡ a → (sentOf a .refusal ≡ 0 → ⊥) → (o .state ≡ s) × (o .buffer ≡ untouched)
+    go : (a : Answer) → o .answer ≡ a → (replyOf a .refusal ≡ 0 → ⊥) → (o .state ≡ s) × (o .buffer ≡ untouched)
     go (Refused n) q h = let u = shown-refused (effect-shown e) n (ap refusal q) in (u .table, u .buffer)
     go (Accepted n) q h = absurd (h refl)
     go (Closed n k) q h = absurd (h refl)
@@ -130,7 +130,7 @@ bounds cs os t v a h =
 
 -- Pairs.
 pub accepted-seen : {s : State} → WellFormed s → (c : Call) {o : Observation} → Matches (step s c) o → eqb (o .returned .refusal) 0 ≡ isAccepted (step s c .answer)
-accepted-seen {s} w c g = ap (λ (r : AbrSent). eqb (r .refusal) 0) (g .returned) ∙ effect-accepted (effect s (w .unique) c)
+accepted-seen {s} w c g = ap (λ (r : Reply). eqb (r .refusal) 0) (g .returned) ∙ effect-accepted (effect s (w .unique) c)
 
 place-from :
     {s₁ s₂ : State} → WellFormed s₁ → WellFormed s₂ → (f g : ℕ → Bool) → Knows f s₁ → Knows g s₂ → (xs ys : List Call) {os ps : List Observation} → AllMatch (run s₁ xs) os

@@ -11,14 +11,13 @@ use Rattle.model.specs.Step.{step}
 use Rattle.model.specs.Run.{final, isAccepted}
 use Rattle.model.specs.Orders.{OrderOf}
 use Rattle.model.proofs.Orders.{refused-in-order}
-use Rattle.abr_answers.specs.declared.calls.AbrSent.{AbrSent}
-use Rattle.abr_answers.specs.Calls.{sentOf}
+use Rattle.abr_answers.specs.Reply.{Reply, replyOf}
 use Rattle.exports.specs.Orders.{refusalReturned, ExportsInOrder}
 use Rattle.exports.proofs.Transport.{sees, stands}
 
-returned-refusal : (a : Answer) (r : AbrSent) → r ≡ sentOf a → eqb (r .refusal) 0 ≡ isAccepted a → refusalReturned r ≡ refusal a
+returned-refusal : (a : Answer) (r : Reply) → r ≡ replyOf a → eqb (r .refusal) 0 ≡ isAccepted a → refusalReturned r ≡ refusal a
 unfolding isAccepted refusal
-returned-refusal (Refused n) r e h = rw h (ap (λ (x : AbrSent). some (x .refusal)) e)
+returned-refusal (Refused n) r e h = rw h (ap (λ (x : Reply). some (x .refusal)) e)
 returned-refusal (Accepted n) r e h = rw h refl
 returned-refusal (Closed n k) r e h = rw h refl
 returned-refusal Idle r e h = rw h refl

@@ -26,7 +26,8 @@ use Rattle.table.specs.Layout.{words}
 use Rattle.abr_answers.specs.declared.calls.AbrAllowed.{AbrAllowed}
 use Rattle.abr_answers.specs.declared.traces.AbrVerdict.{AbrVerdict}
 use Rattle.abr_answers.specs.Traces.{judgedOf}
-use Rattle.abr_answers.specs.Calls.{sentOf, allowedOf}
+use Rattle.abr_answers.specs.Calls.{allowedOf}
+use Rattle.abr_answers.specs.Reply.{replyOf}
 use Rattle.model.specs.Aspects.{Sort, opener, closer, arrival, slotAt, another, sortOf}
 use Rattle.abr.specs.Exports.{Observation, finalWords, zeros, Matches, AllMatch, neither, both}
 use Rattle.abr.proofs.Exports.{exports-are-run}
@@ -40,7 +41,7 @@ use Rattle.exports.proofs.Returned.{Knows, none-known, knows-after, Nam
 use Rattle.exports.proofs.Exports.{accepted-seen}
 
 -- the cell that a slot returned is the one of its answer
-cell-returned : (v : ℕ) (f : ℕ → Bool) (t rate : ℕ) (a : Answer) → NamesConnection f a → cellReturned v f t rate (sentOf a) ≡ cellIn v t rate a
+cell-returned : (v : ℕ) (f : ℕ → Bool) (t rate : ℕ) (a : Answer) → NamesConnection f a → cellReturned v f t rate (replyOf a) ≡ cellIn v t rate a
 unfolding cellIn
 cell-returned v f t rate (Refused n) h = refl
 cell-returned v f t rate (Accepted n) h = refl
@@ -62,7 +63,7 @@ at-sort (arrival o) f g h = refl
 at-sort (slotAt t) f g h = h t
 at-sort another f g h = refl
 
-sent-seen :
+pub sent-seen :
     (v : ℕ) (s : State) (w : WellFormed s) (f : ℕ → Bool) → Knows f s → (c : Call) (o : Observation) → Matches (step s c) o → (a : AbrAllowed) → a ≡ allowedOf (acrOf s v)
     → atSlot c (λ t. cellReturned v f t (a .acr) (o .returned)) ≡ sentBy v s c (step s c .answer)
 unfolding sentBy atSlot
@@ -99,7 +100,7 @@ recorded-run before after c v p q f k o ps rs (both m ms) z r =
     (recorded-sent v after (step s c .state) (step-well-formed w c) (memberSeen c o f) (knows-after w c f k _ (accepted-seen w c m)) (o .table) (m .table) ps rs ms r)
     ∙ own-trace-passes before c v p after q (sym (accepted-seen w c m) ∙ eq-eqb (o .returned .refusal) 0 z)
 
-no-rule-broken : (v : Verdict) → v ≡ Passes → (r : AbrVerdict) → r ≡ judgedOf v → (r .refusal ≡ 0) × (r .rule ≡ 0)
+pub no-rule-broken : (v : Verdict) → v ≡ Passes → (r : AbrVerdict) → r ≡ judgedOf v → (r .refusal ≡ 0) × (r .rule ≡ 0)
 no-rule-broken v e r h = let q = h ∙ ap judgedOf e in (ap (λ (x : AbrVerdict). x .refusal) q, ap (λ (x : AbrVerdict). x .rule) q)
 
 pub recorded-passes : RecordedPasses

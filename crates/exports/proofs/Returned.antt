@@ -27,7 +27,7 @@ use Rattle.model.specs.Run.{isAccepted}
 use Rattle.model.proofs.Frames.{name-of}
 use Rattle.model.proofs.Shown.{Shown, refusing, accepting, discarding, idling, serving, servingOutOfRate, shown}
 use Rattle.model.proofs.ToMembers.{ToMembers, refusedKept, noneTouched, idleKept, allClosed, oneAdded, oneOffered, oneRemoved, oneServed, to-members}
-use Rattle.abr_answers.specs.Calls.{sentOf}
+use Rattle.abr_answers.specs.Reply.{replyOf}
 use Rattle.model.specs.Aspects.{OnMembers, ofClosed, ofAdded, ofOffered, ofRemoved, ofSlot, ofNone, membersOf}
 use Rattle.exports.specs.Returned.{memberAfter, noMember, connectionOf, wentTo, memberBy}
 
@@ -122,7 +122,7 @@ back v = omega arith
 pub connection-back : (f : ℕ → Bool) (v x : ℕ) → connectionOf f x ≡ v → connectionOf f (nameFrom (vpiIn x) (vciIn x)) ≡ v
 connection-back f v x e = ap (connectionOf f) (back x) ∙ e
 
-pub went-to : (f : ℕ → Bool) (a : Answer) → NamesConnection f a → wentTo f (sentOf a) ≡ goesTo a
+pub went-to : (f : ℕ → Bool) (a : Answer) → NamesConnection f a → wentTo f (replyOf a) ≡ goesTo a
 unfolding goesTo
 went-to f (Refused n) h = refl
 went-to f (Accepted n) h = refl

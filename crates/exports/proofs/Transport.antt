@@ -11,6 +11,7 @@ use Rattle.model.specs.State.{State, empty}
 use Rattle.model.specs.Invariant.{WellFormed}
 use Rattle.model.specs.declared.answer.Answer.{Answer}
 use Rattle.model.specs.Call.{Call, Outcome}
+use Rattle.model.specs.Aspects.{sortOf}
 use Rattle.model.specs.Step.{step}
 use Rattle.model.specs.Run.{final, isAccepted}
 use Rattle.model.specs.Queries.{acrOf}
@@ -22,8 +23,8 @@ use Rattle.table.specs.Layout.{words}
 use Rattle.abr_answers.specs.declared.calls.AbrAllowed.{AbrAllowed}
 use Rattle.abr_answers.specs.Calls.{allowedOf}
 use Rattle.abr.specs.Contract.{ReturnsAllowed}
-use Rattle.abr.specs.Exports.{Observation, Performs, abrReceive, Transcript, ended, then, finalWords, zeros, Matches}
-use Rattle.abr.proofs.Exports.{performs-matches, zeros-words}
+use Rattle.abr.specs.Exports.{besidesBy, Observation, Performs, abrReceive, Transcript, ended, then, finalWords, zeros, Matches}
+use Rattle.abr.proofs.Exports.{performs-matches, performs-besides, zeros-words}
 use Rattle.laws.specs.All.{All}
 use Rattle.promise_lists.specs.Demand3.{InPlace}
 use Rattle.promise_cells.specs.ReservedBit.{OfOctets, OctetsIn}
@@ -40,7 +41,7 @@ pub record Stands (s : State) (l : List ℕ) : Type 0 where
   pub wellFormed : WellFormed s
   pub table : l ≡ words s
 
--- an exported call in this state: its table, answer and buffer, and whether it was accepted
+-- an exported call in this state: its table, answer and buffer, what it returned besides, and whether it was accepted
 pub record Sees (s : State) (c : Call) (o : Observation) : Type 0 where
   pub calls : List Call
   pub reached : final empty calls ≡ s
@@ -48,6 +49,7 @@ pub record Sees (s : State) (c : Call) (o : Observation) : Type 0 where
   pub ofOctets : OfOctets c
   pub wellFormed : WellFormed s
   pub matches : Matches (step s c) o
+  pub besides : o .besides ≡ besidesBy s (step s c) (sortOf c)
   pub accepted : eqb (o .returned .refusal) 0 ≡ isAccepted (step s c .answer)
   pub next : Stands (step s c .state) (o .table)
 
@@ -77,6 +79,7 @@ sees {s} st {c} p =
       ofOctets = performed-octets (bySort c) p;
       wellFormed = st .wellFormed;
       matches = m;
+      besides = performs-besides (st .wellFormed) p (st .table);
       accepted = accepted-seen (st .wellFormed) c m;
       next = record {
         calls = st .calls ++ (c ∷ []);

@@ -11,14 +11,14 @@ use Rattle.model.specs.Call.{Call}
 use Rattle.model.specs.Step.{closeStep}
 use Rattle.model.specs.Run.{final}
 use Rattle.model.specs.Conservation.{offeredTo, closedOn, cellsWaiting}
-use Rattle.abr_answers.specs.declared.calls.AbrSent.{AbrSent}
 use Rattle.abr_answers.specs.declared.calls.AbrClosed.{AbrClosed}
 use Rattle.abr.specs.Contract.{ReturnsClosed}
 use Rattle.abr.specs.Exports.{Observation, Transcript, finalWords, zeros}
 use Rattle.exports.specs.Returned.{noMember, memberSeen, connectionReturned}
+use Rattle.abr_answers.specs.Reply.{Reply}
 
 -- 1 for a slot that returned kind 3, data, and a pair of the connection v
-abbrev pub dataReturned : (v : ℕ) → (member : ℕ → Bool) → AbrSent → ℕ
+abbrev pub dataReturned : (v : ℕ) → (member : ℕ → Bool) → Reply → ℕ
 dataReturned v f r = cond (eqb (r .kind) 3 && eqb (connectionReturned f r) v) 1 0
 
 -- a sum over the calls of a list and what was observed of them

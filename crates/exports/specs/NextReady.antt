@@ -1,4 +1,4 @@
--- How long a transmitter can sleep, for exported calls. It is said of the numbers that abr_next
+-- How long a transmitter can sleep, for exported calls. It is said of the numbers that abr_next_ready
 -- and abr_slot return after them.
 use Prim.Native.Nat.{ℕ, _≤_, _<_}
 use mathlib.Core.Path.{_≡_}
@@ -13,7 +13,8 @@ pub record SentFrom (next t : ℕ) (o : Observation) : Type 0 where
   pub idle : t < next → o .returned .kind ≡ 0
   pub sends : next ≤ t → o .returned .kind ≢ 0
 
--- After any exported calls from the zero table abr_next returned an instant, and the slot that comes next no refusal.
+-- After any exported calls from the zero table abr_next_ready returned an instant, and the slot that comes next no
+-- refusal.
 abbrev pub ExportsNextReady : Type 0
 ExportsNextReady =
     (cs : List Call) (os : List Observation) → Transcript cs zeros os → (next : ℕ) → GivesNext (finalWords zeros os) next

@@ -12,11 +12,11 @@ use Rattle.model.specs.State.{empty}
 use Rattle.model.specs.Call.{Call}
 use Rattle.model.specs.Run.{final}
 use Rattle.model.specs.Orders.{OrderOf}
-use Rattle.abr_answers.specs.declared.calls.AbrSent.{AbrSent}
 use Rattle.abr.specs.Exports.{Observation, Performs, Transcript, finalWords, zeros}
+use Rattle.abr_answers.specs.Reply.{Reply}
 
 -- 0 is no refusal
-abbrev pub refusalReturned : AbrSent → Option ℕ
+abbrev pub refusalReturned : Reply → Option ℕ
 refusalReturned r = cond (eqb (r .refusal) 0) none (some (r .refusal))
 
 -- after any exported calls from the zero table, and one call more

@@ -8,7 +8,6 @@ use lib.Dec.{eqb}
 use Rattle.rate_params.specs.declared.params.Params.{Params}
 use Rattle.trace_judge.specs.Octets.{judgedOctets}
 use Rattle.model.specs.Call.{Call}
-use Rattle.abr_answers.specs.declared.calls.AbrSent.{AbrSent}
 use Rattle.abr_answers.specs.declared.calls.AbrAllowed.{AbrAllowed}
 use Rattle.abr_answers.specs.declared.traces.AbrVerdict.{AbrVerdict}
 use Rattle.abr_answers.specs.Traces.{judgedOf}
@@ -18,9 +17,10 @@ use Rattle.promise_traces.specs.InRate.{SentCell, atSlot, closesConnection}
 use Rattle.promise_traces.specs.Written.{traceOctets}
 use Rattle.promise_traces.specs.Traces.{Opening, traceCells}
 use Rattle.exports.specs.Returned.{noMember, memberSeen, membersSeen, connectionReturned}
+use Rattle.abr_answers.specs.Reply.{Reply}
 
 -- the cell that a slot at this time returned, if it is one of v: kind 0 is none
-abbrev pub cellReturned : (v : ℕ) → (member : ℕ → Bool) → (time rate : ℕ) → AbrSent → List SentCell
+abbrev pub cellReturned : (v : ℕ) → (member : ℕ → Bool) → (time rate : ℕ) → Reply → List SentCell
 cellReturned v f t rate r = cond (not (eqb (r .kind) 0) && eqb (connectionReturned f r) v) (record { time = t; kind = r .kind; rate = rate } ∷ []) []
 
 -- The cells of v until v is closed, from the calls, what they returned and the rate that was read before

@@ -9,8 +9,8 @@ use Rattle.cell.specs.Name.{nameFrom}
 use Rattle.connection_members.specs.Path.{pathOf}
 use Rattle.model.specs.Call.{Call}
 use Rattle.model.specs.Aspects.{OnMembers, ofClosed, ofAdded, ofOffered, ofRemoved, ofSlot, ofNone, membersOf}
-use Rattle.abr_answers.specs.declared.calls.AbrSent.{AbrSent}
 use Rattle.abr.specs.Exports.{Observation}
+use Rattle.abr_answers.specs.Reply.{Reply}
 
 -- whether the name x is a member's after a call that was accepted or not, from which names were before
 abbrev pub memberBy : OnMembers → (before : ℕ → Bool) → (x : ℕ) → Bool
@@ -41,11 +41,11 @@ membersSeen f (c ∷ cs) (o ∷ os) = membersSeen (memberSeen c o f) cs os
 abbrev pub connectionOf : (member : ℕ → Bool) → (name : ℕ) → ℕ
 connectionOf f x = cond (f x) (pathOf x) x
 
-abbrev pub connectionReturned : (member : ℕ → Bool) → AbrSent → ℕ
+abbrev pub connectionReturned : (member : ℕ → Bool) → Reply → ℕ
 connectionReturned f r = connectionOf f (nameFrom (r .vpi) (r .vci))
 
 -- none of an idle or refused slot, and of a call that is no slot
-abbrev pub wentTo : (member : ℕ → Bool) → AbrSent → Option ℕ
+abbrev pub wentTo : (member : ℕ → Bool) → Reply → Option ℕ
 wentTo f r = cond (eqb (r .kind) 0) none (some (connectionReturned f r))
 
 -- of each call of a list in turn

@@ -25,10 +25,10 @@ use Rattle.model.specs.Run.{final, isAccepted}
 use Rattle.model.proofs.Effects.{is-free}
 use Rattle.model.proofs.Given.{entryParams}
 use Rattle.model.proofs.Reached.{reached-unknown, reached-no-path}
-use Rattle.abr_answers.specs.declared.calls.AbrSent.{AbrSent}
 use Rattle.abr_answers.specs.declared.calls.AbrAllowed.{AbrAllowed}
 use Rattle.abr_answers.specs.Planning.{ExportedAs}
-use Rattle.abr_answers.specs.Calls.{sentOf, allowedOf}
+use Rattle.abr_answers.specs.Calls.{allowedOf}
+use Rattle.abr_answers.specs.Reply.{Reply, replyOf}
 use Rattle.abr.specs.Exports.{Observation, Transcript, finalWords, zeros}
 use Rattle.promise_lists.proofs.NotOpen.{close-out, offer-out, make-out, out-of-rate-out}
 use Rattle.promise_lists.proofs.Paths.{paths}
@@ -42,7 +42,7 @@ use Rattle.exports_cells.specs.Addresses.{NotOpened, Returns, UnknownAdd
 -- a step that is refused returns its number
 refused-seen : {s : State} {c : Call} {o : Observation} (n : ℕ) → Sees s c o → step s c ≡ refuse s n → o .returned .refusal ≡ n
 unfolding refuse
-refused-seen n z e = ap (λ (r : AbrSent). r .refusal) (z .matches .returned ∙ ap (λ (p : Outcome). sentOf (p .answer)) e)
+refused-seen n z e = ap (λ (r : Reply). r .refusal) (z .matches .returned ∙ ap (λ (p : Outcome). replyOf (p .answer)) e)
 
 no-params : (x : Entry) → entryParams x ≡ none → x ≡ free
 unfolding entryParams

@@ -1,20 +1,30 @@
 -- Two tables that are equal except for the instant of one connection's last out-of-rate cell.
 use Prim.Native.Nat.{ℕ, zero, suc, _+_, _*_, _/_, _≤_}
 use mathlib.Core.Path.{_≡_, refl, ap}
-use mathlib.Core.Bool.{Bool}
+use mathlib.Core.Logic.{_≢_}
+use mathlib.Core.Bool.{Bool, true, false}
 use mathlib.Core.List.{List, [], _∷_}
+use mathlib.Core.Option.{Option, none, some}
 use lib.ListN.{length, getD, set}
 use Rattle.connection.specs.declared.parts.Connection.{Connection}
+use Rattle.connection.specs.declared.kind.Kind.{Kind}
+use Rattle.connection.specs.declared.kind.Kind.the-variants.{Forward, Turned, Data}
 use Rattle.connection.specs.declared.ready.Instant.{Instant}
 use Rattle.connection.specs.declared.ready.Instant.the-variants.{Never, At}
-use Rattle.connection.specs.Parts.{withOutOfRate}
+use Rattle.connection.specs.Parts.{waiting, withOutOfRate}
 use Rattle.connection.specs.Ready.{readyInstant}
 use Rattle.connection.proofs.Readiness.{ready-same}
 use Rattle.model.specs.State.{Entry, free, taken, position, isFree, holds, find}
 use Rattle.model.specs.Winner.{candidate, candidateFrom, winner}
 use Rattle.model.specs.Tournament.{levels, instantWinner, leafWinner, winnerAt, replayedFrom, replayed}
-use Rattle.model.specs.Queries.{entryAcr, entryReady, earliest}
+use Rattle.model.specs.Queries.{entryAcr, entryReady, earliest, readyWord}
+use Rattle.model.specs.Orders.{openCount}
+use Rattle.model.specs.Details.{rateIn, isMade}
+use Rattle.model.specs.declared.status.Status.the-variants.{Open}
+use Rattle.model.specs.Status.{entryStatus, leafStatus}
+use Rattle.abr_answers.specs.Status.{connectionShown}
 use Rattle.promise_lists.specs.Demand3.{InPlace}
+use Rattle.exports_cells.specs.OutOfRateAlone.{withLastOutOfRate}
 
 -- such an instant, if there is one, is not after t
 abbrev pub UpTo : ℕ → Instant → Type 0
@@ -49,6 +59,33 @@ module _ (v t : ℕ) where
   unfolding entryAcr
   acr-like = read-like entryAcr (λ c i. refl)
 
+  pub rate-like : (x y : Entry) → Like v t x y → rateIn x ≡ rateIn y
+  rate-like = read-like rateIn (λ c i. refl)
+
+  pub made-like : (k : Kind) (x y : Entry) → Like v t x y → isMade k x ≡ isMade k y
+  made-like Forward = read-like (isMade Forward) (λ c i. refl)
+  made-like Turned = read-like (isMade Turned) (λ c i. refl)
+  made-like Data = read-like (isMade Data) (λ c i. refl)
+
+  -- all that is shown but that instant
+  own-shown : (n u l w : ℕ) (m : Bool) (c : Connection) (i : Instant) → withLastOutOfRate n (connectionShown (Open u m w l (readyWord (readyInstant (withOutOfRate c i))) (withOutOfRate c i)))
+      ≡ withLastOutOfRate n (connectionShown (Open u m w l (readyWord (readyInstant c)) c))
+  own-shown n u l w m c i = ap (λ (x : Instant). withLastOutOfRate n (connectionShown (Open u m w l (readyWord x) c))) (ready-kept c i)
+
+  pub shown-like : (n u l : ℕ) (m : Option ℕ) (x y : Entry) → Like v t x y → withLastOutOfRate n (connectionShown (entryStatus u l m x)) ≡ withLastOutOfRate n (connectionShown (entryStatus u l m y))
+  unfolding entryStatus
+  shown-like n u l none = read-like (λ x. withLastOutOfRate n (connectionShown (entryStatus u l none x))) (λ c i. own-shown n u l (waiting (c .queue)) false c i)
+  shown-like n u l (some w) = read-like (λ x. withLastOutOfRate n (connectionShown (entryStatus u l (some w) x))) (λ c i. own-shown n u l w true c i)
+
+  pub leaf-shown-like : (n l : ℕ) (x y : Entry) → Like v t x y → withLastOutOfRate n (connectionShown (leafStatus l x)) ≡ withLastOutOfRate n (connectionShown (leafStatus l y))
+  unfolding leafStatus entryStatus
+  leaf-shown-like n l = read-like (λ x. withLastOutOfRate n (connectionShown (leafStatus l x))) (λ c i. own-shown n (c .name) l (waiting (c .queue)) false c i)
+
+  -- an entry of another name is the same
+  pub another-like : (x y : Entry) → Like v t x y → ((c : Connection) → y ≡ taken c → c .name ≢ v) → x ≡ y
+  another-like x _ alike h = refl
+  another-like _ _ (lastDiffers c i n a b) h = absurd (h c refl n)
+
   candidate-like : (u : ℕ) (x y : Entry) → Like v t x y → candidate u x ≡ candidate u y
   unfolding candidate
   candidate-like u = read-like (candidate u) (λ c i. ap (candidateFrom u (c .name)) (ready-kept c i))
@@ -70,12 +107,22 @@ module _ (v t : ℕ) where
   length-same [] [] h = refl
   length-same (s ∷ ss) (r ∷ rs) h = ap suc (length-same ss rs (h .1))
 
+  count-like : (ss rs : List Entry) → openCount ss ≡ openCount rs → (x y : Entry) → Like v t x y → openCount (x ∷ ss) ≡ openCount (y ∷ rs)
+  unfolding openCount
+  count-like ss rs e free _ alike = e
+  count-like ss rs e (taken c) _ alike = ap suc e
+  count-like ss rs e _ _ (lastDiffers c i n a b) = ap suc e
+
+  pub count-same : (ss rs : List Entry) → Alike ss rs → openCount ss ≡ openCount rs
+  count-same [] [] h = refl
+  count-same (s ∷ ss) (r ∷ rs) h = count-like ss rs (count-same ss rs (h .1)) s r (h .0)
+
   position-same : (f : Entry → Bool) → ((x y : Entry) → Like v t x y → f x ≡ f y) → (ss rs : List Entry) → Alike ss rs → position f ss ≡ position f rs
   unfolding position
   position-same f k [] [] h = refl
   position-same f k (s ∷ ss) (r ∷ rs) h = rw (k s r (h .0), position-same f k ss rs (h .1))
 
-  get-like : (ss rs : List Entry) → Alike ss rs → (i : ℕ) → Like v t (getD ss i free) (getD rs i free)
+  pub get-like : (ss rs : List Entry) → Alike ss rs → (i : ℕ) → Like v t (getD ss i free) (getD rs i free)
   get-like [] [] h i = alike
   get-like (s ∷ ss) (r ∷ rs) h zero = h .0
   get-like (s ∷ ss) (r ∷ rs) h (suc i) = get-like ss rs (h .1) i

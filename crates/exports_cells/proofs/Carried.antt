@@ -7,7 +7,7 @@ use Rattle.connection.specs.Slot.{Buffer, untouched, written}
 use Rattle.model.specs.declared.answer.Answer.{Answer}
 use Rattle.model.specs.declared.answer.Answer.the-variants.{Refused, Accepted, Closed, Idle, Sent}
 use Rattle.model.specs.Step.{step}
-use Rattle.abr_answers.specs.Calls.{sentOf}
+use Rattle.abr_answers.specs.Reply.{replyOf}
 use Rattle.model.specs.Aspects.{Lent, forSlot, forOutOfRate, notLent, lentOf}
 use Rattle.promise_cells.specs.Addresses.{Carries, CarriesName, LentCarries}
 use Rattle.promise_cells.specs.ReservedBit.{TopBitsClear, WrittenClear, WrittenAs}
@@ -26,7 +26,7 @@ carried v w (written o) e h = h ∙ e
 untouched-writes : (P : List ℕ → Type 0) (b : Buffer) → b ≡ untouched → WrittenAs P b
 untouched-writes P b e = rw e tt
 
-due : (l : Lent) (a : Answer) (b : Buffer) → LentCarries l a b → WrittenAs (λ o. nameIn o ≡ nameFor l (sentOf a)) b
+due : (l : Lent) (a : Answer) (b : Buffer) → LentCarries l a b → WrittenAs (λ o. nameIn o ≡ nameFor l (replyOf a)) b
 due (forSlot t) (Refused n) b h = untouched-writes _ b h
 due (forSlot t) (Accepted n) b h = untouched-writes _ b h
 due (forSlot t) (Closed n k) b h = untouched-writes _ b h

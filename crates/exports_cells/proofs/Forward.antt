@@ -34,9 +34,9 @@ use Rattle.model.proofs.Effects.{Effect, refuses, idles, sends, sendsOutOfRate,
 use Rattle.model.proofs.Frames.{name-of}
 use Rattle.model.proofs.Given.{entryParams}
 use Rattle.model.proofs.Preserved.{valid-at}
-use Rattle.abr_answers.specs.declared.calls.AbrSent.{AbrSent}
 use Rattle.abr_answers.specs.declared.calls.AbrAllowed.{AbrAllowed}
-use Rattle.abr_answers.specs.Calls.{sentOf, allowedOf}
+use Rattle.abr_answers.specs.Calls.{allowedOf}
+use Rattle.abr_answers.specs.Reply.{Reply, replyOf}
 use Rattle.engine.specs.Contract.{bufferContent}
 use Rattle.abr.specs.Exports.{Observation, Transcript, zeros}
 use Rattle.exports.proofs.Transport.{sees, stands, was-accepted, acr-seen}
@@ -128,7 +128,7 @@ exports-forward = record {
       let v = nameFrom (o .returned .vpi) (o .returned .vci) in
       let y = sees (stands cs os tr) g in
       let w = sent-of Forward forward-data y k in
-      let a : w .acr ≡ o .returned .acr = sym (ap (λ (r : AbrSent). r .acr) (y .matches .returned ∙ ap sentOf (w .is))) in
+      let a : w .acr ≡ o .returned .acr = sym (ap (λ (r : Reply). r .acr) (y .matches .returned ∙ ap replyOf (w .is))) in
       seen-forward cs os tr v (o .returned .acr) (step s (slot t room) .buffer) (o .old) (o .new) (y .matches .buffer)
       (slot-writes v (o .returned .acr) (y .wellFormed) (effect s (y .wellFormed .unique) (slot t room)) (w .is ∙ ap (λ (x : ℕ). Sent v (w .told) Forward x (w .comparisons)) a));
   outOfRateCells = λ cs os tr vpi vci t room o g z a h.

@@ -46,7 +46,7 @@ use Rattle.model.proofs.Entries.{absent-find, each-free}
 use Rattle.model.proofs.Frames.{name-of, put-read, put-kept, with-opened-read, freed-read}
 use Rattle.model.proofs.Preserved.{valid-at}
 use Rattle.model.proofs.Effects.{OpenPassed, Effect, refuses, opens, closes, offers, receivesData, receivesRm, setsLevel, idles, sends, makes, sendsOutOfRate, opensPath, adds, offersMember, removes, effect}
-use Rattle.abr_answers.specs.Calls.{sentOf}
+use Rattle.abr_answers.specs.Reply.{replyOf}
 use Rattle.promise_cells.specs.ReservedBit.{OfOctets}
 use Rattle.exports.specs.Returned.{connectionOf}
 use Rattle.exports.proofs.Returned.{Knows, knows-after, none-known, back}
@@ -197,7 +197,7 @@ module _ (v : ℕ) where
 
   effect-as :
       (f : ℕ → Bool) {s : State} → WellFormed s → Knows f s → {c : Call} {o : Outcome} → OfOctets c → Effect s c o → (r : Receiver) → ReceiverAs v r (destinationAt v s)
-      → ReceiverAs v (cond (isAccepted (o .answer)) (receiverAfter v f (s .level) c (sentOf (o .answer)) r) r) (destinationAt v (o .state))
+      → ReceiverAs v (cond (isAccepted (o .answer)) (receiverAfter v f (s .level) c (replyOf (o .answer)) r) r) (destinationAt v (o .state))
   unfolding refuse accept replay discard withLevel withMembers idleStep sendStep sendFrom sendOutOfRate withTime isAccepted offered withOffer withoutOne withMade afterOutOfRate
   effect-as f {s} w k q (refuses c n z) r h = h
   effect-as f {s} w k q (opens a b t p g) r h = opened-as s (w .unique) r h (addressName a b) t p g

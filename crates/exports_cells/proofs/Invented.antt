@@ -27,8 +27,7 @@ use Rattle.model.specs.declared.answer.Answer.the-variants.{Refused as Unaccept
 use Rattle.model.specs.Call.{Call, closing, receiving, slot}
 use Rattle.model.specs.Step.{step}
 use Rattle.model.specs.Run.{isAccepted}
-use Rattle.abr_answers.specs.declared.calls.AbrSent.{AbrSent}
-use Rattle.abr_answers.specs.Calls.{sentOf}
+use Rattle.abr_answers.specs.Reply.{Reply, replyOf}
 use Rattle.model.specs.Aspects.{Sort, opener, closer, arrival, slotAt, another, sortOf, Asked, asksMade, asksOutOfRate, asksNone, askedOf}
 use Rattle.abr.specs.Exports.{Observation, Transcript, zeros}
 use Rattle.promise_lists.specs.Demand3.{InPlace}
@@ -78,7 +77,7 @@ closes-open : (v : ℕ) (s : State) (vpi vci : ℕ) → (destinationAt v s .turn
 closes-open v s vpi vci n e =
     close-accepted s vpi vci (waits-open (find (addressName vpi vci) (s .entries)) (λ z. n (ap (λ (x : ℕ). destinationAt x s .turned) (sym e) ∙ z)))
 
-refused-kind : (a : Answer) → isAccepted a ≡ false → sentOf a .kind ≡ 0
+refused-kind : (a : Answer) → isAccepted a ≡ false → replyOf a .kind ≡ 0
 unfolding isAccepted
 refused-kind (Unaccepted n) e = refl
 refused-kind (Accepted n) e = absurd (true≢false e)
@@ -97,7 +96,7 @@ module _ (bit : Fields → ℕ) (v : ℕ) where
       true≢false (sym (closes-open v s vpi vci (is-cell bit v (k .receiver .turned) (destinationAt v s .turned) (h .receiver .turned) b) n) ∙ sym (z .accepted) ∙ e)
   refused-quiet s k (aReceiving q) o h z e b = tt
   refused-quiet s k (aSlot t room) o h z e b = λ m.
-      let y : o .returned .kind ≡ 0 = ap (λ (r : AbrSent). r .kind) (z .matches .returned) ∙ refused-kind (step s (slot t room) .answer) (sym (z .accepted) ∙ e) in
+      let y : o .returned .kind ≡ 0 = ap (λ (r : Reply). r .kind) (z .matches .returned) ∙ refused-kind (step s (slot t room) .answer) (sym (z .accepted) ∙ e) in
       absurd (omega (arith, m, y))
   refused-quiet s k (anotherCall c q) o h z e b = subst (QuietReturned v o) (sym q) tt
 

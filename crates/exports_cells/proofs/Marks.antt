@@ -19,8 +19,7 @@ use Rattle.model.specs.Step.{refuse, step}
 use Rattle.model.specs.Run.{final, isAccepted}
 use Rattle.model.proofs.Effects.{Effect, refuses, receivesData, receivesRm, effect}
 use Rattle.model.proofs.BySort.{BySort, anOpening, anOpeningPath, aClosing, aReceiving, aSlot, anotherCall, bySort}
-use Rattle.abr_answers.specs.declared.calls.AbrSent.{AbrSent}
-use Rattle.abr_answers.specs.Calls.{sentOf}
+use Rattle.abr_answers.specs.Reply.{Reply, replyOf}
 use Rattle.engine.specs.Contract.{bufferContent}
 use Rattle.abr.specs.Exports.{Observation, zeros}
 use Rattle.promise_lists.specs.Demand3.{InPlace}
@@ -53,8 +52,8 @@ quiet v s (anOpeningPath vpi t p) o z q = tt
 quiet v s (aClosing vpi vci) o z q = q
 quiet v s (aReceiving r) o z q = z .ofOctets
 quiet v s (aSlot t room) o z q = λ x acr n e.
-    let r : o .returned ≡ sentOf (Sent v x Turned acr n) = z .matches .returned ∙ ap sentOf e in
-    q (ap (λ (a : AbrSent). a .kind) r) (ap (λ (a : AbrSent). nameFrom (a .vpi) (a .vci)) r ∙ back x ∙ sent-own Turned turned-data z e)
+    let r : o .returned ≡ replyOf (Sent v x Turned acr n) = z .matches .returned ∙ ap replyOf e in
+    q (ap (λ (a : Reply). a .kind) r) (ap (λ (a : Reply). nameFrom (a .vpi) (a .vci)) r ∙ back x ∙ sent-own Turned turned-data z e)
 quiet v s (anotherCall c e) o z q = subst (QuietSort v (step s c .answer)) (sym e) tt
 
 mark-in : (v : ℕ) (b : Buffer) (old new : List ℕ) → new ≡ bufferContent b old → MarkWritten v b → MarkIn v new

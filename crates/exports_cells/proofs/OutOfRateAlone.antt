@@ -2,20 +2,21 @@
 -- instant and the last accepted time.
 use Prim.Native.Nat.{ℕ, _+_, _-_, _≤_, min, max}
 use mathlib.Core.Path.{_≡_, refl, sym, ap, subst, _∙_}
+use mathlib.Core.Logic.{_≢_}
 use mathlib.Core.Bool.{Bool, true, false, cond, not, _&&_, false≢true}
 use mathlib.Core.List.{List, [], _∷_}
-use mathlib.Core.Option.{Option}
+use mathlib.Core.Option.{Option, none, some}
 use native.Mathlib.Nat.{le-refl}
 use native.Mathlib.Omega.{arith}
 use lib.Dec.{leb, ltb, eqb}
-use lib.ListN.{length}
+use lib.ListN.{length, getD}
 use borrow.Author.Tests.{leb-true, leb-false, le-leb, lt-leb}
 use Rattle.laws.specs.Require.{require}
 use Rattle.rate_params.specs.declared.params.Params.{Params}
 use Rattle.cell.specs.declared.fields.Fields.{Fields}
 use Rattle.cell.specs.declared.read.Reading.{Reading}
 use Rattle.cell.specs.declared.read.Reading.the-variants.{Refused as Unread, DataCell, RmCell}
-use Rattle.cell.specs.Name.{addressFits, addressName}
+use Rattle.cell.specs.Name.{nameFrom, addressFits, addressName}
 use Rattle.cell.specs.Fields.{cellName}
 use Rattle.cell.specs.Reading.{reading}
 use Rattle.connection_members.specs.Path.{pathVci, pathOf}
@@ -38,21 +39,32 @@ use Rattle.connection.specs.Kind.{isForward, isTurned, kindAt}
 use Rattle.model.specs.State.{State, Entry, free, taken, isFree, empty, position, holds, find, leafOf, withEntryOf, withOpened, roomLeft, withTime, withLevel, withMembers}
 use Rattle.model.specs.Winner.{Winner, noneReady, wins, winner}
 use Rattle.model.specs.Tournament.{replayed}
-use Rattle.model.specs.declared.answer.Answer.the-variants.{Accepted, Closed, Sent}
+use Rattle.model.specs.declared.answer.Answer.{Answer}
+use Rattle.model.specs.declared.answer.Answer.the-variants.{Refused, Accepted, Closed, Idle, Sent}
+use Rattle.model.specs.declared.details.SlotAnswer.the-variants.{Sent as SentCell}
 use Rattle.model.specs.Call.{Call, opening, closing, receiving, offering, levelling, slot, making, outOfRate, openingPath, adding, offeringMember, removing, Outcome, closedCells}
 use Rattle.model.specs.Step.{refuse, accept, replay, discard, ofOpen, openAddress, openStep, openPathStep, closeStep, offerStep, withOffer, withoutOne, addStep, ofMember, offerMemberStep, removeStep, dataCellStep, readStep, receiveStep, levelStep, nameAnswered, sendFrom, sendStep, idleStep, serveEntry, serve, slotStep, makeStep, sendOutOfRate, outOfRateStep, step}
 use Rattle.model.specs.Run.{final, isAccepted}
 use Rattle.model.specs.Queries.{acrOf, nextReady, readyWord, slotTime}
+use Rattle.model.specs.Aspects.{Sort, opener, closer, arrival, slotAt, another, sortOf}
+use Rattle.model.specs.Details.{openedWith, kindReceived, nameReceived, connectionReceived, receivedWith, rateIn, sentWith}
+use Rattle.model.specs.Status.{entryStatus, memberCells, leafStatus, statusOf, statusAt, memberNumbered, memberStatusAt, totals}
 use Rattle.model.proofs.Frames.{name-of}
 use Rattle.model.proofs.Effects.{Effect, refuses, sendsOutOfRate, effect}
-use Rattle.abr_answers.specs.Calls.{sentOf, allowedOf}
+use Rattle.abr_answers.specs.Calls.{allowedOf}
+use Rattle.abr_answers.specs.Reply.{replyOf}
+use Rattle.abr_answers.specs.declared.status.AbrConnection.{AbrConnection}
+use Rattle.abr_answers.specs.declared.status.AbrTotals.{AbrTotals}
+use Rattle.abr_answers.specs.Details.{openedOf, receivedOf, sentOf}
+use Rattle.abr_answers.specs.Status.{connectionShown, memberShown}
 use Rattle.engine.specs.Contract.{bufferContent}
-use Rattle.abr.specs.Exports.{Observation, Transcript, ended, then}
+use Rattle.abr.specs.Exports.{besidesOpen, besidesReceive, besidesSlot, besidesBy, Observation, Transcript, ended, then}
 use Rattle.laws.specs.All.{All}
 use Rattle.promise_lists.specs.Demand3.{InPlace}
+use Rattle.exports.proofs.Returned.{back}
 use Rattle.exports.proofs.Transport.{Stands, Sees, sees, stands, was-accepted, acr-seen}
-use Rattle.exports_cells.specs.OutOfRateAlone.{Later, SameRead, SameWithoutCell, ExportsOutOfRateAlone}
-use Rattle.exports_cells.proofs.Alike.{UpTo, Like, alike, lastDiffers, Alike, acr-like, same-entries, length-same, free-same, holds-same, find-like, found-free, put-alike, with-opened-alike, set-own, winner-same, earliest-same, replayed-same}
+use Rattle.exports_cells.specs.OutOfRateAlone.{Later, withLastOutOfRate, SameRead, SameWithoutCell, ExportsOutOfRateAlone}
+use Rattle.exports_cells.proofs.Alike.{UpTo, Like, alike, lastDiffers, Alike, acr-like, rate-like, made-like, shown-like, leaf-shown-like, another-like, same-entries, length-same, count-same, get-like, free-same, holds-same, find-like, found-free, put-alike, with-opened-alike, set-own, winner-same, earliest-same, replayed-same}
 
 -- What sending and receiving make of a connection does not look at that instant.
 kind-out-of-rate : (u : ℕ) (c : Connection) (i : Instant) → kindAt u (withOutOfRate c i) ≡ kindAt u c
@@ -439,47 +451,198 @@ module _ (v t : ℕ) where
   times-behind : (r s : State) → nextReady r ≡ nextReady s → LastBehind r s → (now lag : ℕ) → t + lag ≤ now → slotTime r now lag ≡ slotTime s now lag
   times-behind r s e h now lag k = λ i. min now (max (e i) (h (now - lag) (omega (arith, k)) i))
 
-  read-behind : (r s : State) (l m : List ℕ) → Stands r l → Stands s m → Alike v t (r .entries) (s .entries) → LastBehind r s → SameRead t l m
-  unfolding acrOf nextReady
-  read-behind r s l m x y k b = record {
-    acr = λ u a c h g. acr-seen x u a h ∙ ap allowedOf (acr-like v t (find u (r .entries)) (find u (s .entries)) (find-like v t (r .entries) (s .entries) k u)) ∙ sym (acr-seen y u c g);
-    next = λ i j h g. h .is r (x .wellFormed) (x .table) ∙ ap readyWord (earliest-same v t (r .entries) (s .entries) k) ∙ sym (g .is s (y .wellFormed) (y .table));
-    times = λ now lag i j q h g.
-        h .is r (x .wellFormed) (x .table) ∙ times-behind r s (ap readyWord (earliest-same v t (r .entries) (s .entries) k)) b now lag q ∙ sym (g .is s (y .wellFormed) (y .table));
+  -- what the readings look at
+  record Reads (r s : State) : Type 0 where
+    level : r .level ≡ s .level
+    last : LastBehind r s
+    entries : Alike v t (r .entries) (s .entries)
+    members : r .members ≡ s .members
+
+  reads : (r s : State) → Behind r s → Reads r s
+  reads r s b = record { level = b .level; last = last-behind r s (b .last); entries = b .entries; members = b .members }
+
+  module _ (r s : State) (b : Reads r s) where
+    found : (u : ℕ) → Like v t (find u (r .entries)) (find u (s .entries))
+    found u = find-like v t (r .entries) (s .entries) (b .entries) u
+
+    -- the connection of a name that is neither v nor a member of v
+    member-kind : (u : ℕ) (c : Connection) → isMember u (s .members) ≡ true → find (owner u (s .members)) (s .entries) ≡ taken c → connectionShown (statusOf s u) .kind ≡ 3
+    unfolding statusOf entryStatus
+    member-kind u c e f = λ i. connectionShown (entryStatus u (leafOf (owner u (s .members)) s) (cond (e i) (some (cellsOf u (s .members))) none) (f i)) .kind
+
+    owner-other :
+        (u : ℕ) (c : Connection) → find (owner u (s .members)) (s .entries) ≡ taken c → (u ≢ v) × (connectionShown (statusOf s u) .kind ≡ 3 → pathOf u ≢ v) → owner u (s .members) ≢ v
+    unfolding owner
+    owner-other u c f h = go (isMember u (s .members)) refl
+      where
+        go : (x : Bool) → isMember u (s .members) ≡ x → cond x (pathOf u) u ≢ v
+        go true e = h .1 (member-kind u c e f)
+        go false e = h .0
+
+    found-other : (u : ℕ) → ((c : Connection) → find u (s .entries) ≡ taken c → u ≢ v) → find u (r .entries) ≡ find u (s .entries)
+    found-other u n = another-like v t (find u (r .entries)) (find u (s .entries)) (found u) (λ c e q. n c e (sym (name-of u s c e) ∙ q))
+
+    leaf-of : (u : ℕ) → leafOf u r ≡ leafOf u s
+    leaf-of u = holds-same v t (r .entries) (s .entries) (b .entries) u
+
+    members-shown : (u : ℕ) → statusOf r u ≡ entryStatus u (leafOf (owner u (s .members)) r) (memberCells u (s .members)) (find (owner u (s .members)) (r .entries))
+    unfolding statusOf
+    members-shown u = ap (λ (ms : List Member). entryStatus u (leafOf (owner u ms) r) (memberCells u ms) (find (owner u ms) (r .entries))) (b .members)
+
+    status-same : (n u : ℕ) → withLastOutOfRate n (connectionShown (statusOf r u)) ≡ withLastOutOfRate n (connectionShown (statusOf s u))
+    unfolding statusOf
+    status-same n u =
+        let o = owner u (s .members) in
+        ap (λ x. withLastOutOfRate n (connectionShown x)) (members-shown u)
+        ∙ shown-like v t n u (leafOf o r) (memberCells u (s .members)) (find o (r .entries)) (find o (s .entries)) (found o)
+        ∙ ap (λ (l : ℕ). withLastOutOfRate n (connectionShown (entryStatus u l (memberCells u (s .members)) (find o (s .entries))))) (leaf-of o)
+
+    status-other : (u : ℕ) → (u ≢ v) × (connectionShown (statusOf s u) .kind ≡ 3 → pathOf u ≢ v) → statusOf r u ≡ statusOf s u
+    unfolding statusOf
+    status-other u h =
+        let o = owner u (s .members) in
+        members-shown u ∙ (λ i. entryStatus u (leaf-of o i) (memberCells u (s .members)) (found-other o (λ c f. owner-other u c f h) i))
+
+    get-same : (l : ℕ) → Like v t (getD (r .entries) l free) (getD (s .entries) l free)
+    get-same l = get-like v t (r .entries) (s .entries) (b .entries) l
+
+    leaf-same-shown : (n l : ℕ) → withLastOutOfRate n (connectionShown (statusAt r l)) ≡ withLastOutOfRate n (connectionShown (statusAt s l))
+    unfolding statusAt
+    leaf-same-shown n l = leaf-shown-like v t n l (getD (r .entries) l free) (getD (s .entries) l free) (get-same l)
+
+    -- the name that a leaf shows
+    leaf-name : (l : ℕ) (c : Connection) → getD (s .entries) l free ≡ taken c → nameFrom (connectionShown (statusAt s l) .vpi) (connectionShown (statusAt s l) .vci) ≡ c .name
+    unfolding statusAt leafStatus entryStatus
+    leaf-name l c e = ap (λ (x : Entry). nameFrom (connectionShown (leafStatus l x) .vpi) (connectionShown (leafStatus l x) .vci)) e ∙ back (c .name)
+
+    leaf-other : (l : ℕ) → nameFrom (connectionShown (statusAt s l) .vpi) (connectionShown (statusAt s l) .vci) ≢ v → statusAt r l ≡ statusAt s l
+    unfolding statusAt
+    leaf-other l h = ap (leafStatus l) (another-like v t (getD (r .entries) l free) (getD (s .entries) l free) (get-same l) (λ c e q. h (leaf-name l c e ∙ q)))
+
+    members-same : (i : ℕ) → memberStatusAt r i ≡ memberStatusAt s i
+    unfolding memberStatusAt
+    members-same i = ap (λ (ms : List Member). memberNumbered ms i) (b .members)
+
+    totals-same : (totals r .connections ≡ totals s .connections) × (totals r .members ≡ totals s .members) × (totals r .level ≡ totals s .level)
+    unfolding totals
+    totals-same = (count-same v t (r .entries) (s .entries) (b .entries), ap (λ (ms : List Member). length ms) (b .members), b .level)
+
+    next-same : nextReady r ≡ nextReady s
+    unfolding nextReady
+    next-same = ap readyWord (earliest-same v t (r .entries) (s .entries) (b .entries))
+
+    acr-same : (u : ℕ) → acrOf r u ≡ acrOf s u
+    unfolding acrOf
+    acr-same u = acr-like v t (find u (r .entries)) (find u (s .entries)) (found u)
+
+  -- the name in a leaf with the cell and without it
+  shown-name : (a b : AbrConnection) → a ≡ withLastOutOfRate (a .«last_out_of_rate») b → nameFrom (a .vpi) (a .vci) ≡ nameFrom (b .vpi) (b .vci)
+  shown-name a b e = ap (λ (x : AbrConnection). nameFrom (x .vpi) (x .vci)) e
+
+  but-instant :
+      (a b x y : AbrConnection) → a ≡ x → b ≡ y → ((n : ℕ) → withLastOutOfRate n x ≡ withLastOutOfRate n y) → a ≡ withLastOutOfRate (a .«last_out_of_rate») b
+  but-instant a b x y e f h = let n = a .«last_out_of_rate» in ap (withLastOutOfRate n) e ∙ h n ∙ ap (withLastOutOfRate n) (sym f)
+
+  read-behind : (r s : State) (l m : List ℕ) → Stands r l → Stands s m → Reads r s → SameRead v t l m
+  read-behind r s l m x y b = record {
+    acr = λ u a c h g. acr-seen x u a h ∙ ap allowedOf (acr-same r s b u) ∙ sym (acr-seen y u c g);
+    next = λ i j h g. h .is r (x .wellFormed) (x .table) ∙ next-same r s b ∙ sym (g .is s (y .wellFormed) (y .table));
+    times = λ now lag i j q h g. h .is r (x .wellFormed) (x .table) ∙ times-behind r s (next-same r s b) (b .last) now lag q ∙ sym (g .is s (y .wellFormed) (y .table));
+    status = λ u a c h g.
+        let e = h .meets r (x .wellFormed) (x .table) in
+        let f = g .meets s (y .wellFormed) (y .table) in
+        let q = but-instant a c (connectionShown (statusOf r u)) (connectionShown (statusOf s u)) e f (λ n. status-same r s b n u) in
+        record {
+          butInstant = q;
+          another = λ k. e ∙ ap connectionShown (status-other r s b u (k .0, λ z. k .1 (ap (λ (w : AbrConnection). w .kind) q ∙ ap (λ (w : AbrConnection). w .kind) f ∙ z))) ∙ sym f;
+        };
+    leaves = λ i a c h g.
+        let e = h .meets r (x .wellFormed) (x .table) in
+        let f = g .meets s (y .wellFormed) (y .table) in
+        let q = but-instant a c (connectionShown (statusAt r i)) (connectionShown (statusAt s i)) e f (λ n. leaf-same-shown r s b n i) in
+        record {
+          butInstant = q;
+          another = λ k. e ∙ ap connectionShown (leaf-other r s b i (λ z. k (shown-name a c q ∙ ap (λ (w : AbrConnection). nameFrom (w .vpi) (w .vci)) f ∙ z))) ∙ sym f;
+        };
+    members = λ i a c h g. h .meets r (x .wellFormed) (x .table) ∙ ap memberShown (members-same r s b i) ∙ sym (g .meets s (y .wellFormed) (y .table));
+    link = λ a c h g.
+        let e = h .meets r (x .wellFormed) (x .table) in
+        let f = sym (g .meets s (y .wellFormed) (y .table)) in
+        let k = totals-same r s b in (
+          ap (λ (w : AbrTotals). w .connections) e ∙ k .0 ∙ ap (λ (w : AbrTotals). w .connections) f,
+          ap (λ (w : AbrTotals). w .members) e ∙ k .1 ∙ ap (λ (w : AbrTotals). w .members) f,
+          ap (λ (w : AbrTotals). w .level) e ∙ k .2 ∙ ap (λ (w : AbrTotals). w .level) f,
+        );
   }
 
-  seen-behind : (r s : State) (c : Call) (o p : Observation) → Sees r c o → Sees s c p → SameBehind (step r c) (step s c) → SameWithoutCell t o p
-  seen-behind r s c o p x y h = record {
-    returned = x .matches .returned ∙ ap sentOf (h .answer) ∙ sym (y .matches .returned);
+  -- what a call returns besides
+  module _ (r s : State) (b : Behind r s) where
+    connection-read : (x : Reading) → connectionReceived x r ≡ connectionReceived x s
+    connection-read (Unread n) = refl
+    connection-read (DataCell vpi vci e) = ap (owner (addressName vpi vci)) (b .members)
+    connection-read (RmCell f) = refl
+
+    sent-besides : (a : Answer) → sentWith r a ≡ sentWith s a
+    sent-besides (Refused n) = refl
+    sent-besides (Accepted n) = refl
+    sent-besides (Closed n k) = refl
+    sent-besides Idle = refl
+    sent-besides (Sent u x k a n) =
+        let y = find u (r .entries) in
+        let z = find u (s .entries) in
+        let h = find-same r s b u in
+        λ i. SentCell x k a n (leaf-same r s b u i) (rate-like v t y z h i) (made-like v t k y z h i)
+
+    besides-same : (o p : Outcome) → SameBehind o p → (q : Sort) → besidesBy r o q ≡ besidesBy s p q
+    besides-same o p h (opener u w c) = λ i. besidesOpen (openedOf (openedWith (free-same v t (r .entries) (s .entries) (b .entries) i) (h .answer i)))
+    besides-same o p h (closer u) = refl
+    besides-same o p h (arrival octets) =
+        let x = reading octets in
+        let e = connection-read x in
+        let k = connectionReceived x s in
+        let l : leafOf (connectionReceived x r) r ≡ leafOf k s = ap (λ (u : ℕ). leafOf u r) e ∙ leaf-same r s b k in
+        let a : rateIn (find (connectionReceived x r) (o .state .entries)) ≡ rateIn (find k (p .state .entries)) =
+        ap (λ (u : ℕ). rateIn (find u (o .state .entries))) e
+        ∙ rate-like v t (find k (o .state .entries)) (find k (p .state .entries)) (find-like v t (o .state .entries) (p .state .entries) (h .state .entries) k) in
+        λ i. besidesReceive (receivedOf (receivedWith (kindReceived x) (nameReceived x) (l i) (a i) (h .answer i)))
+    besides-same o p h (slotAt u) = ap (λ a. besidesSlot (sentOf (sentWith r a))) (h .answer) ∙ ap (λ x. besidesSlot (sentOf x)) (sent-besides (p .answer))
+    besides-same o p h another = refl
+
+  seen-behind : (r s : State) → Behind r s → (c : Call) (o p : Observation) → Sees r c o → Sees s c p → SameBehind (step r c) (step s c) → SameWithoutCell v t o p
+  seen-behind r s b c o p x y h = record {
+    returned = x .matches .returned ∙ ap replyOf (h .answer) ∙ sym (y .matches .returned);
+    besides = x .besides ∙ besides-same r s b (step r c) (step s c) h (sortOf c) ∙ sym (y .besides);
     cells = x .matches .cells ∙ ap closedCells (h .answer) ∙ sym (y .matches .cells);
     new = λ e. x .matches .buffer ∙ (λ i. bufferContent (h .buffer i) (e i)) ∙ sym (y .matches .buffer);
-    read = read-behind (step r c .state) (step s c .state) (o .table) (p .table) (x .next) (y .next) (h .state .entries) (last-behind (step r c .state) (step s c .state) (h .state .last));
+    read = read-behind (step r c .state) (step s c .state) (o .table) (p .table) (x .next) (y .next) (reads (step r c .state) (step s c .state) (h .state));
   }
 
   later-same :
-      (r s : State) (l m : List ℕ) → Stands r l → Stands s m → Behind r s → (ds : List Call) (ps qs : List Observation) → Transcript ds l ps → Transcript ds m qs → All (Later v t) ds → InPlace (SameWithoutCell t) ps qs
+      (r s : State) (l m : List ℕ) → Stands r l → Stands s m → Behind r s → (ds : List Call) (ps qs : List Observation) → Transcript ds l ps → Transcript ds m qs → All (Later v t) ds → InPlace (SameWithoutCell v t) ps qs
   later-same r s l m x y b [] [] [] ended ended k = tt
   later-same r s l m x y b (c ∷ cs) (o ∷ os) (p ∷ ps) (then f u) (then g w) k =
       let i = sees x f in
       let j = sees y g in
       let h = same-step r s b c (k .0) in
-      (seen-behind r s c o p i j h, later-same (step r c .state) (step s c .state) (o .table) (p .table) (i .next) (j .next) (h .state) cs os ps u w (k .1))
+      (seen-behind r s b c o p i j h, later-same (step r c .state) (step s c .state) (o .table) (p .table) (i .next) (j .next) (h .state) cs os ps u w (k .1))
 
 -- the cell itself
 record Left (v t : ℕ) (s : State) (o : Outcome) : Type 0 where
-  entries : Alike v t (o .state .entries) (s .entries)
-  last : LastBehind v t (o .state) s
+  reads : Reads v t (o .state) s
   behind : isAccepted (o .answer) ≡ true → Behind v t (o .state) s
 
 left : {s : State} (vpi vci t room : ℕ) {o : Outcome} → Effect s (outOfRate vpi vci t room) o → Left (addressName vpi vci) t s o
 unfolding refuse isAccepted sendOutOfRate withEntryOf find withTime afterOutOfRate
-left {s} vpi vci t room (refuses _ n h) = record { entries = same-entries (addressName vpi vci) t (s .entries); last = λ n k. refl; behind = λ e. absurd (false≢true e) }
+left {s} vpi vci t room (refuses _ n h) = record {
+  reads = record { level = refl; last = λ n k. refl; entries = same-entries (addressName vpi vci) t (s .entries); members = refl };
+  behind = λ e. absurd (false≢true e);
+}
 left {s} vpi vci t room (sendsOutOfRate _ _ _ _ d f g h) =
     let v = addressName vpi vci in
     let k = set-own v t (s .entries) (position (holds v) (s .entries)) (taken (withOutOfRate d (At t)))
     (subst (Like v t (taken (withOutOfRate d (At t)))) (sym f) (lastDiffers d (At t) (name-of v s d f) (le-refl t) (up-rested t (d .«out_of_rate») h))) in
     let l : t ≡ max t (s .last) = omega (arith, g .since) in
-    record { entries = k; last = λ n q. omega (arith, q, g .since); behind = λ _. record { level = refl; last = l; entries = k; members = refl } }
+    record { reads = record { level = refl; last = λ n q. omega (arith, q, g .since); entries = k; members = refl }; behind = λ _. record { level = refl; last = l; entries = k; members = refl } }
 
 pub exports-out-of-rate-alone : ExportsOutOfRateAlone
 exports-out-of-rate-alone = record {
@@ -488,7 +651,7 @@ exports-out-of-rate-alone = record {
       let st = stands cs os x in
       let z = sees st y in
       let d = left vpi vci t room (effect s (z .wellFormed .unique) (outOfRate vpi vci t room)) in
-      read-behind (addressName vpi vci) t _ s _ _ (z .next) st (d .entries) (d .last);
+      read-behind (addressName vpi vci) t _ s _ _ (z .next) st (d .reads);
   later = λ cs ds os ps qs vpi vci t room o x y a u w k.
       let s = final empty cs in
       let st = stands cs os x in

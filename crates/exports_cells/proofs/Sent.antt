@@ -13,8 +13,7 @@ use Rattle.model.specs.declared.answer.Answer.{Answer}
 use Rattle.model.specs.declared.answer.Answer.the-variants.{Refused, Accepted, Closed, Idle, Sent}
 use Rattle.model.specs.Call.{slot}
 use Rattle.model.specs.Step.{step}
-use Rattle.abr_answers.specs.declared.calls.AbrSent.{AbrSent}
-use Rattle.abr_answers.specs.Calls.{sentOf}
+use Rattle.abr_answers.specs.Reply.{Reply, replyOf}
 use Rattle.abr.specs.Exports.{Observation}
 use Rattle.promise_cells.specs.Addresses.{CarriesName, SentCarries}
 use Rattle.promise_cells.proofs.Addresses.{cells-carry-names}
@@ -52,7 +51,7 @@ pub record SentOf (k : Kind) (v : ℕ) (a : Answer) : Type 0 where
   pub comparisons : ℕ
   pub is : a ≡ Sent v told k acr comparisons
 
-is-sent : (k : Kind) (a : Answer) → sentOf a .kind ≡ kindNumber k → IsSent k a
+is-sent : (k : Kind) (a : Answer) → replyOf a .kind ≡ kindNumber k → IsSent k a
 is-sent k (Refused n) e = absurd (omega (arith, e, some-kind k))
 is-sent k (Accepted n) e = absurd (omega (arith, e, some-kind k))
 is-sent k (Closed n c) e = absurd (omega (arith, e, some-kind k))
@@ -74,8 +73,8 @@ pub sent-of :
     {s : State} {t room : ℕ} {o : Observation} (k : Kind) → (k ≡ Data → ⊥) → Sees s (slot t room) o → o .returned .kind ≡ kindNumber k
     → SentOf k (nameFrom (o .returned .vpi) (o .returned .vci)) (step s (slot t room) .answer)
 sent-of {s} {t} {room} k d z e =
-    let w = is-sent k (step s (slot t room) .answer) (sym (ap (λ (a : AbrSent). a .kind) (z .matches .returned)) ∙ e) in
-    let n = ap (λ (a : AbrSent). nameFrom (a .vpi) (a .vci)) (z .matches .returned ∙ ap sentOf (w .is)) ∙ back (w .told) ∙ sent-own k d z (w .is) in
+    let w = is-sent k (step s (slot t room) .answer) (sym (ap (λ (a : Reply). a .kind) (z .matches .returned)) ∙ e) in
+    let n = ap (λ (a : Reply). nameFrom (a .vpi) (a .vci)) (z .matches .returned ∙ ap replyOf (w .is)) ∙ back (w .told) ∙ sent-own k d z (w .is) in
     record { told = w .told; acr = w .acr; comparisons = w .comparisons; is = w .is ∙ ap (λ (v : ℕ). Sent v (w .told) k (w .acr) (w .comparisons)) (sym n) }
 
 pub turned-data : _≡_ {A = Kind} Turned Data → ⊥

@@ -34,9 +34,8 @@ use Rattle.model.specs.State.{State}
 use Rattle.model.specs.Call.{Call, Outcome}
 use Rattle.model.specs.Step.{refuse, accept, replay, discard, idleStep, sendFrom, sendStep, sendOutOfRate, step}
 use Rattle.model.proofs.Shown.{Shown, refusing, accepting, discarding, idling, serving, servingOutOfRate, shown}
-use Rattle.abr_answers.specs.Calls.{noCell, sentOf}
+use Rattle.abr_answers.specs.Reply.{Reply, noCell, replyOf}
 use Rattle.model.specs.Aspects.{Lent, forSlot, forOutOfRate, notLent, lentOf}
-use Rattle.abr_answers.specs.declared.calls.AbrSent.{AbrSent}
 use Rattle.abr_answers.specs.Cells.{writtenOf, writeRefusal, octetsAfter}
 use Rattle.engine.specs.Contract.{bufferContent}
 use Rattle.abr.specs.Exports.{Observation}
@@ -90,7 +89,7 @@ refused-writes (forSlot t) n h = refl
 refused-writes (forOutOfRate v) n h = ne-eqb n 0 (λ e. omega (arith, h, e))
 refused-writes notLent n h = refl
 
-not-written : (l : Lent) (r : AbrSent) → l ≡ notLent → wroteFor l r ≡ false
+not-written : (l : Lent) (r : Reply) → l ≡ notLent → wroteFor l r ≡ false
 not-written l r e = ap (λ (x : Lent). wroteFor x r) e
 
 sent-writes : (k : Kind) (c d : Connection) → (eqb (kindNumber k) 1 || eqb (kindNumber k) 2) ≡ isWritten (bufferSent k c d)
@@ -99,7 +98,7 @@ sent-writes Forward c d = refl
 sent-writes Turned c d = refl
 sent-writes Data c d = refl
 
-shown-writes : {s : State} {c : Call} {o : Outcome} → Shown s c o → wroteCell c (sentOf (o .answer)) ≡ isWritten (o .buffer)
+shown-writes : {s : State} {c : Call} {o : Outcome} → Shown s c o → wroteCell c (replyOf (o .answer)) ≡ isWritten (o .buffer)
 unfolding refuse accept replay discard idleStep sendFrom sendStep sendOutOfRate isWritten
 shown-writes (refusing c n h) = refused-writes (lentOf c) n h
 shown-writes (accepting c n r l g) = not-written (lentOf c) _ l

@@ -7,21 +7,21 @@ use mathlib.Core.List.{List}
 use Rattle.cell.specs.Name.{nameFrom}
 use Rattle.model.specs.Call.{Call}
 use Rattle.model.specs.Aspects.{Lent, forSlot, forOutOfRate, notLent, lentOf}
-use Rattle.abr_answers.specs.declared.calls.AbrSent.{AbrSent}
 use Rattle.abr.specs.Exports.{Observation, Transcript, zeros}
 use Rattle.promise_lists.specs.Demand3.{InPlace}
 use Rattle.promise_cells.specs.ReservedBit.{TopBitsClear}
 use Rattle.exports.specs.Known.{nameIn}
 use Rattle.exports_cells.specs.Written.{wroteCell}
+use Rattle.abr_answers.specs.Reply.{Reply}
 
 -- The name that a call's cell is to carry: the pair that the slot returned, or the pair that an out-of-rate cell
 -- was asked for. No other call writes.
-abbrev pub nameFor : Lent → AbrSent → ℕ
+abbrev pub nameFor : Lent → Reply → ℕ
 nameFor (forSlot t) r = nameFrom (r .vpi) (r .vci)
 nameFor (forOutOfRate v) r = v
 nameFor notLent r = 0
 
-abbrev pub nameDue : Call → AbrSent → ℕ
+abbrev pub nameDue : Call → Reply → ℕ
 nameDue c r = nameFor (lentOf c) r
 
 abbrev pub CarriesDue : Call → Observation → Type 0

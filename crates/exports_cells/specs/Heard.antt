@@ -17,9 +17,9 @@ use Rattle.cell.specs.declared.read.Reading.{Reading}
 use Rattle.cell.specs.declared.read.Reading.the-variants.{Refused, DataCell, RmCell}
 use Rattle.model.specs.Call.{Call, opening, closing, receiving, offering, levelling, slot, making, outOfRate, openingPath, adding, offeringMember, removing}
 use Rattle.model.specs.Aspects.{Sort, opener, closer, arrival, slotAt, another, sortOf, Asked, asksMade, asksOutOfRate, asksNone, askedOf}
-use Rattle.abr_answers.specs.declared.calls.AbrSent.{AbrSent}
 use Rattle.abr.specs.Exports.{Observation}
 use Rattle.exports.specs.Returned.{noMember, memberSeen, connectionOf}
+use Rattle.abr_answers.specs.Reply.{Reply}
 
 -- a turned cell that waits: the octets of the forward cell that was received, and the fields that it will be read with
 pub record TurnedCell : Type 0 where
@@ -74,7 +74,7 @@ receivedFrom v f level o (DataCell vpi vci e) d = cond (eqb (connectionOf f (add
 receivedFrom v f level o (RmCell g) d = cond (eqb (cellName g) v) (cond (eqb (g .dir) 1) d (turnedAt v level o g d)) d
 
 -- an open or a close, a received cell, a slot: kind 2 is a turned or made cell
-abbrev pub receiverBy : (v : ℕ) → (member : ℕ → Bool) → (level : ℕ) → AbrSent → Receiver → Sort → Receiver
+abbrev pub receiverBy : (v : ℕ) → (member : ℕ → Bool) → (level : ℕ) → Reply → Receiver → Sort → Receiver
 receiverBy v f level r d (opener u t p) = cond (eqb u v) nothingWaits d
 receiverBy v f level r d (closer u) = cond (eqb u v) nothingWaits d
 receiverBy v f level r d (arrival o) = receivedFrom v f level o (reading o) d
@@ -88,7 +88,7 @@ madeFor v level d (asksOutOfRate u t) = d
 madeFor v level d asksNone = d
 
 -- after a call that was not refused
-abbrev pub receiverAfter : (v : ℕ) → (member : ℕ → Bool) → (level : ℕ) → Call → AbrSent → Receiver → Receiver
+abbrev pub receiverAfter : (v : ℕ) → (member : ℕ → Bool) → (level : ℕ) → Call → Reply → Receiver → Receiver
 receiverAfter v f level c r d = madeFor v level (receiverBy v f level r d (sortOf c)) (askedOf c)
 
 abbrev pub levelAfter : Call → ℕ → ℕ

@@ -13,20 +13,20 @@ use Rattle.cell.specs.Admitted.{Admitted}
 use Rattle.cell.specs.Form.{Framed, Blank}
 use Rattle.model.specs.Call.{Call}
 use Rattle.model.specs.Aspects.{Lent, forSlot, forOutOfRate, notLent, lentOf}
-use Rattle.abr_answers.specs.declared.calls.AbrSent.{AbrSent}
 use Rattle.abr_answers.specs.Cells.{writeRefusal, octetsAfter}
 use Rattle.abr.specs.Exports.{Observation, Transcript, zeros}
 use Rattle.promise_lists.specs.Demand3.{InPlace}
 use Rattle.promise_cells.specs.Forms.{clpOf}
+use Rattle.abr_answers.specs.Reply.{Reply}
 
 -- whether a call wrote its buffer, by what it returned: a slot of kind 1 or 2 (a forward or a turned cell), or an
 -- out-of-rate cell that was not refused
-abbrev pub wroteFor : Lent → AbrSent → Bool
+abbrev pub wroteFor : Lent → Reply → Bool
 wroteFor (forSlot t) r = eqb (r .kind) 1 || eqb (r .kind) 2
 wroteFor (forOutOfRate v) r = eqb (r .refusal) 0
 wroteFor notLent r = false
 
-abbrev pub wroteCell : Call → AbrSent → Bool
+abbrev pub wroteCell : Call → Reply → Bool
 wroteCell c r = wroteFor (lentOf c) r
 
 -- the CLP of what it writes: 1 out of rate (document 02, L5)

@@ -9,8 +9,7 @@ use lib.ListN.{getD}
 use borrow.Author.Tests.{leb-true, leb-false, eq-eqb, eqb-true}
 use Rattle.laws.specs.Require.{require}
 use Rattle.rate.specs.Units.{latestTime}
-use Rattle.abr_answers.specs.declared.calls.AbrSent.{AbrSent}
-use Rattle.abr_answers.specs.Calls.{sentOf}
+use Rattle.abr_answers.specs.Reply.{Reply, replyOf}
 use Rattle.model.specs.State.{State, Entry, free, taken, empty, find, withTime}
 use Rattle.model.specs.Winner.{Winner, noneReady, wins, winner}
 use Rattle.model.specs.Call.{Call, slot, Outcome}
@@ -45,23 +44,23 @@ timely-of (sends t room i u z b) a = z
 
 -- a slot that is not refused before the search for its connection is accepted; so 14 means that its time is
 -- before the last accepted one
-served-zero : (s : State) (t : ℕ) (w : Winner) → sentOf (serve s t w .answer) .refusal ≡ 0
+served-zero : (s : State) (t : ℕ) (w : Winner) → replyOf (serve s t w .answer) .refusal ≡ 0
 unfolding serve serveEntry idleStep sendStep sendFrom
 served-zero s t noneReady = refl
 served-zero s t (wins i v) = go (find v (s .entries))
   where
-    go : (x : Entry) → sentOf (serveEntry s t v x .answer) .refusal ≡ 0
+    go : (x : Entry) → replyOf (serveEntry s t v x .answer) .refusal ≡ 0
     go free = refl
     go (taken c) = refl
 
-refused-early : (s : State) (t : ℕ) → sentOf (step s (slot t 53) .answer) .refusal ≡ 14 → t ≤ s .last
+refused-early : (s : State) (t : ℕ) → replyOf (step s (slot t 53) .answer) .refusal ≡ 14 → t ≤ s .last
 unfolding step slotStep require refuse
 refused-early s t e = go (leb t latestTime) (leb (s .last) t) refl e
   where
     o : Outcome
     o = serve (withTime t s) t (winner t (s .entries))
 
-    go : (x y : Bool) → leb (s .last) t ≡ y → sentOf (require (refuse s 8) x (require (refuse s 14) y o) .answer) .refusal ≡ 14 → t ≤ s .last
+    go : (x y : Bool) → leb (s .last) t ≡ y → replyOf (require (refuse s 8) x (require (refuse s 14) y o) .answer) .refusal ≡ 14 → t ≤ s .last
     go true true q e = absurd (omega (arith, e, served-zero (withTime t s) t (winner t (s .entries))))
     go true false q e = omega (arith, leb-false (s .last) t q)
     go false y q e = absurd (omega (arith, e))
@@ -137,5 +136,5 @@ exports-slot-time cs os tr now lag time h =
       late = λ next g h k. omega (arith, q, n next g, l, h, k);
       alike = λ o p own passed. alike cs os tr now lag o p own (subst (λ (t : ℕ). Performs (slot t 53) (finalWords zeros os) p) q passed);
       wrongClock = λ o own e.
-          q ∙ b .early (refused-early (final empty cs) now (sym (ap (λ (r : AbrSent). r .refusal) (matches cs os tr now o own .returned)) ∙ e));
+          q ∙ b .early (refused-early (final empty cs) now (sym (ap (λ (r : Reply). r .refusal) (matches cs os tr now o own .returned)) ∙ e));
     }

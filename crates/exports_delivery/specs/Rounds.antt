@@ -28,7 +28,7 @@ use Rattle.promise_delivery.specs.Turns.{Turn, NoSlot}
 use Rattle.promise_service.specs.Progress.{NotCloser}
 use Rattle.promise_delivery.specs.Served.{movedOn, oneMore}
 
--- One round: the calls since the last slot, with what they returned; the slot's own time; what abr_next and
+-- One round: the calls since the last slot, with what they returned; the slot's own time; what abr_next_ready and
 -- abr_slot_time return at it; what abr_slot did; and what abr_acr returns for each name before it.
 pub record Round : Type 0 where
   pub between : List Call

@@ -18,7 +18,7 @@ pub record SentAlike (own passed : Observation) : Type 0 where
 pub record TimeToPass (l : List ℕ) (last now lag time : ℕ) : Type 0 where
   pub notAfter : time ≤ now
   pub within : now ≤ time + lag
-  -- what abr_next returns, if that lies between; the slot's own time, if nothing is ready before it
+  -- what abr_next_ready returns, if that lies between; the slot's own time, if nothing is ready before it
   pub ready : (next : ℕ) → GivesNext l next → last ≤ next → next ≤ now → now ≤ next + lag → time ≡ next
   pub nothing : (next : ℕ) → GivesNext l next → now ≤ next → time ≡ now
   -- the last accepted time, if that is after it; the time that is lag behind, if that is after both

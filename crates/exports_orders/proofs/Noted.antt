@@ -69,7 +69,7 @@ pub level-noted : (cs : List Call) (os : List Observation) → Transcript cs zer
 level-noted cs os t = noted-so (λ s. s .level) levelAfter (λ s w c o e. effect-level e) 0 none-set cs os t
 
 -- The names of the members.
-abbrev namesOf : List Member → List ℕ
+abbrev pub namesOf : List Member → List ℕ
 namesOf [] = []
 namesOf (m ∷ ms) = m .name ∷ namesOf ms
 
@@ -124,9 +124,11 @@ names-length : (ms : List Member) → length (namesOf ms) ≡ length ms
 names-length [] = refl
 names-length (m ∷ ms) = ap suc (names-length ms)
 
+pub names-noted : (cs : List Call) (os : List Observation) → Transcript cs zeros os → namesNoted cs os ≡ namesOf (final empty cs .members)
+names-noted cs os t = noted-so (λ s. namesOf (s .members)) namesAfter (λ s w c o e. names-after (effect-to-members e)) [] no-names cs os t
+
 pub members-noted : (cs : List Call) (os : List Observation) → Transcript cs zeros os → length (namesNoted cs os) ≡ length (final empty cs .members)
-members-noted cs os t =
-    ap length (noted-so (λ s. namesOf (s .members)) namesAfter (λ s w c o e. names-after (effect-to-members e)) [] no-names cs os t) ∙ names-length (final empty cs .members)
+members-noted cs os t = ap length (names-noted cs os t) ∙ names-length (final empty cs .members)
 
 -- The instants of a connection.
 abbrev pub instantsIn : Entry → Instants
@@ -152,7 +154,7 @@ sent-instants Turned t x d = λ i. record { made = left-last (d .destination .tu
 sent-instants Data t x d = refl
 
 module _ (v : ℕ) where
-  abbrev at : State → Instants
+  abbrev pub at : State → Instants
   at s = instantsIn (find v (s .entries))
 
   changed : (b : Bool) (x y z : Instants) → (b ≡ true → x ≡ y) → cond b x z ≡ cond b y z

@@ -24,7 +24,8 @@ use Rattle.model.proofs.Conservation.{cond-zero}
 use Rattle.model.proofs.Given.{entryParams}
 use Rattle.model.proofs.Shown.{Shown, refusing, accepting, discarding, idling, serving, servingOutOfRate, shown}
 use Rattle.abr_answers.specs.declared.calls.AbrAllowed.{AbrAllowed}
-use Rattle.abr_answers.specs.Calls.{sentOf, allowedOf}
+use Rattle.abr_answers.specs.Calls.{allowedOf}
+use Rattle.abr_answers.specs.Reply.{replyOf}
 use Rattle.abr.specs.Exports.{finalWords, zeros}
 use Rattle.promise_service.specs.Deaf.{cutTimes, forwardCells, forwardSlotOf, forwardSlots}
 use Rattle.promise_service.proofs.Deaf.{deaf-falls, deaf-stays}
@@ -36,13 +37,13 @@ use Rattle.exports_rates.proofs.Held.{seen-held}
 use Rattle.exports_progress.specs.Deaf.{forwardReturned, forwardsReturned, ExportsDeafFalls, ExportsDeafStays}
 
 -- a slot's forward cell has its connection's own name
-sent-forward : (v u a n : ℕ) (d : Connection) (ms : List Member) (k : Kind) → forwardReturned v (sentOf (Sent u (nameAnswered u (memberServed k d ms)) k a n)) ≡ cond (eqb u v) (forwardCells k) 0
+sent-forward : (v u a n : ℕ) (d : Connection) (ms : List Member) (k : Kind) → forwardReturned v (replyOf (Sent u (nameAnswered u (memberServed k d ms)) k a n)) ≡ cond (eqb u v) (forwardCells k) 0
 unfolding forwardCells memberServed nameAnswered
 sent-forward v u a n d ms Forward = ap (λ (x : ℕ). cond (eqb x v) 1 0) (back u)
 sent-forward v u a n d ms Turned = sym (cond-zero (eqb u v))
 sent-forward v u a n d ms Data = sym (cond-zero (eqb u v))
 
-shown-forward : (v : ℕ) {s : State} {c : Call} {o : Outcome} → Shown s c o → forwardReturned v (sentOf (o .answer)) ≡ forwardSlotOf v (o .answer)
+shown-forward : (v : ℕ) {s : State} {c : Call} {o : Outcome} → Shown s c o → forwardReturned v (replyOf (o .answer)) ≡ forwardSlotOf v (o .answer)
 unfolding refuse accept replay discard idleStep sendStep sendFrom sendOutOfRate withTime forwardSlotOf
 shown-forward v (refusing c n h) = refl
 shown-forward v (accepting c n r l g) = refl

@@ -20,7 +20,7 @@ use Rattle.model.specs.declared.answer.Answer.the-variants.{Refused, Accepted, 
 use Rattle.model.specs.Call.{Call}
 use Rattle.model.specs.Step.{step}
 use Rattle.model.specs.Run.{final}
-use Rattle.abr_answers.specs.Calls.{sentOf}
+use Rattle.abr_answers.specs.Reply.{replyOf}
 use Rattle.abr.specs.Exports.{Observation, finalWords, zeros}
 use Rattle.laws.specs.All.{All}
 use Rattle.promise_service.specs.Liveness.{Somewhere, here, there}
@@ -54,9 +54,9 @@ answers-same (taken c) = refl
 
 -- of one answer
 kind-cell : (v : ℕ) (f : ℕ → Bool) (k : ℕ) (b : Bool) (u x a n : ℕ) (j : Kind) → NamesConnection f (Sent u x j a n)
-    → cond (not (eqb (kindNumber j) 0) && eqb (connectionReturned f (sentOf (Sent u x j a n))) v) (record { kind = kindNumber j; cells = k; answers = b } ∷ []) []
+    → cond (not (eqb (kindNumber j) 0) && eqb (connectionReturned f (replyOf (Sent u x j a n))) v) (record { kind = kindNumber j; cells = k; answers = b } ∷ []) []
     ≡ allSeen (cond (eqb u v) (record { kind = j; waiting = k; answers = b } ∷ []) [])
-kind-cell v f k b u x a n j h = go j (eqb (connectionReturned f (sentOf (Sent u x j a n))) v) (eqb u v) (ap (λ (w : ℕ). eqb w v) (connection-back f u x h))
+kind-cell v f k b u x a n j h = go j (eqb (connectionReturned f (replyOf (Sent u x j a n))) v) (eqb u v) (ap (λ (w : ℕ). eqb w v) (connection-back f u x h))
   where
     go : (j : Kind) (y z : Bool) → y ≡ z
         → cond (not (eqb (kindNumber j) 0) && y) (record { kind = kindNumber j; cells = k; answers = b } ∷ []) [] ≡ allSeen (cond z (record { kind = j; waiting = k; answers = b } ∷ []) [])
@@ -68,7 +68,7 @@ kind-cell v f k b u x a n j h = go j (eqb (connectionReturned f (sentOf (Sent u 
     go Data false z e = rw (← e) refl
 
 one-cell : (v : ℕ) (k : WaitingKept) (x : Entry) (a : Answer) → NamesConnection (k .member) a → k .cells ≡ entryCells x → (k .answers .turned || k .answers .made) ≡ entryAnswers x
-    → seenCell v k (sentOf a) ≡ allSeen (ownCell v x a)
+    → seenCell v k (replyOf a) ≡ allSeen (ownCell v x a)
 unfolding ownCell
 one-cell v k x (Refused n) h c b = refl
 one-cell v k x (Accepted n) h c b = refl

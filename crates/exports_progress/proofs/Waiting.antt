@@ -43,7 +43,7 @@ use Rattle.model.proofs.Entries.{Case, same, other, case, absent-find, each-fre
 use Rattle.model.proofs.Frames.{put-read, put-kept, with-opened-read, freed-read}
 use Rattle.model.proofs.Effects.{OpenPassed, Effect, refuses, opens, closes, offers, receivesData, receivesRm, setsLevel, idles, sends, makes, sendsOutOfRate, opensPath, adds, offersMember, removes, effect}
 use Rattle.model.proofs.Reached.{final-append}
-use Rattle.abr_answers.specs.Calls.{sentOf}
+use Rattle.abr_answers.specs.Reply.{replyOf}
 use Rattle.abr.specs.Exports.{Observation}
 use Rattle.exports.specs.Returned.{connectionReturned}
 use Rattle.exports.specs.Conservation.{dataReturned}
@@ -98,7 +98,7 @@ left (Cell p) m = refl
 sent-answers :
     (v : ℕ) (s : State) → NamesUnique (s .entries) → (f : ℕ → Bool) (u t x a n : ℕ) (d : Connection) (m : Option ℕ) → find u (s .entries) ≡ taken d → (k : Kind) → NamesConnection f (Sent u x k a n)
     → answersAt v (withEntryOf u (taken (withServed m (after k t d))) s)
-    ≡ cond (eqb (sentOf (Sent u x k a n) .kind) 2 && eqb (connectionReturned f (sentOf (Sent u x k a n))) v)
+    ≡ cond (eqb (replyOf (Sent u x k a n) .kind) 2 && eqb (connectionReturned f (replyOf (Sent u x k a n))) v)
     (record { turned = false; made = answersAt v s .turned && answersAt v s .made }) (answersAt v s)
 unfolding after sentForward sentTurned sentData withServed answersOf isThere
 sent-answers v s w f u t x a n d m g Forward h = same-answers v s w u d (withServed m (after Forward t d)) g refl refl
@@ -109,7 +109,7 @@ sent-answers v s w f u t x a n d m g Turned h =
 sent-answers v s w f u t x a n d m g Data h = same-answers v s w u d (withServed m (after Data t d)) g refl refl
 
 effect-answers : (v : ℕ) (f : ℕ → Bool) {s : State} → NamesUnique (s .entries) → {c : Call} {o : Outcome} → Effect s c o → NamesConnection f (o .answer)
-    → answersAt v (o .state) ≡ cond (isAccepted (o .answer)) (answersAfter v f c (sentOf (o .answer)) (answersAt v s)) (answersAt v s)
+    → answersAt v (o .state) ≡ cond (isAccepted (o .answer)) (answersAfter v f c (replyOf (o .answer)) (answersAt v s)) (answersAt v s)
 unfolding refuse accept replay discard withLevel withMembers idleStep sendStep sendFrom sendOutOfRate withTime isAccepted offered withOffer withoutOne afterDataCell withMade afterOutOfRate answersOf
 effect-answers v f {s} w (refuses c n h) k = refl
 effect-answers v f {s} w (opens a b t p g) k = opened-answers v s w (addressName a b) t p g
@@ -149,7 +149,7 @@ step-balanced v cs c =
       ap (cellsWaiting v) (final-append empty cs (c ∷ [])),
     )
 
-data-number : (v : ℕ) (f : ℕ → Bool) (a : Answer) → NamesConnection f a → dataReturned v f (sentOf a) ≡ dataSlotOf v a
+data-number : (v : ℕ) (f : ℕ → Bool) (a : Answer) → NamesConnection f a → dataReturned v f (replyOf a) ≡ dataSlotOf v a
 unfolding dataSlotOf dataIn
 data-number v f (Refused n) h = refl
 data-number v f (Accepted n) h = refl

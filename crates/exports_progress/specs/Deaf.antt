@@ -12,7 +12,6 @@ use Rattle.rate_params.specs.declared.params.Params.{Params}
 use Rattle.rate_params.specs.Params.{least, initialUsed, crm}
 use Rattle.cell.specs.Name.{nameFrom}
 use Rattle.model.specs.Call.{Call}
-use Rattle.abr_answers.specs.declared.calls.AbrSent.{AbrSent}
 use Rattle.abr_answers.specs.declared.calls.AbrAllowed.{AbrAllowed}
 use Rattle.abr.specs.Contract.{ReturnsAllowed}
 use Rattle.abr.specs.Exports.{Observation, Transcript, finalWords, zeros}
@@ -21,9 +20,10 @@ use Rattle.promise_service.specs.Deaf.{cutTimes, Unheard, Silent}
 use Rattle.exports.specs.Exports.{paramsObserved}
 use Rattle.exports.specs.Conservation.{sumObserved}
 use Rattle.exports_rates.specs.Seen.{seenOf}
+use Rattle.abr_answers.specs.Reply.{Reply}
 
 -- 1 for a slot that returned kind 1, a forward cell, and the pair of v
-abbrev pub forwardReturned : (v : ℕ) → AbrSent → ℕ
+abbrev pub forwardReturned : (v : ℕ) → Reply → ℕ
 forwardReturned v r = cond (eqb (r .kind) 1 && eqb (nameFrom (r .vpi) (r .vci)) v) 1 0
 
 abbrev pub forwardsReturned : (v : ℕ) → List Call → List Observation → ℕ

@@ -17,7 +17,6 @@ use Rattle.cell.specs.Reading.{reading}
 use Rattle.model.specs.Call.{Call}
 use Rattle.model.specs.Aspects.{Sort, opener, closer, arrival, slotAt, another, sortOf, Asked, asksMade, asksOutOfRate, asksNone, askedOf}
 use Rattle.model.specs.Conservation.{offeredTo, closedOn}
-use Rattle.abr_answers.specs.declared.calls.AbrSent.{AbrSent}
 use Rattle.abr.specs.Exports.{Observation, Transcript, finalWords, zeros}
 use Rattle.laws.specs.All.{All}
 use Rattle.promise_service.specs.Liveness.{Somewhere}
@@ -26,6 +25,7 @@ use Rattle.exports.specs.Exports.{paramsObserved}
 use Rattle.exports.specs.Returned.{noMember, memberSeen, connectionReturned}
 use Rattle.exports.specs.Conservation.{dataReturned}
 use Rattle.exports.specs.Along.{kept}
+use Rattle.abr_answers.specs.Reply.{Reply}
 
 -- whether a turned cell waits, and whether a made one does
 pub record BackwardKept : Type 0 where
@@ -42,7 +42,7 @@ turnedRead v (DataCell vpi vci e) k = k
 turnedRead v (RmCell g) k = cond (eqb (cellName g) v) (cond (eqb (g .dir) 1) k (record { turned = true; made = k .made })) k
 
 -- an open or a close, a received cell, a slot: kind 2 is a turned cell or, if none waited, a made one
-abbrev pub answersBy : (v : ℕ) → (member : ℕ → Bool) → AbrSent → BackwardKept → Sort → BackwardKept
+abbrev pub answersBy : (v : ℕ) → (member : ℕ → Bool) → Reply → BackwardKept → Sort → BackwardKept
 answersBy v f r k (opener u t p) = cond (eqb u v) noAnswers k
 answersBy v f r k (closer u) = cond (eqb u v) noAnswers k
 answersBy v f r k (arrival o) = turnedRead v (reading o) k
@@ -56,7 +56,7 @@ madeBy v k (asksOutOfRate u t) = k
 madeBy v k asksNone = k
 
 -- after a call that returned 0
-abbrev pub answersAfter : (v : ℕ) → (member : ℕ → Bool) → Call → AbrSent → BackwardKept → BackwardKept
+abbrev pub answersAfter : (v : ℕ) → (member : ℕ → Bool) → Call → Reply → BackwardKept → BackwardKept
 answersAfter v f c r k = madeBy v (answersBy v f r k (sortOf c)) (askedOf c)
 
 -- What a caller keeps of v: the members, the data cells that wait, and its answers. The data cells that wait are
@@ -82,7 +82,7 @@ pub record SeenCell : Type 0 where
   pub cells : ℕ
   pub answers : Bool
 
-abbrev pub seenCell : (v : ℕ) → WaitingKept → AbrSent → List SeenCell
+abbrev pub seenCell : (v : ℕ) → WaitingKept → Reply → List SeenCell
 seenCell v k r =
     cond (not (eqb (r .kind) 0) && eqb (connectionReturned (k .member) r) v)
     (record { kind = r .kind; cells = k .cells; answers = k .answers .turned || k .answers .made } ∷ []) []

@@ -21,8 +21,8 @@ use Rattle.model.specs.Call.{Call, closing, closedCells}
 use Rattle.model.specs.Step.{refuse, discard, ofOpen, closeStep, step}
 use Rattle.model.specs.Queries.{entryAcr, acrOf}
 use Rattle.model.specs.Run.{final}
-use Rattle.abr_answers.specs.declared.calls.AbrSent.{AbrSent}
-use Rattle.abr_answers.specs.Calls.{sentOf, allowedOf}
+use Rattle.abr_answers.specs.Calls.{allowedOf}
+use Rattle.abr_answers.specs.Reply.{Reply, replyOf}
 use Rattle.model.specs.Aspects.{Subject, byName, inCell, inAnswer, noSubject, subjectOf, OnMembers, ofClosed, ofAdded, ofOffered, ofRemoved, ofSlot, ofNone, membersOf}
 use Rattle.abr.specs.Exports.{Observation, Performs, Transcript, finalWords, zeros}
 use Rattle.promise_lists.specs.Interference.{readName, concerns, answersName, touches, concerned, touched}
@@ -41,17 +41,17 @@ read-name f s k (Unread n) = refl
 read-name f s k (DataCell vpi vci e) = ap (λ (b : Bool). some (cond b (pathOf (addressName vpi vci)) (addressName vpi vci))) (k (addressName vpi vci))
 read-name f s k (RmCell g) = refl
 
-subject-seen : (f : ℕ → Bool) (s : State) → Knows f s → (a : Answer) → NamesConnection f a → (x : Subject) → subjectSeen f (sentOf a) x ≡ concerned (s .members) a x
+subject-seen : (f : ℕ → Bool) (s : State) → Knows f s → (a : Answer) → NamesConnection f a → (x : Subject) → subjectSeen f (replyOf a) x ≡ concerned (s .members) a x
 subject-seen f s k a h (byName v) = refl
 subject-seen f s k a h (inCell o) = read-name f s k (reading o)
 subject-seen f s k a h inAnswer = went-to f a h
 subject-seen f s k a h noSubject = refl
 
-names-seen : (f : ℕ → Bool) (s : State) → Knows f s → (c : Call) (a : Answer) → NamesConnection f a → namesSeen f c (sentOf a) ≡ concerns (s .members) c a
+names-seen : (f : ℕ → Bool) (s : State) → Knows f s → (c : Call) (a : Answer) → NamesConnection f a → namesSeen f c (replyOf a) ≡ concerns (s .members) c a
 unfolding concerns
 names-seen f s k c a h = subject-seen f s k a h (subjectOf c)
 
-name-told : (x : ℕ) (a : Answer) → (not (eqb (sentOf a .kind) 0) && eqb (nameFrom (sentOf a .vpi) (sentOf a .vci)) x) ≡ answersName x a
+name-told : (x : ℕ) (a : Answer) → (not (eqb (replyOf a .kind) 0) && eqb (nameFrom (replyOf a .vpi) (replyOf a .vci)) x) ≡ answersName x a
 unfolding answersName
 name-told x (Refused n) = refl
 name-told x (Accepted n) = refl
@@ -61,7 +61,7 @@ name-told x (Sent v y Forward a n) = ap (λ (z : ℕ). eqb z x) (back y)
 name-told x (Sent v y Turned a n) = ap (λ (z : ℕ). eqb z x) (back y)
 name-told x (Sent v y Data a n) = ap (λ (z : ℕ). eqb z x) (back y)
 
-touched-seen : (x : ℕ) (a : Answer) (k : OnMembers) → touchedSeen x (sentOf a) k ≡ touched x a k
+touched-seen : (x : ℕ) (a : Answer) (k : OnMembers) → touchedSeen x (replyOf a) k ≡ touched x a k
 touched-seen x a (ofClosed v) = refl
 touched-seen x a (ofAdded y) = refl
 touched-seen x a (ofOffered y n) = refl
@@ -69,7 +69,7 @@ touched-seen x a (ofRemoved y) = refl
 touched-seen x a ofSlot = name-told x a
 touched-seen x a ofNone = refl
 
-touches-seen : (x : ℕ) (c : Call) (a : Answer) → touchesSeen x c (sentOf a) ≡ touches x c a
+touches-seen : (x : ℕ) (c : Call) (a : Answer) → touchesSeen x c (replyOf a) ≡ touches x c a
 unfolding touches
 touches-seen x c a = touched-seen x a (membersOf c)
 
@@ -77,7 +77,7 @@ touches-seen x c a = touched-seen x a (membersOf c)
 abbrev closeNumber : Entry → ℕ
 closeNumber x = cond (isFree x) 11 0
 
-close-number : (s : State) (n : Connection → ℕ) (leaf : ℕ) (r : State) (x : Entry) → sentOf (ofOpen s x (λ c. discard (n c) leaf s r) .answer) .refusal ≡ closeNumber x
+close-number : (s : State) (n : Connection → ℕ) (leaf : ℕ) (r : State) (x : Entry) → replyOf (ofOpen s x (λ c. discard (n c) leaf s r) .answer) .refusal ≡ closeNumber x
 unfolding ofOpen refuse discard isFree
 close-number s n leaf r free = refl
 close-number s n leaf r (taken c) = refl
@@ -90,7 +90,7 @@ close-cells s leaf r (taken c) = refl
 closes-as : {s : State} {vpi vci : ℕ} {o : Observation} → Sees s (closing vpi vci) o → (o .returned .refusal ≡ closeNumber (find (addressName vpi vci) (s .entries))) × (o .cells ≡ entryCells (find (addressName vpi vci) (s .entries)))
 unfolding step closeStep
 closes-as {s} {vpi} {vci} z = (
-  ap (λ (r : AbrSent). r .refusal) (z .matches .returned) ∙ close-number s _ _ _ (find (addressName vpi vci) (s .entries)),
+  ap (λ (r : Reply). r .refusal) (z .matches .returned) ∙ close-number s _ _ _ (find (addressName vpi vci) (s .entries)),
   z .matches .cells ∙ close-cells s _ _ (find (addressName vpi vci) (s .entries)),
 )
 

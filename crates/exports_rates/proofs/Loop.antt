@@ -15,9 +15,8 @@ use Rattle.model.specs.Call.{Call}
 use Rattle.model.specs.Step.{step}
 use Rattle.model.specs.Run.{final, allowed}
 use Rattle.model.proofs.Given.{params-given}
-use Rattle.abr_answers.specs.declared.calls.AbrSent.{AbrSent}
 use Rattle.abr_answers.specs.declared.calls.AbrAllowed.{AbrAllowed}
-use Rattle.abr_answers.specs.Calls.{sentOf}
+use Rattle.abr_answers.specs.Reply.{Reply, replyOf}
 use Rattle.abr.specs.Contract.{ReturnsAllowed}
 use Rattle.abr.specs.Exports.{Observation, Transcript, ended as endedHere, then, finalWords, zeros}
 use Rattle.promise_lists.specs.Demand3.{NotAbove}
@@ -66,10 +65,10 @@ unfolding entrySeen
 not-lowered {v} {p} {q} {s} {l} {k} {c} {o} z e m y h = record {
   notClosed = record { otherName = h .notClosed .otherName };
   forwardCell = λ t room acr n d i a f.
-      let r : o .returned ≡ sentOf (Sent v v Forward acr n) = y .matches .returned ∙ ap sentOf a in
+      let r : o .returned ≡ replyOf (Sent v v Forward acr n) = y .matches .returned ∙ ap replyOf a in
       let same : d ≡ z .holder = same-holder f (z .found) in
       unmoved-so p t (k .connection) d (m .connection ∙ ap entrySeen f) (ap (λ (x : Connection). x .rate .params) same ∙ ap (λ (x : Rate). x .params) (z .rate) ∙ e)
-      (h .forwardCell t room i (ap (λ (x : AbrSent). x .kind) r) (rw r (back v)));
+      (h .forwardCell t room i (ap (λ (x : Reply). x .kind) r) (rw r (back v)));
 }
 
 -- a call whose forward cell, if it is one of v, does not lower the rate

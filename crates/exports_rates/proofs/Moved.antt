@@ -39,9 +39,8 @@ use Rattle.model.specs.Run.{final}
 use Rattle.model.proofs.Entries.{Case, same, other, case}
 use Rattle.model.proofs.Frames.{put-read, with-opened-read, freed-read}
 use Rattle.model.proofs.Effects.{OpenPassed, Effect, refuses, opens, closes, offers, receivesData, receivesRm, setsLevel, idles, sends, makes, sendsOutOfRate, opensPath, adds, offersMember, removes, effect}
-use Rattle.abr_answers.specs.declared.calls.AbrSent.{AbrSent}
 use Rattle.abr_answers.specs.declared.calls.AbrAllowed.{AbrAllowed}
-use Rattle.abr_answers.specs.Calls.{sentOf}
+use Rattle.abr_answers.specs.Reply.{Reply, replyOf}
 use Rattle.model.specs.Aspects.{Sort, opener, closer, arrival, slotAt, another, sortOf}
 use Rattle.exports.proofs.Returned.{back}
 use Rattle.exports.proofs.Transport.{sees, stands}
@@ -50,31 +49,31 @@ use Rattle.exports_rates.proofs.Seen.{connectionSeen}
 use Rattle.exports_rates.proofs.Held.{held-read, acr-held, open-under, seen-held}
 
 -- the rate of a connection after a call that returned this
-abbrev rateOn : (v : ℕ) → Call → AbrSent → Connection → ℕ
+abbrev rateOn : (v : ℕ) → Call → Reply → Connection → ℕ
 rateOn v c r d = rateAfter v (connectionSeen d) (d .rate) c r
 
 -- from the entry of v before the call to the one after it
-abbrev RateTo : (v : ℕ) → Call → AbrSent → Entry → Entry → Type 0
+abbrev RateTo : (v : ℕ) → Call → Reply → Entry → Entry → Type 0
 RateTo v c r free y = Unit
 RateTo v c r (taken d) free = Unit
 RateTo v c r (taken d) (taken e) = e .rate .acr ≡ rateOn v c r d
 
 -- the call leaves the rate of every connection under v
-abbrev KeepsRate : (v : ℕ) → Call → AbrSent → Type 0
+abbrev KeepsRate : (v : ℕ) → Call → Reply → Type 0
 KeepsRate v c r = (d : Connection) → d .rate .acr ≡ rateOn v c r d
 
-rests : (v : ℕ) (c : Call) (r : AbrSent) → KeepsRate v c r → (x : Entry) → RateTo v c r x x
+rests : (v : ℕ) (c : Call) (r : Reply) → KeepsRate v c r → (x : Entry) → RateTo v c r x x
 rests v c r h free = tt
 rests v c r h (taken d) = h d
 
-closed : (v : ℕ) (c : Call) (r : AbrSent) (x : Entry) → RateTo v c r x free
+closed : (v : ℕ) (c : Call) (r : Reply) (x : Entry) → RateTo v c r x free
 closed v c r free = tt
 closed v c r (taken d) = tt
 
 self : Entry → Entry
 self x = x
 
-module _ (v : ℕ) (s : State) (w : NamesUnique (s .entries)) (c : Call) (r : AbrSent) where
+module _ (v : ℕ) (s : State) (w : NamesUnique (s .entries)) (c : Call) (r : Reply) where
   -- the entry of u, which may be v's, becomes y
   becomes : (u : ℕ) (y : Entry) → (u ≡ v → RateTo v c r (find v (s .entries)) y) → (u ≢ v → KeepsRate v c r) → RateTo v c r (find v (s .entries)) (cond (eqb u v) y (find v (s .entries)))
   becomes u y h l = go (case u v)
@@ -96,7 +95,7 @@ module _ (v : ℕ) (s : State) (w : NamesUnique (s .entries)) (c : Call) (r : Ab
   unfolding self
   ended u l = rw (freed-read self v u s w) (becomes u free (λ q. closed v c r (find v (s .entries))) (λ _. l))
 
-refused : (v : ℕ) (x : Sort) (n : ℕ) → 0 < n → (d : Connection) → d .rate .acr ≡ rateBy v (connectionSeen d) (d .rate) (sentOf (Refused n)) x
+refused : (v : ℕ) (x : Sort) (n : ℕ) → 0 < n → (d : Connection) → d .rate .acr ≡ rateBy v (connectionSeen d) (d .rate) (replyOf (Refused n)) x
 refused v (opener u t p) n h d = refl
 refused v (closer u) n h d = refl
 refused v (arrival o) n h d = rw (ne-eqb n 0 (λ e. omega (arith, h, e))) refl
@@ -122,22 +121,22 @@ moved t y Unsent q = refl
 moved t y (Running sent forward n turned) q = refl
 
 sent :
-    (v t : ℕ) (d : Connection) (ms : List Member) (k : Kind) (a n room : ℕ) → let r = sentOf (Sent v (nameAnswered v (memberServed k d ms)) k a n) in
+    (v t : ℕ) (d : Connection) (ms : List Member) (k : Kind) (a n room : ℕ) → let r = replyOf (Sent v (nameAnswered v (memberServed k d ms)) k a n) in
     after k t d .rate .acr ≡ rateOn v (slot t room) r d
 unfolding after sentForward sentTurned sentData memberServed nameAnswered
 sent v t d ms Forward a n room = moved t (d .unanswered) (d .pace) (d .rate) ∙ sym (ap (λ (b : Bool). cond b (rateSent t (d .unanswered) (d .pace) (d .rate)) (d .rate .acr)) (eq-eqb _ v (back v)))
 sent v t d ms Turned a n room = refl
 sent v t d ms Data a n room = refl
 
-sent-other : (v u t : ℕ) (e : Connection) (ms : List Member) (k : Kind) (a n room : ℕ) → u ≢ v → KeepsRate v (slot t room) (sentOf (Sent u (nameAnswered u (memberServed k e ms)) k a n))
+sent-other : (v u t : ℕ) (e : Connection) (ms : List Member) (k : Kind) (a n room : ℕ) → u ≢ v → KeepsRate v (slot t room) (replyOf (Sent u (nameAnswered u (memberServed k e ms)) k a n))
 unfolding memberServed nameAnswered
 sent-other v u t e ms Forward a n room q d = sym (ap (λ (b : Bool). cond b (rateSent t (d .unanswered) (d .pace) (d .rate)) (d .rate .acr)) (ne-eqb _ v (λ z. q (sym (back u) ∙ z))))
 sent-other v u t e ms Turned a n room q d = refl
 sent-other v u t e ms Data a n room q d = refl
 
-effect-rate : (v : ℕ) {s : State} → NamesUnique (s .entries) → {c : Call} {o : Outcome} → Effect s c o → RateTo v c (sentOf (o .answer)) (find v (s .entries)) (find v (o .state .entries))
+effect-rate : (v : ℕ) {s : State} → NamesUnique (s .entries) → {c : Call} {o : Outcome} → Effect s c o → RateTo v c (replyOf (o .answer)) (find v (s .entries)) (find v (o .state .entries))
 unfolding refuse accept replay discard sendFrom sendStep idleStep sendOutOfRate withTime withLevel withMembers withOffer withoutOne withServed offered afterDataCell withMade afterOutOfRate
-effect-rate v {s} w (refuses c n h) = rests v c (sentOf (Refused n)) (refused v (sortOf c) n h) (find v (s .entries))
+effect-rate v {s} w (refuses c n h) = rests v c (replyOf (Refused n)) (refused v (sortOf c) n h) (find v (s .entries))
 effect-rate v {s} w (opens a b t p g) = begun v s w (opening a b t p) _ (addressName a b) t p g (λ d. refl)
 effect-rate v {s} w (closes a b d f) = ended v s w (closing a b) _ (addressName a b) (λ d. refl)
 effect-rate v {s} w (offers a b n d f i h) = changes v s w (offering a b n) _ (addressName a b) d (offered n d) f refl (λ _. refl) (λ _ e. refl)
@@ -152,7 +151,7 @@ effect-rate v {s} w (idles t room g b) = rests v (slot t room) _ (λ d. refl) (f
 effect-rate v {s} w (sends t room i u g b) =
     let k = kindAt t (b .holder) in
     changes v (withTime t s) w (slot t room) _ u (b .holder) (withServed (memberServed k (b .holder) (s .members)) (after k t (b .holder))) (b .found) (after-same k t (b .holder) .name)
-    (λ q. subst (λ (x : ℕ). after k t (b .holder) .rate .acr ≡ rateOn v (slot t room) (sentOf (Sent x (nameAnswered x (memberServed k (b .holder) (s .members))) k 0 0)) (b .holder)) (sym q)
+    (λ q. subst (λ (x : ℕ). after k t (b .holder) .rate .acr ≡ rateOn v (slot t room) (replyOf (Sent x (nameAnswered x (memberServed k (b .holder) (s .members))) k 0 0)) (b .holder)) (sym q)
     (sent v t (b .holder) (s .members) k 0 0 room))
     (sent-other v u t (b .holder) (s .members) k 0 0 room)
 effect-rate v {s} w (makes a b t d f g h m) = changes v (withTime t s) w (making a b t) _ (addressName a b) d (withMade t (s .level) d) f refl (λ _. refl) (λ _ e. refl)
@@ -163,7 +162,7 @@ effect-rate v {s} w (offersMember a b n d f i h) = changes v s w (offeringMember
 effect-rate v {s} w (removes a b d f i) = changes v s w (removing a b) _ (pathOf (addressName a b)) d _ f refl (λ _. refl) (λ _ e. refl)
 
 rate-at : (v : ℕ) (s : State) → NamesUnique (s .entries) → (c : Call) (d e : Connection) → find v (s .entries) ≡ taken d → find v (step s c .state .entries) ≡ taken e
-    → e .rate .acr ≡ rateOn v c (sentOf (step s c .answer)) d
+    → e .rate .acr ≡ rateOn v c (replyOf (step s c .answer)) d
 rate-at v s w c d e f g = let m = effect-rate v w (effect s w c) in rw (f, g) at m
 
 pub exports-moves : ExportsMoves

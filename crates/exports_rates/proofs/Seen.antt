@@ -43,7 +43,7 @@ use Rattle.model.specs.Run.{final, isAccepted}
 use Rattle.model.proofs.Entries.{Case, same, other, case, absent-find, each-free}
 use Rattle.model.proofs.Frames.{put-read, with-opened-read, freed-read}
 use Rattle.model.proofs.Effects.{OpenPassed, Effect, refuses, opens, closes, offers, receivesData, receivesRm, setsLevel, idles, sends, makes, sendsOutOfRate, opensPath, adds, offersMember, removes, effect}
-use Rattle.abr_answers.specs.Calls.{sentOf}
+use Rattle.abr_answers.specs.Reply.{replyOf}
 use Rattle.abr.specs.Exports.{Observation, Transcript, zeros}
 use Rattle.exports.specs.Returned.{connectionReturned}
 use Rattle.exports.proofs.Returned.{Knows, knows-after, none-known, NamesConnection, names-connection, connection-back, back, open-alone}
@@ -117,7 +117,7 @@ member-last f s w k v d e (some y) q x = rw (back y, k y, turn-picks _ _ (s .mem
 
 cell-sent :
     (f : ℕ → Bool) (s : State) → WellFormed s → Knows f s → (v t : ℕ) (d : Connection) → find v (s .entries) ≡ taken d → (k : Kind) (a n : ℕ) → let m = memberServed k d (s .members) in
-    connectionSeen (withServed m (after k t d)) ≡ cellSent t f (sentOf (Sent v (nameAnswered v m) k a n)) (connectionSeen d)
+    connectionSeen (withServed m (after k t d)) ≡ cellSent t f (replyOf (Sent v (nameAnswered v m) k a n)) (connectionSeen d)
 unfolding after sentForward sentTurned sentData withServed memberServed lastAfter waits
 cell-sent f s w h v t d e Forward a n = refl
 cell-sent f s w h v t d e Turned a n =
@@ -128,7 +128,7 @@ cell-sent f s w h v t d e Data a n =
 
 -- the slot's connection, as a caller knows it
 went : (f : ℕ → Bool) (v u x : ℕ) (k : Kind) (a n : ℕ) (y z : Seen) → NamesConnection f (Sent u x k a n)
-    → cond (eqb u v) y z ≡ cond (not (eqb (sentOf (Sent u x k a n) .kind) 0) && eqb (connectionReturned f (sentOf (Sent u x k a n))) v) y z
+    → cond (eqb u v) y z ≡ cond (not (eqb (replyOf (Sent u x k a n) .kind) 0) && eqb (connectionReturned f (replyOf (Sent u x k a n))) v) y z
 went f v u x Forward a n y z h = ap (λ (c : ℕ). cond (eqb c v) y z) (sym (connection-back f u x h))
 went f v u x Turned a n y z h = ap (λ (c : ℕ). cond (eqb c v) y z) (sym (connection-back f u x h))
 went f v u x Data a n y z h = ap (λ (c : ℕ). cond (eqb c v) y z) (sym (connection-back f u x h))
@@ -139,7 +139,7 @@ made-now t level d h = rw (lt-ltb 0 level h) refl
 
 effect-seen :
     (v : ℕ) (f : ℕ → Bool) {s : State} → WellFormed s → Knows f s → {c : Call} {o : Outcome} → Effect s c o → NamesConnection f (o .answer)
-    → seenAt v (o .state) ≡ cond (isAccepted (o .answer)) (seenAfter v f c (sentOf (o .answer)) (closedCells (o .answer)) (seenAt v s)) (seenAt v s)
+    → seenAt v (o .state) ≡ cond (isAccepted (o .answer)) (seenAfter v f c (replyOf (o .answer)) (closedCells (o .answer)) (seenAt v s)) (seenAt v s)
 unfolding refuse accept replay discard withLevel withMembers idleStep sendStep sendFrom sendOutOfRate withTime isAccepted closedCells offered withOffer withoutOne afterDataCell withMade afterOutOfRate withServed
 effect-seen v f {s} w h (refuses c n g) k = refl
 effect-seen v f {s} w h (opens a b t p g) k = begun v s (w .unique) (addressName a b) t p g
@@ -154,7 +154,7 @@ effect-seen v f {s} w h (idles t room g b) k = refl
 effect-seen v f {s} w h (sends t room i n g b) k =
     let d = b .holder in
     let x = kindAt t d in
-    own v (withTime t s) (w .unique) (cellSent t f (sentOf (Sent n (nameAnswered n (memberServed x d (s .members))) x 0 0))) n d (withServed (memberServed x d (s .members)) (after x t d)) (b .found)
+    own v (withTime t s) (w .unique) (cellSent t f (replyOf (Sent n (nameAnswered n (memberServed x d (s .members))) x 0 0))) n d (withServed (memberServed x d (s .members)) (after x t d)) (b .found)
     (after-same x t d .name) (cell-sent f s w h n t d (b .found) x 0 0)
     ∙ went f v n _ x 0 0 _ (seenAt v s) k
 effect-seen v f {s} w h (makes a b t d e g l m) k = own v (withTime t s) (w .unique) makesSeen (addressName a b) d (withMade t (s .level) d) e refl (made-now t (s .level) d l)

@@ -16,11 +16,11 @@ use Rattle.cell.specs.Reading.{reading}
 use Rattle.connection_members.specs.Path.{pathOf}
 use Rattle.model.specs.Call.{Call, closing, removing}
 use Rattle.model.specs.Aspects.{Subject, byName, inCell, inAnswer, noSubject, subjectOf, OnMembers, ofClosed, ofAdded, ofOffered, ofRemoved, ofSlot, ofNone, membersOf}
-use Rattle.abr_answers.specs.declared.calls.AbrSent.{AbrSent}
 use Rattle.abr_answers.specs.declared.calls.AbrAllowed.{AbrAllowed}
 use Rattle.abr.specs.Contract.{ReturnsAllowed}
 use Rattle.abr.specs.Exports.{Observation, Performs, Transcript, finalWords, zeros}
 use Rattle.exports.specs.Returned.{noMember, membersSeen, connectionOf, wentTo}
+use Rattle.abr_answers.specs.Reply.{Reply}
 
 -- the one connection that a call is about, as a caller knows it
 abbrev pub readNameSeen : (member : ℕ → Bool) → Reading → Option ℕ
@@ -28,17 +28,17 @@ readNameSeen f (Refused n) = none
 readNameSeen f (DataCell vpi vci e) = some (connectionOf f (addressName vpi vci))
 readNameSeen f (RmCell g) = some (cellName g)
 
-abbrev pub subjectSeen : (member : ℕ → Bool) → AbrSent → Subject → Option ℕ
+abbrev pub subjectSeen : (member : ℕ → Bool) → Reply → Subject → Option ℕ
 subjectSeen f r (byName v) = some v
 subjectSeen f r (inCell o) = readNameSeen f (reading o)
 subjectSeen f r inAnswer = wentTo f r
 subjectSeen f r noSubject = none
 
-abbrev pub namesSeen : (member : ℕ → Bool) → Call → AbrSent → Option ℕ
+abbrev pub namesSeen : (member : ℕ → Bool) → Call → Reply → Option ℕ
 namesSeen f c r = subjectSeen f r (subjectOf c)
 
 -- a call is about the member x: it names it, closes its path, or is a slot that returned it
-abbrev pub touchedSeen : (x : ℕ) → AbrSent → OnMembers → Bool
+abbrev pub touchedSeen : (x : ℕ) → Reply → OnMembers → Bool
 touchedSeen x r (ofClosed v) = eqb v (pathOf x)
 touchedSeen x r (ofAdded y) = eqb y x
 touchedSeen x r (ofOffered y n) = eqb y x
@@ -46,7 +46,7 @@ touchedSeen x r (ofRemoved y) = eqb y x
 touchedSeen x r ofSlot = not (eqb (r .kind) 0) && eqb (nameFrom (r .vpi) (r .vci)) x
 touchedSeen x r ofNone = false
 
-abbrev pub touchesSeen : (x : ℕ) → Call → AbrSent → Bool
+abbrev pub touchesSeen : (x : ℕ) → Call → Reply → Bool
 touchesSeen x c r = touchedSeen x r (membersOf c)
 
 -- two closes: the same refusal or none, and the same data cells
@@ -70,7 +70,7 @@ pub record ExportsNoInterference : Type 0 where
       (cs : List Call) (os : List Observation) → Transcript cs zeros os → (c : Call) (o : Observation) → Performs c (finalWords zeros os) o → (vpi vci : ℕ)
       → namesSeen (membersSeen noMember cs os) c (o .returned) ≢ some (addressName vpi vci)
       → (a b : Observation) → Performs (closing vpi vci) (finalWords zeros os) a → Performs (closing vpi vci) (o .table) b → SameClose a b
-  -- of any other member, or no member, abr_remove would return the same data cells, or a refusal
+  -- of any other member, or no member, abr_remove_member would return the same data cells, or a refusal
   pub removes :
       (cs : List Call) (os : List Observation) → Transcript cs zeros os → (c : Call) (o : Observation) → Performs c (finalWords zeros os) o → (vpi vci : ℕ)
       → touchesSeen (addressName vpi vci) c (o .returned) ≡ false

@@ -20,12 +20,12 @@ use Rattle.connection.specs.declared.parts.Pace.{Pace}
 use Rattle.connection.specs.declared.parts.Pace.the-variants.{Unsent, Running}
 use Rattle.model.specs.Call.{Call}
 use Rattle.model.specs.Aspects.{Sort, opener, closer, arrival, slotAt, another, sortOf}
-use Rattle.abr_answers.specs.declared.calls.AbrSent.{AbrSent}
 use Rattle.abr_answers.specs.declared.calls.AbrAllowed.{AbrAllowed}
 use Rattle.abr.specs.Contract.{ReturnsAllowed}
 use Rattle.abr.specs.Exports.{Observation, Performs, Transcript, finalWords, zeros}
 use Rattle.exports.specs.Exports.{paramsObserved}
 use Rattle.exports_rates.specs.Seen.{Seen, seenOf}
+use Rattle.abr_answers.specs.Reply.{Reply}
 
 -- a forward cell at t: the first cell's move; or idle, and then unanswered
 abbrev pub rateSent : (t unanswered : ℕ) → Pace → Rate → ℕ
@@ -39,14 +39,14 @@ rateFed v (DataCell vpi vci e) q = q .acr
 rateFed v (RmCell f) q = cond (eqb (cellName f) v && eqb (f .dir) 1) (feedback (eqb (f .ci) 1) (eqb (f .ni) 1) (rateOf (f .er)) q .acr) (q .acr)
 
 -- after a call that returned this, the rate of v being q before it: kind 1 is a forward cell
-abbrev pub rateBy : (v : ℕ) → Seen → Rate → AbrSent → Sort → ℕ
+abbrev pub rateBy : (v : ℕ) → Seen → Rate → Reply → Sort → ℕ
 rateBy v k q r (opener u t p) = q .acr
 rateBy v k q r (closer u) = q .acr
 rateBy v k q r (arrival o) = cond (eqb (r .refusal) 0) (rateFed v (reading o) q) (q .acr)
 rateBy v k q r (slotAt t) = cond (eqb (r .kind) 1 && eqb (nameFrom (r .vpi) (r .vci)) v) (rateSent t (k .unanswered) (k .pace) q) (q .acr)
 rateBy v k q r another = q .acr
 
-abbrev pub rateAfter : (v : ℕ) → Seen → Rate → Call → AbrSent → ℕ
+abbrev pub rateAfter : (v : ℕ) → Seen → Rate → Call → Reply → ℕ
 rateAfter v k q c r = rateBy v k q r (sortOf c)
 
 -- after any exported calls from the zero table and one call more, for a connection that is open before and after

@@ -16,10 +16,10 @@ use Rattle.connection_members.specs.Path.{pathVci, pathOf}
 use Rattle.connection.specs.declared.parts.Pace.{Pace}
 use Rattle.connection.specs.declared.parts.Pace.the-variants.{Unsent, Running}
 use Rattle.model.specs.Call.{Call, opening, closing, receiving, offering, levelling, slot, making, outOfRate, openingPath, adding, offeringMember, removing}
-use Rattle.abr_answers.specs.declared.calls.AbrSent.{AbrSent}
 use Rattle.abr.specs.Exports.{Observation}
 use Rattle.exports.specs.Returned.{noMember, memberSeen, connectionReturned}
 use Rattle.exports.specs.Along.{kept}
+use Rattle.abr_answers.specs.Reply.{Reply}
 
 pub record Seen : Type 0 where
   pub opened : ℕ  -- the instant of its open; 0 while it is closed
@@ -67,7 +67,7 @@ abbrev pub dataSent : (t : ℕ) → (ofMember : Bool) → (vci : ℕ) → Seen �
 dataSent t b x k = seen (k .opened) (further t false (k .pace)) (k .unanswered) (k .turned) (k .made) (k .waiting - 1) (cond b x (k .served))
 
 -- kind 1 is forward, 2 turned or made, 3 data
-abbrev pub cellSent : (t : ℕ) → (member : ℕ → Bool) → AbrSent → Seen → Seen
+abbrev pub cellSent : (t : ℕ) → (member : ℕ → Bool) → Reply → Seen → Seen
 cellSent t f r k = cond (eqb (r .kind) 1) (forwardSent t k) (cond (eqb (r .kind) 2) (turnedSent t k) (dataSent t (f (nameFrom (r .vpi) (r .vci))) (r .vci) k))
 
 abbrev pub makes : Seen → Seen
@@ -77,7 +77,7 @@ abbrev pub waitsNow : (n : ℕ) → Seen → Seen
 waitsNow n k = seen (k .opened) (k .pace) (k .unanswered) (k .turned) (k .made) n (k .served)
 
 -- after a call that was not refused, returned this and, as a close or a removal, this many cells
-abbrev pub seenAfter : (v : ℕ) → (member : ℕ → Bool) → Call → AbrSent → (cells : ℕ) → Seen → Seen
+abbrev pub seenAfter : (v : ℕ) → (member : ℕ → Bool) → Call → Reply → (cells : ℕ) → Seen → Seen
 seenAfter v f (opening vpi vci t p) r n k = cond (eqb (addressName vpi vci) v) (openedAt t) k
 seenAfter v f (closing vpi vci) r n k = cond (eqb (addressName vpi vci) v) (openedAt 0) k
 seenAfter v f (receiving o) r n k = readSeen v (reading o) k

@@ -25,7 +25,7 @@ use Rattle.model.specs.Run.{isAccepted}
 use Rattle.model.specs.Conservation.{dataIn}
 use Rattle.model.proofs.Conservation.{cond-zero}
 use Rattle.model.proofs.ToMembers.{ToMembers, refusedKept, noneTouched, idleKept, allClosed, oneAdded, oneOffered, oneRemoved, oneServed, to-members}
-use Rattle.abr_answers.specs.Calls.{sentOf}
+use Rattle.abr_answers.specs.Reply.{replyOf}
 use Rattle.model.specs.Aspects.{OnMembers}
 use Rattle.promise_service.specs.Fairness.{dataTold}
 use Rattle.exports.proofs.Returned.{back, open-alone}
@@ -33,7 +33,7 @@ use Rattle.exports_service.specs.Fairness.{toldReturned, cellsAfter, cel
 use Rattle.exports.proofs.Transport.{Keeps}
 
 -- the data cell that a slot returned is the one that it told
-pub told-number : (x : ℕ) (a : Answer) → toldReturned x (sentOf a) ≡ dataTold x a
+pub told-number : (x : ℕ) (a : Answer) → toldReturned x (replyOf a) ≡ dataTold x a
 unfolding dataTold dataIn
 told-number x (Refused n) = refl
 told-number x (Accepted n) = refl
@@ -77,7 +77,7 @@ offered-cells false m n k h = refl
 
 cells-after :
     {s : State} → WellFormed s → {k : OnMembers} {a : Answer} {ms : List Member} → ToMembers s k a ms → (x : ℕ)
-    → cellsOf x ms ≡ cond (isAccepted a) (cellsBy k (sentOf a) (waitsIn s)) (waitsIn s) x
+    → cellsOf x ms ≡ cond (isAccepted a) (cellsBy k (replyOf a) (waitsIn s)) (waitsIn s) x
 unfolding isAccepted
 cells-after w (refusedKept n) x = refl
 cells-after w (noneTouched n) x = refl
@@ -100,7 +100,7 @@ pub counts : Keeps cellsSeen Counts
 counts = record {
   goes = λ s c o f m z.
       let a = step s c .answer in
-      let is : waitsIn (step s c .state) ≡ cond (isAccepted a) (cellsAfter c (sentOf a) (waitsIn s)) (waitsIn s) =
+      let is : waitsIn (step s c .state) ≡ cond (isAccepted a) (cellsAfter c (replyOf a) (waitsIn s)) (waitsIn s) =
       λ i. λ x. cells-after (z .wellFormed) (to-members (z .wellFormed) c) x i in
       (λ i. cond (z .accepted i) (cellsAfter c (z .matches .returned i) (m i)) (m i)) ∙ sym is;
 }

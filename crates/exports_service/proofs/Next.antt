@@ -1,4 +1,4 @@
--- abr_next returns the earliest of the ready instants that a caller computes.
+-- abr_next_ready returns the earliest of the ready instants that a caller computes.
 use Prim.Native.Nat.{ℕ, _≤_}
 use mathlib.Core.Path.{_≡_, refl, sym, subst, _∙_}
 use mathlib.Core.List.{List}

@@ -32,9 +32,8 @@ use Rattle.model.proofs.Entries.{each-at}
 use Rattle.model.proofs.Frames.{put-read, name-of}
 use Rattle.model.proofs.Effects.{Effect, refuses, idles, sends, effect}
 use Rattle.engine.specs.Contract.{bufferContent}
-use Rattle.abr_answers.specs.declared.calls.AbrSent.{AbrSent}
 use Rattle.abr_answers.specs.declared.calls.AbrAllowed.{AbrAllowed}
-use Rattle.abr_answers.specs.Calls.{sentOf}
+use Rattle.abr_answers.specs.Reply.{Reply, replyOf}
 use Rattle.abr.specs.Contract.{ReturnsAllowed}
 use Rattle.abr.specs.Exports.{Observation, Performs, Transcript, finalWords, zeros}
 use Rattle.promise_service.specs.Spacing.{NotEarly}
@@ -84,7 +83,7 @@ goes {s} w {t} {v = v} {o} (sends _ _ i u g b) e =
     })
 
 -- nobody is ready by t, if an accepted slot is idle
-idle-none : {s : State} {t room : ℕ} {o : Outcome} → Effect s (slot t room) o → isAccepted (o .answer) ≡ true → sentOf (o .answer) .kind ≡ 0 → Best t (s .entries) noneReady
+idle-none : {s : State} {t room : ℕ} {o : Outcome} → Effect s (slot t room) o → isAccepted (o .answer) ≡ true → replyOf (o .answer) .kind ≡ 0 → Best t (s .entries) noneReady
 unfolding refuse idleStep sendFrom sendStep isAccepted
 idle-none (refuses _ n h) a e = let z : _≡_ {A = ℕ} 0 1 = cc in absurd (omega arith)
 idle-none (idles _ _ g b) a e = b
@@ -96,7 +95,7 @@ idle-none {t = t} (sends _ _ i u g b) a e = absurd (sent-none (kindAt t (b .hold
     sent-none Data z = omega (arith, z)
 
 -- only forward, turned and made cells are written
-slot-unwritten : {s : State} {t room : ℕ} {o : Outcome} → Effect s (slot t room) o → sentOf (o .answer) .kind ≢ 1 → sentOf (o .answer) .kind ≢ 2 → o .buffer ≡ untouched
+slot-unwritten : {s : State} {t room : ℕ} {o : Outcome} → Effect s (slot t room) o → replyOf (o .answer) .kind ≢ 1 → replyOf (o .answer) .kind ≢ 2 → o .buffer ≡ untouched
 unfolding refuse idleStep sendFrom sendStep bufferSent
 slot-unwritten (refuses _ n h) a b = refl
 slot-unwritten (idles _ _ g c) a b = refl
@@ -140,11 +139,11 @@ module _ (cs : List Call) (os : List Observation) (x : Transcript cs zeros os) (
     idle-seen : o .returned .refusal ≡ 0 → o .returned .kind ≡ 0 → (u i : ℕ) → readyOf cs os a u ≡ At i → t < i
     idle-seen e k u i r =
         ready-each (λ j v. t < j) (s .entries)
-        (idle-none (effect s (z .wellFormed .unique) (slot t room)) (was-accepted z e) (sym (ap (λ (r : AbrSent). r .kind) (z .matches .returned)) ∙ k)) u i (sym (ready-is u) ∙ r) s refl
+        (idle-none (effect s (z .wellFormed .unique) (slot t room)) (was-accepted z e) (sym (ap (λ (r : Reply). r .kind) (z .matches .returned)) ∙ k)) u i (sym (ready-is u) ∙ r) s refl
 
     unwritten : o .returned .kind ≢ 1 → o .returned .kind ≢ 2 → o .new ≡ o .old
     unwritten i j =
-        let k : o .returned .kind ≡ sentOf (step s (slot t room) .answer) .kind = ap (λ (r : AbrSent). r .kind) (z .matches .returned) in
+        let k : o .returned .kind ≡ replyOf (step s (slot t room) .answer) .kind = ap (λ (r : Reply). r .kind) (z .matches .returned) in
         z .matches .buffer ∙ ap (λ (b : Buffer). bufferContent b (o .old)) (slot-unwritten (effect s (z .wellFormed .unique) (slot t room)) (λ q. i (k ∙ q)) (λ q. j (k ∙ q)))
 
     module _ (v : ℕ) (e : wentTo (membersSeen noMember cs os) (o .returned) ≡ some v) where
@@ -162,8 +161,8 @@ module _ (cs : List Call) (os : List Observation) (x : Transcript cs zeros os) (
       found : find v (s .entries) ≡ taken c
       found = g .chosen .found
 
-      told : o .returned ≡ sentOf (Sent v (g .told) (kindAt t c) (g .acr) (g .comparisons))
-      told = z .matches .returned ∙ ap sentOf (g .answer)
+      told : o .returned ≡ replyOf (Sent v (g .told) (kindAt t c) (g .acr) (g .comparisons))
+      told = z .matches .returned ∙ ap replyOf (g .answer)
 
       picked : Picked (readyOf cs os a) t v
       unfolding entryReady
@@ -186,13 +185,13 @@ module _ (cs : List Call) (os : List Observation) (x : Transcript cs zeros os) (
       kind-seen q i =
           let same : some (c .rate .params) ≡ some q = sym (given-held cs os x v c found) ∙ i in
           let is : c .rate .params ≡ q = cc in
-          ap (λ (r : AbrSent). r .kind) told ∙ sym (kind-same c (trm-held cs os x v c found) t) ∙ (λ i. kindSeen (is i) t (sym (seen-held cs os x v c found) i))
+          ap (λ (r : Reply). r .kind) told ∙ sym (kind-same c (trm-held cs os x v c found) t) ∙ (λ i. kindSeen (is i) t (sym (seen-held cs os x v c found) i))
 
       waited : WaitedSeen (o .returned .kind) (seenOf v cs os)
       waited = rw (told, seen-held cs os x v c found) (waited-seen c (kindAt t c) (sent-waited cs t room v (g .told) (g .acr) (g .comparisons) (kindAt t c) c found (g .answer)))
 
       acr-left : (b : AbrAllowed) → ReturnsAllowed v (o .table) b → o .returned .acr ≡ b .acr
-      acr-left b i = ap (λ (r : AbrSent). r .acr) told ∙ rate-is b (g .acr) (rate-seen (z .next) v b i ∙ g .left)
+      acr-left b i = ap (λ (r : Reply). r .acr) told ∙ rate-is b (g .acr) (rate-seen (z .next) v b i ∙ g .left)
 
 pub exports-slots : ExportsSlots
 exports-slots cs os x a h t room o p e = record {

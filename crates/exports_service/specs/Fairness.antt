@@ -11,17 +11,17 @@ use Rattle.connection_members.specs.Path.{pathOf}
 use Rattle.model.specs.Call.{Call}
 use Rattle.model.specs.Aspects.{OnMembers, ofClosed, ofAdded, ofOffered, ofRemoved, ofSlot, ofNone, membersOf, sortOf}
 use Rattle.promise_service.specs.Fairness.{GoOn}
-use Rattle.abr_answers.specs.declared.calls.AbrSent.{AbrSent}
 use Rattle.abr.specs.Exports.{Observation, Transcript, finalWords, zeros}
 use Rattle.exports.specs.Conservation.{sumObserved}
 use Rattle.exports.specs.Along.{kept, Along}
+use Rattle.abr_answers.specs.Reply.{Reply}
 
 -- 1 of a slot that returned kind 3, data, and the pair of the name x
-abbrev pub toldReturned : (x : ℕ) → AbrSent → ℕ
+abbrev pub toldReturned : (x : ℕ) → Reply → ℕ
 toldReturned x r = cond (eqb (r .kind) 3 && eqb (nameFrom (r .vpi) (r .vci)) x) 1 0
 
 -- what waits on each member after a call that was not refused and returned this, from what waited before it
-abbrev pub cellsBy : OnMembers → AbrSent → (before : ℕ → ℕ) → (x : ℕ) → ℕ
+abbrev pub cellsBy : OnMembers → Reply → (before : ℕ → ℕ) → (x : ℕ) → ℕ
 cellsBy (ofClosed v) r f x = cond (eqb (pathOf x) v) 0 (f x)
 cellsBy (ofAdded y) r f x = f x
 cellsBy (ofOffered y n) r f x = cond (eqb y x) (f x + n) (f x)
@@ -29,7 +29,7 @@ cellsBy (ofRemoved y) r f x = cond (eqb x y) 0 (f x)
 cellsBy ofSlot r f x = f x - toldReturned x r
 cellsBy ofNone r f x = f x
 
-abbrev pub cellsAfter : Call → AbrSent → (before : ℕ → ℕ) → (ℕ → ℕ)
+abbrev pub cellsAfter : Call → Reply → (before : ℕ → ℕ) → (ℕ → ℕ)
 cellsAfter c r f x = cellsBy (membersOf c) r f x
 
 abbrev pub cellsSeen : Call → Observation → (ℕ → ℕ) → (ℕ → ℕ)

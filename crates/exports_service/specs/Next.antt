@@ -1,4 +1,4 @@
--- What abr_next returns is the earliest of the ready instants that a caller computes. None is before it, and
+-- What abr_next_ready returns is the earliest of the ready instants that a caller computes. None is before it, and
 -- where it says never, none is ever ready. ExportsNextReady says that a slot sends from it on. (Document 01,
 -- "Slots", says who is ready when.)
 use Prim.Native.Nat.{ℕ, _≤_}

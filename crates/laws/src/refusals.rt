@@ -47,10 +47,10 @@ pub const REFUSED_TOO_MUCH_DATA: u32 = 15;
 pub const REFUSED_NOT_CONGESTED: u32 = 16;
 
 // Less than 100 ms since the last cell made on this connection.
-pub const REFUSED_TOO_SOON: u32 = 17;
+pub const REFUSED_MADE_TOO_SOON: u32 = 17;
 
 // Less than 100 ms since the last out-of-rate cell on this connection.
-pub const REFUSED_TOO_OFTEN: u32 = 18;
+pub const REFUSED_OUT_OF_RATE_TOO_SOON: u32 = 18;
 
 // Reserved bit of a rate code is set.
 pub const REFUSED_RESERVED_BIT: u32 = 19;
@@ -59,10 +59,10 @@ pub const REFUSED_RESERVED_BIT: u32 = 19;
 pub const REFUSED_DOUBLE: u32 = 20;
 
 // Over 1,024 demands.
-pub const REFUSED_DEMANDS: u32 = 21;
+pub const REFUSED_TOO_MANY_DEMANDS: u32 = 21;
 
 // A demand is above the largest rate.
-pub const REFUSED_DEMAND: u32 = 22;
+pub const REFUSED_DEMAND_TOO_LARGE: u32 = 22;
 
 // A number of a trace is not in shortest form or over 64 bits.
 pub const REFUSED_TRACE_NUMBER: u32 = 23;

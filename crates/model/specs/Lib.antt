@@ -8,7 +8,9 @@ pub mod Tournament
 pub mod Call
 pub mod Aspects
 pub mod Step
+pub mod Details
 pub mod Queries
+pub mod Status
 pub mod SlotTime
 pub mod Run
 -- What holds of every table that calls made:

@@ -3,3 +3,5 @@
 pub mod acr;
 pub mod answer;
 pub mod contract;
+pub mod details;
+pub mod status;

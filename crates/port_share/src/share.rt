@@ -7,8 +7,8 @@ ghost use Rattle.rate.specs.Units.{largestRate};
 ghost use Rattle.port_share.specs.Demands.{inRange, plainSum};
 ghost use Rattle.port_share.specs.Share.{greatestUpTo, fairShare};
 use crate::pass::pass;
-use laws::refusals::REFUSED_DEMAND;
-use laws::refusals::REFUSED_DEMANDS;
+use laws::refusals::REFUSED_DEMAND_TOO_LARGE;
+use laws::refusals::REFUSED_TOO_MANY_DEMANDS;
 use rate::units::LARGEST_RATE;
 
 pub enum FairShare {
@@ -50,11 +50,11 @@ pub fn fair_share(capacity: u64, demands: &[u64]) -> FairShare
     ensures { λ r. ⌜ r ≡ fairShare capacity (now (demands .entry)) ⌝ }
 {
     if 1024 < demands.len() {
-        return FairShare::Refused(REFUSED_DEMANDS);
+        return FairShare::Refused(REFUSED_TOO_MANY_DEMANDS);
     }
     let whole = pass(demands, LARGEST_RATE);
     if whole.above != 0 {
-        return FairShare::Refused(REFUSED_DEMAND);
+        return FairShare::Refused(REFUSED_DEMAND_TOO_LARGE);
     }
     if whole.sum <= capacity {
         return FairShare::NoLimit;

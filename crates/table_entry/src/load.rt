@@ -103,7 +103,7 @@ fn made_at(t: &[u64; WORDS], b: usize) -> Made
     }
 }
 
-fn params_at(t: &[u64; WORDS], b: usize) -> Params
+pub fn params_at(t: &[u64; WORDS], b: usize) -> Params
     requires { ⌜ b + 10 ≤ size ⌝ }
     ensures { λ p. ⌜ p ≡ paramsAt (now (t .entry)) b ⌝ }
 {

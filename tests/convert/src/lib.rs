@@ -2,6 +2,7 @@
 //! other.
 
 use abr::ffi::{abr_cell, abr_params, abr_rm, abr_sent, abr_share, abr_verdict};
+use abr::RATE_MAX;
 use abr_reference::{Breach, Cell, Kind, Params, Rm, Sent};
 
 /// A struct with these fields of another.
@@ -59,16 +60,21 @@ pub fn library_sent(sent: Option<Sent>) -> abr_sent {
         kind,
         vpi: sent.vpi,
         vci: sent.vci,
+        leaf: sent.leaf,
         acr: sent.acr,
+        acr_before: sent.acr_before,
+        made: sent.made.into(),
+        reserved: 0,
     }
 }
 
-/// The library's answer of an accepted share; nothing is no limit.
+/// The library's answer of an accepted share; nothing is no limit, which the largest rate stands
+/// for.
 pub fn library_share(share: Option<u64>) -> abr_share {
     abr_share {
         refusal: 0,
         limited: share.is_some().into(),
-        rate: share.unwrap_or(0),
+        rate: share.unwrap_or(RATE_MAX),
     }
 }
 

@@ -1,14 +1,17 @@
 //! One call made on both sides; answer, octets, allowed rate with its last change, next
-//! ready instant, a slot's time to be passed, waiting data and table compared.
+//! ready instant, a slot's time to be passed, leaves, all that can be read and table compared.
 
-use abr::TIME_MAX;
-use abr_reference::{Address, Allowed, Engine};
+use std::fmt::Debug;
 
-use crate::accounts::Accounts;
+use abr::{CONNECTIONS_MAX, TIME_MAX};
+use abr_reference::{Address, Allowed, Engine, Refusal};
+
 use crate::call::{Answer, Call, Outcome};
 use crate::expected;
+use crate::leaves::Leaves;
 use crate::library::{Difference, Library};
 use crate::octets::Buffer;
+use crate::readings::{Drawn, Readings};
 use crate::rng::Rng;
 use crate::slot_times::{Question, CASES};
 
@@ -16,19 +19,19 @@ use crate::slot_times::{Question, CASES};
 /// every word. All of them would take longer than the calls: a table is long.
 const LEAVES_TABLE: u64 = 16;
 
-/// After one call in so many the cells that wait in the library's table are read: by a
-/// close of a copy, which is long.
-const READS_WAITING: u64 = 64;
-
 /// After one call in so many two slots are tried on copies of the library's table: at some
 /// clock, and at the time that is to be passed for it.
 const TRIES_SLOTS: u64 = 256;
 
-/// With so many connections open the next ready instants, and the times to be passed to a slot,
-/// are compared after one call in so many: the reference looks at every connection, which
-/// takes longer than the call.
+/// With so many connections open what the reference looks at every connection for is compared
+/// after one call in so many, since that takes longer than the call: the next ready instant, the
+/// time to be passed to a slot, a member and the link.
 const MANY: usize = 100;
-const COMPARES_NEXT: u64 = 8;
+const LOOKS_AT_ALL: u64 = 8;
+
+/// In a sparing list what is drawn is read, and all connections are looked at, after one call in
+/// so many of those after which it is done elsewhere.
+const SPARING: u64 = 2;
 
 /// Both engines.
 #[derive(Default)]
@@ -48,7 +51,7 @@ pub struct Both {
     pub next: Option<u64>,
     /// The last accepted time.
     last: u64,
-    /// Draws the clocks and lags.
+    /// Draws the clocks and lags, and what is read.
     pub rng: Rng,
     /// The times to be passed to a slot that were compared, by what decides them.
     pub slot_times: [u64; CASES.len()],
@@ -56,8 +59,15 @@ pub struct Both {
     pub tried: u64,
     /// The allowed rates compared.
     pub rates: u64,
-    /// How often the waiting cells were compared.
-    waitings: u64,
+    /// The leaves by calls and answers.
+    leaves: Leaves,
+    /// What was read.
+    pub readings: Readings,
+    /// Whether the list is sparing: one with so many calls on a full table that its time counts.
+    pub sparing: bool,
+    /// The members at the last reading of the link, and the last one that was read.
+    members: u32,
+    member: Address,
 }
 
 impl Both {
@@ -81,7 +91,10 @@ impl Both {
                 "library wrote {ours:02x?}, reference {theirs:02x?}"
             ));
         }
+        self.leaves.add(call, &outcome)?;
+        self.calls += 1;
         self.same_next(call, &outcome)?;
+        self.same_readings()?;
         self.last = call.time().filter(|_| outcome.is_ok()).unwrap_or(self.last);
         let (question, passed) = self.same_slot_time()?;
         if compared && self.library != self.before {
@@ -114,12 +127,8 @@ impl Both {
     /// its time was before the one that the library gave before it.
     fn same_next(&mut self, call: &Call, outcome: &Outcome) -> Result<(), Difference> {
         let before = std::mem::replace(&mut self.next, self.library.next());
-        self.calls += 1;
-        if self.engine.connections() < MANY || self.calls.is_multiple_of(COMPARES_NEXT) {
-            let (ours, theirs) = (self.next, self.engine.next());
-            if ours != theirs {
-                return Err(format!("next: library {ours:?}, reference {theirs:?}"));
-            }
+        if self.looks_at_all() {
+            same("next", &self.next, &self.engine.next_ready())?;
         }
         match (call, outcome) {
             (Call::Slot { time, .. }, Ok(Answer::Sent(sent)))
@@ -138,11 +147,9 @@ impl Both {
         let passed = self.library.slot_time(question.now, question.lag);
         question.check(passed)?;
         self.slot_times[question.case()] += 1;
-        if self.engine.connections() < MANY || self.calls.is_multiple_of(COMPARES_NEXT) {
+        if self.looks_at_all() {
             let expected = self.engine.slot_time(question.now, question.lag);
-            if passed != expected {
-                return Err(format!("{question:?}: library {passed}, not {expected}"));
-            }
+            same(question, &passed, &expected)?;
         }
         Ok((question, passed))
     }
@@ -175,12 +182,7 @@ impl Both {
         self.rates += 1;
         let ours = self.library.acr(at)?;
         let theirs = self.engine.allowed(at).map(Answer::Allowed);
-        if ours == theirs {
-            return Ok(());
-        }
-        Err(format!(
-            "ACR of {at:?}: library {ours:?}, reference {theirs:?}"
-        ))
+        same(("ACR", at), &ours, &theirs)
     }
 
     /// The same of the path that an address is on, if it is open.
@@ -192,20 +194,96 @@ impl Both {
         self.same_acr(path)
     }
 
-    /// Compares the cells that wait under a name with those that must by its account: the
-    /// reference's every time, the library's sometimes.
-    pub fn same_waiting(&mut self, at: Address, accounts: &Accounts) -> Result<(), Difference> {
-        accounts.same(at, self.engine.waiting(at), "in the reference")?;
-        self.waitings += 1;
-        if !self.waitings.is_multiple_of(READS_WAITING) {
+    /// Compares everything of a pair, open or not, and its leaf with that of its open. Gives the
+    /// data cells that wait on it, none if it is unknown.
+    pub fn same_status(&mut self, at: Address) -> Result<u64, Difference> {
+        let ours = self.library.status(at)?;
+        same(("status", at), &ours, &expected::status(&self.engine, at))?;
+        self.readings.status(at, &ours);
+        let Ok(read) = ours else {
+            return Ok(0);
+        };
+        self.leaves.same(at, read.leaf)?;
+        Ok(read.waiting.into())
+    }
+
+    /// Compares some pair, some leaf, some member and the link.
+    fn same_readings(&mut self) -> Result<(), Difference> {
+        if self.sparing && !self.rng.once_in(SPARING) {
             return Ok(());
         }
-        self.before.copy(&self.library);
-        accounts.same(at, self.before.drain(at)?, "in the library")
+        let Drawn { pair, leaf, number } =
+            Drawn::new(&mut self.rng, &self.leaves, self.members, self.member);
+        self.same_status(pair)?;
+        self.same_leaf(leaf)?;
+        if self.looks_at_all() {
+            self.same_member(number)?;
+            self.same_link()?;
+        }
+        Ok(())
+    }
+
+    /// Lists all connections by their leaves and all members by their numbers.
+    pub fn same_lists(&mut self) -> Result<(), Difference> {
+        self.same_link()?;
+        (0..=CONNECTIONS_MAX as u32).try_for_each(|leaf| self.same_leaf(leaf))?;
+        (0..=self.members).try_for_each(|number| self.same_member(number))
+    }
+
+    /// Compares what is in a leaf: that which its open took it for, or nothing. The reference
+    /// looks for it only if few are open.
+    fn same_leaf(&mut self, leaf: u32) -> Result<(), Difference> {
+        let ours = self.library.at(leaf)?;
+        let taken = self.leaves.connection(leaf).ok_or(Refusal::NotOpen);
+        let by_open = taken.and_then(|at| expected::status(&self.engine, at));
+        same(("leaf", leaf), &ours, &by_open)?;
+        if self.engine.connections() < MANY {
+            same(("leaf", leaf), &ours, &expected::at(&self.engine, leaf))?;
+        }
+        self.readings.leaf(leaf, &ours);
+        Ok(())
+    }
+
+    /// Compares the member with a number, if there are so many.
+    fn same_member(&mut self, number: u32) -> Result<(), Difference> {
+        let ours = self.library.member_at(number)?;
+        let theirs = expected::member_at(&self.engine, number);
+        same(("member", number), &ours, &theirs)?;
+        self.readings.member(&ours);
+        if let Ok(read) = ours {
+            self.member = Address::new(read.vpi, read.vci);
+        }
+        Ok(())
+    }
+
+    /// Compares what belongs to no single connection.
+    fn same_link(&mut self) -> Result<(), Difference> {
+        let ours = self.library.link();
+        self.members = ours.members;
+        same("link", &ours, &expected::link(&self.engine))
+    }
+
+    /// Whether after this call what the reference looks at every connection for is compared.
+    fn looks_at_all(&self) -> bool {
+        let every = match self.sparing {
+            true => SPARING * LOOKS_AT_ALL,
+            false => LOOKS_AT_ALL,
+        };
+        self.engine.connections() < MANY || self.calls.is_multiple_of(every)
     }
 
     /// The allowed rate and its last change as the reference has them.
     pub fn allowed(&self, at: Address) -> Option<Allowed> {
         self.engine.allowed(at).ok()
     }
+}
+
+/// What library and reference give, which must be the same.
+fn same<T: PartialEq + Debug>(what: impl Debug, ours: &T, theirs: &T) -> Result<(), Difference> {
+    if ours == theirs {
+        return Ok(());
+    }
+    Err(format!(
+        "{what:?}: library {ours:x?}, reference {theirs:x?}"
+    ))
 }

@@ -1,7 +1,7 @@
 //! A call with its arguments.
 
-use abr::ffi::{abr_params, abr_rm};
-use abr_reference::{Address, Allowed, Closed, Refusal};
+use abr::ffi::{abr_params, abr_received, abr_rm};
+use abr_reference::{Address, Allowed, Closed, Opened, Refusal};
 
 use crate::demands::Demands;
 use crate::octets::Octets;
@@ -216,8 +216,12 @@ pub fn address_of(octets: &[u8]) -> Option<Address> {
 pub enum Answer {
     /// Nothing but that it was accepted.
     Done,
-    /// The comparisons of a call that replays matches.
+    /// The comparisons of an offer, a made cell or an added member.
     Comparisons(u32),
+    /// The leaf and the comparisons of an open.
+    Opened(Opened),
+    /// A received cell.
+    Received(abr_received),
     /// The data cells and the comparisons of a close or a removal.
     Closed(Closed),
     /// A slot.
@@ -245,6 +249,8 @@ impl Answer {
     pub fn comparisons(&self) -> u32 {
         match self {
             Answer::Comparisons(comparisons) => *comparisons,
+            Answer::Opened(opened) => opened.comparisons,
+            Answer::Received(received) => received.comparisons,
             Answer::Closed(closed) => closed.comparisons,
             Answer::Sent(sent) => sent.comparisons,
             _ => 0,

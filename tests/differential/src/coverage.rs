@@ -5,6 +5,7 @@ use abr_reference::Refusal;
 
 use crate::call::{Call, Outcome, SORTS};
 use crate::parallel::Counts;
+use crate::readings::Readings;
 use crate::slot_times::CASES;
 
 macro_rules! events {
@@ -81,6 +82,10 @@ events! {
     TurnedSecond,
     /// A second turned cell was sent, no data waiting.
     TurnedAlone,
+    /// A turned cell was sent that is not a made one, by the answer.
+    SentTurned,
+    /// One was sent that is, by the answer.
+    SentMade,
     /// A waiting turned cell was replaced.
     TurnedReplaced,
     /// A forward cell was turned under a saved EFCI.
@@ -569,6 +574,8 @@ pub struct Coverage {
     /// of them were tried by slots.
     pub slot_times: [u64; CASES.len()],
     pub tried: u64,
+    /// What was read of the table.
+    pub readings: Readings,
     events: [u64; EVENTS.len()],
 }
 
@@ -590,6 +597,7 @@ impl Default for Coverage {
             nexts: [0; 5],
             slot_times: [0; CASES.len()],
             tried: 0,
+            readings: Readings::default(),
             events: [0; EVENTS.len()],
         }
     }
@@ -624,8 +632,8 @@ const REFUSALS: [&[Refusal]; SORTS.len()] = {
         &[NotOpen, TooMuchData, NotAMember],
         &[TooLarge],
         &[Length, Time, TimeBackward],
-        &[Time, NotOpen, TimeBackward, NotCongested, TooSoon],
-        &[Length, Time, NotOpen, TimeBackward, TooOften],
+        &[Time, NotOpen, TimeBackward, NotCongested, MadeTooSoon],
+        &[Length, Time, NotOpen, TimeBackward, OutOfRateTooSoon],
         &[
             Range,
             Time,
@@ -646,7 +654,7 @@ const REFUSALS: [&[Refusal]; SORTS.len()] = {
         &[TooLarge],
         &[Range, ReservedBit],
         &[Double],
-        &[Demands, Demand],
+        &[TooManyDemands, DemandTooLarge],
         &[Length, HeaderCheck, PayloadType, Crc, Protocol, ReservedBit],
         &[
             Length,
@@ -655,8 +663,8 @@ const REFUSALS: [&[Refusal]; SORTS.len()] = {
             Crc,
             Protocol,
             ReservedBit,
-            Demands,
-            Demand,
+            TooManyDemands,
+            DemandTooLarge,
         ],
         &[TraceNumber, TraceEnd, TraceRange],
         &[],
@@ -773,7 +781,12 @@ impl Coverage {
 
     /// What was reached fewer than `least` times, by name.
     pub fn missing(&self, least: u64) -> Vec<String> {
-        let counts = [self.of_calls(), self.of_arguments(), self.of_edges()];
+        let counts = [
+            self.of_calls(),
+            self.of_arguments(),
+            self.readings.counts(),
+            self.of_edges(),
+        ];
         let few = counts.into_iter().flatten().filter(|few| few.0 < least);
         few.map(|(count, name)| format!("{name}: {count}"))
             .collect()
@@ -842,7 +855,7 @@ impl Coverage {
             .map(|event| format!("{event:?} {}", self.reached(*event)))
             .collect();
         format!(
-            "{} calls, {} rates compared, {} cells recorded; slots idle {}, forward {}, turned {}, data {}; next {:?}; slot times {:?}, {} tried; {}",
+            "{} calls, {} rates compared, {} cells recorded; slots idle {}, forward {}, turned {}, data {}; next {:?}; slot times {:?}, {} tried; read {:?}; {}",
             self.calls,
             self.rates,
             self.recorded,
@@ -853,6 +866,7 @@ impl Coverage {
             self.nexts,
             self.slot_times,
             self.tried,
+            self.readings.met,
             events.join(", ")
         )
     }
@@ -887,6 +901,7 @@ impl Counts for Coverage {
         add(&mut self.damaged, &other.damaged);
         add(&mut self.nexts, &other.nexts);
         self.add_slot_times(&other.slot_times, other.tried);
+        self.readings.add(&other.readings);
         add(&mut self.events, &other.events);
     }
 }

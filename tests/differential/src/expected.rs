@@ -1,10 +1,17 @@
 //! The expected outcome of a call: the reference's.
 
+use abr::ffi::{
+    abr_connection, abr_member, abr_received, abr_totals, ABR_CHANNEL, ABR_MEMBER, ABR_NEVER,
+    ABR_PATH, ABR_RECEIVED_BACKWARD, ABR_RECEIVED_DATA, ABR_RECEIVED_FORWARD,
+};
 use abr_convert::{
     library_cell, library_params, library_sent, library_share, library_verdict, reference_params,
     reference_rm,
 };
-use abr_reference::{judge, port, Engine, Exported, Imported, Params, Refusal};
+use abr_reference::{
+    judge, port, Address, Arrival, Engine, Exported, Imported, Params, Received, Refusal, Sort,
+    Status,
+};
 
 use crate::call::{Answer, Call, Outcome};
 use crate::drawn::Drawn;
@@ -15,9 +22,11 @@ pub fn call(engine: &mut Engine, call: &Call, buffer: &mut Buffer) -> Outcome {
     match *call {
         Call::Open { at, time, params } => engine
             .open(at, time, &reference_params(&params))
-            .map(Answer::Comparisons),
+            .map(Answer::Opened),
         Call::Close { at } => engine.close(at).map(Answer::Closed),
-        Call::Receive { cell } => engine.receive(cell.as_slice()).map(Answer::Comparisons),
+        Call::Receive { cell } => engine
+            .receive(cell.as_slice())
+            .map(|cell| Answer::Received(received(&cell))),
         Call::Offer { at, cells } => engine.offer(at, cells).map(Answer::Comparisons),
         Call::SetLevel { level } => done(engine.set_level(level)),
         Call::Make { at, time } => engine.make(at, time).map(Answer::Comparisons),
@@ -27,10 +36,10 @@ pub fn call(engine: &mut Engine, call: &Call, buffer: &mut Buffer) -> Outcome {
         Call::OutOfRate { at, time, len } => done(engine.out_of_rate(at, time, buffer.octets(len))),
         Call::OpenPath { vpi, time, params } => engine
             .open_path(vpi, time, &reference_params(&params))
-            .map(Answer::Comparisons),
-        Call::Add { at } => engine.add(at).map(|()| Answer::Comparisons(0)),
+            .map(Answer::Opened),
+        Call::Add { at } => engine.add_member(at).map(|()| Answer::Comparisons(0)),
         Call::OfferMember { at, cells } => engine.offer_member(at, cells).map(Answer::Comparisons),
-        Call::Remove { at } => engine.remove(at).map(Answer::Closed),
+        Call::Remove { at } => engine.remove_member(at).map(Answer::Closed),
         Call::Acr { at } => engine.allowed(at).map(Answer::Allowed),
         Call::Export { at } => engine.export(at).map(exported),
         _ => without_table(call, buffer),
@@ -64,6 +73,92 @@ fn without_table(call: &Call, buffer: &mut Buffer) -> Outcome {
             .map(|breach| Answer::Verdict(library_verdict(breach))),
         Call::House { pcr, mcr, icr } => Ok(house(Params::house(pcr, mcr, icr))),
         _ => unreachable!("{call:?} is given a table"),
+    }
+}
+
+/// Everything of a pair, which may be unknown.
+pub fn status(engine: &Engine, at: Address) -> Result<abr_connection, Refusal> {
+    engine.status(at).map(|status| connection(&status))
+}
+
+/// Everything of the connection in a leaf, which may be free.
+pub fn at(engine: &Engine, leaf: u32) -> Result<abr_connection, Refusal> {
+    engine.at(leaf).map(|status| connection(&status))
+}
+
+/// The member with a number, if there are so many.
+pub fn member_at(engine: &Engine, number: u32) -> Result<abr_member, Refusal> {
+    engine.member_at(number).map(|member| abr_member {
+        refusal: 0,
+        vpi: member.vpi,
+        vci: member.vci,
+        waiting: member.waiting as u32,
+    })
+}
+
+/// What belongs to no single connection.
+pub fn link(engine: &Engine) -> abr_totals {
+    let totals = engine.link();
+    abr_totals {
+        connections: totals.connections as u32,
+        connections_max: totals.connections_max as u32,
+        members: totals.members as u32,
+        level: totals.level,
+        last: totals.last,
+    }
+}
+
+fn connection(status: &Status) -> abr_connection {
+    let kind = match status.sort {
+        Sort::Channel => ABR_CHANNEL,
+        Sort::Path => ABR_PATH,
+        Sort::Member => ABR_MEMBER,
+    };
+    let instant = |time: Option<u64>| time.unwrap_or(ABR_NEVER);
+    abr_connection {
+        refusal: 0,
+        kind,
+        vpi: status.vpi,
+        vci: status.vci,
+        leaf: status.leaf,
+        waiting: status.waiting as u32,
+        params: library_params(&status.params),
+        crm: status.crm,
+        icr_used: status.icr_used,
+        acr: status.acr,
+        change: status.change,
+        opened: status.opened,
+        last_sent: instant(status.last_sent),
+        last_forward: instant(status.last_forward),
+        ready: instant(status.ready),
+        last_made: instant(status.last_made),
+        last_out_of_rate: instant(status.last_out_of_rate),
+        k: status.k,
+        unanswered: status.unanswered,
+        backward_sent: status.backward_sent.into(),
+        efci: status.efci.into(),
+        turned: status.turned.into(),
+        made_level: status.made_level.unwrap_or(0),
+        served: status.served.unwrap_or(0),
+        reserved: 0,
+    }
+}
+
+/// The library's answer of an accepted cell.
+pub fn received(received: &Received) -> abr_received {
+    let kind = match received.kind {
+        Arrival::Forward => ABR_RECEIVED_FORWARD,
+        Arrival::Backward => ABR_RECEIVED_BACKWARD,
+        Arrival::Data => ABR_RECEIVED_DATA,
+    };
+    abr_received {
+        refusal: 0,
+        comparisons: received.comparisons,
+        kind,
+        vpi: received.vpi,
+        vci: received.vci,
+        leaf: received.leaf,
+        acr: received.acr,
     }
 }
 

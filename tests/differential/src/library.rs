@@ -3,10 +3,11 @@
 use std::fmt::Debug;
 
 use abr::ffi::{
-    self, abr_allowed, abr_answer, abr_cell, abr_closed, abr_coded, abr_imported, abr_rated,
-    abr_sent, abr_share, abr_table, abr_verdict,
+    self, abr_allowed, abr_answer, abr_cell, abr_closed, abr_coded, abr_connection, abr_imported,
+    abr_member, abr_opened, abr_rated, abr_received, abr_sent, abr_share, abr_table, abr_totals,
+    abr_verdict,
 };
-use abr_reference::{Address, Allowed, Closed, Refusal};
+use abr_reference::{Address, Allowed, Closed, Opened, Refusal};
 
 use crate::call::{Answer, Call, Outcome};
 use crate::drawn::Drawn;
@@ -102,13 +103,15 @@ impl Library {
                 answered(unsafe { ffi::abr_open_path(table, vpi, time, params) })
             }
             // SAFETY: the pointer is live for the call.
-            Call::Add { at } => answered(unsafe { ffi::abr_add(table, at.vpi, at.vci) }),
+            Call::Add { at } => answered(unsafe { ffi::abr_add_member(table, at.vpi, at.vci) }),
             Call::OfferMember { at, cells } => {
                 // SAFETY: the pointer is live for the call.
                 answered(unsafe { ffi::abr_offer_member(table, at.vpi, at.vci, cells) })
             }
-            // SAFETY: the pointer is live for the call.
-            Call::Remove { at } => answered(unsafe { ffi::abr_remove(table, at.vpi, at.vci) }),
+            Call::Remove { at } => {
+                // SAFETY: the pointer is live for the call.
+                answered(unsafe { ffi::abr_remove_member(table, at.vpi, at.vci) })
+            }
             _ => Err("a call on neither".to_owned()),
         }
     }
@@ -119,10 +122,34 @@ impl Library {
         answered(unsafe { ffi::abr_acr(&*self.table, at.vpi, at.vci) })
     }
 
+    /// Everything of a pair, which may be unknown.
+    pub fn status(&self, at: Address) -> Result<Result<abr_connection, Refusal>, Difference> {
+        // SAFETY: the pointer is live for the call.
+        answered(unsafe { ffi::abr_status(&*self.table, at.vpi, at.vci) })
+    }
+
+    /// Everything of the connection in a leaf, which may be free.
+    pub fn at(&self, leaf: u32) -> Result<Result<abr_connection, Refusal>, Difference> {
+        // SAFETY: the pointer is live for the call.
+        answered(unsafe { ffi::abr_at(&*self.table, leaf) })
+    }
+
+    /// The member with a number, if there are so many.
+    pub fn member_at(&self, number: u32) -> Result<Result<abr_member, Refusal>, Difference> {
+        // SAFETY: the pointer is live for the call.
+        answered(unsafe { ffi::abr_member_at(&*self.table, number) })
+    }
+
+    /// What belongs to no single connection.
+    pub fn link(&self) -> abr_totals {
+        // SAFETY: the pointer is live for the call.
+        unsafe { ffi::abr_link(&*self.table) }
+    }
+
     /// The earliest ready instant; none if no connection is ever ready.
     pub fn next(&self) -> Option<u64> {
         // SAFETY: the pointer is live for the call.
-        let next = unsafe { ffi::abr_next(&*self.table) };
+        let next = unsafe { ffi::abr_next_ready(&*self.table) };
         (next != ffi::ABR_NEVER).then_some(next)
     }
 
@@ -139,19 +166,6 @@ impl Library {
             Ok(Answer::Sent(sent)) => Ok(sent.kind == 0),
             other => Err(format!("a slot at {time}: {other:?}")),
         }
-    }
-
-    /// Closes an address or removes it as a member, whichever it is, if it is either, and
-    /// gives the data cells that waited.
-    pub fn drain(&mut self, at: Address) -> Result<u64, Difference> {
-        for call in [Call::Close { at }, Call::Remove { at }] {
-            match self.call(&call, &mut Buffer::new(0))? {
-                Ok(Answer::Closed(closed)) => return Ok(closed.cells),
-                Err(Refusal::NotOpen | Refusal::NotAMember) => {}
-                other => return Err(format!("{call:?}: {other:?}")),
-            }
-        }
-        Ok(0)
     }
 
     /// The contract of an address, open or not. The refusal is written in every case.
@@ -242,19 +256,27 @@ fn done(refusal: u32) -> Result<Outcome, Difference> {
 }
 
 /// The outcome of a refused call, whose number is that of a refusal.
-fn refused(number: u32) -> Result<Outcome, Difference> {
+fn refused<T>(number: u32) -> Result<Result<T, Refusal>, Difference> {
     let refusal = Refusal::try_from(number);
     refusal.map(Err).map_err(|other| format!("refused {other}"))
 }
 
 /// An answer with other fields beside the refusal.
 trait Answered: Copy + Default + Debug {
+    /// What is compared of it.
+    type Answer: PartialEq;
+
     fn refusal(&mut self) -> &mut u32;
-    fn answer(self) -> Answer;
+    fn reserved(&self) -> u32;
+    fn answer(self) -> Self::Answer;
 }
 
-/// The outcome of such an answer, whose other fields are 0 if it is a refusal.
-fn answered<T: Answered>(mut answer: T) -> Result<Outcome, Difference> {
+/// The outcome of such an answer, whose other fields are 0 if it is a refusal. A reserved one is
+/// 0 in any case.
+fn answered<T: Answered>(mut answer: T) -> Result<Result<T::Answer, Refusal>, Difference> {
+    if answer.reserved() != 0 {
+        return Err(format!("a reserved field is not 0: {answer:x?}"));
+    }
     match std::mem::take(answer.refusal()) {
         0 => Ok(Ok(answer.answer())),
         number if answer.answer() == T::default().answer() => refused(number),
@@ -263,13 +285,19 @@ fn answered<T: Answered>(mut answer: T) -> Result<Outcome, Difference> {
 }
 
 macro_rules! answers {
-    ($($name:ident: $answer:expr;)*) => {
+    ($($name:ident $($reserved:ident)? => $type:ty: $answer:expr;)*) => {
         $(impl Answered for $name {
+            type Answer = $type;
+
             fn refusal(&mut self) -> &mut u32 {
                 &mut self.refusal
             }
 
-            fn answer(self) -> Answer {
+            fn reserved(&self) -> u32 {
+                0 $(| self.$reserved)?
+            }
+
+            fn answer(self) -> $type {
                 $answer(self)
             }
         })*
@@ -277,22 +305,29 @@ macro_rules! answers {
 }
 
 answers! {
-    abr_answer: |answer: abr_answer| Answer::Comparisons(answer.comparisons);
-    abr_closed: |closed: abr_closed| Answer::Closed(Closed {
+    abr_answer => Answer: |answer: abr_answer| Answer::Comparisons(answer.comparisons);
+    abr_opened => Answer: |opened: abr_opened| Answer::Opened(Opened {
+        comparisons: opened.comparisons,
+        leaf: opened.leaf,
+    });
+    abr_received => Answer: Answer::Received;
+    abr_closed => Answer: |closed: abr_closed| Answer::Closed(Closed {
         cells: closed.cells,
         comparisons: closed.comparisons,
     });
-    abr_sent: Answer::Sent;
-    abr_cell: Answer::Cell;
-    abr_allowed: |allowed: abr_allowed| Answer::Allowed(Allowed {
+    abr_sent reserved => Answer: Answer::Sent;
+    abr_cell => Answer: Answer::Cell;
+    abr_allowed reserved => Answer: |allowed: abr_allowed| Answer::Allowed(Allowed {
         acr: allowed.acr,
         change: allowed.change,
     });
-    abr_coded: |coded: abr_coded| Answer::Number(coded.code.into());
-    abr_rated: |rated: abr_rated| Answer::Number(rated.rate);
-    abr_share: Answer::Share;
-    abr_verdict: Answer::Verdict;
-    abr_imported: |imported: abr_imported| Answer::Imported {
+    abr_connection reserved => abr_connection: std::convert::identity;
+    abr_member => abr_member: std::convert::identity;
+    abr_coded => Answer: |coded: abr_coded| Answer::Number(coded.code.into());
+    abr_rated reserved => Answer: |rated: abr_rated| Answer::Number(rated.rate);
+    abr_share => Answer: Answer::Share;
+    abr_verdict => Answer: Answer::Verdict;
+    abr_imported => Answer: |imported: abr_imported| Answer::Imported {
         code: imported.code,
         remainder: imported.remainder.to_bits(),
     };

@@ -26,8 +26,9 @@ pub fn length(profile: Profile) -> u64 {
 /// A slot of a line at 353,208 cells per second, in nanoseconds.
 const SLOT: u64 = 2_831;
 
-/// After so many calls every connection is compared.
-const EVERYWHERE: u64 = 16;
+/// After so many calls the allowed rates of all pairs are compared, and after so many all else.
+const ALL_RATES: u64 = 16;
+const ALL_ELSE: u64 = 64;
 
 /// The seed that a run starts from: ABR_SEED, or a fixed one.
 pub fn seed() -> u64 {
@@ -62,12 +63,14 @@ impl List {
         let named = concerned(call, &outcome).unwrap_or_default();
         let at = self.seen.connection_of(named);
         self.accounts.add(call, &outcome)?;
-        self.both.same_waiting(named, &self.accounts)?;
-        self.both.same_waiting(at, &self.accounts)?;
+        self.same_status(named)?;
+        if at != named {
+            self.same_status(at)?;
+        }
         let allowed = self.both.allowed(at);
-        let acr = allowed.map(|allowed| allowed.acr);
-        self.recorder.add(call, &outcome, at, acr);
-        self.seen.add(call, &outcome, acr.unwrap_or(0), coverage);
+        let acr = allowed.map_or(0, |allowed| allowed.acr);
+        self.recorder.add(call, &outcome, at);
+        self.seen.add(call, &outcome, acr, coverage);
         coverage.count_next(self.both.next, self.seen.last);
         if let Some(allowed) = allowed {
             self.seen.same_change(at, allowed)?;
@@ -75,15 +78,24 @@ impl List {
         Ok(outcome)
     }
 
-    /// Compares the allowed rates and the waiting data of all open connections, of members
-    /// and of addresses that were closed.
-    fn same_everywhere(&mut self) -> Result<(), Difference> {
+    /// Compares all that is read of a pair, and the cells that wait on it with its account.
+    fn same_status(&mut self, at: Address) -> Result<(), Difference> {
+        let waiting = self.both.same_status(at)?;
+        self.accounts.same(at, waiting, "by its status")
+    }
+
+    /// Compares the allowed rates, or all else, of all open connections, of members and of
+    /// addresses that were closed.
+    fn same_everywhere(&mut self, rates: bool) -> Result<(), Difference> {
         let seen = &self.seen;
         let pairs = seen.connections.keys().chain(seen.members.keys());
         let mut addresses = pairs.chain(&seen.closed);
         addresses.try_for_each(|at| {
-            self.both.same_acr(*at)?;
-            self.both.same_waiting(*at, &self.accounts)
+            if rates {
+                return self.both.same_acr(*at);
+            }
+            let waiting = self.both.same_status(*at)?;
+            self.accounts.same(*at, waiting, "by its status")
         })
     }
 
@@ -152,13 +164,17 @@ pub fn traces(
         if let (Some(octet), Err(_)) = (generator.damaged, outcome) {
             coverage.damaged[octet] += 1;
         }
-        if index % EVERYWHERE == 0 || index == calls - 1 {
-            list.same_everywhere().map_err(report)?;
+        for (every, rates) in [(ALL_RATES, true), (ALL_ELSE, false)] {
+            if index % every == 0 || index == calls - 1 {
+                list.same_everywhere(rates).map_err(report)?;
+            }
         }
     }
     coverage.rates += list.both.rates;
     coverage.add_slot_times(&list.both.slot_times, list.both.tried);
+    coverage.readings.add(&list.both.readings);
     let report = |difference| format!("list {seed}, its end: {difference}");
+    list.both.same_lists().map_err(report)?;
     list.finish().map_err(report)?;
     Ok(list.recorder.traces())
 }

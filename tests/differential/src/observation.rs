@@ -301,6 +301,8 @@ impl Observation {
     fn slot(&mut self, time: u64, sent: &abr_sent, coverage: &mut Coverage) {
         (self.last, self.last_sent) = (time, time);
         coverage.kinds[sent.kind as usize] += 1;
+        coverage.reach(Event::SentTurned, sent.kind == 2 && sent.made == 0);
+        coverage.reach(Event::SentMade, sent.made == 1);
         coverage.reach(Event::TimeMax, time == TIME_MAX);
         coverage.reach(Event::SentAtTimeMax, time == TIME_MAX && sent.kind != 0);
         let earliest = self

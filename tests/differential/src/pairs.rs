@@ -154,9 +154,13 @@ impl Pair {
 
     /// Closes in both lists what is still open: every account comes out even.
     fn finish(&mut self) -> Result<(), Difference> {
-        for at in self.seen.connections.keys() {
-            self.accounts[0].same(*at, self.first.drain(*at)?, "in the first list")?;
-            self.accounts[1].same(*at, self.second.drain(*at)?, "in the second list")?;
+        let lists = [&mut self.first, &mut self.second];
+        for (list, accounts) in lists.into_iter().zip(&mut self.accounts) {
+            for at in self.seen.connections.keys() {
+                let call = Call::Close { at: *at };
+                let outcome = list.call(&call, &mut Buffer::new(0))?;
+                accounts.add(&call, &outcome)?;
+            }
         }
         Ok(())
     }

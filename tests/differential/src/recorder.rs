@@ -11,9 +11,6 @@ use crate::trace::Trace;
 /// A connection that is open.
 struct Recording {
     trace: Trace,
-    /// The allowed rate after the last call that concerned the connection, on which library
-    /// and reference agree; no other call changes it.
-    rate: u64,
     /// When the last cell was sent; nothing before the first.
     last: Option<u64>,
 }
@@ -26,14 +23,12 @@ pub struct Recorder {
 }
 
 impl Recorder {
-    /// A call concerned this address, and its allowed rate afterwards was read, if it is
-    /// open then.
-    pub fn add(&mut self, call: &Call, outcome: &Outcome, at: Address, rate: Option<u64>) {
+    /// A call concerned this address.
+    pub fn add(&mut self, call: &Call, outcome: &Outcome, at: Address) {
         match (*call, *outcome) {
             (Call::Open { params, .. } | Call::OpenPath { params, .. }, Ok(_)) => {
                 let trace = Trace::new(params.n.into(), params.trm.into());
-                let (rate, last) = (rate.unwrap_or_default(), None);
-                self.open.insert(at, Recording { trace, rate, last });
+                self.open.insert(at, Recording { trace, last: None });
             }
             (Call::Close { .. }, Ok(_)) => {
                 let closed = self.open.remove(&at);
@@ -41,13 +36,10 @@ impl Recorder {
             }
             (Call::Slot { time, .. }, Ok(Answer::Sent(sent))) if sent.kind > 0 => {
                 if let Some(open) = self.open.get_mut(&at) {
-                    open.sent(time, sent.kind.into());
+                    open.sent(time, sent.kind.into(), sent.acr_before);
                 }
             }
             _ => {}
-        }
-        if let (Some(open), Some(rate)) = (self.open.get_mut(&at), rate) {
-            open.rate = rate;
         }
     }
 
@@ -59,10 +51,10 @@ impl Recorder {
 }
 
 impl Recording {
-    /// A cell of this kind was sent.
-    fn sent(&mut self, time: u64, kind: u64) {
+    /// A cell of this kind was sent, the allowed rate before it being this.
+    fn sent(&mut self, time: u64, kind: u64, rate: u64) {
         let passed = time - self.last.unwrap_or(time);
-        self.trace.push(passed, kind, self.rate);
+        self.trace.push(passed, kind, rate);
         self.last = Some(time);
     }
 }

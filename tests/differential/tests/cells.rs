@@ -10,7 +10,7 @@ use abr_differential::library::Library;
 use abr_differential::lists;
 use abr_differential::octets::{put_crc, put_header, Buffer, Header, Octets};
 use abr_differential::rng::Rng;
-use abr_reference::{Address, Refusal};
+use abr_reference::{Address, Opened, Refusal};
 
 /// The connection that is open.
 const AT: Address = Address::new(0xA5, 32);
@@ -22,6 +22,12 @@ fn agree(both: &mut Both, call: &Call) -> Outcome {
         Err(difference) => panic!("{call:x?}: {difference}"),
     }
 }
+
+/// The answer of an open in an empty table.
+const FIRST: Answer = Answer::Opened(Opened {
+    comparisons: 1,
+    leaf: 0,
+});
 
 /// Both sides with that connection open.
 fn with_connection() -> Both {
@@ -41,7 +47,7 @@ fn with_connection() -> Both {
         time: 0,
         params,
     };
-    assert_eq!(agree(&mut both, &open), Ok(Answer::Comparisons(1)));
+    assert_eq!(agree(&mut both, &open), Ok(FIRST));
     both
 }
 
@@ -377,7 +383,7 @@ fn every_vpi_and_every_vci() {
         let opened = agree(&mut both, &Call::Open { at, time, params });
         let expected = match at {
             Address { vci: 0..=31, .. } => Err(Refusal::LowVci),
-            _ if at.fits() => Ok(Answer::Comparisons(1)),
+            _ if at.fits() => Ok(FIRST),
             _ => Err(Refusal::Range),
         };
         assert_eq!(opened, expected, "{at:?}");

@@ -153,13 +153,13 @@ fn demands_that_are_refused_before_any_cell() {
         }
     };
     let mut demands = vec![0; DEMANDS_MAX + 1];
-    refused(Refusal::Demands, &demands);
+    refused(Refusal::TooManyDemands, &demands);
     for place in [0, 1, 511, 1_023] {
         for above in [RATE_MAX + 1, 1 << 41, 1 << 63, u64::MAX] {
             demands[place] = above;
-            refused(Refusal::Demand, &demands[..DEMANDS_MAX]);
-            refused(Refusal::Demand, &demands[..=place]);
-            refused(Refusal::Demands, &demands);
+            refused(Refusal::DemandTooLarge, &demands[..DEMANDS_MAX]);
+            refused(Refusal::DemandTooLarge, &demands[..=place]);
+            refused(Refusal::TooManyDemands, &demands);
         }
         demands[place] = RATE_MAX;
         checked(0, &demands[..DEMANDS_MAX]);

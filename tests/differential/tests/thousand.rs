@@ -169,8 +169,10 @@ struct Changing {
 impl Changing {
     fn new(seed: u64, addresses: Addresses) -> Self {
         let mut rng = Rng::new(!seed);
+        let mut list = List::default();
+        list.both.sparing = true;
         Changing {
-            list: List::default(),
+            list,
             generator: Generator::new(seed, NO_CHANGE),
             addresses: addresses(&mut rng),
             rng,
@@ -279,7 +281,8 @@ impl Changing {
 
     /// On every address a refused open (12, or 13 if the table is full) or close (11),
     /// offers, a data cell, a removal, a making and an out-of-rate cell; then slots for all, a
-    /// millisecond apart: longer than any gap of a connection with a minimum.
+    /// millisecond apart: longer than any gap of a connection with a minimum. Last all leaves and
+    /// all members are read.
     fn every_address(&mut self) -> Result<(), Difference> {
         let full = self.count() == CONNECTIONS_MAX;
         self.step(&Call::SetLevel { level: 1 })?;
@@ -301,7 +304,8 @@ impl Changing {
             let len = CELL_OCTETS;
             self.step(&Call::OutOfRate { at, time, len })?;
         }
-        (0..=self.count()).try_for_each(|_| self.slot(1_000_000))
+        (0..=self.count()).try_for_each(|_| self.slot(1_000_000))?;
+        self.list.both.same_lists()
     }
 
     /// So many random calls.

@@ -1,10 +1,10 @@
 //! The checked values of document 01, through the safe binding, the count of
-//! unanswered cells at the largest CRM, and contracts without a minimum (document
+//! unanswered cells up to the largest CRM and past it, and contracts without a minimum (document
 //! 02, L5), full addresses (L6) and the ends of a member's (L13).
 
 use abr::{
-    Address, Cell, Closed, Kind, Params, Refusal, Rm, Table, CELL_OCTETS, OUT_OF_RATE_INTERVAL,
-    TIME_MAX,
+    Address, Cell, Closed, Kind, Opened, Params, Refusal, Rm, Table, CELL_OCTETS,
+    OUT_OF_RATE_INTERVAL, TIME_MAX,
 };
 
 /// The VPI of the connections, and the connection of most tests.
@@ -40,6 +40,14 @@ fn backward(table: &mut Table, rm: Rm) {
     };
     abr::write_rm(&rm, &mut cell).expect("fields in range");
     table.receive(&cell).expect("a cell in order");
+}
+
+/// The answer of an accepted open on this leaf.
+fn on_leaf(leaf: u32) -> Result<Opened, Refusal> {
+    Ok(Opened {
+        leaf,
+        comparisons: 1,
+    })
 }
 
 /// VCI 32, opened at time 0.
@@ -167,13 +175,16 @@ fn ends_of_time_and_of_the_addresses() {
     let mut cell = [0; CELL_OCTETS];
     assert_eq!(table.slot(TIME_MAX + 1, &mut cell), Err(Refusal::Time));
     assert_eq!(table.open(channel(31), 0, &params), Err(Refusal::LowVci));
-    assert_eq!(table.open(AT, TIME_MAX, &params), Ok(1));
-    assert_eq!(table.open(channel(65_535), TIME_MAX, &params), Ok(1));
+    assert_eq!(table.open(AT, TIME_MAX, &params), on_leaf(0));
+    assert_eq!(table.open(channel(65_535), TIME_MAX, &params), on_leaf(1));
     assert_eq!(
         table.open(channel(65_536), TIME_MAX, &params),
         Err(Refusal::Range)
     );
-    assert_eq!(table.open(Address::new(255, 32), TIME_MAX, &params), Ok(1));
+    assert_eq!(
+        table.open(Address::new(255, 32), TIME_MAX, &params),
+        on_leaf(2)
+    );
     assert_eq!(
         table.open(Address::new(256, 32), TIME_MAX, &params),
         Err(Refusal::Range)
@@ -194,15 +205,15 @@ fn ends_of_time_and_of_the_addresses() {
 fn a_member_past_the_last_vci() {
     let params = Params::house(THOUSAND, 0x4000, THOUSAND);
     let mut table = Table::new();
-    assert_eq!(table.open_path(VPI, 0, &params), Ok(1));
-    assert_eq!(table.add(channel(65_535)), Ok(()));
+    assert_eq!(table.open_path(VPI, 0, &params), on_leaf(0));
+    assert_eq!(table.add_member(channel(65_535)), Ok(()));
     for vci in [65_536, 70_000, 131_071, u32::MAX] {
-        assert_eq!(table.add(channel(vci)), Err(Refusal::NotOpen));
+        assert_eq!(table.add_member(channel(vci)), Err(Refusal::NotOpen));
         let expected = [(VPI, Refusal::NotAMember), (VPI + 256, Refusal::NotOpen)];
         for (vpi, refusal) in expected.into_iter().chain([(0, Refusal::NotOpen)]) {
             let at = Address::new(vpi, vci);
             assert_eq!(table.offer_member(at, 0), Err(refusal), "{at}");
-            assert_eq!(table.remove(at), Err(refusal), "{at}");
+            assert_eq!(table.remove_member(at), Err(refusal), "{at}");
         }
     }
 }
@@ -213,7 +224,7 @@ fn a_thousand_and_24_open_and_no_more_in_any_order() {
     let mut table = Table::new();
     for i in 0..1_024 {
         let vci = 32 + (i * 37) % 1_024;
-        assert_eq!(table.open(channel(vci), 0, &params), Ok(1), "{vci}");
+        assert_eq!(table.open(channel(vci), 0, &params), on_leaf(i), "{vci}");
     }
     assert_eq!(table.open(channel(1_056), 0, &params), Err(Refusal::Full));
     let closed = Closed {
@@ -221,7 +232,7 @@ fn a_thousand_and_24_open_and_no_more_in_any_order() {
         comparisons: 1,
     };
     assert_eq!(table.close(channel(50)), Ok(closed));
-    assert_eq!(table.open(channel(1_056), 0, &params), Ok(1));
+    assert_eq!(table.open(channel(1_056), 0, &params), on_leaf(554)); // 37 x 554 = 18 + 1,024 x 20
     assert_eq!(table.open(channel(50), 0, &params), Err(Refusal::Full));
     let open = || (32..=1_056).filter(|vci| *vci != 50);
     for vci in open() {
@@ -291,8 +302,8 @@ fn one_out_of_rate_cell_in_100_ms() {
     let mut cell = [0; CELL_OCTETS];
     let mut at = |time| table.out_of_rate(AT, time, &mut cell);
     assert_eq!(at(5), Ok(()));
-    assert_eq!(at(5), Err(Refusal::TooOften));
-    assert_eq!(at(OUT_OF_RATE_INTERVAL + 4), Err(Refusal::TooOften));
+    assert_eq!(at(5), Err(Refusal::OutOfRateTooSoon));
+    assert_eq!(at(OUT_OF_RATE_INTERVAL + 4), Err(Refusal::OutOfRateTooSoon));
     assert_eq!(at(OUT_OF_RATE_INTERVAL + 5), Ok(()));
     assert_eq!(at(OUT_OF_RATE_INTERVAL + 4), Err(Refusal::TimeBackward));
     assert_eq!(at(TIME_MAX), Ok(()));
@@ -327,8 +338,7 @@ fn the_least_rate_above_0() {
     assert_eq!((table.acr(AT), slot(&mut table, TIME_MAX)), (Ok(0), None));
 }
 
-/// Y counts up to the largest CRM. That it stops there cannot be observed: Y is
-/// only compared with CRM, which is never above that number.
+/// Y counts up to the largest CRM, and stops there.
 #[test]
 fn the_unanswered_count_reaches_the_largest_crm() {
     // Nrm 2: every second cell is a forward cell.
@@ -351,7 +361,10 @@ fn the_unanswered_count_reaches_the_largest_crm() {
     while next_forward(&mut table) != (CRM, full) {
         assert_eq!(table.acr(AT), Ok(full));
     }
-    assert_eq!(next_forward(&mut table), (CRM + 1, full / 2));
-    assert_eq!(next_forward(&mut table), (CRM + 2, full / 4));
-    assert_eq!(next_forward(&mut table), (CRM + 3, full / 8));
+    let unanswered = |table: &Table| u64::from(table.status(AT).unwrap().unanswered);
+    assert_eq!(unanswered(&table), CRM);
+    for past in 1..4 {
+        assert_eq!(next_forward(&mut table), (CRM + past, full >> past));
+        assert_eq!(unanswered(&table), CRM);
+    }
 }

@@ -31,13 +31,20 @@ fn of_binding() -> Vec<Layout> {
         abr_table: words;
         abr_params: pcr mcr icr n r d c tbe frtt adtf trm;
         abr_rm: vpi vci dir bn ci ni ra er ccr mcr ql sn;
+        abr_opened: refusal comparisons leaf;
         abr_answer: refusal comparisons;
+        abr_received: refusal comparisons kind vpi vci leaf acr;
         abr_closed: refusal comparisons cells;
-        abr_sent: refusal comparisons kind vpi vci acr;
-        abr_allowed: refusal acr change;
+        abr_sent: refusal comparisons kind vpi vci leaf acr acr_before made reserved;
+        abr_allowed: refusal reserved acr change;
+        abr_connection: refusal kind vpi vci leaf waiting params crm icr_used acr change opened
+            last_sent last_forward ready last_made last_out_of_rate k unanswered backward_sent efci turned
+            made_level served reserved;
+        abr_member: refusal vpi vci waiting;
+        abr_totals: connections connections_max members level last;
         abr_cell: refusal kind efci rm;
         abr_coded: refusal code;
-        abr_rated: refusal rate;
+        abr_rated: refusal reserved rate;
         abr_contract: pcr mcr icr;
         abr_imported: refusal code remainder;
         abr_share: refusal limited rate;

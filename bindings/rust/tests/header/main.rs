@@ -1,6 +1,7 @@
 //! The binding compared with the C header: numbers and texts, the layouts of structs, the types
-//! of functions. What the header has is read from it, so that nothing new in it is missed.
+//! of functions, the fields of answers. What the header has is read from it, so that nothing new in it is missed.
 
+mod answers;
 mod layouts;
 mod numbers;
 mod prototypes;

@@ -1,7 +1,9 @@
 //! The numbers and texts of the binding are those of the header; one version in all that
 //! carries one.
 
-use abr::{ffi, Cell, Kind, Refusal, Rule, Sent};
+use abr::{
+    ffi, Cell, Connection, ConnectionKind, Kind, Received, ReceivedKind, Refusal, Rule, Sent,
+};
 
 use super::HEADER;
 
@@ -68,33 +70,38 @@ fn the_limits_are_those_of_the_header() {
     let others = [
         "VERSION",
         "OK",
-        "HOUSE_",
-        "SENT_",
+        "CHANNEL",
+        "PATH",
+        "MEMBER",
         "CELL_DATA",
         "CELL_RM",
-        "RULE_",
-        "REFUSED_",
     ];
+    let groups = ["HOUSE_", "SENT_", "RECEIVED_", "RULE_", "REFUSED_"];
     let header: Vec<(&str, u64)> = HEADER
         .lines()
         .filter_map(|line| line.strip_prefix("#define ABR_")?.split_once(' '))
         .filter(|(_, value)| value.starts_with("UINT64_C(") || value.starts_with(char::is_numeric))
         .map(|(name, _)| (name, value(&format!("ABR_{name}"))))
-        .filter(|(name, _)| !others.iter().any(|other| name.starts_with(other)))
+        .filter(|(name, _)| !others.contains(name))
+        .filter(|(name, _)| !groups.iter().any(|group| name.starts_with(group)))
         .collect();
     assert_eq!(header, limits());
     assert_eq!(abr::rate(abr::CODE_MAX), Ok(abr::RATE_MAX));
 }
 
+/// The names of a group of the header's constants, each with its number.
+fn group(start: &str) -> impl Iterator<Item = (&'static str, u32)> + '_ {
+    HEADER.lines().filter_map(move |line| {
+        let rest = line.strip_prefix("#define ")?.strip_prefix(start)?;
+        let name = rest.split(' ').next()?;
+        Some((name, value(&format!("{start}{name}")) as u32))
+    })
+}
+
 /// What a slot sends by its number: a binding's kind, and nothing else.
 #[test]
 fn the_kinds_of_a_slot_are_those_of_the_header() {
-    let names = HEADER.lines().filter_map(|line| {
-        let name = line.strip_prefix("#define ABR_SENT_")?;
-        name.split(' ').next()
-    });
-    let kinds = names.map(|name| {
-        let kind = value(&format!("ABR_SENT_{name}")) as u32;
+    let kinds = group("ABR_SENT_").map(|(name, kind)| {
         let sent = ffi::abr_sent {
             kind,
             ..ffi::abr_sent::default()
@@ -108,6 +115,40 @@ fn the_kinds_of_a_slot_are_those_of_the_header() {
         ("DATA", Some(Kind::Data)),
     ];
     assert_eq!(kinds.collect::<Vec<_>>(), expected);
+}
+
+/// What was received by its number.
+#[test]
+fn the_kinds_of_received_cells_are_those_of_the_header() {
+    let kinds = group("ABR_RECEIVED_").map(|(name, kind)| {
+        let received = ffi::abr_received {
+            kind,
+            ..ffi::abr_received::default()
+        };
+        (name, Received::from(received).kind)
+    });
+    let expected = [
+        ("FORWARD", ReceivedKind::Forward),
+        ("BACKWARD", ReceivedKind::Backward),
+        ("DATA", ReceivedKind::Data),
+    ];
+    assert_eq!(kinds.collect::<Vec<_>>(), expected);
+}
+
+/// What a pair stands for by its number.
+#[test]
+fn the_kinds_of_a_connection_are_those_of_the_header() {
+    for (name, expected) in [
+        ("ABR_CHANNEL", ConnectionKind::Channel),
+        ("ABR_PATH", ConnectionKind::Path),
+        ("ABR_MEMBER", ConnectionKind::Member),
+    ] {
+        let read = ffi::abr_connection {
+            kind: value(name) as u32,
+            ..ffi::abr_connection::default()
+        };
+        assert_eq!(Connection::from(read).kind, expected, "{name}");
+    }
 }
 
 /// What a read gives by its number.

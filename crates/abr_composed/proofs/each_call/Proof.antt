@@ -1,7 +1,8 @@
 use mathlib.Core.Path.{refl}
 use borrow.Author.Needs.{needs}
-use Rattle.abr_answers.specs.Calls.{refusalAlone, noCell}
-use Rattle.abr.specs.Exports.{noSlot, afterClose, abrOpen, abrClose, abrReceive, abrOffer, abrSetLevel, abrMake, abrOutOfRate, abrSlot, then, ended}
+use Rattle.abr_answers.specs.Calls.{refusalAlone}
+use Rattle.abr_answers.specs.Reply.{noCell, replyIn}
+use Rattle.abr.specs.Exports.{nothingBesides, besidesSlot, noSlot, afterOpen, afterReceive, afterClose, abrOpen, abrClose, abrReceive, abrOffer, abrSetLevel, abrMake, abrOutOfRate, abrSlot, then, ended}
 use Rattle.abr_composed.proofs.each_call.Statement.{statement}
 use Rattle.abr_composed.proofs.each_call.Tie as tie
 
@@ -20,22 +21,30 @@ returns c =
     let known = o .before .before .before .before in
     let start = known .before in
     record {
-      opened = noSlot (o .abr-open .last .0) (o .abr-open .result);
+      opened = afterOpen (o .abr-open .last .0) (o .abr-open .result);
       offered = noSlot (f .abr-offer .last .0) (f .abr-offer .result);
       levelled = noSlot (l .abr-set-level .last .0) (refusalAlone (l .abr-set-level .result));
-      taken = noSlot (r .abr-receive .last .0) (r .abr-receive .result);
-      sent = record { table = s .abr-slot .last .0; returned = s .abr-slot .result; cells = 0; old = start .args .cell .now; new = s .abr-slot .last .1 .1 .0 };
+      taken = afterReceive (r .abr-receive .last .0) (r .abr-receive .result);
+      sent = record {
+        table = s .abr-slot .last .0;
+        returned = replyIn (s .abr-slot .result);
+        besides = besidesSlot (s .abr-slot .result);
+        cells = 0;
+        old = start .args .cell .now;
+        new = s .abr-slot .last .1 .1 .0;
+      };
       left = record {
         table = u .abr-out-of-rate .last .0;
         returned = noCell (u .abr-out-of-rate .result) 0;
+        besides = nothingBesides;
         cells = 0;
         old = s .abr-slot .last .1 .1 .0;
         new = u .abr-out-of-rate .last .1 .1 .1 .1 .0;
       };
       made = noSlot (m .abr-make .last .0) (m .abr-make .result);
       closed = afterClose (c .abr-close .last .0) (c .abr-close .result);
-      next = n .abr-next .result;
-      asked = n .abr-next .ensures;
+      next = n .abr-next-ready .result;
+      asked = n .abr-next-ready .ensures;
       passed = p .abr-slot-time .result;
       timed = p .abr-slot-time .ensures;
       rate = a .abr-acr .ensures;

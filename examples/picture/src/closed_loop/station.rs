@@ -87,8 +87,7 @@ impl Station {
     /// A cell that arrives.
     pub fn receive(&mut self, time: u64, cell: &Octets) -> Result<(), Refusal> {
         let before = self.table.acr(self.at)?;
-        self.table.receive(cell)?;
-        let after = self.table.acr(self.at)?;
+        let after = self.table.receive(cell)?.acr;
         self.history.track.add(time, after);
         match abr::read(cell)? {
             Cell::Rm(rm) if rm.backward => self.history.feedbacks.count(time, &rm, before, after),

@@ -36,7 +36,7 @@ impl Observation {
     /// A call was refused: it may be at an edge of a made cell.
     pub(super) fn refused(&self, call: &Call, refusal: Refusal, coverage: &mut Coverage) {
         match (*call, refusal) {
-            (Call::Make { at, time }, Refusal::TooSoon) => {
+            (Call::Make { at, time }, Refusal::MadeTooSoon) => {
                 let last = self.connections.get(&at).and_then(|c| c.last_made);
                 let end = last.map(|last| last + MAKE_INTERVAL);
                 coverage.reach(Event::MadeLessOne, end == Some(time + 1));

@@ -36,7 +36,7 @@ impl Observation {
     /// A call was refused: it may be at an edge of an out-of-rate cell.
     pub(super) fn refused_outside(&self, call: &Call, refusal: Refusal, coverage: &mut Coverage) {
         match (*call, refusal) {
-            (Call::OutOfRate { at, time, .. }, Refusal::TooOften) => {
+            (Call::OutOfRate { at, time, .. }, Refusal::OutOfRateTooSoon) => {
                 let last = self.connections.get(&at).and_then(|c| c.last_outside);
                 let end = last.map(|last| last + OUT_OF_RATE_INTERVAL);
                 coverage.reach(Event::OutsideLessOne, end == Some(time + 1));

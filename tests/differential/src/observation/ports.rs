@@ -81,26 +81,35 @@ pub(super) fn refused(call: &Call, refusal: Refusal, coverage: &mut Coverage) {
         return;
     };
     let above = demands.above.is_some();
-    coverage.reach(Event::DemandsFirst, refusal == Refusal::Demands && above);
+    coverage.reach(
+        Event::DemandsFirst,
+        refusal == Refusal::TooManyDemands && above,
+    );
     coverage.reach(
         Event::DemandsPastMost,
-        refusal == Refusal::Demands && demands.count == DEMANDS_MAX + 1,
+        refusal == Refusal::TooManyDemands && demands.count == DEMANDS_MAX + 1,
     );
     let by_one = demands.above.is_some_and(|(_, by)| by == 1);
     coverage.reach(
         Event::DemandPastLargest,
-        refusal == Refusal::Demand && by_one,
+        refusal == Refusal::DemandTooLarge && by_one,
     );
     let last = demands
         .above
         .is_some_and(|(place, _)| place > 0 && place + 1 == demands.count);
-    coverage.reach(Event::DemandLast, refusal == Refusal::Demand && last);
+    coverage.reach(
+        Event::DemandLast,
+        refusal == Refusal::DemandTooLarge && last,
+    );
     if let Call::Port { cell, .. } = call {
         let wrong = read(cell.as_slice()).is_err();
         coverage.reach(
             Event::DemandsBeforeCell,
-            refusal == Refusal::Demands && wrong,
+            refusal == Refusal::TooManyDemands && wrong,
         );
-        coverage.reach(Event::DemandBeforeCell, refusal == Refusal::Demand && wrong);
+        coverage.reach(
+            Event::DemandBeforeCell,
+            refusal == Refusal::DemandTooLarge && wrong,
+        );
     }
 }

@@ -3,6 +3,7 @@
 
 use abr::{Address, Allowed, Cell, Kind, Params, Rm, Table, CELL_OCTETS};
 use abr_convert::{library_sent, reference_params, reference_rm};
+use abr_differential::expected;
 use abr_differential::octets::{put_header, Header};
 use abr_reference::Engine;
 
@@ -122,8 +123,9 @@ impl Station {
     pub fn receive(&mut self, cell: &Octets) {
         let ours = self.library.receive(cell).expect("library");
         let theirs = self.reference.receive(cell).expect("reference");
-        assert_eq!(ours, theirs, "comparisons of a received cell");
+        assert_eq!(ours, expected::received(&theirs).into(), "a received cell");
         self.acr();
+        self.same_status();
     }
 
     /// Receives a backward RM cell with these marks and this explicit rate.
@@ -163,11 +165,20 @@ impl Station {
             "library and reference at {time}"
         );
         assert_eq!(cell, other, "library and reference at {time}");
+        self.same_status();
         ours.map(|sent| Sent {
             kind: sent.kind,
             acr: sent.acr,
             cell,
         })
+    }
+
+    /// Everything of the connection and of the link.
+    fn same_status(&self) {
+        let theirs = expected::status(&self.reference, THEIR_AT).expect("reference");
+        assert_eq!(self.library.status(AT), Ok(theirs.into()));
+        assert_eq!(self.library.at(theirs.leaf), Ok(theirs.into()));
+        assert_eq!(self.library.link(), expected::link(&self.reference));
     }
 
     /// The kind of cell that the slot at a time sends.

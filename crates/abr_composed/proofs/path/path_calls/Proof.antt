@@ -1,5 +1,5 @@
 use borrow.Author.Needs.{needs}
-use Rattle.abr.specs.Exports.{noSlot, afterClose, abrClose, abrOpenPath, abrAdd, abrOfferMember, abrRemove, then, ended}
+use Rattle.abr.specs.Exports.{noSlot, afterOpen, afterClose, abrClose, abrOpenPath, abrAddMember, abrOfferMember, abrRemoveMember, then, ended}
 use Rattle.abr_composed.proofs.path.path_calls.Statement.{statement}
 use Rattle.abr_composed.proofs.path.path_calls.Tie as tie
 
@@ -10,15 +10,15 @@ returns c =
     let j = g .before .before in
     let h = j .before .before in
     record {
-      opened = noSlot (h .abr-open-path .last .0) (h .abr-open-path .result);
-      added = noSlot (j .abr-add .last .0) (j .abr-add .result);
+      opened = afterOpen (h .abr-open-path .last .0) (h .abr-open-path .result);
+      added = noSlot (j .abr-add-member .last .0) (j .abr-add-member .result);
       offered = noSlot (g .abr-offer-member .last .0) (g .abr-offer-member .result);
-      removed = afterClose (x .abr-remove .last .0) (x .abr-remove .result);
+      removed = afterClose (x .abr-remove-member .last .0) (x .abr-remove-member .result);
       trace =
           then (abrOpenPath (h .abr-open-path .ensures))
-          (then (abrAdd (j .abr-add .ensures))
+          (then (abrAddMember (j .abr-add-member .ensures))
           (then (abrOfferMember (g .abr-offer-member .ensures))
-          (then (abrRemove (x .abr-remove .ensures))
+          (then (abrRemoveMember (x .abr-remove-member .ensures))
           (then (abrClose (c .abr-close .ensures)) ended))));
     }
 

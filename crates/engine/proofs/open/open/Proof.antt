@@ -1,13 +1,13 @@
 use borrow.Author.Needs.{needs}
-use Rattle.engine.proofs.Outcomes.{refused-out, same-meets}
-use Rattle.engine.proofs.OpenCases.{open-low, open-high}
+use Rattle.engine.proofs.Outcomes.{same-meets}
+use Rattle.engine.proofs.OpenCases.{open-refused, open-low, open-high}
 use Rattle.engine.proofs.open.open.Statement.{statement}
 use Rattle.engine.proofs.open.open.Tie as tie
 
 returns : tie.Need-returns
 returns c =
     let a = c .before .args in
-    record { meets = λ s w e. refused-out s 10 e (open-low s (a .vpi) (a .vci) (a .time) (a .params) (c .if1 .taken)) }
+    record { meets = λ s w e. open-refused s 10 e (open-low s (a .vpi) (a .vci) (a .time) (a .params) (c .if1 .taken)) }
 
 returns-2 : tie.Need-returns-2
 returns-2 c =

@@ -20,10 +20,10 @@ use Rattle.table_store.specs.Updates.{OpensEntry}
 use Rattle.table_names.specs.Finding.{FindsName}
 use Rattle.table_names.proofs.Found.{found-at, room-at}
 use Rattle.table_members.specs.Words.{FindsMember}
-use Rattle.engine.proofs.Outcomes.{refused-out, missing, entry-located}
+use Rattle.engine.proofs.Outcomes.{missing, entry-located}
 use Rattle.engine.proofs.Members.{no-member, member-at}
 use Rattle.table.proofs.Words.{last-at}
-use Rattle.engine.proofs.OpenCases.{open-reserved, open-unfit, open-tbe, open-frtt, open-late, InputPassed, open-taken, open-member, open-full, open-early, open-done, lowest, entry-below, no-room, open-out}
+use Rattle.engine.proofs.OpenCases.{open-refused, open-reserved, open-unfit, open-tbe, open-frtt, open-late, InputPassed, open-taken, open-member, open-full, open-early, open-done, lowest, entry-below, no-room, open-out}
 use Rattle.engine.proofs.open.open_address.Statement.{statement}
 use Rattle.engine.proofs.open.open_address.Tie as tie
 
@@ -100,13 +100,13 @@ least c s w e = lowest (third c .find-free .ensures) s w e (c .i .given .1)
 returns : tie.Need-returns
 returns c =
     let a = c .before .before .args in
-    record { meets = λ s w e. refused-out s 19 e (open-reserved s (a .vpi) (a .vci) (a .time) (a .params) (sym (c .before .codes-clear .ensures) ∙ not-true _ (c .if1 .taken))) }
+    record { meets = λ s w e. open-refused s 19 e (open-reserved s (a .vpi) (a .vci) (a .time) (a .params) (sym (c .before .codes-clear .ensures) ∙ not-true _ (c .if1 .taken))) }
 
 returns-2 : tie.Need-returns-2
 returns-2 c =
     let e1 = c .before .before in
     let a = start-1 e1 .args in
-    record { meets = λ s w e. refused-out s 7 e (open-unfit s (a .vpi) (a .vci) (a .time) (a .params) (clear e1) (sym (c .before .in-range .ensures) ∙ not-true _ (c .if2 .taken))) }
+    record { meets = λ s w e. open-refused s 7 e (open-unfit s (a .vpi) (a .vci) (a .time) (a .params) (clear e1) (sym (c .before .in-range .ensures) ∙ not-true _ (c .if2 .taken))) }
 
 returns-3 : tie.Need-returns-3
 returns-3 c =
@@ -114,7 +114,7 @@ returns-3 c =
     let a = start-2 e2 .args in
     record {
       meets = λ s w e.
-          refused-out s 29 e
+          open-refused s 29 e
           (open-tbe s (a .vpi) (a .vci) (a .time) (a .params) (clear (e2 .before .before)) (fitted e2) (sym (c .before .tbe-fits .ensures) ∙ not-true _ (c .if3 .taken)));
     }
 
@@ -125,7 +125,7 @@ returns-4 c =
     let a = start-3 e3 .args in
     record {
       meets = λ s w e.
-          refused-out s 30 e
+          open-refused s 30 e
           (open-frtt s (a .vpi) (a .vci) (a .time) (a .params) (clear (e2 .before .before)) (fitted e2) (tbe-fitted e3) (sym (c .before .frtt-fits .ensures) ∙ not-true _ (c .if4 .taken)));
     }
 
@@ -136,7 +136,7 @@ returns-5 c =
     let a = start-3 e3 .args in
     record {
       meets = λ s w e.
-          refused-out s 8 e (open-late s (a .vpi) (a .vci) (a .time) (a .params) (clear (e2 .before .before)) (fitted e2) (tbe-fitted e3) (frtt-fitted (c .before)) (c .if5 .taken));
+          open-refused s 8 e (open-late s (a .vpi) (a .vci) (a .time) (a .params) (clear (e2 .before .before)) (fitted e2) (tbe-fitted e3) (frtt-fitted (c .before)) (c .if5 .taken));
     }
 
 returns-6 : tie.Need-returns-6
@@ -145,7 +145,7 @@ returns-6 c =
     record {
       meets = λ s w e.
           let p = entry-located s w e _ (finds f) (c .enum-told2 .given .1) in
-          refused-out s 12 e (open-taken s (passed (input f)) (p .holder) (found-at p));
+          open-refused s 12 e (open-taken s (passed (input f)) (p .holder) (found-at p));
     }
 
 find-requires-2 : tie.Need-find-requires-2
@@ -156,7 +156,7 @@ find-requires-2 c κs =
 returns-7 : tie.Need-returns-7
 returns-7 c =
     let m = c .before .before in
-    record { meets = λ s w e. refused-out s 27 e (open-member s (passed (input (first m))) (closed m s w e) (member-at s w e (finds-member m) (c .enum-told4 .given .1) .member)) }
+    record { meets = λ s w e. open-refused s 27 e (open-member s (passed (input (first m))) (closed m s w e) (member-at s w e (finds-member m) (c .enum-told4 .given .1) .member)) }
 
 returns-8 : tie.Need-returns-8
 returns-8 c =
@@ -164,7 +164,7 @@ returns-8 c =
     let m = second f in
     record {
       meets = λ s w e.
-          refused-out s 13 e (open-full s (passed (input (first m))) (closed m s w e) (apart f s w e) (no-room (f .find-free .ensures) s w e (c .enum-told5 .given .1)));
+          open-refused s 13 e (open-full s (passed (input (first m))) (closed m s w e) (apart f s w e) (no-room (f .find-free .ensures) s w e (c .enum-told5 .given .1)));
     }
 
 returns-9 : tie.Need-returns-9
@@ -174,9 +174,12 @@ returns-9 c =
     let e5 = input (first m) in
     record {
       meets = λ s w e.
-          refused-out s 14 e
+          open-refused s 14 e
           (open-early s (passed e5) (closed m s w e) (apart (third i) s w e) (room-at s w (i .i .given .0 .0) (entry i) (least i s w e)) (subst (λ x. start e5 .args .time < x) (last-at s e) (c .if6 .taken)));
     }
+
+cast-leaf : tie.Need-cast-leaf
+cast-leaf c = omega (arith, entry (c .before .before .before))
 
 store-requires : tie.Need-store-requires
 store-requires c κs =
@@ -206,4 +209,4 @@ returns-10 c =
 pub open-address-spec : {M : Type 1} → statement M
 open-address-spec =
     tie.close
-    (tie.spec (λ c κs. search needs) returns (λ c κs. search needs) returns-2 (λ c κs. search needs) returns-3 (λ c κs. search needs) returns-4 returns-5 (λ c κs. search needs) (λ c κs. search needs) (λ c. search needs) (λ c. search needs) returns-6 find-requires-2 (λ c. search needs) (λ c. search needs) returns-7 (λ c κs. search needs) (λ c. search needs) (λ c. search needs) returns-8 (λ c. search needs) returns-9 (λ c κs. search needs) store-requires (λ c. search needs) returns-10)
+    (tie.spec (λ c κs. search needs) returns (λ c κs. search needs) returns-2 (λ c κs. search needs) returns-3 (λ c κs. search needs) returns-4 returns-5 (λ c κs. search needs) (λ c κs. search needs) (λ c. search needs) (λ c. search needs) returns-6 find-requires-2 (λ c. search needs) (λ c. search needs) returns-7 (λ c κs. search needs) (λ c. search needs) (λ c. search needs) returns-8 (λ c. search needs) returns-9 cast-leaf (λ c κs. search needs) store-requires (λ c. search needs) returns-10)

@@ -7,8 +7,7 @@ use Rattle.cell.proofs.Admits.{received-checked}
 use Rattle.cell.proofs.Readings.{data-same, HeaderMeets, header-meets, rest-meets}
 use Rattle.cell_read.specs.RefusedAsRead.{RefusedAsRead}
 use Rattle.cell_read.proofs.Cases.{judged-rest}
-use Rattle.engine.proofs.Outcomes.{refused-out, same-meets}
-use Rattle.engine_arrivals.proofs.ReceiveCases.{unread, data-read, rm-read}
+use Rattle.engine_arrivals.proofs.ReceiveCases.{receive-refused, read-meets, unread, data-read, rm-read}
 use Rattle.engine_arrivals.proofs.receive.receive.Statement.{statement}
 use Rattle.engine_arrivals.proofs.receive.receive.Tie as tie
 
@@ -45,7 +44,7 @@ fields c =
 returns : tie.Need-returns
 returns c =
     let h = c .before in
-    record { meets = λ s w e. refused-out s (h .header-refusal .result) e (unread s _ (h .header-refusal .result) (meets h .refused (c .if1 .taken))) }
+    record { meets = λ s w e. receive-refused (reading (h .before .before .args .cell .now)) s (h .header-refusal .result) e (unread s _ (h .header-refusal .result) (meets h .refused (c .if1 .taken))) }
 
 is-data-requires : tie.Need-is-data-requires
 is-data-requires c κs = of-53 c
@@ -66,11 +65,10 @@ returns-2 c =
     let a = v .before in
     let t = a .before .before in
     let k = t .before .before in
-    same-meets
-    (data-read _ (a .vpi-of .result) (v .vci-of .result) (e .efci-of .result)
-    (meets (k .before) .dataCell (k .if1 .left) (sym (t .before .is-data .ensures) ∙ t .if2 .taken)
-    ∙ sym (data-same (a .vpi-of .ensures) (v .vci-of .ensures) (e .efci-of .ensures))))
-    (c .receive-data .ensures)
+    let q =
+    meets (k .before) .dataCell (k .if1 .left) (sym (t .before .is-data .ensures) ∙ t .if2 .taken)
+    ∙ sym (data-same (a .vpi-of .ensures) (v .vci-of .ensures) (e .efci-of .ensures)) in
+    read-meets (start k .args .cell .now) q (data-read _ (a .vpi-of .result) (v .vci-of .result) (e .efci-of .result) q) (c .receive-data .ensures)
 
 rm-refusal-requires : tie.Need-rm-refusal-requires
 rm-refusal-requires c κs = of-53 (c .before .before)
@@ -78,7 +76,7 @@ rm-refusal-requires c κs = of-53 (c .before .before)
 returns-3 : tie.Need-returns-3
 returns-3 c =
     let r = c .before in
-    record { meets = λ s w e. refused-out s (r .rm-refusal .result) e (unread s _ (r .rm-refusal .result) (judged r .refused (c .if3 .taken))) }
+    record { meets = λ s w e. receive-refused (reading (start (past r) .args .cell .now)) s (r .rm-refusal .result) e (unread s _ (r .rm-refusal .result) (judged r .refused (c .if3 .taken))) }
 
 fields-of-requires : tie.Need-fields-of-requires
 fields-of-requires c κs = of-53 (past (c .before .before))
@@ -89,7 +87,7 @@ receive-rm-requires c κs =
     (of-53 k, received-checked _ (c .fields-of .result) (fields c) (record { each = λ i. k .before .before .shared-slice-known .given i .fits }) refl)
 
 returns-4 : tie.Need-returns-4
-returns-4 c = let f = c .before in same-meets (rm-read _ (f .fields-of .result) (fields f)) (c .receive-rm .ensures)
+returns-4 c = let f = c .before in read-meets (start (past (rest f)) .args .cell .now) (fields f) (rm-read _ (f .fields-of .result) (fields f)) (c .receive-rm .ensures)
 
 pub receive-spec : {M : Type 1} → statement M
 receive-spec = tie.close (tie.spec (λ c κs. search needs) returns is-data-requires vpi-of-requires vci-of-requires efci-of-requires (λ c κs. search needs) returns-2 rm-refusal-requires returns-3 fields-of-requires receive-rm-requires returns-4)

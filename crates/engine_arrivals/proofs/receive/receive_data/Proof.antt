@@ -1,16 +1,17 @@
 use Prim.Native.Nat.{ℕ, _<_}
 use mathlib.Core.Path.{_≡_, sym, ap, subst, _∙_}
 use mathlib.Core.Bool.{false}
+use native.Mathlib.Omega.{arith}
 use borrow.Author.Needs.{needs}
 use Rattle.cell.specs.Name.{addressName}
+use Rattle.cell.specs.declared.read.Reading.the-variants.{DataCell}
 use Rattle.connection_members.specs.Path.{isPath}
 use Rattle.connection_members.specs.Members.{owner}
 use Rattle.model.specs.State.{capacity}
 use Rattle.table_names.specs.Finding.{FoundInRange, Names}
-use Rattle.engine.proofs.Outcomes.{refused-out}
 use Rattle.engine.proofs.Members.{is-path, no-path}
 use Rattle.engine_arrivals.specs.Owner.{FindsOwner}
-use Rattle.engine_arrivals.proofs.ReceiveCases.{data-on-path, data-missing, data-done}
+use Rattle.engine_arrivals.proofs.ReceiveCases.{receive-refused, data-on-path, data-missing, data-done}
 use Rattle.engine_arrivals.proofs.receive.receive_data.Statement.{statement}
 use Rattle.engine_arrivals.proofs.receive.receive_data.Tie as tie
 
@@ -46,7 +47,7 @@ returns : tie.Need-returns
 returns c =
     let pn = c .before in
     let a = pn .before .args in
-    record { meets = λ s w e. refused-out s 11 e (data-on-path s (a .vpi) (a .vci) (a .efci) (ap isPath (sym (pn .address-name .ensures)) ∙ is-path (pn .address-name .result) (c .if1 .taken))) }
+    record { meets = λ s w e. receive-refused (DataCell (a .vpi) (a .vci) (a .efci)) s 11 e (data-on-path s (a .vpi) (a .vci) (a .efci) (ap isPath (sym (pn .address-name .ensures)) ∙ is-path (pn .address-name .result) (c .if1 .taken))) }
 
 returns-2 : tie.Need-returns-2
 returns-2 c =
@@ -54,12 +55,15 @@ returns-2 c =
     let a = start (past f) .args in
     record {
       meets = λ s w e.
-          refused-out s 11 e
+          receive-refused (DataCell (a .vpi) (a .vci) (a .efci)) s 11 e
           (data-missing s (a .vpi) (a .vci) (a .efci) (channel (past f)) (subst (Names (owner (addressName (a .vpi) (a .vci)) (s .members)) (s .entries)) (c .enum-told .given .1) (finds f .is s w e)));
     }
 
 load-requires : tie.Need-load-requires
 load-requires c κs = entry (c .before .before)
+
+cast-leaf : tie.Need-cast-leaf
+cast-leaf c = omega (arith, entry (found (c .before)))
 
 levels-won-requires : tie.Need-levels-won-requires
 levels-won-requires c κs = entry (found (c .before .before))
@@ -78,8 +82,8 @@ returns-3 c =
     record {
       meets = λ s w e.
           data-done s w e (a .vpi) (a .vci) (i .i .given .0 .0) (entry i) (subst (Names (owner (addressName (a .vpi) (a .vci)) (s .members)) (s .entries)) (i .i .given .1) (finds f .is s w e))
-          (ld .load .result) (ld .load .ensures) (o .after-data-cell .result) (channel (past f)) (c .update-efci .ensures) (n .levels-won .ensures) (a .efci) (o .after-data-cell .ensures);
+          (ld .load .result) (ld .load .ensures) (o .after-data-cell .result) (channel (past f)) (c .update-efci .ensures) (n .levels-won .ensures) (a .efci) (o .after-data-cell .ensures) (past f .before .address-name .result) (past f .before .address-name .ensures);
     }
 
 pub receive-data-spec : {M : Type 1} → statement M
-receive-data-spec = tie.close (tie.spec (λ c κs. search needs) returns (λ c κs. search needs) (λ c. search needs) (λ c. search needs) returns-2 load-requires (λ c κs. search needs) levels-won-requires update-efci-requires returns-3)
+receive-data-spec = tie.close (tie.spec (λ c κs. search needs) returns (λ c κs. search needs) (λ c. search needs) (λ c. search needs) returns-2 load-requires (λ c κs. search needs) cast-leaf levels-won-requires update-efci-requires returns-3)

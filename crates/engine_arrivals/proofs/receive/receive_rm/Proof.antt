@@ -1,10 +1,12 @@
 use Prim.Native.Nat.{ℕ, _<_}
 use Rattle.table_names.specs.Finding.{Located, FindsName}
 use Rattle.connection.proofs.Ranged.{after-backward-cell-ranged, after-forward-cell-ranged}
+use Rattle.cell.specs.declared.read.Reading.the-variants.{RmCell}
 use Rattle.cell.specs.Fields.{cellName, CrcMatches}
 use Rattle.connection.specs.Range.{InRange}
-use Rattle.engine.proofs.Outcomes.{refused-out, below, missing, entry-located, ranged}
-use Rattle.engine_arrivals.proofs.ReceiveCases.{work-missing, answer-done, turn-done}
+use Rattle.engine.proofs.Outcomes.{below, missing, entry-located, ranged}
+use Rattle.engine_arrivals.proofs.ReceiveCases.{receive-refused, work-missing, answer-done, turn-done}
+use native.Mathlib.Omega.{arith}
 use borrow.Author.Needs.{needs}
 use mathlib.Core.Path.{_≡_, sym, subst}
 use Rattle.engine_arrivals.proofs.receive.receive_rm.Statement.{statement}
@@ -50,7 +52,10 @@ returns : tie.Need-returns
 returns c =
     let f = c .before .before in
     let a = start f .args in
-    record { meets = λ s w e. refused-out s 11 e (work-missing s (a .cell .now) (a .f) (missing s w e _ (finds f) (c .enum-told .given .1))) }
+    record { meets = λ s w e. receive-refused (RmCell (a .f)) s 11 e (work-missing s (a .cell .now) (a .f) (missing s w e _ (finds f) (c .enum-told .given .1))) }
+
+cast-leaf : tie.Need-cast-leaf
+cast-leaf c = omega (arith, entry (c .before))
 
 load-requires : tie.Need-load-requires
 load-requires c κs = entry (c .before .before)
@@ -70,7 +75,7 @@ returns-2 c =
     let a = start (search-of i) .args in
     record {
       meets = λ s w e.
-          answer-done s w e (a .cell .now) (a .f) (index i) (entry i) (located i s w e) (ld .load .result) (ld .load .ensures) (o .after-backward-cell .result) (o .before .if1 .taken) (o .after-backward-cell .ensures) (c .update-source .ensures);
+          answer-done s w e (a .cell .now) (a .f) (index i) (entry i) (located i s w e) (ld .load .result) (ld .load .ensures) (o .after-backward-cell .result) (o .before .if1 .taken) (o .after-backward-cell .ensures) (c .update-source .ensures) (search-of i .before .before .address-name .result) (search-of i .before .before .address-name .ensures);
     }
 
 after-forward-payload-requires : tie.Need-after-forward-payload-requires
@@ -93,8 +98,8 @@ returns-3 c =
     record {
       meets = λ s w e.
           turn-done s w e (a .cell .now) (a .f) (index i) (entry i) (located i s w e) (ld .load .result) (ld .load .ensures) (o .after-forward-payload .result) (p .before .before .if1 .left) (start f .pre .0)
-          (λ j. f .before .before .before .shared-slice-known .given j .fits) (p .payload-at .result) (p .payload-at .ensures) (o .after-forward-payload .ensures) (c .update-destination .ensures);
+          (λ j. f .before .before .before .shared-slice-known .given j .fits) (p .payload-at .result) (p .payload-at .ensures) (o .after-forward-payload .ensures) (c .update-destination .ensures) (f .before .before .address-name .result) (f .before .before .address-name .ensures);
     }
 
 pub receive-rm-spec : {M : Type 1} → statement M
-receive-rm-spec = tie.close (tie.spec (λ c κs. search needs) (λ c κs. search needs) (λ c. search needs) (λ c. search needs) returns load-requires (λ c κs. search needs) update-source-requires returns-2 (λ c. search needs) (λ c. search needs) (λ c κs. search needs) after-forward-payload-requires update-destination-requires returns-3)
+receive-rm-spec = tie.close (tie.spec (λ c κs. search needs) (λ c κs. search needs) (λ c. search needs) (λ c. search needs) returns cast-leaf load-requires (λ c κs. search needs) update-source-requires returns-2 (λ c. search needs) (λ c. search needs) (λ c κs. search needs) after-forward-payload-requires update-destination-requires returns-3)

@@ -54,10 +54,13 @@ next-range c =
 
 -- where it was asked whether the cell is a member's: the cell that was put before it
 abbrev put : tie.After-of-member → tie.After-put-cell
-put c = c .before .before .before
+put c = c .before .before .before .before .before
 
 abbrev next : tie.After-of-member → tie.After-after
 next c = put c .before .before
+
+cast-leaf : tie.Need-cast-leaf
+cast-leaf c = omega (arith, start (loaded (c .before .before .before .before .before .before)) .pre .0)
 
 store-sent-requires : tie.Need-store-sent-requires
 store-sent-requires c κs = (search needs, next-range (next (c .before .before)))
@@ -82,7 +85,7 @@ returns c =
       sends = λ s w last e d entry place waits.
           served-out s w (a .time) last e (a .i) (start l .pre .0) d entry place (l .load .result) (l .load .ensures) (k .kind-at .result) (k .kind-at .ensures) (n .after .result) (n .after .ensures)
           (a .cell .now) (p .put-cell .last .0) (p .put-cell .ensures) (sv .serve .result) (c .update-source .result) (sym (om .of-member .ensures) ∙ t1 .if1 .taken) waits (sv .serve .ensures)
-          (subst (λ (x : Connection). Updates SourceMoved (sv .serve .last .0) (c .update-source .last .0) (a .i) x (c .update-source .result)) (ws .with-served .ensures) (c .update-source .ensures));
+          (subst (λ (x : Connection). Updates SourceMoved (sv .serve .last .0) (c .update-source .last .0) (a .i) x (c .update-source .result)) (ws .with-served .ensures) (c .update-source .ensures)) (om .before .is-made-cell .result) (om .before .is-made-cell .ensures);
     }
 
 returns-2 : tie.Need-returns-2
@@ -97,10 +100,10 @@ returns-2 c =
     record {
       sends = λ s w last e d entry place waits.
           sent-out s w (a .time) last e (a .i) (start l .pre .0) d entry place (l .load .result) (l .load .ensures) (k .kind-at .result) (k .kind-at .ensures) (n .after .result) (n .after .ensures)
-          (a .cell .now) (p .put-cell .last .0) (p .put-cell .ensures) (c .store-sent .result) (c .store-sent .ensures) (sym (om .of-member .ensures) ∙ e1 .if1 .left);
+          (a .cell .now) (p .put-cell .last .0) (p .put-cell .ensures) (c .store-sent .result) (c .store-sent .ensures) (sym (om .of-member .ensures) ∙ e1 .if1 .left) (om .before .is-made-cell .result) (om .before .is-made-cell .ensures);
     }
 
 pub send-spec : {M : Type 1} → statement M
 send-spec =
     tie.close
-    (tie.spec (λ c κs. search needs) kind-at-requires after-requires put-cell-requires (λ c κs. search needs) (λ c. search needs) (λ c κs. search needs) (λ c κs. search needs) update-source-requires (λ c. search needs) returns store-sent-requires (λ c. search needs) returns-2)
+    (tie.spec (λ c κs. search needs) kind-at-requires after-requires put-cell-requires (λ c κs. search needs) cast-leaf (λ c κs. search needs) (λ c. search needs) (λ c κs. search needs) (λ c κs. search needs) update-source-requires (λ c. search needs) returns store-sent-requires (λ c. search needs) returns-2)

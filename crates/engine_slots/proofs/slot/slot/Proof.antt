@@ -6,7 +6,7 @@ use lib.ListN.{length}
 use Rattle.model.specs.State.{State}
 use Rattle.table.specs.Layout.{words}
 use Rattle.table.proofs.Words.{last-at}
-use Rattle.engine_slots.proofs.SlotCases.{refused-leaves, slot-short, slot-late, slot-early, idle-leaves, send-leaves, entry-below}
+use Rattle.engine_slots.proofs.SlotCases.{slot-refused, slot-short, slot-late, slot-early, idle-leaves, send-leaves, entry-below}
 use Rattle.engine_slots.proofs.slot.slot.Statement.{statement}
 use Rattle.engine_slots.proofs.slot.slot.Tie as tie
 
@@ -31,13 +31,13 @@ timed c = c .before .before
 returns : tie.Need-returns
 returns c =
     let st = c .before .before in
-    record { meets = λ s w e. refused-leaves (st .args .t .now) (st .args .cell .now) _ s 1 e (slot-short s (st .args .time) (length (st .args .cell .now)) (c .if1 .taken)) }
+    record { meets = λ s w e. slot-refused (st .args .t .now) (st .args .cell .now) _ s 1 e (slot-short s (st .args .time) (length (st .args .cell .now)) (c .if1 .taken)) }
 
 returns-2 : tie.Need-returns-2
 returns-2 c =
     let e1 = c .before in
     let st = e1 .before .before in
-    record { meets = λ s w e. refused-leaves (st .args .t .now) (st .args .cell .now) _ s 8 e (slot-late s (st .args .time) (length (st .args .cell .now)) (fits e1) (c .if2 .taken)) }
+    record { meets = λ s w e. slot-refused (st .args .t .now) (st .args .cell .now) _ s 8 e (slot-late s (st .args .time) (length (st .args .cell .now)) (fits e1) (c .if2 .taken)) }
 
 returns-3 : tie.Need-returns-3
 returns-3 c =
@@ -45,7 +45,7 @@ returns-3 c =
     let a = start e2 .args in
     record {
       meets = λ s w e.
-          refused-leaves (a .t .now) (a .cell .now) _ s 14 e
+          slot-refused (a .t .now) (a .cell .now) _ s 14 e
           (slot-early s (a .time) (length (a .cell .now)) (fits (e2 .before)) (e2 .if2 .left) (subst (λ (x : ℕ). a .time < x) (last-at s e) (c .if3 .taken)));
     }
 

@@ -1,0 +1,5 @@
+pub mod Received
+pub mod Leaves
+pub mod Besides
+pub mod Traced
+pub mod Status
