@@ -1,31 +1,55 @@
 # The ABR end-system rate engine.
 #
-#   make lib                prove the library and write target/staticlib/libabr.a
+#   make lib                prove the library and write target/staticlib/libabr.a, of another edition
+#                           target/connections-N/libabr.a
 #   make demo               two connections, slot by slot, and pictures: of them, and of ten sources at a port
-#   make test               the gate: proofs, then every test
+#   make test               the gate: proofs, then every test; of another edition its proofs and tests alone
 #   make target TARGET=     the library for another processor, target/TARGET/libabr.a; without a name it says which there are
 #   make tools              abr-judge and abr-trace, in target/cargo/release
 #   make transmitter        a whole transmitter, both ends of a link, and its picture; make demo runs it too
 #   make install PREFIX=    library, as an archive and as a shared object linked from it, header and abr.pc
 #   make dist [TARGET=]     the tarball that is sold; only of a commit for which make test has passed
-#   make bench              the cost of each call, library and reference
+#   make bench              the cost of each call, library and reference, and of a slot of many links
 #   make soak [SEED=n]      random lists without end
 #   make soak-targets       fifty million calls on each processor, compared with x86-64
 #
-# ABR_LIB names another archive than the proved one, which then is not built.
+# ABR_LIB names another archive than the proved one, which then is not built. CONNECTIONS chooses the edition, for how
+# many connections the library is: 16, 64, 256 or 1024 (default). What is made for another edition than 1024 stands in
+# target/connections-N.
 
-VERSION := 0.19.0
+VERSION := 0.20.0
 PREFIX ?= /usr/local
 DESTDIR ?=
 CC ?= gcc
 CFLAGS ?= -O2 -Wall -Wextra
-BUILD := target/make
-DIST := abr-$(VERSION)-x86_64
+CONNECTIONS ?= 1024
+EDITIONS := 16 64 256 1024
+DIST := abr-$(VERSION)-$(or $(TARGET),x86_64)
+
+ifneq ($(words $(CONNECTIONS)) $(filter $(CONNECTIONS),$(EDITIONS)),1 $(CONNECTIONS))
+$(error CONNECTIONS is one of $(EDITIONS), and not '$(CONNECTIONS)')
+endif
+export ABR_CONNECTIONS := $(CONNECTIONS)
+ifeq ($(CONNECTIONS),1024)
+MADE := target
+ARCHIVE := target/staticlib/libabr.a
+PROVE := rt staticlib abr
+TEST := .ci/run
+else
+MADE := target/connections-$(CONNECTIONS)
+ARCHIVE := $(MADE)/libabr.a
+PROVE := scripts/module
+TEST := tests/editions $(CONNECTIONS)
+DIST := $(DIST)-connections-$(CONNECTIONS)
+export CARGO_TARGET_DIR := $(abspath $(MADE)/cargo)
+endif
+BUILD := $(MADE)/make
+EDITION := -DABR_CONNECTIONS=$(CONNECTIONS)
 
 ifdef ABR_LIB
 LIB := $(abspath $(ABR_LIB))
 else
-LIB := $(abspath target/staticlib/libabr.a)
+LIB := $(abspath $(ARCHIVE))
 LIB_GOAL := lib
 endif
 export ABR_LIB := $(LIB)
@@ -33,11 +57,11 @@ export ABR_LIB := $(LIB)
 .PHONY: lib demo test target tools transmitter install dist bench soak soak-targets clean
 
 lib:
-	rt staticlib abr
+	$(PROVE)
 
 demo: $(LIB_GOAL) transmitter
 	@mkdir -p $(BUILD)
-	$(CC) -std=c99 $(CFLAGS) -Iinclude examples/two_connections.c $(LIB) -o $(BUILD)/two_connections
+	$(CC) -std=c99 $(CFLAGS) $(EDITION) -Iinclude examples/two_connections.c $(LIB) -o $(BUILD)/two_connections
 	$(BUILD)/two_connections
 	cargo run --release --quiet -p abr-picture -- rates $(BUILD)/rates.svg
 	cargo run --release --quiet -p abr-picture -- closed-loop $(BUILD)/closed-loop.svg
@@ -45,7 +69,7 @@ demo: $(LIB_GOAL) transmitter
 	@echo "Those of ten sources that share a port: $(BUILD)/closed-loop.svg"
 
 test:
-	.ci/run
+	$(TEST)
 
 target:
 	@scripts/target --known "$(TARGET)"
@@ -54,38 +78,38 @@ target:
 
 tools: $(LIB_GOAL)
 	cargo build --release --quiet -p abr-tools
-	@echo "target/cargo/release/abr-judge and abr-trace; --help says how they are called"
+	@echo "$(or $(CARGO_TARGET_DIR),target/cargo)/release/abr-judge and abr-trace; --help says how they are called"
 
 transmitter: $(LIB_GOAL)
 	@mkdir -p $(BUILD)
-	$(CC) -std=c99 $(CFLAGS) -Iinclude examples/transmitter.c $(LIB) -o $(BUILD)/transmitter
+	$(CC) -std=c99 $(CFLAGS) $(EDITION) -Iinclude examples/transmitter.c $(LIB) -o $(BUILD)/transmitter
 	$(BUILD)/transmitter $(BUILD)/transmitter.numbers
 	@$(BUILD)/transmitter $(BUILD)/own.numbers 0 >/dev/null
 	cargo run --release --quiet -p abr-picture --bin draw_transmitter -- $(BUILD)/transmitter.numbers $(BUILD)/own.numbers >$(BUILD)/transmitter.svg
 	@echo "Allowed rates, the queue of the network, and what a leased circuit is delivered, both ways: $(BUILD)/transmitter.svg"
 
-$(BUILD)/abr.pc: abr.pc.in Makefile FORCE
+install: $(LIB_GOAL)
 	@mkdir -p $(BUILD)
-	@sed -e 's|@PREFIX@|$(PREFIX)|' -e 's|@VERSION@|$(VERSION)|' $< > $@
-
-install: $(LIB_GOAL) $(BUILD)/abr.pc
+	@scripts/pc $(PREFIX) $(VERSION) >$(BUILD)/abr.pc
+	@scripts/connections $(CONNECTIONS) include/abr.h >$(BUILD)/abr.h
 	install -d $(DESTDIR)$(PREFIX)/lib/pkgconfig $(DESTDIR)$(PREFIX)/include
 	install -m 644 $(LIB) $(DESTDIR)$(PREFIX)/lib/libabr.a
 	CC="$(CC)" scripts/shared $(LIB) $(VERSION) $(DESTDIR)$(PREFIX)/lib
-	install -m 644 include/abr.h $(DESTDIR)$(PREFIX)/include/abr.h
+	install -m 644 $(BUILD)/abr.h $(DESTDIR)$(PREFIX)/include/abr.h
 	install -m 644 $(BUILD)/abr.pc $(DESTDIR)$(PREFIX)/lib/pkgconfig/abr.pc
 
 ifdef TARGET
 dist:
-	scripts/dist abr-$(VERSION)-$(TARGET) target/$(TARGET)/libabr.a $(VERSION) $(TARGET)
+	scripts/dist $(DIST) $(MADE)/$(TARGET)/libabr.a $(VERSION) $(TARGET)
 else
 dist: $(LIB_GOAL)
 	CC="$(CC)" scripts/dist $(DIST) $(LIB) $(VERSION)
 endif
 
 bench: $(LIB_GOAL)
-	bench/run
-	bench/worst
+	bench/run $(MADE)/bench
+	bench/worst $(MADE)/bench
+	bench/links $(MADE)/bench
 
 soak: $(LIB_GOAL)
 	cargo run --release --quiet -p abr-differential --bin soak -- $(SEED)
@@ -94,7 +118,4 @@ soak-targets:
 	CALLS=50000000 LONG=100000000 tests/targets/run
 
 clean:
-	rm -rf $(BUILD) target/cargo target/tests target/bench dist
-
-.PHONY: FORCE
-FORCE:
+	rm -rf dist $(foreach made,target target/connections-*,$(addprefix $(made)/,make cargo tests bench))

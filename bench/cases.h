@@ -1,12 +1,12 @@
 /*
- * Every call in its costliest known case, accepted: a search over random states found none costlier. 1,024 connections
- * are open, and the one concerned wins all ten matches of its leaf before the call. Where it is ready again after it,
- * all others are ready at that instant too and it has the lowest name, which decides between equals: VPI 0, and VCI 32
- * or the path's. Nothing waits then where that can be, since Trm is looked at only if nothing waits. Where the
- * directory moves, it has the highest name, VPI 255, and VCI 65,535 or the path's, with all other words behind its own,
- * and the others are never ready. A forward cell makes both of its moves, and a received one replaces another. A path
- * has all 256 members, or all but one. What is read is read of the last leaf and of the lowest member. A port has 1,024
- * demands. A trace has 1,000 cells of fifteen octets.
+ * Every call in its costliest known case, accepted: a search over random states found none costlier. As many
+ * connections are open as there can be, and the one concerned wins all matches of its leaf before the call. Where it is
+ * ready again, all others are ready at that instant too and it has the lowest name, which decides between equals: VPI
+ * 0, and VCI 32 or the path's. Nothing waits then where that can be, since Trm is looked at only if nothing waits.
+ * Where the directory moves, it has the highest name, VPI 255, and VCI 65,535 or the path's, with all other words
+ * behind its own, and the others are never ready. A forward cell makes both of its moves, and a received one replaces
+ * another. A path has all 256 members, or all but one. What is read is read of the last leaf and of the lowest member.
+ * A port has 1,024 demands. A trace has 1,000 cells of fifteen octets.
  * bench/worst.c counts the instructions of these calls, bench/cold.c measures their time with table and cell in the
  * caches and with both flushed from them, tests/c/stack.c their stack.
  */
@@ -55,7 +55,8 @@ typedef struct {
     uint32_t kind; /* of a slot, of a cell that is received or read, of a pair that is read; else 0 */
 } abr_case;
 
-static abr_table table;
+/* The table, with room for one of another layout: bench/compare links two archives with one header. */
+static abr_table room[2], *const table = room;
 static uint8_t cell[ABR_CELL_OCTETS];
 static abr_rm rm = {0, 0, 0, 0, 0, 0, 0, 0x53E8, 0x5000, 0x4000, 7, 9};
 static abr_params params;
@@ -85,29 +86,29 @@ static abr_share share;
 static abr_verdict verdict;
 static uint64_t next, passed;
 
-static void call_slot(void) { sent = abr_slot(&table, CALL_AT, cell, sizeof cell); }
-static void call_receive(void) { received = abr_receive(&table, cell, sizeof cell); }
-static void call_open(void) { opened = abr_open(&table, at.vpi, at.vci, 3 * SECOND, params); }
-static void call_close(void) { closed = abr_close(&table, at.vpi, at.vci); }
-static void call_offer(void) { answer = abr_offer(&table, at.vpi, at.vci, 0); }
-static void call_open_path(void) { opened = abr_open_path(&table, at.vpi, 3 * SECOND, params); }
-static void call_add_member(void) { answer = abr_add_member(&table, at.vpi, MEMBER_VCI); }
-static void call_offer_member(void) { answer = abr_offer_member(&table, at.vpi, MEMBER_VCI, 0); }
-static void call_remove_member(void) { closed = abr_remove_member(&table, at.vpi, MEMBER_VCI); }
-static void call_set_level(void) { refusal = abr_set_level(&table, 2); }
-static void call_make(void) { answer = abr_make(&table, at.vpi, at.vci, 3 * SECOND); }
+static void call_slot(void) { sent = abr_slot(table, CALL_AT, cell, sizeof cell); }
+static void call_receive(void) { received = abr_receive(table, cell, sizeof cell); }
+static void call_open(void) { opened = abr_open(table, at.vpi, at.vci, 3 * SECOND, params); }
+static void call_close(void) { closed = abr_close(table, at.vpi, at.vci); }
+static void call_offer(void) { answer = abr_offer(table, at.vpi, at.vci, 0); }
+static void call_open_path(void) { opened = abr_open_path(table, at.vpi, 3 * SECOND, params); }
+static void call_add_member(void) { answer = abr_add_member(table, at.vpi, MEMBER_VCI); }
+static void call_offer_member(void) { answer = abr_offer_member(table, at.vpi, MEMBER_VCI, 0); }
+static void call_remove_member(void) { closed = abr_remove_member(table, at.vpi, MEMBER_VCI); }
+static void call_set_level(void) { refusal = abr_set_level(table, 2); }
+static void call_make(void) { answer = abr_make(table, at.vpi, at.vci, 3 * SECOND); }
 static void call_out_of_rate(void)
 {
-    refusal = abr_out_of_rate(&table, at.vpi, at.vci, 3 * SECOND, cell, sizeof cell);
+    refusal = abr_out_of_rate(table, at.vpi, at.vci, 3 * SECOND, cell, sizeof cell);
 }
-static void call_acr(void) { allowed = abr_acr(&table, at.vpi, at.vci); }
-static void call_status(void) { connection = abr_status(&table, at.vpi, read_vci); }
-static void call_at(void) { connection = abr_at(&table, OTHERS); }
-static void call_member_at(void) { listed = abr_member_at(&table, 0); }
-static void call_link(void) { totals = abr_link(&table); }
-static void call_next_ready(void) { next = abr_next_ready(&table); }
-static void call_slot_time(void) { passed = abr_slot_time(&table, 2 * SECOND, 2 * SECOND); }
-static void call_export(void) { contract = abr_export(&table, at.vpi, at.vci, &refusal); }
+static void call_acr(void) { allowed = abr_acr(table, at.vpi, at.vci); }
+static void call_status(void) { connection = abr_status(table, at.vpi, read_vci); }
+static void call_at(void) { connection = abr_at(table, OTHERS); }
+static void call_member_at(void) { listed = abr_member_at(table, 0); }
+static void call_link(void) { totals = abr_link(table); }
+static void call_next_ready(void) { next = abr_next_ready(table); }
+static void call_slot_time(void) { passed = abr_slot_time(table, 2 * SECOND, 2 * SECOND); }
+static void call_export(void) { contract = abr_export(table, at.vpi, at.vci, &refusal); }
 static void call_write_rm(void) { refusal = abr_write_rm(rm, cell, sizeof cell); }
 static void call_read(void) { content = abr_read(cell, sizeof cell); }
 static void call_code(void) { coded = abr_code(ABR_RATE_MAX); }
@@ -171,7 +172,7 @@ static const abr_case cases[] = {
 /* A slot that must send a cell of this kind; 0 if it does. */
 static int slot_sends(uint64_t time, uint32_t kind)
 {
-    sent = abr_slot(&table, time, cell, sizeof cell);
+    sent = abr_slot(table, time, cell, sizeof cell);
     return sent.refusal != ABR_OK || sent.kind != kind;
 }
 
@@ -183,8 +184,8 @@ static int open_others(enum name end)
     params = abr_house(ABR_CODE_MAX, 0, 0x4000);
     for (uint32_t i = 0; i < OTHERS; i++) {
         address other = {1 + i / 5, ABR_VCI_MIN + i % 5};
-        wrong |= abr_open(&table, other.vpi, other.vci, 0, params).refusal != ABR_OK;
-        wrong |= abr_offer(&table, other.vpi, other.vci, busy).refusal != ABR_OK;
+        wrong |= abr_open(table, other.vpi, other.vci, 0, params).refusal != ABR_OK;
+        wrong |= abr_offer(table, other.vpi, other.vci, busy).refusal != ABR_OK;
     }
     for (uint32_t i = 0; busy && i < OTHERS; i++) {
         wrong |= slot_sends(0, ABR_SENT_FORWARD);
@@ -206,11 +207,11 @@ static int open_concerned(const abr_case *which)
     params.tbe = params.frtt = params.adtf = 1;
     params.trm = which->need == FORWARD_DUE ? 5 : 7;
     if (at.vci != ABR_PATH_VCI) {
-        return abr_open(&table, at.vpi, at.vci, 0, params).refusal != ABR_OK;
+        return abr_open(table, at.vpi, at.vci, 0, params).refusal != ABR_OK;
     }
-    wrong = abr_open_path(&table, at.vpi, 0, params).refusal != ABR_OK;
+    wrong = abr_open_path(table, at.vpi, 0, params).refusal != ABR_OK;
     for (uint32_t vci = lowest_member(which); vci <= LAST_MEMBER_VCI; vci++) {
-        wrong |= abr_add_member(&table, at.vpi, vci).refusal != ABR_OK;
+        wrong |= abr_add_member(table, at.vpi, vci).refusal != ABR_OK;
     }
     return wrong;
 }
@@ -218,8 +219,8 @@ static int open_concerned(const abr_case *which)
 /* Data for the one concerned, of a path for this member. */
 static int offer_to(uint32_t member, uint64_t cells)
 {
-    abr_answer offered = at.vci == ABR_PATH_VCI ? abr_offer_member(&table, at.vpi, member, cells)
-                                                : abr_offer(&table, at.vpi, at.vci, cells);
+    abr_answer offered = at.vci == ABR_PATH_VCI ? abr_offer_member(table, at.vpi, member, cells)
+                                                : abr_offer(table, at.vpi, at.vci, cells);
     return offered.refusal != ABR_OK;
 }
 
@@ -247,12 +248,12 @@ static int make_rm_cell(uint32_t dir)
 
 static int receive_forward(void)
 {
-    return make_rm_cell(0) || abr_receive(&table, cell, sizeof cell).refusal != ABR_OK;
+    return make_rm_cell(0) || abr_receive(table, cell, sizeof cell).refusal != ABR_OK;
 }
 
 static int make_backward(uint64_t time)
 {
-    return abr_set_level(&table, 2) != ABR_OK || abr_make(&table, at.vpi, at.vci, time).refusal != ABR_OK;
+    return abr_set_level(table, 2) != ABR_OK || abr_make(table, at.vpi, at.vci, time).refusal != ABR_OK;
 }
 
 /* A forward cell, two data cells and a turned one. Nothing waits then: Trm makes the ready instant, one second. */
@@ -323,7 +324,7 @@ static int prepare(const abr_case *which)
     read_vci = which->call == call_status && which->kind == ABR_MEMBER ? MEMBER_VCI : at.vci;
     rm.vpi = at.vpi;
     rm.vci = at.vci;
-    memset(&table, 0, sizeof table);
+    memset(room, 0, sizeof room);
     if (open_others(which->at) || open_concerned(which) || send_four()) {
         return 1;
     }
@@ -337,7 +338,7 @@ static int prepare(const abr_case *which)
     case MADE_WAITS: return make_backward(FORWARD_AT + 3 * GAP);
     case MADE_REPLACED: return send_fifth() || make_backward(CALL_AT);
     case OUTSIDE: /* the last one before */
-        return abr_out_of_rate(&table, at.vpi, at.vci, CALL_AT, cell, sizeof cell) != ABR_OK;
+        return abr_out_of_rate(table, at.vpi, at.vci, CALL_AT, cell, sizeof cell) != ABR_OK;
     case FORWARD_CELL: return make_rm_cell(0);
     case BACKWARD_CELL: return make_rm_cell(1);
     case DATA_CELL: return make_data_cell(at.vci);
@@ -345,7 +346,7 @@ static int prepare(const abr_case *which)
     case DEMANDS: make_demands(); return make_rm_cell(1);
     case TRACE: make_trace(); return 0;
     case CLOSED:
-    case CLOSED_PATH: return abr_close(&table, at.vpi, at.vci).refusal != ABR_OK;
+    case CLOSED_PATH: return abr_close(table, at.vpi, at.vci).refusal != ABR_OK;
     default: return 0;
     }
 }

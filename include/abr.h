@@ -1,10 +1,15 @@
 /*
  * abr.h: the ABR end-system rate engine.
  *
- * A transmitter asks once per cell slot which of up to 1,024 connections of one
- * link sends, what kind of cell, and what rate it is allowed afterwards. Sections
+ * A transmitter asks once per cell slot which of up to ABR_CONNECTIONS connections of
+ * one link sends, what kind of cell, and what rate it is allowed afterwards. Sections
  * named below are those of the manual, docs/MANUAL.md, which says what the engine
  * does; beside it a caller needs nothing but this header.
+ *
+ * Editions. The library is built for 16, 64, 256 or 1,024 connections (section 24).
+ * Before this header, or for the compiler, ABR_CONNECTIONS is defined as the number of
+ * the edition that is linked; any other number is an error here, and abr_matches() says
+ * whether it is that of the library.
  *
  * Addresses. A connection is named by its VPI and its VCI together, as VPI * 65,536
  * + VCI (section 2): the same VCI on another VPI is another connection. Every
@@ -24,18 +29,18 @@
  * path. Channels that are no members may be open on the same VPI.
  *
  * Leaves. An open takes the lowest free leaf of the tournament (sections 13 and 21), a
- * number from 0 to 1,023, and keeps it until its close. The answers of the open, of each
- * slot that sends its cells and of each cell received for it carry that number: an index
- * for arrays of the caller's own. No two open connections share one. A member's cells
- * carry its path's.
+ * number from 0 to ABR_CONNECTIONS - 1, and keeps it until its close. The answers of the
+ * open, of each slot that sends its cells and of each cell received for it carry that
+ * number: an index for arrays of the caller's own. No two open connections share one. A
+ * member's cells carry its path's.
  *
  * Language. C99 or later, C++11 or later, or C++98 with <stdint.h>.
  *
  * Memory. The library has no heap, no globals and no start-up call. All state
  * is in an abr_table that the caller lends. A table of zeros is the empty one,
- * so `static abr_table table;` is ready for use. It has 288,920 octets, too many
- * for most stacks. Only these calls may write a table that is in use. One table
- * is used by one thread at a time; different tables are independent of each
+ * so `static abr_table table;` is ready for use. It has 8 * ABR_TABLE_WORDS octets, too
+ * many for most stacks (section 24). Only these calls may write a table that is in use. One
+ * table is used by one thread at a time; different tables are independent of each
  * other. A table may be moved or copied as a whole, octet by octet, between
  * calls.
  *
@@ -55,13 +60,13 @@
  * can warn of it do. No answer has padding, and a field named reserved is 0: two answers
  * are the same exactly if their octets are.
  *
- * Comparisons. The ready instants of the connections play a tournament of ten
- * rounds, neighbours paired in each (section 13). An accepted open, close,
- * receive, offer or make, and a slot that sends, replays the matches of its own
+ * Comparisons. The ready instants of the connections play a tournament of
+ * ABR_COMPARISONS_MAX rounds, neighbours paired in each (section 13). An accepted open,
+ * close, receive, offer or make, and a slot that sends, replays the matches of its own
  * connection upwards, as far as their winners may have changed; a member's offer,
  * removal and received data cell replay those of its path. It answers how
- * many it replayed, one comparison each: 1 to 10. Refused calls, idle slots and
- * all other calls replay none.
+ * many it replayed, one comparison each: 1 to ABR_COMPARISONS_MAX. Refused calls, idle
+ * slots and all other calls replay none.
  *
  * Rates are whole numbers of 1/512 cell per second, but for the doubles of abr_export
  * and abr_import, which are in cells per second; times are nanoseconds
@@ -101,27 +106,44 @@
 extern "C" {
 #endif
 
+/* ---- Edition (section 24) ----------------------------------------------- */
+
+/* How many connections the library was built for. */
+#ifndef ABR_CONNECTIONS
+#define ABR_CONNECTIONS 1024
+#endif
+
+/* The most comparisons of a call: the rounds of a tournament of so many leaves. */
+#if ABR_CONNECTIONS == 16
+#define ABR_COMPARISONS_MAX 4u
+#elif ABR_CONNECTIONS == 64
+#define ABR_COMPARISONS_MAX 6u
+#elif ABR_CONNECTIONS == 256
+#define ABR_COMPARISONS_MAX 8u
+#elif ABR_CONNECTIONS == 1024
+#define ABR_COMPARISONS_MAX 10u
+#else
+#error "ABR_CONNECTIONS must be 16, 64, 256 or 1024, as the library was built for"
+#endif
+
+/* The connections that may be open at once, channels and paths: unsigned, as the other limits are. */
+#define ABR_CONNECTIONS_MAX (ABR_CONNECTIONS + 0u)
+
+/* The words of a table: a header with a bit for each connection, 35 words for each, and the members of paths. */
+#define ABR_TABLE_WORDS ((ABR_CONNECTIONS_MAX + 63u) / 64u + 35u * ABR_CONNECTIONS_MAX + 259u)
+
 /* ---- Version ------------------------------------------------------------ */
 
-/* 0.19.0: major, minor and patch number, eight bits each. */
-#define ABR_VERSION 0x001300u
-
-/* The words of a table, which has 288,920 octets. */
-#define ABR_TABLE_WORDS 36115u
+/* 0.20.0: major, minor and patch number, eight bits each. */
+#define ABR_VERSION 0x001400u
 
 /* ---- Limits ------------------------------------------------------------- */
 
 /* The octets of a cell, the only length that any buffer for a cell may have. */
 #define ABR_CELL_OCTETS 53u
 
-/* The connections that may be open at once, channels and paths. */
-#define ABR_CONNECTIONS_MAX 1024u
-
 /* The members that all paths may have together. */
 #define ABR_MEMBERS_MAX 256u
-
-/* The most comparisons of a call. */
-#define ABR_COMPARISONS_MAX 10u
 
 /* The greatest VPI. A VPI has eight bits here. */
 #define ABR_VPI_MAX 255u
@@ -236,7 +258,7 @@ extern "C" {
 /* Because of the state. */
 #define ABR_REFUSED_NOT_OPEN 11u      /* connection is not open */
 #define ABR_REFUSED_ALREADY_OPEN 12u  /* connection is already open */
-#define ABR_REFUSED_FULL 13u          /* 1,024 connections are open */
+#define ABR_REFUSED_FULL 13u          /* as many connections are open as there can be */
 #define ABR_REFUSED_TIME_BACKWARD 14u /* time is before the last accepted open, slot, made or out-of-rate cell */
 #define ABR_REFUSED_TOO_MUCH_DATA 15u /* waiting data would pass 65,535 cells */
 #define ABR_REFUSED_NOT_CONGESTED 16u /* congestion level is 0 */
@@ -458,8 +480,9 @@ typedef struct {
 uint32_t abr_version(void);
 uint32_t abr_table_words(void);
 
-/* Whether this header and the linked archive belong together. Ask it first: with
- * another archive a table may be too short for its calls. */
+/* Whether this header and the linked archive belong together: one version, and one
+ * edition, since no two editions have tables of one size. Ask it first: with another
+ * archive a table may be too short for its calls. */
 static inline int abr_matches(void)
 {
     return abr_version() == ABR_VERSION && abr_table_words() == ABR_TABLE_WORDS;
@@ -486,7 +509,7 @@ static inline int abr_matches(void)
  *    8  time over 2^62
  *   12  the connection is open
  *   27  the pair is a member of a path
- *   13  1,024 connections are open
+ *   13  ABR_CONNECTIONS connections are open
  *   14  time before that of the last accepted open, slot, made or out-of-rate
  *       cell
  */
@@ -501,7 +524,7 @@ ABR_MUST_USE abr_opened abr_open(abr_table *table, uint32_t vpi, uint32_t vci, u
  * closed and opened anew. A path loses all its members with it and answers the sum of
  * what waited on them; its data is counted for the path, offers and slots being those of
  * its members, and removals of members as closes.
- * Comparisons: 1 to 10.
+ * Comparisons: 1 to ABR_COMPARISONS_MAX.
  * Refusal: 11 the connection is not open, vpi over 255 or vci over 65,535.
  */
 ABR_MUST_USE abr_closed abr_close(abr_table *table, uint32_t vpi, uint32_t vci);
@@ -509,7 +532,7 @@ ABR_MUST_USE abr_closed abr_close(abr_table *table, uint32_t vpi, uint32_t vci);
 /*
  * Adds data cells to those that wait on a channel (section 2).
  * The cells themselves stay with the caller. Offering 0 is accepted.
- * Comparisons: 1 to 10.
+ * Comparisons: 1 to ABR_COMPARISONS_MAX.
  * Refusals in order:
  *   11  the connection is not open, vpi over 255 or vci over 65,535
  *   28  it is a path, by its own name: abr_offer_member offers to its members
@@ -539,7 +562,7 @@ ABR_MUST_USE abr_connection abr_status(const abr_table *table, uint32_t vpi, uin
 /*
  * Reads the same of the connection in a leaf, a channel or a path (section 21). So a
  * loop from 0 to ABR_CONNECTIONS_MAX - 1 lists all that are open.
- * Refusal: 11 no connection is open in that leaf, or leaf over 1,023.
+ * Refusal: 11 no connection is open in that leaf, or leaf over ABR_CONNECTIONS - 1.
  */
 ABR_MUST_USE abr_connection abr_at(const abr_table *table, uint32_t leaf);
 
@@ -582,7 +605,7 @@ ABR_MUST_USE abr_contract abr_export(const abr_table *table, uint32_t vpi, uint3
  *   30  FRTT over 16,700,000
  *    8  time over 2^62
  *   12  the path is open
- *   13  1,024 connections are open
+ *   13  ABR_CONNECTIONS connections are open
  *   14  time before that of the last accepted open, slot, made or out-of-rate
  *       cell
  */
@@ -603,7 +626,7 @@ ABR_MUST_USE abr_answer abr_add_member(abr_table *table, uint32_t vpi, uint32_t 
 /*
  * Adds data cells to those that wait on a member of a path, as abr_offer does on a
  * channel. The limit of 65,535 cells is each member's own.
- * Comparisons: 1 to 10.
+ * Comparisons: 1 to ABR_COMPARISONS_MAX.
  * Refusals in order:
  *   11  the path is not open, or vpi over 255
  *   28  the VCI is no member of the path, as none over 65,535 is
@@ -615,7 +638,7 @@ ABR_MUST_USE abr_answer abr_offer_member(abr_table *table, uint32_t vpi, uint32_
  * Removes a member from its path, drops the data that waits on it and answers how many
  * cells that were. The turns of the others stay as they are. Removing it counts for the
  * path as a close does (see abr_close).
- * Comparisons: 1 to 10.
+ * Comparisons: 1 to ABR_COMPARISONS_MAX.
  * Refusals in order:
  *   11  the path is not open, or vpi over 255
  *   28  the VCI is no member of the path, as none over 65,535 is
@@ -632,7 +655,7 @@ ABR_MUST_USE abr_closed abr_remove_member(abr_table *table, uint32_t vpi, uint32
  * a member saves its mark as that of the path, whichever member it is of
  * (section 10). The answer says what was received: kind, address, the leaf of its
  * connection and that connection's allowed rate afterwards.
- * Comparisons: 1 to 10, for a data cell too.
+ * Comparisons: 1 to ABR_COMPARISONS_MAX, for a data cell too.
  * Refusals in order:
  *    1  len is not 53
  *    2  octet 5 is wrong
@@ -662,7 +685,7 @@ ABR_MUST_USE uint32_t abr_set_level(abr_table *table, uint32_t level);
  * waits, and neither takes nor clears a saved congestion mark. A slot sends it by
  * the rules for a turned cell and answers ABR_SENT_TURNED. Its time then counts
  * for refusal 14 as a slot's does.
- * Comparisons: 1 to 10.
+ * Comparisons: 1 to ABR_COMPARISONS_MAX.
  * Refusals in order:
  *    8  time over 2^62
  *   11  the connection is not open, vpi over 255 or vci over 65,535
@@ -689,8 +712,8 @@ ABR_MUST_USE abr_answer abr_make(abr_table *table, uint32_t vpi, uint32_t vci, u
  * as accepted at its time. A connection with an allowed rate of 0 is never ready,
  * whatever waits on it (section 9).
  * A forward cell carries a minimum of 0 as 0x0000, whatever code the open gave.
- * Comparisons: 10 if a cell is sent, since the connection that sends wins every
- * round; 0 if the slot is idle.
+ * Comparisons: ABR_COMPARISONS_MAX if a cell is sent, since the connection that sends
+ * wins every round; 0 if the slot is idle.
  * Refusals in order:
  *    1  len is not 53
  *    8  time over 2^62
@@ -904,7 +927,7 @@ static inline const char *abr_refusal_text(uint32_t refusal)
     case ABR_REFUSED_LOW_VCI: return "VCI is under 32";
     case ABR_REFUSED_NOT_OPEN: return "connection is not open";
     case ABR_REFUSED_ALREADY_OPEN: return "connection is already open";
-    case ABR_REFUSED_FULL: return "1,024 connections are open";
+    case ABR_REFUSED_FULL: return "as many connections are open as there can be";
     case ABR_REFUSED_TIME_BACKWARD: return "time is before the last accepted open, slot, made or out-of-rate cell";
     case ABR_REFUSED_TOO_MUCH_DATA: return "waiting data would pass 65,535 cells";
     case ABR_REFUSED_NOT_CONGESTED: return "congestion level is 0";

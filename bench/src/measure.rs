@@ -2,10 +2,12 @@
 
 use std::time::Instant;
 
+use abr::COMPARISONS_MAX;
+
 use crate::engines::{Engine, Library, Reference};
 use crate::fixture::Fixture;
 use crate::traces;
-use crate::workload::{Row, Workload, ROWS};
+use crate::workload::{self, Row, Workload};
 
 /// Passes over all rows, so that a slow period of the machine affects all rows
 /// equally.
@@ -59,8 +61,8 @@ fn best(workloads: impl Iterator<Item = (u32, Workload)>) -> Vec<(f64, f64)> {
 
 /// Each row with the best nanoseconds of library and reference.
 fn rows() -> Vec<(&'static Row, (f64, f64))> {
-    let times = best(ROWS.iter().map(|row| (row.connections, row.workload)));
-    ROWS.iter().zip(times).collect()
+    let times = best(workload::rows().map(|row| (row.connections, row.workload)));
+    workload::rows().zip(times).collect()
 }
 
 /// A table to read.
@@ -99,11 +101,15 @@ pub fn columns() {
     }
 }
 
+/// The numbers of busy connections that are drawn, each twice the one before.
+pub fn numbers() -> impl Iterator<Item = u32> {
+    (0..=COMPARISONS_MAX).map(|level| 1 << level)
+}
+
 /// Slots by the number of busy connections: the number, library, reference.
 pub fn by_connections() -> Vec<(u32, f64, f64)> {
-    let numbers = [1, 2, 4, 8, 16, 32, 64, 128, 256, 512, 1_024];
-    let times = best(numbers.into_iter().map(|n| (n, Workload::Turns { n: 5 })));
-    let points = numbers.into_iter().zip(times);
+    let times = best(numbers().map(|n| (n, Workload::Turns { n: 5 })));
+    let points = numbers().zip(times);
     points
         .map(|(n, (library, reference))| (n, library, reference))
         .collect()

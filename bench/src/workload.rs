@@ -1,5 +1,7 @@
 //! The workloads that are measured, by name.
 
+use abr::CONNECTIONS_MAX;
+
 use crate::traces::Numbers;
 
 /// A cell that is received or read.
@@ -153,12 +155,17 @@ pub struct Row {
     pub workload: Workload,
 }
 
+/// The rows for as many connections as may be open.
+pub fn rows() -> impl Iterator<Item = &'static Row> {
+    let rows = ROWS.iter();
+    rows.filter(|row| row.connections <= CONNECTIONS_MAX as u32)
+}
+
 /// All rows, each as a name, a text, the open connections and the workload.
 macro_rules! rows {
     ($($name:literal: $text:literal, $connections:literal,
         $sort:ident $({ $($field:tt)* })? $(($of:expr))?;)*) => {
-        /// All rows.
-        pub static ROWS: &[Row] = &[$(Row {
+        static ROWS: &[Row] = &[$(Row {
             name: $name,
             text: $text,
             connections: $connections,

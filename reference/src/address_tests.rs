@@ -3,7 +3,7 @@
 use crate::cell::{header_check, Octets, LENGTH};
 use crate::engine::{Engine, TIME_MAX};
 use crate::engine_tests::{at, backward, data, forward, octets, params, refused, slot_rm, MS};
-use crate::{read, Address, Cell, Kind, Params, Refusal, Rm};
+use crate::{read, Address, Cell, Kind, Params, Refusal, Rm, COMPARISONS_MAX, CONNECTIONS_MAX};
 
 /// The address of these two numbers.
 fn address(vpi: u32, vci: u32) -> Address {
@@ -174,8 +174,8 @@ fn ties_go_to_the_lower_name() {
 #[test]
 fn a_tie_across_paths_counts_in_the_tournament() {
     let mut engine = engine_of(&[(1, 32), (0, 40)]);
-    assert_eq!(engine.offer(address(1, 32), 1), Ok(10));
-    assert_eq!(engine.offer(at(40), 1), Ok(10)); // the lower name, the higher VCI
+    assert_eq!(engine.offer(address(1, 32), 1), Ok(COMPARISONS_MAX));
+    assert_eq!(engine.offer(at(40), 1), Ok(COMPARISONS_MAX)); // the lower name, the higher VCI
     assert_eq!(engine.top(), Some((0, 40)));
     engine.close(at(40)).unwrap();
     assert_eq!(engine.top(), Some((0, 65_536 + 32)));
@@ -226,8 +226,9 @@ fn gfc_makes_no_other_connection() {
 }
 
 #[test]
-fn a_thousand_and_24_over_all_paths() {
-    let places: Vec<Address> = (0..1_024).map(|i| address(i % 256, 32 + i / 256)).collect();
+fn a_full_table_over_all_paths() {
+    let numbers = 0..CONNECTIONS_MAX as u32;
+    let places: Vec<Address> = numbers.map(|i| address(i % 256, 32 + i / 256)).collect();
     let mut engine = Engine::new();
     for at in &places {
         engine.open(*at, 0, &params()).unwrap();

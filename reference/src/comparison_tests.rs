@@ -1,11 +1,11 @@
 //! Tests of the comparisons that the calls answer (document 02, L4).
 
 use crate::cell::LENGTH;
-use crate::engine::{Engine, CONNECTIONS_MAX};
+use crate::engine::Engine;
 use crate::engine_tests::{
     at, backward, data, engine_with, forward, octets, opened, params, receive, refused, MS,
 };
-use crate::{Params, Refusal, Rm};
+use crate::{Params, Refusal, Rm, COMPARISONS_MAX, CONNECTIONS_MAX};
 
 /// An engine with VCIs 32, 33, .. opened at these times, on leaves 0, 1, ..; one
 /// data cell waits on each.
@@ -37,15 +37,18 @@ fn one_connection() {
     assert_eq!(receive(&mut engine, &octets(&backward(32))), Ok(1));
     assert_eq!(engine.offer(at(32), 0), Ok(1));
     assert_eq!(slot(&mut engine, 0), None);
-    assert_eq!(engine.offer(at(32), 1), Ok(10)); // ready: it wins at every level
-    assert_eq!(engine.offer(at(32), 0), Ok(10)); // as before, but that leaf
-    assert_eq!(receive(&mut engine, &data(32, true)), Ok(10));
-    assert_eq!(slot(&mut engine, 0), Some((32, 10)));
+    assert_eq!(engine.offer(at(32), 1), Ok(COMPARISONS_MAX)); // ready: it wins at every level
+    assert_eq!(engine.offer(at(32), 0), Ok(COMPARISONS_MAX)); // as before, but that leaf
+    assert_eq!(receive(&mut engine, &data(32, true)), Ok(COMPARISONS_MAX));
+    assert_eq!(slot(&mut engine, 0), Some((32, COMPARISONS_MAX)));
     assert_eq!(slot(&mut engine, MS - 1), None);
-    assert_eq!(slot(&mut engine, MS), Some((32, 10)));
+    assert_eq!(slot(&mut engine, MS), Some((32, COMPARISONS_MAX)));
     assert_eq!(engine.offer(at(32), 0), Ok(1)); // k is 1 and nothing waits
-    assert_eq!(receive(&mut engine, &octets(&forward(32))), Ok(10));
-    assert_eq!(close(&mut engine, 32), 10);
+    assert_eq!(
+        receive(&mut engine, &octets(&forward(32))),
+        Ok(COMPARISONS_MAX)
+    );
+    assert_eq!(close(&mut engine, 32), COMPARISONS_MAX);
     assert_eq!(engine.open(at(32), MS, &params()), opened(0));
     assert_eq!(close(&mut engine, 32), 1);
 }
@@ -54,7 +57,7 @@ fn one_connection() {
 fn a_made_cell_replays_as_an_offer_does() {
     let mut engine = engine_with(&params());
     engine.set_level(1).unwrap();
-    assert_eq!(engine.make(at(32), 0), Ok(10));
+    assert_eq!(engine.make(at(32), 0), Ok(COMPARISONS_MAX));
     engine.open(at(33), 0, &params()).unwrap();
     assert_eq!(engine.make(at(33), 0), Ok(1)); // VCI 32 wins as before
     refused(&engine, Refusal::MadeTooSoon, |engine| {
@@ -69,10 +72,10 @@ fn a_cell_for_a_leaf_that_leads_some_levels() {
     assert_eq!(receive(&mut engine, &data(36, false)), Ok(3));
     assert_eq!(receive(&mut engine, &data(37, false)), Ok(1));
     assert_eq!(receive(&mut engine, &data(38, false)), Ok(2));
-    assert_eq!(receive(&mut engine, &data(32, false)), Ok(10));
+    assert_eq!(receive(&mut engine, &data(32, false)), Ok(COMPARISONS_MAX));
     assert_eq!(close(&mut engine, 36), 3); // leaf 5 at levels 1 and 2, leaf 0 at level 3
-    assert_eq!(close(&mut engine, 32), 10); // leaf 1 at every level
-    assert_eq!(slot(&mut engine, 7), Some((33, 10)));
+    assert_eq!(close(&mut engine, 32), COMPARISONS_MAX); // leaf 1 at every level
+    assert_eq!(slot(&mut engine, 7), Some((33, COMPARISONS_MAX)));
 }
 
 #[test]
@@ -80,7 +83,7 @@ fn feedback_moves_a_ready_instant_and_with_it_the_winners() {
     let mut engine = waiting(&[0, 0, 0]);
     for vci in [32, 33, 34] {
         engine.offer(at(vci), 9).unwrap();
-        assert_eq!(slot(&mut engine, 0), Some((vci, 10)));
+        assert_eq!(slot(&mut engine, 0), Some((vci, COMPARISONS_MAX)));
     }
     let slowest = Rm {
         er: 0x4000,
@@ -91,21 +94,22 @@ fn feedback_moves_a_ready_instant_and_with_it_the_winners() {
         ni: 0,
         ..backward(34)
     };
-    assert_eq!(receive(&mut engine, &octets(&faster)), Ok(10)); // now before VCI 32
-    assert_eq!(slot(&mut engine, MS), Some((34, 10)));
-    assert_eq!(slot(&mut engine, MS), Some((32, 10)));
+    assert_eq!(receive(&mut engine, &octets(&faster)), Ok(COMPARISONS_MAX)); // now before VCI 32
+    assert_eq!(slot(&mut engine, MS), Some((34, COMPARISONS_MAX)));
+    assert_eq!(slot(&mut engine, MS), Some((32, COMPARISONS_MAX)));
 }
 
 #[test]
 fn ties_go_to_the_lower_vci_whatever_the_leaves() {
     let mut engine = Engine::new();
-    let offers = [(50, 10), (60, 1), (40, 10), (41, 1), (45, 3)];
+    let all = COMPARISONS_MAX;
+    let offers = [(50, all), (60, 1), (40, all), (41, 1), (45, 3)];
     for (leaf, (vci, comparisons)) in (0..).zip(offers) {
         assert_eq!(engine.open(at(vci), 0, &params()), opened(leaf));
         assert_eq!(engine.offer(at(vci), 1), Ok(comparisons));
     }
     let served = [0; 5].map(|_| slot(&mut engine, 0));
-    assert_eq!(served, [40, 41, 45, 50, 60].map(|vci| Some((vci, 10))));
+    assert_eq!(served, [40, 41, 45, 50, 60].map(|vci| Some((vci, all))));
 }
 
 #[test]
@@ -135,15 +139,15 @@ fn the_table_filled_and_emptied() {
     // Leaf x is later than all before it in its block: it wins as many levels as
     // x has zeros at its end, and loses the next match.
     for (leaf, vci) in vcis.clone().enumerate() {
-        let lost = (leaf.trailing_zeros() + 1).min(10);
+        let lost = (leaf.trailing_zeros() + 1).min(COMPARISONS_MAX);
         assert_eq!(engine.offer(at(vci), 1), Ok(lost));
     }
     for vci in vcis.clone() {
-        assert_eq!(slot(&mut engine, 0), Some((vci, 10)));
+        assert_eq!(slot(&mut engine, 0), Some((vci, COMPARISONS_MAX)));
     }
     assert_eq!(slot(&mut engine, 0), None);
     for vci in vcis {
-        assert_eq!(close(&mut engine, vci), 10); // the first of those that are left
+        assert_eq!(close(&mut engine, vci), COMPARISONS_MAX); // the first of those that are left
     }
     assert_eq!(engine.open(at(32), 0, &params()), opened(0));
 }

@@ -9,16 +9,14 @@
 use std::collections::BTreeMap;
 
 use crate::address::{Address, PATH_VCI};
+use crate::capacity::CONNECTIONS_MAX;
 use crate::cell::{self, Cell, Octets};
 use crate::connection::{Allowed, Connection, Departed, Kind};
 use crate::double::Exported;
 use crate::load::{Load, Members, MEMBERS_MAX};
 use crate::params::Params;
 use crate::refusal::Refusal;
-use crate::tournament::{Tournament, LEAVES};
-
-/// The connections that may be open at once.
-pub const CONNECTIONS_MAX: usize = LEAVES;
+use crate::tournament::Tournament;
 
 /// The latest time.
 pub const TIME_MAX: u64 = 1 << 62;

@@ -5,6 +5,7 @@ use crate::cell::{crc10, header_check, LENGTH};
 use crate::engine::{Engine, TIME_MAX};
 use crate::{
     code_of, rate_of, read, write_rm, Address, Cell, Kind, Opened, Params, Refusal, Rm, Sent,
+    COMPARISONS_MAX, CONNECTIONS_MAX,
 };
 
 /// One millisecond, the gap at 1,000 cells per second.
@@ -34,6 +35,16 @@ pub(crate) fn engine_with(params: &Params) -> Engine {
     engine
 }
 
+/// Opens channels at this time until the table is full: those from VCI 32 on, on VPI 0, that
+/// are not open.
+pub(crate) fn fill(engine: &mut Engine, time: u64) {
+    let mut addresses = (32..).map(at);
+    while engine.connections() < CONNECTIONS_MAX {
+        let at = addresses.find(|at| engine.acr(*at).is_err()).unwrap();
+        engine.open(at, time, &params()).unwrap();
+    }
+}
+
 /// The answer of an accepted open, which makes one comparison since nothing waits yet.
 pub(crate) fn opened(leaf: u32) -> Result<Opened, Refusal> {
     Ok(Opened {
@@ -57,7 +68,7 @@ pub(crate) fn sent(kind: Kind) -> Sent {
         made: false,
         acr_before: RATE,
         acr: RATE,
-        comparisons: 10,
+        comparisons: COMPARISONS_MAX,
     }
 }
 
@@ -680,24 +691,21 @@ fn the_latest_time() {
 }
 
 #[test]
-fn a_thousand_and_24_may_be_open() {
+fn as_many_as_the_capacity_may_be_open() {
     let mut engine = Engine::new();
-    for vci in 32..32 + 1_024 {
-        assert!(engine.open(at(vci), 0, &params()).is_ok());
-    }
+    fill(&mut engine, 0);
+    assert_eq!(engine.connections(), CONNECTIONS_MAX);
     refused(&engine, Refusal::Full, |engine| {
-        engine.open(at(1_056), 0, &params())
+        engine.open(at(2_000), 0, &params())
     });
     engine.close(at(40)).unwrap();
-    assert!(engine.open(at(1_056), 0, &params()).is_ok());
+    assert!(engine.open(at(2_000), 0, &params()).is_ok());
 }
 
 #[test]
 fn the_order_of_refusals_when_opening() {
     let mut engine = Engine::new();
-    for vci in 32..1_056 {
-        engine.open(at(vci), 9, &params()).unwrap();
-    }
+    fill(&mut engine, 9);
     let bad = Params { n: 0, ..params() };
     let late = TIME_MAX + 1;
     refused(&engine, Refusal::LowVci, |engine| {
@@ -716,13 +724,13 @@ fn the_order_of_refusals_when_opening() {
         engine.open(at(32), 8, &params())
     });
     refused(&engine, Refusal::Full, |engine| {
-        engine.open(at(1_056), 8, &params())
+        engine.open(at(2_000), 8, &params())
     });
-    engine.close(at(95)).unwrap();
+    engine.close(at(40)).unwrap();
     refused(&engine, Refusal::TimeBackward, |engine| {
-        engine.open(at(1_056), 8, &params())
+        engine.open(at(2_000), 8, &params())
     });
-    assert!(engine.open(at(1_056), 9, &params()).is_ok());
+    assert!(engine.open(at(2_000), 9, &params()).is_ok());
 }
 
 #[test]
@@ -883,7 +891,7 @@ fn random_call(
     }
 }
 
-/// A slot, which goes to the winner of the tournament with ten comparisons if
+/// A slot, which goes to the winner of the tournament with a comparison at every level if
 /// that one is ready, and else is idle.
 fn slot_of_the_top(engine: &mut Engine, time: u64) -> Result<u32, Refusal> {
     let top = engine.top().filter(|(ready, _)| *ready <= time);
@@ -891,7 +899,10 @@ fn slot_of_the_top(engine: &mut Engine, time: u64) -> Result<u32, Refusal> {
     let name = |sent: Sent| Address::new(sent.vpi, sent.vci).name();
     assert_eq!(sent.and_then(name), top.map(|(_, name)| name));
     let comparisons = sent.map_or(0, |sent| sent.comparisons);
-    assert_eq!(comparisons, if sent.is_some() { 10 } else { 0 });
+    assert_eq!(
+        comparisons,
+        if sent.is_some() { COMPARISONS_MAX } else { 0 }
+    );
     Ok(comparisons)
 }
 
@@ -902,7 +913,7 @@ fn rates_and_comparisons_stay_in_bounds_in_long_lists() {
     for _ in 0..200_000 {
         let before = engine.acr(at(33));
         let answer = random_call(&mut engine, &mut time, &mut draw);
-        assert!(answer.is_err() || answer.is_ok_and(|comparisons| comparisons <= 10));
+        assert!(answer.is_err() || answer.is_ok_and(|comparisons| comparisons <= COMPARISONS_MAX));
         moved += u32::from(engine.acr(at(33)) != before);
         for at in RANDOM {
             let Ok(acr) = engine.acr(at) else { continue };

@@ -7,6 +7,7 @@
 //!
 //! * [`mod@rate`]: rate codes and the gap between cells;
 //! * [`double`]: rates as doubles, exported and imported;
+//! * [`capacity`]: how many connections may be open;
 //! * [`address`]: VPI and VCI, and the name that they make;
 //! * [`params`]: the parameters of an open, their ranges, the house set;
 //! * [`cell`]: header check, CRC-10, writing, reading and turning cells;
@@ -24,6 +25,7 @@
 #![forbid(unsafe_code)]
 
 pub mod address;
+pub mod capacity;
 pub mod cell;
 pub mod connection;
 pub mod destination;
@@ -72,6 +74,7 @@ mod slot_time_tests;
 mod status_tests;
 
 pub use address::Address;
+pub use capacity::{COMPARISONS_MAX, CONNECTIONS_MAX};
 pub use cell::{read, write_rm, Cell, Rm};
 pub use connection::{Allowed, Kind};
 pub use double::{import, Exported, Imported};

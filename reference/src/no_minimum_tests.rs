@@ -6,7 +6,7 @@ use crate::engine::{Engine, TIME_MAX};
 use crate::engine_tests::{
     at, backward, engine_with, forward, kind, octets, receive, slot_rm, MS, RATE, THOUSAND,
 };
-use crate::{Kind, Params, Rm};
+use crate::{Kind, Params, Rm, COMPARISONS_MAX};
 
 /// Peak 1,000 cells per second and no minimum; the initial rate is the peak.
 fn params() -> Params {
@@ -246,16 +246,19 @@ fn the_others_go_on() {
 fn a_leaf_at_rate_0_wins_no_match() {
     let mut engine = engine_with(&params());
     engine.open(at(33), 0, &params()).unwrap();
-    assert_eq!(engine.offer(at(32), 1), Ok(10));
+    assert_eq!(engine.offer(at(32), 1), Ok(COMPARISONS_MAX));
     assert_eq!(engine.offer(at(33), 1), Ok(1));
     let stop = octets(&explicit(0));
-    assert_eq!(receive(&mut engine, &stop), Ok(10)); // leaf 1 wins at every level
+    assert_eq!(receive(&mut engine, &stop), Ok(COMPARISONS_MAX)); // leaf 1 wins at every level
     assert_eq!(receive(&mut engine, &stop), Ok(1));
     assert_eq!(engine.offer(at(32), 1), Ok(1));
     let closed = engine.close(at(33)).unwrap();
-    assert_eq!(closed.comparisons, 10); // nobody is left
+    assert_eq!(closed.comparisons, COMPARISONS_MAX); // nobody is left
     assert_eq!(receive(&mut engine, &stop), Ok(1));
-    assert_eq!(receive(&mut engine, &octets(&explicit(0x7FFF))), Ok(10));
+    assert_eq!(
+        receive(&mut engine, &octets(&explicit(0x7FFF))),
+        Ok(COMPARISONS_MAX)
+    );
     assert_eq!(engine.top(), Some((0, 32)));
 }
 

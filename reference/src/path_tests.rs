@@ -4,10 +4,10 @@ use crate::address_tests::on;
 use crate::cell::{Octets, LENGTH};
 use crate::engine::{Closed, Engine, TIME_MAX};
 use crate::engine_tests::{
-    at, backward, data, draws, forward, kind, octets, opened, params, receive, refused, slot_rm,
-    waiting, MS, RATE,
+    at, backward, data, draws, fill, forward, kind, octets, opened, params, receive, refused,
+    slot_rm, waiting, MS, RATE,
 };
-use crate::{Address, Kind, Params, Refusal, Rm};
+use crate::{Address, Kind, Params, Refusal, Rm, COMPARISONS_MAX};
 
 /// The VPI of the path.
 const VPI: u32 = 3;
@@ -40,7 +40,7 @@ fn arriving() -> Octets {
 /// The VCI and the kind of a slot.
 fn served(engine: &mut Engine, time: u64) -> Option<(u32, Kind)> {
     let sent = engine.slot(time, &mut [0; LENGTH]).unwrap()?;
-    assert_eq!((sent.vpi, sent.comparisons), (VPI, 10));
+    assert_eq!((sent.vpi, sent.comparisons), (VPI, COMPARISONS_MAX));
     Some((sent.vci, sent.kind))
 }
 
@@ -82,9 +82,7 @@ fn the_refusals_of_opening_a_path_in_their_order() {
     }
     assert_eq!(engine.open_path(0, 7, &params()), opened(1));
     assert_eq!(engine.open_path(255, 7, &params()), opened(2));
-    for vci in 32..1_053 {
-        engine.open(at(vci), 7, &params()).unwrap();
-    }
+    fill(&mut engine, 7);
     for (refusal, vpi) in [(Refusal::Full, 9), (Refusal::AlreadyOpen, 255)] {
         refused(&engine, refusal, |engine| {
             engine.open_path(vpi, 6, &params())
@@ -202,9 +200,7 @@ fn a_pair_is_a_channel_or_a_member() {
         engine.open(of(42), 4, &params())
     });
     assert_eq!(engine.open(at(40), 5, &params()), opened(2)); // on another VPI
-    for vci in 100..1_121 {
-        engine.open(at(vci), 5, &params()).unwrap();
-    }
+    fill(&mut engine, 5);
     refused(&engine, Refusal::Full, |engine| {
         engine.open(of(42), 5, &params())
     });
@@ -246,7 +242,7 @@ fn the_refusals_of_a_members_offer_and_removal() {
     refused(&engine, Refusal::TooMuchData, |engine| {
         engine.offer_member(of(40), 1)
     });
-    assert_eq!(engine.offer_member(of(40), 0), Ok(10));
+    assert_eq!(engine.offer_member(of(40), 0), Ok(COMPARISONS_MAX));
 }
 
 /// A VCI over 65,535 is no member's: 28 where the path is open, whatever it would be if it
@@ -296,7 +292,7 @@ fn a_vci_out_of_range_is_no_member_of_an_open_path() {
 fn members_fill_one_by_one() {
     let mut engine = path_with(&[(40, 65_535), (41, 65_535), (42, 0)]);
     assert_eq!(waiting(&engine, PATH), 131_070);
-    assert_eq!(engine.offer_member(of(42), 65_535), Ok(10));
+    assert_eq!(engine.offer_member(of(42), 65_535), Ok(COMPARISONS_MAX));
     assert_eq!(engine.close(PATH).unwrap().cells, 3 * 65_535);
 }
 
@@ -331,7 +327,7 @@ fn plain_calls_on_a_paths_own_name() {
     });
     assert_eq!(engine.acr(PATH), Ok(RATE));
     assert_eq!(engine.export(PATH).unwrap().icr, 1_000.0);
-    assert_eq!(engine.make(PATH, 0), Ok(10));
+    assert_eq!(engine.make(PATH, 0), Ok(COMPARISONS_MAX));
     let mut cell = [0; LENGTH];
     assert_eq!(engine.out_of_rate(PATH, 0, &mut cell), Ok(()));
     assert_eq!(cell[..4], [0x00, 0x30, 0x00, 0x6D]); // VPI 3, VCI 6, payload type 6, CLP 1
@@ -346,9 +342,9 @@ fn rm_cells_have_vci_6() {
     let (sent, rm) = slot_rm(&mut engine, 0);
     assert_eq!((sent.vpi, sent.vci, sent.kind), (VPI, 6, Kind::Forward));
     assert_eq!((rm.vpi, rm.vci, rm.dir), (VPI, 6, 0));
-    assert_eq!(receive(&mut engine, &arriving()), Ok(10));
+    assert_eq!(receive(&mut engine, &arriving()), Ok(COMPARISONS_MAX));
     engine.set_level(2).unwrap();
-    assert_eq!(engine.make(PATH, 0), Ok(10));
+    assert_eq!(engine.make(PATH, 0), Ok(COMPARISONS_MAX));
     let (sent, rm) = slot_rm(&mut engine, MS);
     assert_eq!((sent.vci, sent.kind), (6, Kind::Turned));
     assert_eq!((rm.vpi, rm.vci, rm.dir, rm.bn), (VPI, 6, 1, 0));
@@ -391,7 +387,7 @@ fn members_share_the_saved_mark() {
         assert_eq!(kind(&mut engine, 0), Some(Kind::Forward));
         for (vci, efci) in marks {
             let cell = on(data(vci, efci), 0, VPI);
-            assert_eq!(receive(&mut engine, &cell), Ok(10));
+            assert_eq!(receive(&mut engine, &cell), Ok(COMPARISONS_MAX));
         }
         engine.receive(&arriving()).unwrap();
         let (sent, rm) = slot_rm(&mut engine, MS);
@@ -461,14 +457,14 @@ fn comparisons_of_the_paths_leaf() {
     assert_eq!(engine.add_member(of(40)), Ok(()));
     assert_eq!(engine.offer_member(of(40), 0), Ok(1)); // nobody is ready
     assert_eq!(receive(&mut engine, &on(data(40, true), 0, VPI)), Ok(1));
-    assert_eq!(engine.offer_member(of(40), 1), Ok(10)); // it wins at every level
-    assert_eq!(engine.offer(at(32), 1), Ok(10)); // now leaf 0, with the lower name
+    assert_eq!(engine.offer_member(of(40), 1), Ok(COMPARISONS_MAX)); // it wins at every level
+    assert_eq!(engine.offer(at(32), 1), Ok(COMPARISONS_MAX)); // now leaf 0, with the lower name
     assert_eq!(engine.offer_member(of(40), 1), Ok(1)); // it wins nowhere
     assert_eq!(receive(&mut engine, &on(data(40, true), 0, VPI)), Ok(1));
     engine.close(at(32)).unwrap();
     let removed = Closed {
         cells: 2,
-        comparisons: 10,
+        comparisons: COMPARISONS_MAX,
     };
     assert_eq!(engine.remove_member(of(40)), Ok(removed)); // it is no longer ready
     engine.add_member(of(40)).unwrap();

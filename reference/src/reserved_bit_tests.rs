@@ -4,8 +4,8 @@
 use crate::cell::{Octets, LENGTH};
 use crate::engine::{Engine, TIME_MAX};
 use crate::engine_tests::{
-    at, backward, data, engine_with, forward, octets, params, refused, slot_rm, with_crc, MS, RATE,
-    THOUSAND,
+    at, backward, data, engine_with, fill, forward, octets, params, refused, slot_rm, with_crc, MS,
+    RATE, THOUSAND,
 };
 use crate::{read, write_rm, Address, Kind, Params, Refusal, Rm};
 
@@ -151,9 +151,7 @@ fn opening_tests_10_before_19_and_19_before_7_8_12_and_14() {
 #[test]
 fn opening_tests_19_before_13() {
     let mut engine = Engine::new();
-    for vci in 32..32 + 1024 {
-        engine.open(at(vci), 0, &params()).unwrap();
-    }
+    fill(&mut engine, 0);
     refused(&engine, Refusal::Full, |engine| {
         engine.open(at(2000), 0, &params())
     });

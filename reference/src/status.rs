@@ -2,8 +2,9 @@
 //! it, the members one by one, and what belongs to the whole link. Reading changes nothing.
 
 use crate::address::Address;
+use crate::capacity::CONNECTIONS_MAX;
 use crate::connection::{Connection, History};
-use crate::engine::{Engine, Entry, CONNECTIONS_MAX};
+use crate::engine::{Engine, Entry};
 use crate::params::Params;
 use crate::refusal::Refusal;
 

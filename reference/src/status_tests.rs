@@ -8,7 +8,10 @@ use crate::engine_tests::{
     at, backward, data, engine_with, forward, kind, octets, opened, params, sent, MS, RATE,
 };
 use crate::spacing::INTERVAL;
-use crate::{Address, Kind, Member, Params, Refusal, Rm, Sent, Sort, Status, Totals};
+use crate::{
+    Address, Kind, Member, Params, Refusal, Rm, Sent, Sort, Status, Totals, COMPARISONS_MAX,
+    CONNECTIONS_MAX,
+};
 
 /// VCI 32 on VPI 0, opened at 0 on leaf 0 and nothing done since: the house set at 1,000 cells
 /// per second, with CRM = ceil(16,777,215 / 32).
@@ -129,17 +132,18 @@ fn at_reads_the_connection_in_a_leaf() {
     let mut engine = path_with(&[(40, 9)]);
     assert_eq!(engine.at(0), engine.status(at(32)));
     assert_eq!(engine.at(1), engine.status(PATH));
-    for leaf in [2, 1_023, 1_024, u32::MAX] {
+    let last = CONNECTIONS_MAX as u32 - 1;
+    for leaf in [2, last, last + 1, u32::MAX] {
         assert_eq!(engine.at(leaf), Err(Refusal::NotOpen));
     }
     engine.close(at(32)).unwrap();
     assert_eq!(engine.at(0), Err(Refusal::NotOpen));
     assert_eq!(engine.at(1), engine.status(PATH));
-    for leaf in [0].into_iter().chain(2..1_024) {
+    for leaf in [0].into_iter().chain(2..=last) {
         assert_eq!(engine.open(at(100 + leaf), 7, &params()), opened(leaf));
     }
-    assert_eq!(engine.at(1_023).map(|status| status.vci), Ok(1_123));
-    assert_eq!(engine.at(1_024), Err(Refusal::NotOpen));
+    assert_eq!(engine.at(last).map(|status| status.vci), Ok(100 + last));
+    assert_eq!(engine.at(last + 1), Err(Refusal::NotOpen));
 }
 
 #[test]
@@ -554,7 +558,7 @@ fn a_received_cell_says_what_it_is() {
             vci,
             leaf: 1,
             acr,
-            comparisons: 10,
+            comparisons: COMPARISONS_MAX,
         };
         assert_eq!(engine.receive(&cell), Ok(of_path));
     }
@@ -655,7 +659,7 @@ fn members_by_their_numbers() {
 /// An engine with nothing open.
 const EMPTY: Totals = Totals {
     connections: 0,
-    connections_max: 1_024,
+    connections_max: CONNECTIONS_MAX,
     members: 0,
     level: 0,
     last: 0,

@@ -4,11 +4,13 @@
 
 use std::collections::BTreeSet;
 
+use crate::capacity::{COMPARISONS_MAX, CONNECTIONS_MAX};
+
 /// The leaves, one for each connection that may be open.
-pub const LEAVES: usize = 1_024;
+pub const LEAVES: usize = CONNECTIONS_MAX;
 
 /// The levels of matches above the leaves.
-pub const LEVELS: usize = 10;
+pub const LEVELS: usize = COMPARISONS_MAX as usize;
 
 /// The ready instant and the name of a connection. Of two the lower one wins a
 /// match: the earlier instant, and of equal instants the lower name.
@@ -65,7 +67,7 @@ impl Tournament {
                 return level as u32;
             }
         }
-        LEVELS as u32
+        COMPARISONS_MAX
     }
 
     /// Who wins over all leaves.

@@ -20,12 +20,12 @@ fn the_first_match_without_a_winner_as_before_ends_it() {
 
 #[test]
 fn the_only_entrant_wins_at_every_level() {
-    for leaf in [0, 1, 511, 512, 1_023] {
+    for leaf in [0, 1, LEAVES / 2 - 1, LEAVES / 2, LEAVES - 1] {
         let mut tournament = Tournament::default();
-        assert_eq!(tournament.replay(leaf, Some((7, 32))), 10);
+        assert_eq!(tournament.replay(leaf, Some((7, 32))), COMPARISONS_MAX);
         assert_eq!(tournament.top(), Some((7, 32)));
-        assert_eq!(tournament.replay(leaf, Some((7, 32))), 10); // unchanged, but the leaf itself
-        assert_eq!(tournament.replay(leaf, None), 10); // from that leaf to none at each
+        assert_eq!(tournament.replay(leaf, Some((7, 32))), COMPARISONS_MAX); // unchanged, but the leaf itself
+        assert_eq!(tournament.replay(leaf, None), COMPARISONS_MAX); // from that leaf to none at each
         assert_eq!(tournament.replay(leaf, None), 1);
     }
 }
@@ -33,37 +33,38 @@ fn the_only_entrant_wins_at_every_level() {
 #[test]
 fn a_leaf_that_leads_d_levels_replays_one_more() {
     // Leaf 2^d and leaf 0, which is earlier, meet at level d + 1.
-    for d in 0..10 {
+    for d in 0..COMPARISONS_MAX {
         let leaf = 1 << d;
         let mut tournament = with(&[(0, 5)]);
         for ready in [7, 6, 7, 7, 5] {
             assert_eq!(tournament.replay(leaf, Some((ready, 9_999))), d + 1);
         }
-        assert_eq!(tournament.replay(leaf, Some((4, 9_999))), 10);
-        assert_eq!(tournament.replay(leaf, Some((5, 9_999))), 10); // leaf 0 wins again
+        assert_eq!(tournament.replay(leaf, Some((4, 9_999))), COMPARISONS_MAX);
+        assert_eq!(tournament.replay(leaf, Some((5, 9_999))), COMPARISONS_MAX); // leaf 0 wins again
         assert_eq!(tournament.replay(leaf, None), d + 1);
     }
 }
 
 #[test]
 fn it_ends_below_a_winner_that_is_neither_new_nor_that_leaf() {
-    let mut tournament = with(&[(0, 5), (4, 6), (6, 7), (512, 4)]);
+    const HALF: usize = LEAVES / 2; // the first leaf of the upper half
+    let mut tournament = with(&[(0, 5), (4, 6), (6, 7), (HALF, 4)]);
     assert_eq!(tournament.replay(7, Some((8, 100))), 1); // 6 wins as before
     assert_eq!(tournament.replay(7, Some((6, 100))), 2); // 7 at level 1, 4 at level 2
     assert_eq!(tournament.replay(7, Some((5, 100))), 3); // 7 at level 2, 0 at level 3
-    assert_eq!(tournament.replay(7, Some((5, 31))), 10); // 7 up to level 9, 512 at level 10
-    assert_eq!(tournament.top(), Some((4, 32 + 512)));
+    assert_eq!(tournament.replay(7, Some((5, 31))), COMPARISONS_MAX); // 7 in its half, HALF at the last level
+    assert_eq!(tournament.top(), Some((4, 32 + HALF as u32)));
     assert_eq!(tournament.replay(6, None), 1); // 7 wins as before
-    assert_eq!(tournament.replay(512, None), 10); // none up to level 9, 7 at level 10
+    assert_eq!(tournament.replay(HALF, None), COMPARISONS_MAX); // none in its half, 7 at the last level
     assert_eq!(tournament.top(), Some((5, 31)));
 }
 
 #[test]
 fn ties_go_to_the_lower_name_and_not_to_the_lower_leaf() {
     let mut tournament = Tournament::default();
-    assert_eq!(tournament.replay(3, Some((5, 40))), 10);
+    assert_eq!(tournament.replay(3, Some((5, 40))), COMPARISONS_MAX);
     assert_eq!(tournament.replay(2, Some((5, 41))), 1);
-    assert_eq!(tournament.replay(2, Some((5, 39))), 10);
+    assert_eq!(tournament.replay(2, Some((5, 39))), COMPARISONS_MAX);
     assert_eq!(tournament.top(), Some((5, 39)));
 }
 
@@ -72,13 +73,12 @@ fn the_lowest_free_leaf_is_taken() {
     let mut tournament = Tournament::default();
     assert!((0..LEAVES).all(|leaf| tournament.take() == Some(leaf)));
     assert_eq!(tournament.take(), None);
-    for leaf in [700, 3, 1_023, 64] {
-        assert_eq!(tournament.release(leaf), 1);
+    let rising = [3, LEAVES / 2, LEAVES / 2 + 5, LEAVES - 1];
+    for place in [2, 0, 3, 1] {
+        assert_eq!(tournament.release(rising[place]), 1);
     }
-    assert_eq!(
-        [0; 5].map(|_| tournament.take()),
-        [Some(3), Some(64), Some(700), Some(1_023), None]
-    );
+    assert_eq!(rising.map(|_| tournament.take()), rising.map(Some));
+    assert_eq!(tournament.take(), None);
 }
 
 /// The winner of a leaf's match at a level, by looking at every leaf below it.
@@ -99,7 +99,7 @@ fn winners_and_counts_are_those_of_a_scan() {
     };
     let mut seen = [0; LEVELS + 1];
     for _ in 0..20_000 {
-        let leaf = (draw(1_024) >> draw(10)) as usize;
+        let leaf = (draw(LEAVES as u64) >> draw(LEVELS as u64)) as usize;
         let entrant = (draw(4) > 0).then_some((draw(50), 32 + leaf as u32));
         let before: Vec<_> = (1..=LEVELS)
             .map(|level| scanned(&tournament, level, leaf))

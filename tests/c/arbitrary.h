@@ -11,11 +11,12 @@
  * may rely on it.
  */
 enum {
-    LEAVES = 1024,
+    LEAVES = ABR_CONNECTIONS_MAX,
+    GROUPS = (LEAVES + 63) / 64,
     LIVE_WORDS = 19,                    /* of a leaf; the last one: its last out-of-rate cell */
     CHANGE = 7,                         /* of them: the rates before and after its last backward cell */
     USED = 2,                           /* a bit for each leaf that is taken */
-    DIRECTORY = USED + LEAVES / 64,     /* (name + 1) * 1024 + leaf, falling, then zeros */
+    DIRECTORY = USED + GROUPS,          /* (name + 1) * LEAVES + leaf, falling, then zeros */
     NODES = DIRECTORY + LEAVES,         /* at place p the winner's leaf + 1, or 0; places 2p and 2p + 1 play match p */
     NONE = NODES + LEAVES,              /* 0 */
     KEYS = NONE + 1,                    /* 2^64 - 1 - ready instant, or 0 */
@@ -29,13 +30,16 @@ enum {
 
 typedef char layout_is_that_of_the_table[LAYOUT_WORDS == ABR_TABLE_WORDS ? 1 : -1];
 
+/* The connections that are opened in a table, below one of these; of MOST_OPENS the last ones are refused. */
+enum { SOME_OPENS = LEAVES / 16 + 6, MOST_OPENS = LEAVES + 16 };
+
 /* A part of a table. */
 typedef struct {
     unsigned first, count;
 } part;
 
-static const part parts[] = {{USED, LEAVES / 64}, {DIRECTORY, LEAVES}, {NODES, LEAVES}, {NONE, 1},
-                             {KEYS, LEAVES},      {NAMES, LEAVES},     {LIVE, FIXED - LIVE}, {MEMBERS, MEMBER_WORDS}};
+static const part parts[] = {{USED, GROUPS}, {DIRECTORY, LEAVES}, {NODES, LEAVES},      {NONE, 1},
+                             {KEYS, LEAVES}, {NAMES, LEAVES},     {LIVE, FIXED - LIVE}, {MEMBERS, MEMBER_WORDS}};
 
 static uint64_t state; /* of the generator, xorshift64* (Vigna); never 0 */
 
@@ -50,14 +54,15 @@ static uint64_t next(void)
 /* A random word, often at the edge of some field's range. */
 static uint64_t edge_word(void)
 {
-    static const uint64_t edges[] = {0, 1, 2, 31, 32, 53, 63, 64, 65, 255, 256, 1023, 1024, 1025, 65535, 65536, 65568,
-                                     65536 * 1024, 1 << 24, UINT64_C(1) << 34, ABR_TABLE_WORDS - 1, ABR_TABLE_WORDS, UINT64_C(1) << 32,
-                                     UINT64_C(1) << 62, UINT64_C(1) << 63};
+    static const uint64_t edges[] = {0, 1, 2, 31, 32, 53, 63, 64, 65, 255, 256, LEAVES - 1, LEAVES, LEAVES + 1, 1023,
+                                     1024, 65535, 65536, 65568, 65536 * LEAVES, 1 << 24, UINT64_C(1) << 34,
+                                     ABR_TABLE_WORDS - 1, ABR_TABLE_WORDS, UINT64_C(1) << 32, UINT64_C(1) << 62,
+                                     UINT64_C(1) << 63};
     uint64_t word = next();
     switch (word & 7) {
     case 0: return ~UINT64_C(0) - (next() & 63);
     case 1: return next() & 0xFFFF;
-    case 2: return next() & 0x3FF;
+    case 2: return next() % LEAVES;
     case 3: return next() >> (next() & 63);
     case 4: return next();
     default: return edges[next() % (sizeof edges / sizeof edges[0])];
@@ -104,7 +109,8 @@ static uint32_t open_paths(abr_table *table, abr_params params)
 static void reached_table(abr_table *table)
 {
     uint8_t cell[ABR_CELL_OCTETS];
-    uint32_t count = (uint32_t)(next() % (next() % 4 ? 70 : 1040)), closes = (uint32_t)next() & 1, refused = 0;
+    uint32_t count = (uint32_t)(next() % (next() % 4 ? SOME_OPENS : MOST_OPENS)), closes = (uint32_t)next() & 1;
+    uint32_t refused = 0;
     abr_params params = abr_house(0x7FFF, next() % 2 ? 0x4000 : 0, 0x53E8 + (uint32_t)(next() & 0xFF));
     step = next() % 2 ? 1 : 63; /* side by side, or over all VCIs */
     falling = next() % 2;
@@ -123,7 +129,7 @@ static void reached_table(abr_table *table)
             refused |= abr_close(table, other.vpi, other.vci).refusal;
         }
     }
-    /* among them more than 1,024 opens, opens of members, closes of what is not open and makings at level 0 */
+    /* more opens than leaves among them, opens of members, closes of what is not open and makings at level 0 */
     (void)refused;
 }
 
@@ -131,7 +137,7 @@ static void reached_table(abr_table *table)
 static uint64_t wrong_entry(void)
 {
     uint64_t leaf = next() % LEAVES;
-    return next() % 2 ? leaf + 1 : (name_of(address_of((uint32_t)(next() % 1040))) + 1) * LEAVES + leaf;
+    return next() % 2 ? leaf + 1 : (name_of(address_of((uint32_t)(next() % MOST_OPENS))) + 1) * LEAVES + leaf;
 }
 
 /* One word of a part of a table made wrong; the words before are those of the part as calls left it. */
@@ -155,7 +161,7 @@ static uint64_t wrong_word(uint64_t how, const uint64_t *before, unsigned place,
 /* A table that calls made, with one or more parts wrong, each in its own way. */
 static void wrong_parts(abr_table *table)
 {
-    static uint64_t before[FIXED - LIVE];
+    static uint64_t before[LAYOUT_WORDS];
     uint64_t times = 1 + next() % 3;
     reached_table(table);
     while (times--) {

@@ -344,7 +344,7 @@ static void every_octet_is_written(void)
     }
 }
 
-/* The connection with a place in the order of names: four VCIs on each of the 256 VPIs, the first and the last. */
+/* The connection with a place in the order of names: four VCIs on each VPI, the first and the last. */
 static uint32_t vpi_at(uint32_t place)
 {
     return place / 4;
@@ -370,8 +370,8 @@ static void all_send(abr_table *table, uint64_t time, uint32_t kind)
 }
 
 /*
- * A table uses words up to the last and none after it: 1,024 busy connections, on each a made and an out-of-rate
- * cell.
+ * A table uses words up to the last and none after it: as many busy connections as there can be, on each a made and an
+ * out-of-rate cell.
  */
 static void the_whole_table(void)
 {
@@ -393,7 +393,8 @@ static void the_whole_table(void)
     }
     CHECK(abr_open(&lent.table, 0, 40, 0, params).refusal == ABR_REFUSED_FULL);
     CHECK(abr_link(&lent.table).connections == ABR_CONNECTIONS_MAX);
-    CHECK(abr_at(&lent.table, ABR_CONNECTIONS_MAX - 1).vci == vci_at(0) && abr_at(&lent.table, 0).vci == vci_at(1023));
+    CHECK(abr_at(&lent.table, ABR_CONNECTIONS_MAX - 1).vci == vci_at(0));
+    CHECK(abr_at(&lent.table, 0).vci == vci_at(ABR_CONNECTIONS_MAX - 1));
     for (uint64_t i = 0; i < 3; i++) {
         static const uint32_t kinds[3] = {ABR_SENT_FORWARD, ABR_SENT_TURNED, ABR_SENT_DATA};
         CHECK(abr_next_ready(&lent.table) == i * 1000000);

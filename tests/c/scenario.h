@@ -26,6 +26,9 @@
 #define UPPER 7u, 50u
 #define NOBODY 0u, 0u
 
+/* The comparisons for a connection that wins every match, before the call or after it. */
+#define ROUNDS ABR_COMPARISONS_MAX
+
 /* No answer has padding: two are the same exactly if their octets are. */
 #define SAME(a, b) (memcmp(&(a), &(b), sizeof(a)) == 0)
 
@@ -57,7 +60,7 @@ static int passed_is(uint64_t now, uint64_t lag, uint64_t time)
 static int slot_moves(uint64_t time, uint32_t vpi, uint32_t vci, uint32_t kind, uint64_t before, uint64_t acr)
 {
     abr_sent sent = abr_slot(&table, time, cell, sizeof cell);
-    abr_sent expected = {ABR_OK, ABR_COMPARISONS_MAX, kind, vpi, vci, leaf_of(vpi), acr, before, 0, 0};
+    abr_sent expected = {ABR_OK, ROUNDS, kind, vpi, vci, leaf_of(vpi), acr, before, 0, 0};
     return SAME(sent, expected);
 }
 
@@ -77,7 +80,7 @@ static int slot_is(uint64_t time, uint32_t vpi, uint32_t vci, uint32_t kind, uin
 static int slot_sends_made(uint64_t time, uint32_t vpi, uint32_t vci, uint64_t acr)
 {
     abr_sent sent = abr_slot(&table, time, cell, sizeof cell);
-    abr_sent expected = {ABR_OK, ABR_COMPARISONS_MAX, ABR_SENT_TURNED, vpi, vci, leaf_of(vpi), acr, acr, 1, 0};
+    abr_sent expected = {ABR_OK, ROUNDS, ABR_SENT_TURNED, vpi, vci, leaf_of(vpi), acr, acr, 1, 0};
     return SAME(sent, expected);
 }
 
@@ -131,7 +134,7 @@ static abr_received feedback(uint32_t vpi, uint32_t vci, uint32_t ci, uint32_t e
 /* The connection wins all its matches, before and after. */
 static int feedback_gives(uint32_t vpi, uint32_t vci, uint32_t ci, uint32_t er, uint64_t acr)
 {
-    return received_is(feedback(vpi, vci, ci, er), 10, ABR_RECEIVED_BACKWARD, vpi, vci, acr);
+    return received_is(feedback(vpi, vci, ci, er), ROUNDS, ABR_RECEIVED_BACKWARD, vpi, vci, acr);
 }
 
 /* A data cell is received, with or without the congestion mark; octet 5 is found by trying all. */
@@ -250,7 +253,7 @@ static void opens(void)
     second = opened_channel(SECOND, 0);
     CHECK(both_read() && link_is(2, 0, 0, 0));
     CHECK(next_is(ABR_NEVER) && passed_is(7, 3, 7)); /* nothing waits */
-    CHECK(is(abr_offer(&table, FIRST, 100), ABR_OK, 10));
+    CHECK(is(abr_offer(&table, FIRST, 100), ABR_OK, ROUNDS));
     CHECK(is(abr_offer(&table, SECOND, 100), ABR_OK, 1));
     first.waiting = second.waiting = 100;
     first.ready = second.ready = 0; /* their opening */
@@ -262,7 +265,9 @@ static void opens(void)
 /* Leaves in which nothing is open, and numbers past the last leaf, which are never cut to one that is taken. */
 static void free_leaves(void)
 {
-    static const uint32_t leaves[] = {2, 1023, 1024, 1025, 2048, 65536, 65537, 0x80000000u, 0xFFFFFFFFu};
+    static const uint32_t leaves[] = {2,    ABR_CONNECTIONS_MAX - 1, ABR_CONNECTIONS_MAX, ABR_CONNECTIONS_MAX + 1,
+                                      1023, 2 * ABR_CONNECTIONS_MAX, 65536,               65537,
+                                      1024, 0x80000000u,             0xFFFFFFFFu};
     for (size_t i = 0; i < sizeof leaves / sizeof leaves[0]; i++) {
         CHECK(unread(abr_at(&table, leaves[i])));
     }
@@ -359,11 +364,11 @@ static void a_cell_is_turned(void)
     CHECK(abr_set_level(&table, 3) == ABR_REFUSED_TOO_LARGE);
     CHECK(abr_write_rm(rm, octets, sizeof octets) == ABR_OK);
     CHECK(abr_set_level(&table, 2) == ABR_OK);
-    CHECK(received_is(abr_receive(&table, octets, sizeof octets), 10, ABR_RECEIVED_FORWARD, FIRST, 512000));
+    CHECK(received_is(abr_receive(&table, octets, sizeof octets), ROUNDS, ABR_RECEIVED_FORWARD, FIRST, 512000));
     first.turned = 1;
     CHECK(both_read() && link_is(2, 0, 2, 8 * MS + 812501));
     CHECK(abr_set_level(&table, 0) == ABR_OK);
-    CHECK(received_is(abr_receive(&table, octets, sizeof octets), 10, ABR_RECEIVED_FORWARD, FIRST, 512000));
+    CHECK(received_is(abr_receive(&table, octets, sizeof octets), ROUNDS, ABR_RECEIVED_FORWARD, FIRST, 512000));
     CHECK(slot_is(20 * MS, FIRST, ABR_SENT_TURNED, 512000));
     first.turned = 0;
     first.backward_sent = 1;
@@ -384,7 +389,7 @@ static void cells_are_made(void)
     CHECK(is(abr_make(&table, NOT_OPEN, 21 * MS), ABR_REFUSED_NOT_OPEN, 0));
     CHECK(is(abr_make(&table, SECOND, 20 * MS - 1), ABR_REFUSED_TIME_BACKWARD, 0));
     CHECK(abr_set_level(&table, 2) == ABR_OK);
-    CHECK(is(abr_make(&table, SECOND, 21 * MS), ABR_OK, 10));
+    CHECK(is(abr_make(&table, SECOND, 21 * MS), ABR_OK, ROUNDS));
     second.made_level = 2;
     second.last_made = 21 * MS;
     CHECK(both_read());
@@ -409,11 +414,11 @@ static void cells_are_made(void)
 /* The mark of the last data cell is saved. The first wins its matches; the second loses its own, which ends it. */
 static void data_is_received(void)
 {
-    CHECK(received_is(data_cell(FIRST, 1), 10, ABR_RECEIVED_DATA, FIRST, 512000));
+    CHECK(received_is(data_cell(FIRST, 1), ROUNDS, ABR_RECEIVED_DATA, FIRST, 512000));
     CHECK(received_is(data_cell(SECOND, 1), 1, ABR_RECEIVED_DATA, SECOND, 65536));
     first.efci = second.efci = 1;
     CHECK(both_read());
-    CHECK(received_is(data_cell(FIRST, 0), 10, ABR_RECEIVED_DATA, FIRST, 512000));
+    CHECK(received_is(data_cell(FIRST, 0), ROUNDS, ABR_RECEIVED_DATA, FIRST, 512000));
     first.efci = 0;
     CHECK(both_read() && receive_refused(data_cell(NOT_OPEN, 1), ABR_REFUSED_NOT_OPEN) && both_read());
 }
@@ -601,13 +606,13 @@ static void reserved_bit_in_an_open(void)
 static void closes(void)
 {
     abr_allowed allowed;
-    CHECK(closed_is(abr_close(&table, FIRST), ABR_OK, 10, 97));
+    CHECK(closed_is(abr_close(&table, FIRST), ABR_OK, ROUNDS, 97));
     CHECK(closed_is(abr_close(&table, FIRST), ABR_REFUSED_NOT_OPEN, 0, 0));
     allowed = abr_acr(&table, FIRST);
     CHECK(allowed.refusal == ABR_REFUSED_NOT_OPEN && allowed.reserved == 0 && allowed.acr == 0 && allowed.change == 0);
     CHECK(unread(abr_status(&table, FIRST)) && unread(abr_at(&table, 1)));
     CHECK(status_is(second) && link_is(1, 0, 0, 121 * MS));
-    CHECK(closed_is(abr_close(&table, SECOND), ABR_OK, 10, 98) && next_is(ABR_NEVER));
+    CHECK(closed_is(abr_close(&table, SECOND), ABR_OK, ROUNDS, 98) && next_is(ABR_NEVER));
     CHECK(unread(abr_at(&table, 0)) && link_is(0, 0, 0, 121 * MS));
     both_open = 0;
 }
@@ -642,7 +647,7 @@ static void without_a_minimum(void)
 {
     abr_rm rm;
     CHECK(opened_in(abr_open(&table, THIRD, 121 * MS, abr_house(thousand, 0x01FF, thousand)), 0));
-    CHECK(is(abr_offer(&table, THIRD, 10), ABR_OK, 10));
+    CHECK(is(abr_offer(&table, THIRD, 10), ABR_OK, ROUNDS));
     CHECK(feedback_gives(THIRD, 0, 0, 0));
     CHECK(acr_is(THIRD, 0, -512000) && next_is(ABR_NEVER) && slot_is(121 * MS, NOBODY, ABR_SENT_IDLE, 0));
     out_of_rate_refused();
@@ -661,7 +666,7 @@ static void without_a_minimum(void)
     CHECK(rm.er == thousand && rm.ccr == 0x4BE8 && rm.mcr == 0 && cell[3] == 0x2C);
     CHECK(slot_is(316 * MS - 1, NOBODY, ABR_SENT_IDLE, 0)); /* the gap is 16 ms */
     CHECK(slot_is(316 * MS, THIRD, ABR_SENT_DATA, 32000));
-    CHECK(closed_is(abr_close(&table, THIRD), ABR_OK, 10, 9));
+    CHECK(closed_is(abr_close(&table, THIRD), ABR_OK, ROUNDS, 9));
 }
 
 /* The refusals of adding, in their order, with the path open and UPPER its member; then those of its plain calls. */
@@ -732,7 +737,8 @@ static void a_path_is_opened(void)
 static void members_take_turns(void)
 {
     abr_rm rm;
-    CHECK(is(abr_offer_member(&table, UPPER, 3), ABR_OK, 10) && is(abr_offer_member(&table, LOWER, 2), ABR_OK, 10));
+    CHECK(is(abr_offer_member(&table, UPPER, 3), ABR_OK, ROUNDS));
+    CHECK(is(abr_offer_member(&table, LOWER, 2), ABR_OK, ROUNDS));
     path.ready = 400 * MS;
     CHECK(next_is(400 * MS) && path_is_read(2, 3));
     CHECK(slot_is(400 * MS, PATH, ABR_SENT_FORWARD, 512000));
@@ -748,7 +754,7 @@ static void members_take_turns(void)
     path.served = 40;
     CHECK(path_is_read(0, 2));
     CHECK(slot_is(404 * MS, UPPER, ABR_SENT_DATA, 512000));
-    CHECK(closed_is(abr_remove_member(&table, LOWER), ABR_OK, 10, 0));
+    CHECK(closed_is(abr_remove_member(&table, LOWER), ABR_OK, ROUNDS, 0));
     CHECK(slot_is(405 * MS, UPPER, ABR_SENT_DATA, 512000));
     path.last_sent = 405 * MS;
     path.ready = 500 * MS; /* nothing waits: Trm after the forward cell */
@@ -763,18 +769,19 @@ static void members_take_turns(void)
 static void a_path_receives(void)
 {
     CHECK(feedback_gives(PATH, 1, ABR_CODE_MAX, 480000) && acr_is(PATH, 480000, -32000));
-    CHECK(received_is(data_cell(UPPER, 1), 10, ABR_RECEIVED_DATA, UPPER, 480000));
+    CHECK(received_is(data_cell(UPPER, 1), ROUNDS, ABR_RECEIVED_DATA, UPPER, 480000));
     exports(PATH, ABR_OK);
     exports(UPPER, ABR_REFUSED_NOT_OPEN);
     CHECK(is(abr_add_member(&table, LOWER), ABR_OK, 0));
-    CHECK(is(abr_offer_member(&table, LOWER, 4), ABR_OK, 10) && is(abr_offer_member(&table, UPPER, 5), ABR_OK, 10));
+    CHECK(is(abr_offer_member(&table, LOWER, 4), ABR_OK, ROUNDS));
+    CHECK(is(abr_offer_member(&table, UPPER, 5), ABR_OK, ROUNDS));
     path.acr = 480000;
     path.change = -32000;
     path.unanswered = 0;
     path.efci = 1;
     path.ready = 406 * MS + 66667;
     CHECK(path_is_read(4, 5));
-    CHECK(closed_is(abr_close(&table, PATH), ABR_OK, 10, 9));
+    CHECK(closed_is(abr_close(&table, PATH), ABR_OK, ROUNDS, 9));
     CHECK(closed_is(abr_remove_member(&table, UPPER), ABR_REFUSED_NOT_OPEN, 0, 0));
     CHECK(unread(abr_status(&table, PATH)) && unread(abr_status(&table, UPPER)) && unread(abr_at(&table, 0)));
     CHECK(members_end(&table, 0) && link_is(0, 0, 0, 405 * MS));
@@ -828,7 +835,7 @@ static void tbe_and_round_trip(void)
     first.crm = 2;
     first.icr_used = first.acr = 256000;
     CHECK(status_is(first));
-    CHECK(is(abr_offer(&table, FIRST, 9), ABR_OK, 10) && feedback_gives(FIRST, 0, ABR_CODE_MAX, 288000));
+    CHECK(is(abr_offer(&table, FIRST, 9), ABR_OK, ROUNDS) && feedback_gives(FIRST, 0, ABR_CODE_MAX, 288000));
     CHECK(acr_is(FIRST, 288000, 32000) && slot_moves(500 * MS, FIRST, ABR_SENT_FORWARD, 288000, 256000));
     CHECK(slot_is(502 * MS, FIRST, ABR_SENT_DATA, 256000) && slot_is(504 * MS, FIRST, ABR_SENT_DATA, 256000));
     CHECK(slot_is(600 * MS, FIRST, ABR_SENT_FORWARD, 256000) && slot_is(602 * MS, FIRST, ABR_SENT_DATA, 256000));
@@ -841,14 +848,14 @@ static void tbe_and_round_trip(void)
     first.ready = 702 * MS + 133334;
     first.unanswered = 3;
     CHECK(status_is(first));
-    CHECK(closed_is(abr_close(&table, FIRST), ABR_OK, 10, 5));
+    CHECK(closed_is(abr_close(&table, FIRST), ABR_OK, ROUNDS, 5));
 }
 
 /* A cell at the latest time: the next ready instant is after it, where no slot is accepted. */
 static void at_the_latest_time(void)
 {
     CHECK(opened_in(abr_open(&table, FIRST, ABR_TIME_MAX, abr_house(thousand, slowest, thousand)), 0));
-    CHECK(is(abr_offer(&table, FIRST, 2), ABR_OK, 10) && next_is(ABR_TIME_MAX));
+    CHECK(is(abr_offer(&table, FIRST, 2), ABR_OK, ROUNDS) && next_is(ABR_TIME_MAX));
     CHECK(slot_is(ABR_TIME_MAX, FIRST, ABR_SENT_FORWARD, 512000) && next_is(ABR_TIME_MAX + 1 * MS));
     CHECK(slot_is(ABR_TIME_MAX, NOBODY, ABR_SENT_IDLE, 0));
     first = opened_channel(FIRST, ABR_TIME_MAX);
@@ -858,7 +865,7 @@ static void at_the_latest_time(void)
     first.unanswered = 1;
     CHECK(status_is(first) && link_is(1, 0, 0, ABR_TIME_MAX));
     CHECK(passed_is(ABR_TIME_MAX, 5, ABR_TIME_MAX) && passed_is(ABR_TIME_MAX + 2 * MS, 3 * MS, ABR_TIME_MAX + 1 * MS));
-    CHECK(closed_is(abr_close(&table, FIRST), ABR_OK, 10, 2));
+    CHECK(closed_is(abr_close(&table, FIRST), ABR_OK, ROUNDS, 2));
 }
 
 static void nothing_is_left(void)

@@ -95,7 +95,7 @@ fn what_is_not_well_formed_is_seen() {
 
 #[test]
 fn the_pictures_of_the_documents() {
-    for name in ["rates", "closed-loop", "transmitter", "slot-cost"] {
+    for name in ["rates", "closed-loop", "transmitter", "slot-cost", "links"] {
         let file = format!("{}/../docs/{name}.svg", env!("CARGO_MANIFEST_DIR"));
         let picture = std::fs::read_to_string(&file).expect("a picture");
         assert_eq!(well_formed(&picture), Ok(()), "{file}");

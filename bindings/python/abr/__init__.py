@@ -8,6 +8,7 @@ OverflowError, before any call."""
 # All that is imported here is what the package offers.
 # flake8: noqa: F401, F403
 from .answers import Allowed, Closed, Kind, Opened, Received, ReceivedKind, Sent
+from .c import COMPARISONS_MAX, CONNECTIONS_MAX, TABLE_WORDS
 from .cell import Data, Rm, read, write_rm
 from .connection import Connection, ConnectionKind, Member, Totals
 from .constants import *

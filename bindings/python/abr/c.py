@@ -4,7 +4,33 @@ from ctypes import POINTER, PyDLL, Structure, c_char_p, c_double, c_int64, c_siz
 import os
 from pathlib import Path
 
-from .constants import TABLE_WORDS, VERSION
+from .constants import VERSION
+
+
+def path() -> str:
+    """The shared object: the one that ABR_SHARED names, else, in an unpacked delivery, that of its lib, else the one
+    that the loader finds by its name."""
+    major_minor = f"{VERSION >> 16}.{VERSION >> 8 & 0xFF}"
+    delivered = Path(__file__).resolve().parents[2] / "lib" / f"libabr.so.{major_minor}"
+    return os.environ.get("ABR_SHARED") or (str(delivered) if delivered.is_file() else delivered.name)
+
+
+def load(name: str) -> PyDLL:
+    """Loads the shared object, which must be of this binding's version and may be of any edition. The interpreter's
+    lock is held while a call runs (PyDLL), so that no two threads are in one table; where Python runs without that
+    lock, the caller must see to it."""
+    library = PyDLL(name)
+    library.abr_version.restype = c_uint32
+    if library.abr_version() != VERSION:
+        raise ImportError(f"{name} is of another version than this binding")
+    return library
+
+
+library = load(path())
+library.abr_table_words.restype = c_uint32
+
+# The words of a table of the loaded edition.
+TABLE_WORDS = library.abr_table_words()
 
 
 class abr_table(Structure):
@@ -137,32 +163,15 @@ FUNCTIONS = {
 }
 
 
-def path() -> str:
-    """The shared object: the one that ABR_SHARED names, else, in an unpacked delivery, that of its lib, else the one
-    that the loader finds by its name."""
-    major_minor = f"{VERSION >> 16}.{VERSION >> 8 & 0xFF}"
-    delivered = Path(__file__).resolve().parents[2] / "lib" / f"libabr.so.{major_minor}"
-    return os.environ.get("ABR_SHARED") or (str(delivered) if delivered.is_file() else delivered.name)
+def declare(library: PyDLL) -> None:
+    """Gives the functions of the shared object their types."""
+    for name, (returned, arguments) in FUNCTIONS.items():
+        function = getattr(library, name)
+        function.restype, function.argtypes = returned, arguments
 
 
-def load(name: str) -> PyDLL:
-    """Loads the shared object, which must be of this binding's version: with another one a table may be too short. The
-    interpreter's lock is held while a call runs (PyDLL), so that no two threads are in one table; where Python runs
-    without that lock, the caller must see to it."""
-    library = PyDLL(name)
-    found = tuple(function(library, name) for name in ("abr_version", "abr_table_words"))
-    if tuple(call() for call in found) != (VERSION, TABLE_WORDS):
-        raise ImportError(f"{name} is of another version than this binding")
-    for each in FUNCTIONS:
-        function(library, each)
-    return library
+declare(library)
 
-
-def function(library: PyDLL, name: str):
-    """A function of the shared object, with its types."""
-    found = getattr(library, name)
-    found.restype, found.argtypes = FUNCTIONS[name]
-    return found
-
-
-library = load(path())
+# The connections of the loaded edition, and the most comparisons of a call, the rounds of its tournament.
+CONNECTIONS_MAX = library.abr_link(abr_table()).connections_max
+COMPARISONS_MAX = CONNECTIONS_MAX.bit_length() - 1

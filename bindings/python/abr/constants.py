@@ -1,12 +1,10 @@
-"""The numbers of include/abr.h, by their names without ABR_."""
+"""The numbers of include/abr.h that no edition changes, by their names without ABR_. Those of the loaded edition are in
+c.py."""
 
-VERSION = 0x001300
-TABLE_WORDS = 36_115
+VERSION = 0x001400
 
 CELL_OCTETS = 53
-CONNECTIONS_MAX = 1_024
 MEMBERS_MAX = 256
-COMPARISONS_MAX = 10
 VPI_MAX = 255
 VCI_MIN = 32
 VCI_MAX = 65_535

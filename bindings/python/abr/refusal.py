@@ -23,7 +23,7 @@ class Refusal(enum.IntEnum):
     LOW_VCI = 10, "VCI is under 32"
     NOT_OPEN = 11, "connection is not open"
     ALREADY_OPEN = 12, "connection is already open"
-    FULL = 13, "1,024 connections are open"
+    FULL = 13, "as many connections are open as there can be"
     TIME_BACKWARD = 14, "time is before the last accepted open, slot, made or out-of-rate cell"
     TOO_MUCH_DATA = 15, "waiting data would pass 65,535 cells"
     NOT_CONGESTED = 16, "congestion level is 0"

@@ -7,10 +7,9 @@ from itertools import islice
 from typing import Iterator
 
 from .answers import Allowed, Closed, Kind, Opened, Received, ReceivedKind, Sent
-from .c import abr_answer, abr_closed, abr_connection, abr_opened, abr_table, library
+from .c import CONNECTIONS_MAX, abr_answer, abr_closed, abr_connection, abr_opened, abr_table, library
 from .cell import Buffer
 from .connection import Connection, Member, Totals, instant
-from .constants import CONNECTIONS_MAX
 from .arguments import octets, u32, u64
 from .params import Params
 from .rates import Contract

@@ -50,8 +50,14 @@ class Connections(Calls):
         self.refused(Refusal.TBE, self.table.open, 2, 32, 0, replace(HOUSE, tbe=0))
         self.refused(Refusal.FRTT, self.table.open, 2, 32, 0, replace(HOUSE, frtt=abr.FRTT_MAX + 1))
         self.refused(Refusal.TIME, self.table.open, 2, 32, abr.TIME_MAX + 1, HOUSE)
-        self.assertEqual(self.table.close(1, 32), abr.Closed(cells=7, comparisons=10))
+        self.assertEqual(self.table.close(1, 32), abr.Closed(cells=7, comparisons=abr.COMPARISONS_MAX))
         self.refused(Refusal.NOT_OPEN, self.table.close, 1, 32)
+
+    def test_as_many_are_open_as_there_can_be(self):
+        leaves = range(abr.CONNECTIONS_MAX)
+        self.assertEqual([self.table.open(1, 32 + leaf, 0, HOUSE).leaf for leaf in leaves], list(leaves))
+        self.refused(Refusal.FULL, self.table.open, 2, 32, 0, HOUSE)
+        self.assertEqual([each.leaf for each in self.table.connections()], list(leaves))
 
     def test_an_open_takes_the_lowest_free_leaf(self):
         self.assertEqual([self.table.open(1, vci, 0, HOUSE).leaf for vci in (34, 33, 32)], [0, 1, 2])
@@ -76,7 +82,7 @@ class Connections(Calls):
         self.assertEqual(abr.read(sent.cell), Rm(1, 32, er=THOUSAND, ccr=THOUSAND, mcr=0x4000))
         self.assertEqual(self.table.next_ready(), 5 + MS)
         self.assertIsNone(self.table.slot(4 + MS))
-        data = abr.Sent(Kind.DATA, 1, 32, RATE, None, 10, leaf=0, acr_before=RATE, made=False)
+        data = abr.Sent(Kind.DATA, 1, 32, RATE, None, abr.COMPARISONS_MAX, leaf=0, acr_before=RATE, made=False)
         self.assertEqual(self.table.slot(5 + MS), data)
         self.refused(Refusal.TIME_BACKWARD, self.table.slot, 4 + MS)
 
@@ -115,8 +121,9 @@ class Connections(Calls):
         self.table.set_level(2)
         self.refused(Refusal.TOO_LARGE, self.table.set_level, 3)
         received = self.table.receive(abr.write_rm(Rm(1, 32, er=0x4000, ccr=0x4000, mcr=0x4000)))
-        self.assertEqual(received, abr.Received(ReceivedKind.FORWARD, 1, 32, leaf=0, acr=RATE, comparisons=10))
-        self.assertEqual(self.table.make(1, 32, 0), 10)
+        most = abr.COMPARISONS_MAX
+        self.assertEqual(received, abr.Received(ReceivedKind.FORWARD, 1, 32, leaf=0, acr=RATE, comparisons=most))
+        self.assertEqual(self.table.make(1, 32, 0), most)
         self.refused(Refusal.MADE_TOO_SOON, self.table.make, 1, 32, abr.MAKE_INTERVAL - 1)
         self.assertIs(self.table.slot(0).kind, Kind.FORWARD)
         turned, made = self.table.slot(MS), self.table.slot(2 * MS)
@@ -138,7 +145,7 @@ class Connections(Calls):
         self.assertEqual(self.table.open_path(7, 0, HOUSE), abr.Opened(leaf=0, comparisons=1))
         for vci in (50, 40):
             self.assertIsNone(self.table.add_member(7, vci))
-            self.assertEqual(self.table.offer_member(7, vci, 2), 10)
+            self.assertEqual(self.table.offer_member(7, vci, 2), abr.COMPARISONS_MAX)
         self.refused(Refusal.ALREADY_MEMBER, self.table.add_member, 7, 40)
         self.refused(Refusal.NOT_A_MEMBER, self.table.offer, 7, abr.PATH_VCI, 1)
         self.refused(Refusal.NOT_A_MEMBER, self.table.remove_member, 7, 41)
@@ -146,7 +153,7 @@ class Connections(Calls):
         self.refused(Refusal.NOT_A_MEMBER, self.table.offer_member, 7, 65_576, 1)
         sent = [self.table.slot(time * MS)[:3] for time in range(3)]
         self.assertEqual(sent, [(Kind.FORWARD, 7, 6), (Kind.DATA, 7, 40), (Kind.DATA, 7, 50)])
-        self.assertEqual(self.table.remove_member(7, 40), abr.Closed(cells=1, comparisons=10))
+        self.assertEqual(self.table.remove_member(7, 40), abr.Closed(cells=1, comparisons=abr.COMPARISONS_MAX))
         self.assertEqual(self.table.acr(7, abr.PATH_VCI).acr, RATE)
         self.assertEqual(self.table.close(7, abr.PATH_VCI).cells, 1)
 
@@ -232,7 +239,7 @@ class Readings(Calls):
         self.assertEqual(self.table.at(0), self.table.status(*self.PATH))
         self.assertEqual(self.table.at(2), self.table.status(1, 33))
         self.assertIs(self.table.at(2).kind, ConnectionKind.CHANNEL)
-        for leaf in (1, 3, 1_023, 1_024, 2**32 - 1):
+        for leaf in (1, 3, abr.CONNECTIONS_MAX - 1, abr.CONNECTIONS_MAX, 2**32 - 1):
             self.refused(Refusal.NOT_OPEN, self.table.at, leaf)
         self.assertEqual([(each.vpi, each.vci) for each in self.table.connections()], [self.PATH, (1, 33)])
 
@@ -245,7 +252,7 @@ class Readings(Calls):
         self.refused(Refusal.NOT_OPEN, self.table.member_at, 3)
 
     def test_the_link(self):
-        empty = abr.Totals(connections=0, connections_max=1_024, members=0, level=0, last=0)
+        empty = abr.Totals(connections=0, connections_max=abr.CONNECTIONS_MAX, members=0, level=0, last=0)
         self.assertEqual(abr.Table().link(), empty)
         self.opened_beside()
         self.table.set_level(1)

@@ -50,6 +50,14 @@ def structs():
     return {name: body for body, name in found}
 
 
+def editions():
+    """The editions of the header: of each number of connections the most comparisons and the words of a table."""
+    chain = re.findall(r"^#(?:el)?if ABR_CONNECTIONS == (\d+)\n#define ABR_COMPARISONS_MAX (\d+)u$", HEADER, re.M)
+    words = re.search(r"^#define ABR_TABLE_WORDS (.*)$", HEADER, re.M)[1]
+    words = re.sub(r"\b(\d+)u\b", r"\1", words).replace("/", "//")
+    return {int(number): (int(most), eval(words, {"ABR_CONNECTIONS_MAX": int(number)})) for number, most in chain}
+
+
 def defined(prefix=""):
     """The numbers that the header defines under names with a prefix, and the comment beside each."""
     number = r"(?:UINT64_C\()?(0x[0-9A-Fa-f]+|\d+)[u)]"
@@ -76,7 +84,7 @@ class Header(unittest.TestCase):
         for name, body in structs().items():
             fields = re.findall(r"^    (\w+) (\w+)(?:\[(\w+)\])?;", body, re.M)
             typed = [(field, c_type(kind), count) for kind, field, count in fields]
-            expected = [(field, kind * c.TABLE_WORDS if count else kind) for field, kind, count in typed]
+            expected = [(field, kind * abr.TABLE_WORDS if count else kind) for field, kind, count in typed]
             self.assertEqual(getattr(c, name)._fields_, expected, name)
 
     def test_sizes_and_offsets_are_those_of_c(self):
@@ -90,10 +98,20 @@ class Header(unittest.TestCase):
         for name, field, offset in offsets:
             self.assertEqual(getattr(getattr(c, name), field).offset, int(offset), f"{name}.{field}")
 
+    def test_the_editions(self):
+        comparisons = {connections: most for connections, (most, _) in editions().items()}
+        self.assertEqual(comparisons, {16: 4, 64: 6, 256: 8, 1024: 10})
+        self.assertEqual(editions()[abr.CONNECTIONS_MAX], (abr.COMPARISONS_MAX, abr.TABLE_WORDS))
+        self.assertEqual(len({words for _, words in editions().values()}), 4)  # abr_matches tells them apart
+        manual = (ROOT / "docs/MANUAL.md").read_text()
+        for connections, (comparisons, words) in editions().items():
+            row = f"| {connections:,} | {comparisons} | {8 * words:,} |"
+            self.assertTrue(f"\n{row}" in manual, f"{row} in MANUAL.md")
+
     def test_the_constants(self):
         others = ("REFUSED_", "RULE_", "SENT_", "RECEIVED_", "HOUSE_")
         numbers = {name: number for name, (number, _) in defined().items() if not name.startswith(others)}
-        for name in ("OK", "CELL_DATA", "CELL_RM", "CHANNEL", "PATH", "MEMBER"):
+        for name in ("OK", "CELL_DATA", "CELL_RM", "CHANNEL", "PATH", "MEMBER", "COMPARISONS_MAX"):
             del numbers[name]
         self.assertGreater(len(numbers), 20)
         constants = {name: value for name, value in vars(abr.constants).items() if name.isupper()}
@@ -121,10 +139,9 @@ class Header(unittest.TestCase):
 
 
 class Loading(unittest.TestCase):
-    def test_another_version_or_table_is_not_loaded(self):
-        for name, wrong in (("VERSION", abr.VERSION + 1), ("TABLE_WORDS", abr.TABLE_WORDS + 1)):
-            with self.subTest(name), unittest.mock.patch.object(c, name, wrong):
-                self.assertRaisesRegex(ImportError, "another version", c.load, c.path())
+    def test_another_version_is_not_loaded(self):
+        with unittest.mock.patch.object(c, "VERSION", abr.VERSION + 1):
+            self.assertRaisesRegex(ImportError, "another version", c.load, c.path())
 
     def test_where_the_shared_object_is_looked_for(self):
         with unittest.mock.patch.dict("os.environ", {"ABR_SHARED": "x/y.so"}):

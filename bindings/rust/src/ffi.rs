@@ -3,11 +3,13 @@
 
 #![allow(non_camel_case_types, missing_docs)]
 
-/// The version of the header: major, minor and patch number, eight bits each.
-pub const ABR_VERSION: u32 = 0x00_13_00;
+use crate::CONNECTIONS_MAX;
 
-/// The words of a table.
-pub const ABR_TABLE_WORDS: usize = 36_115;
+/// The version of the header: major, minor and patch number, eight bits each.
+pub const ABR_VERSION: u32 = 0x00_14_00;
+
+/// The words of a table: a header with a bit for each connection, 35 words for each, and the members of paths.
+pub const ABR_TABLE_WORDS: usize = CONNECTIONS_MAX.div_ceil(64) + 35 * CONNECTIONS_MAX + 259;
 
 /// An instant that does not come, or that never was.
 pub const ABR_NEVER: u64 = u64::MAX;

@@ -1,7 +1,8 @@
 //! Safe Rust binding of the ABR end-system rate engine.
 //!
-//! A transmitter asks once per cell slot which of up to 1,024 connections of one
-//! link sends, what kind of cell, and what rate it is allowed afterwards. All
+//! A transmitter asks once per cell slot which of up to [`CONNECTIONS_MAX`] connections of one
+//! link sends, what kind of cell, and what rate it is allowed afterwards. The environment variable
+//! `ABR_CONNECTIONS` says for how many the linked library was built, 16, 64, 256 or 1024. All
 //! state is in a [`Table`]. Rates are whole numbers of 1/512 cell per second,
 //! times are nanoseconds. An accepted open, close, receive, offer or make answers
 //! the comparisons that it made between ready instants, 1 to [`COMPARISONS_MAX`], and a

@@ -16,7 +16,7 @@ macro_rules! refusals {
         /// assert_eq!(Refusal::try_from(7), Ok(Refusal::Range));
         /// assert_eq!(Refusal::try_from(3), Err(3));
         /// assert_eq!(Refusal::try_from(1_000), Err(1_000));
-        /// assert_eq!(Refusal::Full.to_string(), "1,024 connections are open");
+        /// assert_eq!(Refusal::NotOpen.to_string(), "connection is not open");
         /// ```
         #[derive(Debug, Clone, Copy, PartialEq, Eq, Hash)]
         #[non_exhaustive]
@@ -61,8 +61,8 @@ refusals! {
     NotOpen = 11: "connection is not open",
     /// A connection with this VPI and VCI is already open.
     AlreadyOpen = 12: "connection is already open",
-    /// 1,024 connections are open.
-    Full = 13: "1,024 connections are open",
+    /// As many connections are open as there can be.
+    Full = 13: "as many connections are open as there can be",
     /// The time is before that of the last accepted open, slot, made or
     /// out-of-rate cell.
     TimeBackward = 14: "time is before the last accepted open, slot, made or out-of-rate cell",

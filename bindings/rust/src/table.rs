@@ -9,12 +9,13 @@ use crate::{
     Sent, Totals,
 };
 
-/// The connections that may be open at once.
-pub const CONNECTIONS_MAX: usize = 1_024;
+/// The connections that may be open at once: those of the edition, which `ABR_CONNECTIONS` chooses
+/// when this is compiled.
+pub const CONNECTIONS_MAX: usize = include!(concat!(env!("OUT_DIR"), "/connections"));
 /// The members that all paths may have together.
 pub const MEMBERS_MAX: usize = 256;
-/// The most comparisons of a call.
-pub const COMPARISONS_MAX: u32 = 10;
+/// The most comparisons of a call: the rounds of a tournament of so many leaves.
+pub const COMPARISONS_MAX: u32 = CONNECTIONS_MAX.ilog2();
 /// The latest time.
 pub const TIME_MAX: u64 = 1 << 62;
 /// The most data cells that wait on one channel, and on one member of a path.
@@ -36,10 +37,13 @@ impl Table {
     /// A table with nothing open and congestion level 0.
     ///
     /// # Panics
-    /// If the linked archive is of another version than this binding, whose
+    /// If the linked archive is of another version or edition than this binding, whose
     /// table could then be too short for its calls.
     pub fn new() -> Self {
-        assert!(ffi::abr_matches(), "the archive is of another version");
+        assert!(
+            ffi::abr_matches(),
+            "the archive is of another version or edition"
+        );
         // Made on the heap: a table is too large to pass through the stack.
         let words = vec![0; ffi::ABR_TABLE_WORDS].into_boxed_slice();
         Table {
@@ -566,14 +570,14 @@ impl Table {
     /// [`CONNECTIONS_MAX`].
     ///
     /// ```
-    /// use abr::{Address, Params, Refusal, Table};
+    /// use abr::{Address, Params, Refusal, Table, CONNECTIONS_MAX};
     /// let mut table = Table::new();
     /// let at = Address::new(1, 32);
     /// let leaf = table.open(at, 0, &Params::house(0x53E8, 0x4000, 0x53E8))?.leaf;
     /// assert_eq!(table.at(leaf), table.status(at));
     /// assert_eq!(table.at(leaf)?.address(), at);
     /// assert_eq!(table.at(leaf + 1), Err(Refusal::NotOpen));
-    /// assert_eq!(table.at(1_024), Err(Refusal::NotOpen));
+    /// assert_eq!(table.at(CONNECTIONS_MAX as u32), Err(Refusal::NotOpen));
     /// # Ok::<(), Refusal>(())
     /// ```
     pub fn at(&self, leaf: u32) -> Result<Connection, Refusal> {
@@ -653,9 +657,10 @@ impl Table {
     /// congestion level and the last accepted time.
     ///
     /// ```
-    /// use abr::{Address, Params, Table, Totals};
+    /// use abr::{Address, Params, Table, Totals, CONNECTIONS_MAX};
     /// let mut table = Table::new();
-    /// let empty = Totals { connections: 0, connections_max: 1_024, members: 0, level: 0, last: 0 };
+    /// let connections_max = CONNECTIONS_MAX as u32;
+    /// let empty = Totals { connections: 0, connections_max, members: 0, level: 0, last: 0 };
     /// assert_eq!(table.link(), empty);
     /// let params = Params::house(0x53E8, 0x4000, 0x53E8);
     /// table.open(Address::new(1, 32), 5, &params)?;

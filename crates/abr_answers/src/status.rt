@@ -7,9 +7,7 @@ use laws::refusals::REFUSED_NOT_OPEN;
 use model::status::MemberStatus;
 use model::status::Totals;
 use rate_params::params::Params;
-
-// How many connections a table can have open.
-const CAPACITY: u32 = 1024;
+use table::layout::CAPACITY;
 
 // kind 1 is a channel, 2 a path, 3 a member, of which everything but the name and what waits is its path's.
 #[repr(C)]
@@ -136,7 +134,7 @@ pub fn totals_shown(a: Totals) -> AbrTotals
 {
     AbrTotals {
         connections: a.connections,
-        connections_max: CAPACITY,
+        connections_max: CAPACITY as u32,
         members: a.members,
         level: a.level,
         last: a.last,

@@ -1,11 +1,11 @@
 -- Computed.
-use Prim.Native.Nat.{ℕ, _≤_}
+use Prim.Native.Nat.{ℕ, _-_, _≤_}
 use mathlib.Core.Path.{_≡_, refl}
 use mathlib.Core.Bool.{Bool, true, false}
 use native.Mathlib.Omega.{arith}
 use lib.Dec.{lit≤}
 use Rattle.connection.specs.Ready.{anyWaits}
-use Rattle.model.specs.State.{State, Entry, free, taken, find}
+use Rattle.model.specs.State.{State, Entry, free, taken, capacity, find}
 use Rattle.model.specs.Queries.{entryReady, earlier, earliest, readyWord, nextReady}
 use Rattle.model.proofs.Entries.{each-free}
 use Rattle.laws.specs.All.{All}
@@ -30,7 +30,7 @@ pub caps-example : CapsExample
 unfolding computing entryReady earlier earliest readyWord nextReady opensName ifOpen isIn
 caps-example = record {
   lag = refl;
-  fit = (record { others = tt; timely = lit≤ tt; inRange = lit≤ tt; soon = lit≤ tt; held = record { among = (refl, (refl, each-free (λ d. isIn (d .name) exampleNames ≡ true) 1022)); rates = (lit≤ tt, (lit≤ tt, each-free (λ d. d .rate .acr ≤ 512_000) 1022)) }; fits = lit≤ tt; fitted = tt }, (record { others = tt; timely = lit≤ tt; inRange = lit≤ tt; soon = lit≤ tt; held = record { among = (refl, (refl, each-free (λ d. isIn (d .name) exampleNames ≡ true) 1022)); rates = (lit≤ tt, (lit≤ tt, each-free (λ d. d .rate .acr ≤ 512_000) 1022)) }; fits = lit≤ tt; fitted = tt }, (record { others = tt; timely = lit≤ tt; inRange = lit≤ tt; soon = lit≤ tt; held = record { among = (refl, (refl, each-free (λ d. isIn (d .name) exampleNames ≡ true) 1022)); rates = (lit≤ tt, (lit≤ tt, each-free (λ d. d .rate .acr ≤ 512_000) 1022)) }; fits = lit≤ tt; fitted = tt }, (record { others = tt; timely = lit≤ tt; inRange = lit≤ tt; soon = lit≤ tt; held = record { among = (refl, (refl, each-free (λ d. isIn (d .name) exampleNames ≡ true) 1022)); rates = (lit≤ tt, (lit≤ tt, each-free (λ d. d .rate .acr ≤ 512_000) 1022)) }; fits = lit≤ tt; fitted = tt }, tt))));
+  fit = (record { others = tt; timely = lit≤ tt; inRange = lit≤ tt; soon = lit≤ tt; held = record { among = (refl, (refl, each-free (λ d. isIn (d .name) exampleNames ≡ true) (capacity - 2))); rates = (lit≤ tt, (lit≤ tt, each-free (λ d. d .rate .acr ≤ 512_000) (capacity - 2))) }; fits = lit≤ tt; fitted = tt }, (record { others = tt; timely = lit≤ tt; inRange = lit≤ tt; soon = lit≤ tt; held = record { among = (refl, (refl, each-free (λ d. isIn (d .name) exampleNames ≡ true) (capacity - 2))); rates = (lit≤ tt, (lit≤ tt, each-free (λ d. d .rate .acr ≤ 512_000) (capacity - 2))) }; fits = lit≤ tt; fitted = tt }, (record { others = tt; timely = lit≤ tt; inRange = lit≤ tt; soon = lit≤ tt; held = record { among = (refl, (refl, each-free (λ d. isIn (d .name) exampleNames ≡ true) (capacity - 2))); rates = (lit≤ tt, (lit≤ tt, each-free (λ d. d .rate .acr ≤ 512_000) (capacity - 2))) }; fits = lit≤ tt; fitted = tt }, (record { others = tt; timely = lit≤ tt; inRange = lit≤ tt; soon = lit≤ tt; held = record { among = (refl, (refl, each-free (λ d. isIn (d .name) exampleNames ≡ true) (capacity - 2))); rates = (lit≤ tt, (lit≤ tt, each-free (λ d. d .rate .acr ≤ 512_000) (capacity - 2))) }; fits = lit≤ tt; fitted = tt }, tt))));
   waits = (waits-at 34 _ _ _ refl refl tt refl, (waits-at 34 _ _ _ refl refl tt refl, (waits-at 34 _ _ _ refl refl tt refl, (waits-at 34 _ _ _ refl refl tt refl, tt))));
   passed = refl;
 }

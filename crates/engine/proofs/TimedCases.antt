@@ -48,15 +48,15 @@ module _ (l : List ℕ) (v t : ℕ) where
     found = λ z. absurd (omega (arith, z));
   }
 
-  pub timed-late : latestTime < t → FindsTimed l v t 1032
+  pub timed-late : latestTime < t → FindsTimed l v t (capacity + 8)
   timed-late h = refusing 8 (omega arith) (λ s w e f. late s v t f h)
 
   module _ (u : t ≤ latestTime) {r : Found} (n : FindsName l v r) where
-    pub timed-missing : r ≡ Nothing → FindsTimed l v t 1035
+    pub timed-missing : r ≡ Nothing → FindsTimed l v t (capacity + 11)
     timed-missing q = refusing 11 (omega arith) (λ s w e f. absent s v t f u (missing s w e v n q))
 
     module _ {i : ℕ} (q : r ≡ At i) where
-      pub timed-early : t < getD l lastAt 0 → FindsTimed l v t 1038
+      pub timed-early : t < getD l lastAt 0 → FindsTimed l v t (capacity + 14)
       timed-early h =
           refusing 14 (omega arith) λ s w e f.
           let p = entry-located s w e v n q in

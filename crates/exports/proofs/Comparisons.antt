@@ -97,7 +97,7 @@ leaf-counted c h x ss rs b = record {
   refused = λ e. absurd (false≢true (sym e));
 }
 
-cell-counted : (c : Call) → replays c true ≡ true → opensOne c ≡ false → (n : ℕ) → n ≡ 10 → Counted c true true n
+cell-counted : (c : Call) → replays c true ≡ true → opensOne c ≡ false → (n : ℕ) → n ≡ levels → Counted c true true n
 cell-counted c h k n e = record {
   most = omega arith;
   cell = λ _. e;

@@ -42,8 +42,8 @@ opensOne c = isOpener (sortOf c)
 
 -- the comparisons n of a call, which was accepted or not, and sent a cell or not
 pub record Counted (c : Call) (accepted sent : Bool) (n : ℕ) : Type 0 where
-  pub most : n ≤ 10
-  pub cell : sent ≡ true → n ≡ 10
+  pub most : n ≤ levels
+  pub cell : sent ≡ true → n ≡ levels
   pub least : accepted ≡ true → replays c sent ≡ true → 1 ≤ n
   -- a connection is not ready when it is opened: its leaf wins nothing, and no winner changes
   pub opens : accepted ≡ true → opensOne c ≡ true → n ≡ 1

@@ -321,7 +321,7 @@ module _ (cs : List Call) (os : List Observation) (t : Transcript cs zeros os) w
   taken-by : (l : ℕ) (c : Connection) → getD (here .entries) l free ≡ taken c → leafKept (c .name) cs os ≡ some l
   taken-by l c e = has-leaf (c .name) l (there-leaf here (whole .unique) l c e)
 
-  range : (v l : ℕ) → leafKept v cs os ≡ some l → l < 1024
+  range : (v l : ℕ) → leafKept v cs os ≡ some l → l < capacity
   range v l e = let h = in-place v l e in subst (λ (n : ℕ). l < n) (whole .size) (taken-in (here .entries) l (h .holder) (h .there))
 
   name-placed : (v l : ℕ) → (h : Placed v l here) → h .holder .name ≡ v

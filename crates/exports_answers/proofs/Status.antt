@@ -30,7 +30,7 @@ use Rattle.connection.specs.Range.{InstantBelow}
 use Rattle.connection.specs.Ready.{waits, readyInstant}
 use Rattle.connection.specs.Change.{difference}
 use Rattle.connection.proofs.Differences.{rates-kept}
-use Rattle.model.specs.State.{State, Entry, free, taken, empty, isFree, find, leafOf}
+use Rattle.model.specs.State.{State, Entry, free, taken, capacity, empty, isFree, find, leafOf}
 use Rattle.model.specs.Invariant.{WellFormed, OnEntry, Each}
 use Rattle.model.specs.declared.acr.Acr.the-variants.{Rate}
 use Rattle.model.specs.declared.status.Status.the-variants.{NotOpen, Open}
@@ -429,7 +429,7 @@ module _ (cs : List Call) (os : List Observation) (tr : Transcript cs zeros os) 
 
   link-known :
       (r : AbrTotals) → ReturnsTotals (finalWords zeros os) r
-      → (r .connections ≡ kept countsOpen 0 cs os) × (r .members ≡ length (namesNoted cs os)) × (r .level ≡ levelNoted cs os) × (r .last ≡ lastTime cs os) × (r .«connections_max» ≡ 1024)
+      → (r .connections ≡ kept countsOpen 0 cs os) × (r .members ≡ length (namesNoted cs os)) × (r .level ≡ levelNoted cs os) × (r .last ≡ lastTime cs os) × (r .«connections_max» ≡ capacity)
   unfolding totals
   link-known r h =
       let e = h .meets now (st .wellFormed) (st .table) in (

@@ -10,6 +10,7 @@ use lib.Dec.{eqb}
 use Rattle.rate_params.specs.declared.params.Params.{Params}
 use Rattle.cell.specs.Name.{addressName}
 use Rattle.connection_members.specs.Path.{pathOf}
+use Rattle.model.specs.State.{capacity}
 use Rattle.model.specs.Call.{Call, receiving, slot}
 use Rattle.model.specs.Aspects.{Sort, opener, closer, arrival, slotAt, another, sortOf}
 use Rattle.abr_answers.specs.declared.status.AbrConnection.{AbrConnection}
@@ -60,7 +61,7 @@ pub record AnswersFor (v l : ℕ) (r : AbrConnection) : Type 0 where
 
 -- after any exported calls cs from the zero table
 pub record ExportsLeaves : Type 0 where
-  pub range : (cs : List Call) (os : List Observation) → Transcript cs zeros os → (v l : ℕ) → leafKept v cs os ≡ some l → l < 1024
+  pub range : (cs : List Call) (os : List Observation) → Transcript cs zeros os → (v l : ℕ) → leafKept v cs os ≡ some l → l < capacity
   -- no two connections have one leaf
   pub apart : (cs : List Call) (os : List Observation) → Transcript cs zeros os → (u v l : ℕ) → leafKept u cs os ≡ some l → leafKept v cs os ≡ some l → u ≡ v
   -- an open name has a leaf, and a name with a leaf is open

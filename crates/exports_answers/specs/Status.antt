@@ -15,6 +15,7 @@ use Rattle.connection.specs.declared.parts.Pace.{Pace}
 use Rattle.connection.specs.declared.parts.Pace.the-variants.{Unsent, Running}
 use Rattle.connection.specs.declared.ready.Instant.{Instant}
 use Rattle.connection.specs.declared.ready.Instant.the-variants.{Never, At}
+use Rattle.model.specs.State.{capacity}
 use Rattle.model.specs.declared.status.MemberStatus.the-variants.{NoMember}
 use Rattle.model.specs.Queries.{neverWord, readyWord}
 use Rattle.table_tournament.specs.Next.{GivesNext}
@@ -154,4 +155,4 @@ pub record ExportsStatus : Type 0 where
   -- the link: how many are open and how many members there are, the level, and the last accepted time
   pub link :
       (cs : List Call) (os : List Observation) → Transcript cs zeros os → (r : AbrTotals) → ReturnsTotals (finalWords zeros os) r
-      → (r .connections ≡ kept countsOpen 0 cs os) × (r .members ≡ length (namesNoted cs os)) × (r .level ≡ levelNoted cs os) × (r .last ≡ lastTime cs os) × (r .«connections_max» ≡ 1024)
+      → (r .connections ≡ kept countsOpen 0 cs os) × (r .members ≡ length (namesNoted cs os)) × (r .level ≡ levelNoted cs os) × (r .last ≡ lastTime cs os) × (r .«connections_max» ≡ capacity)

@@ -15,7 +15,7 @@ use Rattle.cell.specs.Reading.{reading}
 use Rattle.cell.specs.declared.read.Reading.the-variants.{DataCell, RmCell}
 use Rattle.connection_members.specs.Path.{isPath, pathOf}
 use Rattle.connection_members.specs.Members.{isMember, cellsOf, owner}
-use Rattle.model.specs.State.{State, Entry, free, taken, empty, isFree, find, entryCells}
+use Rattle.model.specs.State.{State, Entry, free, taken, capacity, empty, isFree, find, entryCells}
 use Rattle.model.specs.Invariant.{WellFormed}
 use Rattle.model.specs.Call.{Call, opening, closing, receiving, offering, levelling, slot, making, outOfRate, openingPath, adding, offeringMember, removing}
 use Rattle.model.specs.Run.{final}
@@ -112,7 +112,7 @@ module _ (cs : List Call) (os : List Observation) (t : Transcript cs zeros os) w
       asks itself (asks itself (asks itself (asks itself (asks itself
       (asks (unopened (addressName a b))
       (asks (known-member (addressName a b) false)
-      (asks (by-equation (λ (n : ℕ). n < 1024) (sym (open-noted cs os t)))
+      (asks (by-equation (λ (n : ℕ). n < capacity) (sym (open-noted cs os t)))
       (asks (since u) (λ h. h)))))))))
 
   -- a received cell

@@ -14,6 +14,7 @@ use Rattle.rate_params.specs.Params.{paramsFit, tbeFits, frttFits}
 use Rattle.cell.specs.Name.{addressName}
 use Rattle.cell.specs.Reading.{reading}
 use Rattle.connection_members.specs.Path.{isPath, pathOf}
+use Rattle.model.specs.State.{capacity}
 use Rattle.model.specs.Call.{Call, opening, closing, receiving, offering, levelling, slot, making, outOfRate, openingPath, adding, offeringMember, removing}
 use Rattle.model.specs.Orders.{Asks, Accepts, Rested}
 use Rattle.abr_answers.specs.declared.cells.AbrCell.{AbrCell}
@@ -42,7 +43,7 @@ module _ (cs : List Call) (os : List Observation) where
       (Asks 8 (t ≤ 4_611_686_018_427_387_904)
       (Asks 12 (Opened cs os (addressName vpi vci) → ⊥)
       (Asks 27 (membersSeen noMember cs os (addressName vpi vci) ≡ false)
-      (Asks 13 (kept countsOpen 0 cs os < 1024)
+      (Asks 13 (kept countsOpen 0 cs os < capacity)
       (Asks 14 (lastTime cs os ≤ t)
       Accepts))))))))
 

@@ -34,7 +34,7 @@ pub const REFUSED_NOT_OPEN: u32 = 11;
 // Connection is already open.
 pub const REFUSED_ALREADY_OPEN: u32 = 12;
 
-// 1,024 connections are open.
+// As many connections are open as a table holds.
 pub const REFUSED_FULL: u32 = 13;
 
 // Time is before the last accepted open, slot, made or out-of-rate cell.

@@ -117,7 +117,7 @@ no-room [] h = h
 no-room (free ∷ ss) h = omega (arith, h)
 no-room (taken c ∷ ss) h = omega (arith, no-room ss (omega (arith, h)))
 
-has-room : (s : State) → length (s .entries) ≡ capacity → Decides (roomLeft s) (openCount (s .entries) < 1024)
+has-room : (s : State) → length (s .entries) ≡ capacity → Decides (roomLeft s) (openCount (s .entries) < capacity)
 unfolding roomLeft
 has-room s size = record {
   yes = λ e. omega (arith, room-left (s .entries) (ltb-true _ _ e), size);

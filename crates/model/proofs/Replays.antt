@@ -1,5 +1,5 @@
 -- What a replay of a leaf's matches counts.
-use Prim.Native.Nat.{ℕ, zero, suc, _+_, _/_, _≤_, _<_}
+use Prim.Native.Nat.{ℕ, zero, suc, _+_, _-_, _/_, _≤_, _<_}
 use mathlib.Core.Path.{_≡_, refl, sym, ap, ap₂, _∙_}
 use mathlib.Core.Logic.{_≢_}
 use mathlib.Core.Bool.{Bool, true, false, cond, not, _&&_}
@@ -39,7 +39,7 @@ from-least x ss rs d p n = either-least (ends x (winnerAt ss d p) (winnerAt rs d
 
 pub replayed-least : (x : ℕ) (ss rs : List Entry) → 1 ≤ replayed x ss rs
 unfolding replayed
-replayed-least x ss rs = from-least x ss rs 1 ((capacity + x) / 2) 9
+replayed-least x ss rs = from-least x ss rs 1 ((capacity + x) / 2) (levels - 1)
 
 -- where the winners are the same, so is the count
 from-same : (x : ℕ) (ss rs : List Entry) → ((d p : ℕ) → winnerAt rs d p ≡ winnerAt ss d p) → (d p n : ℕ) → replayedFrom x ss rs d p n ≡ replayedFrom x ss ss d p n
@@ -71,7 +71,7 @@ pub replayed-one : (x : ℕ) (ss : List Entry) (y : Entry) → length ss ≡ cap
 unfolding replayed replayedFrom ends above
 replayed-one x ss y z l e f =
     let p = (capacity + x) / 2 in
-    let s = above-stands x (omega arith) 9 1 refl in
+    let s = above-stands x (omega arith) (levels - 1) 1 refl in
     let n = won-none ss x 1 p e (winnerAt ss 1 p) (winner-entry ss 1 p s) in
     replayed-same x ss y l (f ∙ sym e) ∙ rw (eq-eqb (winnerWord (winnerAt ss 1 p)) (winnerWord (winnerAt ss 1 p)) refl, ne-eqb (winnerWord (winnerAt ss 1 p)) (x + 1) n)
 

@@ -21,7 +21,7 @@ use Rattle.connection_members.specs.Path.{isPath, pathOf}
 use Rattle.connection_members.specs.Members.{isMember, cellsOf, owner}
 use Rattle.connection.specs.declared.ready.Instant.{Instant}
 use Rattle.connection.specs.declared.ready.Instant.the-variants.{Never, At}
-use Rattle.model.specs.State.{State, Entry, free, taken, empty, find, entryCells}
+use Rattle.model.specs.State.{State, Entry, free, taken, capacity, empty, find, entryCells}
 use Rattle.model.specs.Call.{Call, opening, closing, receiving, offering, levelling, slot, making, outOfRate, openingPath, adding, offeringMember, removing, refusal}
 use Rattle.model.specs.Run.{final}
 use Rattle.model.specs.Step.{step}
@@ -65,7 +65,7 @@ OpenAddressOrder s vpi vci t p =
     (Asks 8 (t ≤ 4_611_686_018_427_387_904)
     (Asks 12 (find (addressName vpi vci) (s .entries) ≡ free)
     (Asks 27 (isMember (addressName vpi vci) (s .members) ≡ false)
-    (Asks 13 (openCount (s .entries) < 1024)
+    (Asks 13 (openCount (s .entries) < capacity)
     (Asks 14 (s .last ≤ t)
     Accepts))))))))
 

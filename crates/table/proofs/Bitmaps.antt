@@ -1,15 +1,15 @@
--- Laws of bitmaps, one bit an entry: the lowest bit, and the bit of an entry that changes.
-use Prim.Native.Nat.{ℕ, zero, suc, _+_, _*_, _/_, _%_, _^_, _<_}
+-- Laws of bitmaps, one bit an entry: the bit of an entry that changes, and the lowest bit that is not set.
+use Prim.Native.Nat.{ℕ, zero, suc, _+_, _*_, _/_, _%_, _^_, _≤_, _<_}
 use mathlib.Core.Path.{_≡_, refl, ap, ap₂, _∙_}
 use mathlib.Core.Bool.{Bool, true, false, cond, not}
 use mathlib.Core.List.{List, [], _∷_}
 use native.Mathlib.Nat.{not-suc-le-zero, le-of-suc-le-suc, pow-suc, one-mul}
 use native.Mathlib.Omega.{arith}
 use lib.Bits.{bitXor, xor-block, xor-zero-r}
-use lib.Count.{trailingZeros, under}
+use lib.Count.{trailingZeros}
 use lib.Dec.{lit<}
 use lib.ListN.{length, getD, set}
-use lib.Pow.{shl-exact}
+use lib.Pow.{pow-pos, shl-exact}
 use Rattle.model.specs.State.{Entry, free, taken, position, isFree}
 use Rattle.table.specs.Layout.{bitmap, isTaken}
 
@@ -49,25 +49,22 @@ bitmap-flip f (s ∷ ss) (suc i) x l e =
     ∙ xor-block 1 (bitmap f ss) (2 ^ i) (bit (f s)) 0 (bit-lt (f s)) (lit< tt)
     ∙ ap₂ (λ (m b : ℕ). m * 2 + b) (bitmap-flip f ss i x (le-of-suc-le-suc l) e) (xor-zero-r (bit (f s)))
 
--- ---- the lowest bit
+-- ---- the lowest bit that is not set
 
--- the lowest bit is that of the first entry at which the test passes
-pub bitmap-first : (f : Entry → Bool) (ss : List Entry) → trailingZeros (length ss) (bitmap f ss) ≡ position f ss
-unfolding bitmap position trailingZeros
-bitmap-first f [] = refl
-bitmap-first f (s ∷ ss) = go (f s) (bitmap-first f ss)
-  where
-    go : (b : Bool) → trailingZeros (length ss) (bitmap f ss) ≡ position f ss
-        → under ((bitmap f ss * 2 + bit b) % 2) (trailingZeros (length ss) ((bitmap f ss * 2 + bit b) / 2)) ≡ cond b 0 (suc (position f ss))
-    go true h = let e : (bitmap f ss * 2 + 1) % 2 ≡ 1 = omega arith in rw e
-    go false h =
-        let e : (bitmap f ss * 2 + 0) % 2 ≡ 0 = omega arith in
-        let d : (bitmap f ss * 2 + 0) / 2 ≡ bitmap f ss = omega arith in
-        rw (e, d) (ap suc h)
+pub bitmap-lt : (f : Entry → Bool) (ss : List Entry) (n : ℕ) → length ss ≤ n → bitmap f ss < 2 ^ n
+unfolding bitmap
+bitmap-lt f [] n h = pow-pos n
+bitmap-lt f (s ∷ ss) zero h = absurd (not-suc-le-zero h)
+bitmap-lt f (s ∷ ss) (suc n) h = omega (arith, bitmap-lt f ss n (le-of-suc-le-suc h), bit-lt (f s), pow-suc 2 n)
 
--- what is not taken is free
-pub bitmap-both : (ss : List Entry) → bitmap isTaken ss + bitmap isFree ss + 1 ≡ 2 ^ length ss
-unfolding bitmap isTaken isFree
-bitmap-both [] = refl
-bitmap-both (free ∷ ss) = omega (arith, bitmap-both ss, pow-suc 2 (length ss))
-bitmap-both (taken c ∷ ss) = omega (arith, bitmap-both ss, pow-suc 2 (length ss))
+-- In a word of n bits that has room for all entries it is that of the first free one. Where all are taken it is the
+-- bit behind the last one's.
+pub vacant-first : (ss : List Entry) (n m : ℕ) → length ss ≤ n → m + bitmap isTaken ss + 1 ≡ 2 ^ n → trailingZeros n m ≡ position isFree ss
+unfolding bitmap isTaken isFree position trailingZeros
+vacant-first [] zero m h e = refl
+vacant-first [] (suc n) m h e = let o : m % 2 ≡ 1 = omega (arith, e, pow-suc 2 n) in rw o
+vacant-first (s ∷ ss) zero m h e = absurd (not-suc-le-zero h)
+vacant-first (free ∷ ss) (suc n) m h e = let o : m % 2 ≡ 1 = omega (arith, e, pow-suc 2 n) in rw o
+vacant-first (taken c ∷ ss) (suc n) m h e =
+    let o : m % 2 ≡ 0 = omega (arith, e, pow-suc 2 n) in
+    rw o (ap suc (vacant-first ss n (m / 2) (le-of-suc-le-suc h) (omega (arith, e, pow-suc 2 n))))

@@ -1,5 +1,5 @@
 -- The words of the entries in use, 64 entries in each: when an entry changes, and where the lowest free one is.
-use Prim.Native.Nat.{ℕ, zero, suc, _+_, _-_, _*_, _/_, _%_, _^_, _≤_, _<_}
+use Prim.Native.Nat.{ℕ, zero, suc, _+_, _-_, _*_, _/_, _%_, _^_, _≤_, _<_, min}
 use mathlib.Core.Path.{_≡_, refl, sym, ap, _∙_}
 use mathlib.Core.Logic.{_≢_}
 use mathlib.Core.Bool.{Bool, true, false, not, cond}
@@ -9,7 +9,7 @@ use native.Mathlib.Omega.{arith}
 use lib.Bits.{bitXor}
 use lib.Count.{trailingZeros, trailing-of-zero}
 use lib.Dec.{ltb}
-use lib.ListN.{length, getD, set, take, drop, replicate, length-take, length-drop, drop-of-length-le, List·getD-append}
+use lib.ListN.{length, getD, set, take, drop, replicate, length-take, length-drop, List·getD-append}
 use lib.Seq.{take-set-le, take-set-lt, drop-set-lt, drop-set-add, drop-drop, take-nil, drop-nil, getD-take, getD-drop, set-append-left}
 use borrow.Author.Tests.{ltb-true, ltb-false}
 use Rattle.laws.proofs.Rows.{length-row, row-at, row-same, row-set, row-zeros}
@@ -17,7 +17,7 @@ use Rattle.model.specs.State.{Entry, free, position, isFree, capacity}
 use Rattle.model.proofs.Entries.{Case, same, other, case}
 use Rattle.table.specs.Layout.{bitmap, isTaken, group, groups, used}
 use Rattle.table.specs.Storing.{entryFlipped}
-use Rattle.table.proofs.Bitmaps.{bitmap-same, bitmap-flip, bitmap-first, bitmap-both}
+use Rattle.table.proofs.Bitmaps.{bitmap-same, bitmap-flip, bitmap-lt, vacant-first}
 
 pub length-used : (ss : List Entry) → length (used ss) ≡ groups
 length-used ss = length-row (λ g. bitmap isTaken (group g ss)) 0 groups
@@ -69,9 +69,10 @@ group-other ss i x g n = go (ltb i (g * 64)) (ltb (i - g * 64) 64) refl refl
         ap (λ (k : ℕ). take 64 (drop (g * 64) (set ss k x))) s ∙ ap (take 64) (drop-set-add (g * 64) ss (i - g * 64) x)
         ∙ take-set-le 64 (drop (g * 64) ss) (i - g * 64) x (ltb-false (i - g * 64) 64 f)
 
-length-group : (ss : List Entry) (g : ℕ) → length ss ≡ capacity → g < groups → length (group g ss) ≡ 64
+-- the last group has no more entries than are left
+length-group : (ss : List Entry) (g : ℕ) → length ss ≡ capacity → length (group g ss) ≡ min 64 (capacity - g * 64)
 unfolding group
-length-group ss g s h = length-take 64 (drop (g * 64) ss) ∙ omega (arith, length-drop (g * 64) ss)
+length-group ss g s = length-take 64 (drop (g * 64) ss) ∙ omega (arith, length-drop (g * 64) ss)
 
 group-at : (ss : List Entry) (i : ℕ) → getD (group (i / 64) ss) (i % 64) free ≡ getD ss i free
 unfolding group
@@ -100,18 +101,16 @@ used-flipped ss i s h x e a b t =
     (row-set (λ n. bitmap isTaken (group n ss)) (λ n. bitmap isTaken (group n (set ss i x))) 0 groups g w inside
     (λ j n. ap (bitmap isTaken) (sym (group-other ss i x j (λ z. n (z ∙ sym (zero-add g))))))
     (ap (λ (m : ℕ). bitXor m (2 ^ (i % 64))) (used-at ss g inside a b t)
-    ∙ bitmap-flip isTaken (group g ss) (i % 64) x (omega (arith, length-group ss g s inside)) (e ∙ ap (λ (y : Entry). not (isTaken y)) (sym (group-at ss i)))
+    ∙ bitmap-flip isTaken (group g ss) (i % 64) x (omega (arith, length-group ss g s)) (e ∙ ap (λ (y : Entry). not (isTaken y)) (sym (group-at ss i)))
     ∙ ap (bitmap isTaken) (sym (group-set ss i x)) ∙ ap (λ (n : ℕ). bitmap isTaken (group n (set ss i x))) (sym (zero-add g))))
 
 -- ---- the lowest free entry
 
 -- the lowest bit of those that are not taken
-vacant : (ss : List Entry) (g m : ℕ) → length ss ≡ capacity → g < groups → m ≡ 18446744073709551615 - bitmap isTaken (group g ss) → trailingZeros 64 m ≡ position isFree (group g ss)
-vacant ss g m s h e =
-    let n : length (group g ss) ≡ 64 = length-group ss g s h in
-    let t : bitmap isTaken (group g ss) + bitmap isFree (group g ss) + 1 ≡ 2 ^ 64 = bitmap-both (group g ss) ∙ ap (λ (k : ℕ). 2 ^ k) n in
-    let f : m ≡ bitmap isFree (group g ss) = omega (arith, t, e) in
-    ap (trailingZeros 64) f ∙ ap (λ (k : ℕ). trailingZeros k (bitmap isFree (group g ss))) (sym n) ∙ bitmap-first isFree (group g ss)
+vacant : (ss : List Entry) (g m : ℕ) → length ss ≡ capacity → m ≡ 18446744073709551615 - bitmap isTaken (group g ss) → trailingZeros 64 m ≡ position isFree (group g ss)
+vacant ss g m s e =
+    let n : length (group g ss) ≤ 64 = omega (arith, length-group ss g s) in
+    vacant-first (group g ss) 64 m n (omega (arith, e, bitmap-lt isTaken (group g ss) 64 n))
 
 -- past entries at which a test does not pass, and among some at which it does
 position-past : (f : Entry → Bool) (n : ℕ) (ss : List Entry) → position f (take n ss) ≡ n → position f ss ≡ n + position f (drop n ss)
@@ -125,11 +124,11 @@ position-past f (suc n) (x ∷ ss) e = go (λ q. position-past f n ss q) (f x) e
     go rest true q = absurd (omega (arith, q))
     go rest false q = omega (arith, rest (omega (arith, q)))
 
-position-among : (f : Entry → Bool) (n : ℕ) (ss : List Entry) → position f (take n ss) < n → n ≤ length ss → position f ss ≡ position f (take n ss)
+position-among : (f : Entry → Bool) (n : ℕ) (ss : List Entry) → position f (take n ss) < n → position f ss ≡ position f (take n ss)
 unfolding position
-position-among f zero ss h l = absurd (omega (arith, h))
-position-among f (suc n) [] h l = absurd (omega (arith, l))
-position-among f (suc n) (x ∷ ss) h l = go (λ q. position-among f n ss q (omega (arith, l))) (f x) h
+position-among f zero ss h = absurd (omega (arith, h))
+position-among f (suc n) [] h = refl
+position-among f (suc n) (x ∷ ss) h = go (λ q. position-among f n ss q) (f x) h
   where
     go : (position f (take n ss) < n → position f ss ≡ position f (take n ss)) → (b : Bool) → cond b 0 (suc (position f (take n ss))) < suc n
         → cond b 0 (suc (position f ss)) ≡ cond b 0 (suc (position f (take n ss)))
@@ -143,14 +142,14 @@ pub record Past (ss : List Entry) (g : ℕ) : Type 0 where
 pub past-start : (ss : List Entry) → Past ss 0
 past-start ss = record { is = sym (zero-add (position isFree ss)) }
 
-module _ (ss : List Entry) (s : length ss ≡ capacity) (g : ℕ) (h : g < groups) (p : Past ss g) where
+module _ (ss : List Entry) (s : length ss ≡ capacity) (g : ℕ) (p : Past ss g) where
   -- and so are those of group g
   pub past-full : 0 ≡ 18446744073709551615 - bitmap isTaken (group g ss) → Past ss (suc g)
   unfolding group
   past-full e = record {
     is =
         p .is
-        ∙ ap (λ (n : ℕ). g * 64 + n) (position-past isFree 64 (drop (g * 64) ss) (sym (vacant ss g 0 s h e) ∙ trailing-of-zero 64))
+        ∙ ap (λ (n : ℕ). g * 64 + n) (position-past isFree 64 (drop (g * 64) ss) (sym (vacant ss g 0 s e) ∙ trailing-of-zero 64))
         ∙ ap (λ (l : List Entry). g * 64 + (64 + position isFree l)) (drop-drop 64 (g * 64) ss)
         ∙ next;
   }
@@ -158,15 +157,13 @@ module _ (ss : List Entry) (s : length ss ≡ capacity) (g : ℕ) (h : g < group
       next : g * 64 + (64 + position isFree (drop (g * 64 + 64) ss)) ≡ suc g * 64 + position isFree (drop (suc g * 64) ss)
       next = let e : g * 64 + 64 ≡ suc g * 64 = omega arith in rw e (omega (arith, e))
 
-  -- the lowest free entry is in group g
+  -- the lowest free entry is in group g, or there is none and its place is behind the last
   pub past-vacant : (m : ℕ) → m ≡ 18446744073709551615 - bitmap isTaken (group g ss) → trailingZeros 64 m < 64 → position isFree ss ≡ g * 64 + trailingZeros 64 m
   unfolding group
   past-vacant m e l =
-      let v : trailingZeros 64 m ≡ position isFree (group g ss) = vacant ss g m s h e in
-      p .is ∙ ap (λ (n : ℕ). g * 64 + n) (position-among isFree 64 (drop (g * 64) ss) (omega (arith, v)) (omega (arith, length-drop (g * 64) ss)) ∙ sym v)
+      let v : trailingZeros 64 m ≡ position isFree (group g ss) = vacant ss g m s e in
+      p .is ∙ ap (λ (n : ℕ). g * 64 + n) (position-among isFree 64 (drop (g * 64) ss) (omega (arith, v)) ∙ sym v)
 
 -- no group has a free entry
-pub past-all : (ss : List Entry) → length ss ≡ capacity → Past ss groups → position isFree ss ≡ capacity
-unfolding position
-past-all ss s p =
-    p .is ∙ ap (λ (l : List Entry). groups * 64 + position isFree l) (drop-of-length-le ss {i = groups * 64} (omega (arith, s)))
+pub past-all : (ss : List Entry) → Past ss groups → capacity ≤ position isFree ss
+past-all ss p = omega (arith, p .is)

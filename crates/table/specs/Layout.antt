@@ -1,6 +1,6 @@
 -- The words of a table in the lent memory. A state has one list of words; all zero is the empty table. First comes
 -- a header: the level, the last time, the bits of the taken entries, the directory of the names, which finds a
--- name in ten probes, and the winners of the tournament. Then come four columns with one block an entry: ready
+-- name in `levels` probes, and the winners of the tournament. Then come four columns with one block an entry: ready
 -- keys, names, the live part of each connection and the part that its open fixed. Then come the members of paths.
 use Prim.Native.Nat.{ℕ, zero, suc, _+_, _-_, _*_, _^_}
 use mathlib.Core.Bool.{Bool, true, false, cond}
@@ -39,6 +39,7 @@ lastAt = 1
 abbrev pub usedFrom : ℕ
 usedFrom = 2
 
+-- the words in which every entry has a bit
 abbrev pub groups : ℕ
 groups = 16
 

@@ -10,6 +10,7 @@ use lib.ListN.{length, getD, set, length-set}
 use borrow.Author.Tests.{ltb-true, ltb-false}
 use Rattle.connection.specs.declared.parts.Connection.{Connection}
 use Rattle.model.specs.State.{Entry, free, taken, capacity}
+use Rattle.model.specs.Tournament.{levels}
 use Rattle.table.specs.Layout.{directoryFrom, directory, directoryWord, directoryWords, insertDescending, sortDescending}
 use Rattle.model.proofs.Entries.{taken-in}
 use Rattle.table.proofs.Directory.{length-directory}
@@ -20,7 +21,7 @@ use Rattle.table_column.proofs.Counts.{enters, leaves}
 
 -- where it stands
 pub directory-column : Column directoryFrom capacity
-directory-column = record { halvings = 10; is = refl; inside = lit≤ tt }
+directory-column = record { halvings = levels; is = refl; inside = lit≤ tt }
 
 -- ---- sorting
 

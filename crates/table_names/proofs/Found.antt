@@ -1,7 +1,7 @@
 -- What a search in the words of a state that calls reach finds: the entry of a name, and the lowest free one.
 use Prim.Native.Nat.{ℕ, zero, suc, _+_, _-_, _*_, _/_, _%_, _≤_, _<_, min}
 use mathlib.Core.Path.{_≡_, refl, sym, ap, subst, _∙_}
-use mathlib.Core.Bool.{true}
+use mathlib.Core.Bool.{true, false}
 use mathlib.Core.List.{List, [], _∷_}
 use native.Mathlib.Nat.{not-suc-le-zero, le-of-suc-le-suc, zero-add}
 use native.Mathlib.Omega.{arith}
@@ -132,6 +132,10 @@ pub record Searched (l : List ℕ) (g : ℕ) : Type 0 where
 pub searched-start : (l : List ℕ) → Searched l 0
 searched-start l = record { inside = omega arith; is = λ s w q. past-start (s .entries) }
 
+none-left : (s : State) → WellFormed s → capacity ≤ position isFree (s .entries) → roomLeft s ≡ false
+unfolding roomLeft
+none-left s w h = le-ltb (position isFree (s .entries)) (length (s .entries)) (omega (arith, w .size, h))
+
 module _ (l : List ℕ) (g : ℕ) (b : Searched l g) where
   group-word : g < groups → (s : State) → l ≡ words s → (m : ℕ) → m ≡ 18446744073709551615 - getD l (usedFrom + g) 0
       → m ≡ 18446744073709551615 - bitmap isTaken (group g (s .entries))
@@ -142,22 +146,26 @@ module _ (l : List ℕ) (g : ℕ) (b : Searched l g) where
     pub searched-next : m ≡ 0 → Searched l (g + 1)
     searched-next z = record {
       inside = omega (arith, h);
-      is = λ s w q. subst (Past (s .entries)) (omega arith) (past-full (s .entries) (w .size) g h (b .is s w q) (sym z ∙ group-word h s q m e));
+      is = λ s w q. subst (Past (s .entries)) (omega arith) (past-full (s .entries) (w .size) g (b .is s w q) (sym z ∙ group-word h s q m e));
     }
 
-    pub searched-found : (i : ℕ) → i ≡ trailingZeros 64 m → i < 64 → FindsFree l (At (g * 64 + i))
-    searched-found i d k = record {
-      inside = omega (arith, h, k);
-      is = λ s w q. past-vacant (s .entries) (w .size) g h (b .is s w q) m (group-word h s q m e) (omega (arith, d, k)) ∙ ap (λ (n : ℕ). g * 64 + n) (sym d);
-    }
+    module _ (i : ℕ) (d : i ≡ trailingZeros 64 m) (k : i < 64) where
+      first-vacant : (s : State) → WellFormed s → l ≡ words s → position isFree (s .entries) ≡ g * 64 + i
+      first-vacant s w q = past-vacant (s .entries) (w .size) g (b .is s w q) m (group-word h s q m e) (omega (arith, d, k)) ∙ ap (λ (n : ℕ). g * 64 + n) (sym d)
+
+      pub searched-found : g * 64 + i < capacity → FindsFree l (At (g * 64 + i))
+      searched-found n = record { inside = n; is = first-vacant }
+
+      -- the bit is that of no entry
+      pub searched-behind : capacity ≤ g * 64 + i → FindsFree l Nothing
+      searched-behind n = record { inside = tt; is = λ s w q. none-left s w (omega (arith, n, first-vacant s w q)) }
 
   pub searched-none : groups ≤ g → FindsFree l Nothing
-  unfolding roomLeft
   searched-none h = record {
     inside = tt;
     is = λ s w q.
         let n : g ≡ groups = omega (arith, h, b .inside) in
-        le-ltb (position isFree (s .entries)) (length (s .entries)) (omega (arith, w .size, past-all (s .entries) (w .size) (subst (Past (s .entries)) n (b .is s w q))));
+        none-left s w (past-all (s .entries) (subst (Past (s .entries)) n (b .is s w q)));
   }
 
 pub room-at : (s : State) → WellFormed s → (i : ℕ) → i < capacity → position isFree (s .entries) ≡ i → roomLeft s ≡ true

@@ -1,5 +1,5 @@
 // The directory of names: a column of descending words, one for each entry in use, with its name and its number. A
-// name is found in ten halvings, whatever names the others have.
+// name is found in LEVELS halvings, whatever names the others have.
 ghost use mathlib.Core.Path.{_≡_};
 ghost use Prim.Native.Nat.{_+_, _*_, _<_};
 ghost use Rattle.model.specs.State.{capacity};

@@ -6,6 +6,7 @@ ghost use Rattle.table_names.specs.Finding.{FindsFree};
 ghost use Rattle.table.specs.Storing.{entryFlipped};
 ghost use Rattle.model.specs.State.{capacity};
 use table::found::Found;
+use table::layout::CAPACITY;
 use table::layout::GROUPS;
 use table::layout::USED;
 use table::layout::WORDS;
@@ -25,7 +26,7 @@ fn others(entries: u64) -> u64
     18446744073709551615 - entries
 }
 
-// The lowest entry that is not taken.
+// The lowest entry that is not taken. A bit of the last word may be of no entry; such a bit is 0.
 pub fn find_free(t: &[u64; WORDS]) -> Found
     ensures { λ r. ⌜ FindsFree (now (t .entry)) r ⌝ }
 {
@@ -33,7 +34,11 @@ pub fn find_free(t: &[u64; WORDS]) -> Found
     while g < GROUPS {
         let vacant = others(t[USED + g]);
         if 0 < vacant {
-            return Found::At(g * 64 + lowest(vacant));
+            let i = g * 64 + lowest(vacant);
+            if i < CAPACITY {
+                return Found::At(i);
+            }
+            return Found::Nothing;
         }
         g += 1;
     }

@@ -75,7 +75,7 @@ starts l x b e f = record {
         won = e ∙ ap (λ (m : List ℕ). keyedLeaf m x) w ∙ leaf-in h (midNodes x ss y 0) (set ss x y) tail z (o .below) x b
             ∙ ap keyedWinner (sym (leaf-at (set ss x y) x (capacity + x) (omega arith)));
         against = λ _. f ∙ ap (λ (m : List ℕ). keyedLeaf m (neighbour x)) w
-            ∙ leaf-in h (midNodes x ss y 0) (set ss x y) tail z (o .below) (neighbour x) (neighbour-below 512 x b)
+            ∙ leaf-in h (midNodes x ss y 0) (set ss x y) tail z (o .below) (neighbour x) (neighbour-below (capacity / 2) x b)
             ∙ ap keyedWinner (sym (leaf-at (set ss x y) (neighbour x) (neighbour (capacity + x)) (omega arith)));
         count = sym (zero-add _);
       };

@@ -120,7 +120,7 @@ events! {
     /// A closed address with data, a backward cell or unanswered cells on it was
     /// opened again.
     ReopenedLoaded,
-    /// The 1,024th connection was opened.
+    /// The last free leaf was taken.
     Full,
     /// A slot or an open at 2^62.
     TimeMax,

@@ -1,5 +1,10 @@
 //! What the lists of each sort are like.
 
+use abr::CONNECTIONS_MAX;
+
+/// The connections that may be open at once.
+const CAPACITY: u32 = CONNECTIONS_MAX as u32;
+
 /// What the lists of one sort are like.
 #[derive(Debug, Clone, Copy)]
 pub struct Profile {
@@ -66,10 +71,10 @@ pub const PROFILES: [Profile; 10] = [
     },
     Profile {
         weights: weights([20, 2, 10, 20, 1, 30, 4, 4], [6, 2, 3, 1], [1; 12]),
-        filled: 1_016,
+        filled: CAPACITY - 8,
         paths: 24,
         members: 24,
-        ..Profile::usual("full", 1_040, 0)
+        ..Profile::usual("full", CAPACITY + 16, 0)
     },
     Profile::usual("ties", 6, 29),
     Profile {
@@ -134,14 +139,10 @@ pub const NO_MINIMUM: Profile = Profile {
 
 impl Profile {
     /// How many lists of this profile are made where so many are made of others:
-    /// fewer if a thousand connections are open, since the reference looks at all
-    /// of them in each slot.
+    /// fewer the more connections are open, since the reference looks at all of them in
+    /// each slot.
     pub fn share(self, lists: u64) -> u64 {
-        if self.filled == 0 {
-            lists
-        } else {
-            lists / 25
-        }
+        lists / u64::from(self.filled / 40).max(1)
     }
 
     /// The opens and adds that a list of this profile begins with.

@@ -2,7 +2,7 @@
 //! leaf and some member, which may be there or not. Counts of what was read.
 
 use abr::ffi::{abr_connection, abr_member, ABR_CHANNEL, ABR_NEVER};
-use abr::{CONNECTIONS_MAX, MEMBERS_MAX};
+use abr::{COMPARISONS_MAX, CONNECTIONS_MAX, MEMBERS_MAX};
 use abr_reference::{Address, Refusal};
 
 use crate::leaves::Leaves;
@@ -18,7 +18,7 @@ pub const MET: [&str; 11] = [
     "leaf of a channel",
     "leaf of a path",
     "free leaf",
-    "leaf over 1,023",
+    "leaf over the last",
     "number of a member",
     "number of no member",
 ];
@@ -131,7 +131,8 @@ impl Drawn {
         let any = rng.next() as u32;
         let near = rng.below(leaves.taken() as u64 + 2) as u32;
         let over = CONNECTIONS_MAX as u32 + (any & 3);
-        let leaf = rng.pick(&[near, near, near, near, any >> 22, over, any]);
+        let one_of_all = any >> (u32::BITS - COMPARISONS_MAX);
+        let leaf = rng.pick(&[near, near, near, near, one_of_all, over, any]);
         let one = rng.below(u64::from(members) + 1) as u32;
         let past = MEMBERS_MAX as u32 + (any & 3);
         let number = rng.pick(&[one, one, one, members, past, any]);
@@ -180,9 +181,10 @@ mod tests {
         readings.status(Address::new(255, 65_535), &unknown);
         readings.status(Address::new(256, 32), &unknown);
         readings.leaf(0, &Ok(read(ABR_CHANNEL)));
-        readings.leaf(1_023, &Ok(read(ABR_PATH)));
-        readings.leaf(1_023, &unknown);
-        readings.leaf(1_024, &unknown);
+        let last = CONNECTIONS_MAX as u32 - 1;
+        readings.leaf(last, &Ok(read(ABR_PATH)));
+        readings.leaf(last, &unknown);
+        readings.leaf(last + 1, &unknown);
         readings.member(&Ok(abr_member::default()));
         readings.member(&Err(Refusal::NotOpen));
         assert_eq!(readings.met, [1; MET.len()]);

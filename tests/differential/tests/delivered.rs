@@ -12,6 +12,7 @@ mod own_port;
 #[path = "delivered/sets.rs"]
 mod sets;
 
+use abr::CONNECTIONS_MAX;
 use abr_differential::{lists, parallel};
 use sets::Tally;
 
@@ -94,6 +95,9 @@ fn what_each_gets_of_its_rate() {
         [&[596, 786, 846, 858], &[923, 869, 935, 948]],
     ];
     for (place, gaps) in sets.into_iter().enumerate() {
+        if gaps.len() >= CONNECTIONS_MAX {
+            continue; // one connection more is open
+        }
         let shares = |lag, timed| {
             let shares = limits::shares(gaps, lag, timed, 200_000);
             shares.unwrap_or_else(|why| panic!("{why}"))

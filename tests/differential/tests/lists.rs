@@ -2,7 +2,7 @@
 
 use abr_differential::coverage::Coverage;
 use abr_differential::library::Difference;
-use abr_differential::profile::PROFILES;
+use abr_differential::profile::{Profile, PROFILES};
 use abr_differential::{lists, parallel};
 
 /// How many lists of each profile, fewer of those with a full table, and how many
@@ -37,11 +37,15 @@ fn run_job((place, first): (usize, u64)) -> Result<Coverage, Difference> {
     Ok(coverage)
 }
 
+/// How many jobs there are of a profile.
+fn count(profile: Profile) -> u64 {
+    profile.share(LISTS) / JOB
+}
+
 /// The jobs of a profile.
 fn jobs(place: usize) -> impl Iterator<Item = (usize, u64)> {
     let first = lists::seed() + 1_000_000 * place as u64;
-    let jobs = PROFILES[place].share(LISTS) / JOB;
-    (0..jobs).map(move |job| (place, first + job * JOB))
+    (0..count(PROFILES[place])).map(move |job| (place, first + job * JOB))
 }
 
 #[test]
@@ -51,7 +55,7 @@ fn library_and_reference_agree_on_lists_that_reach_every_edge() {
     let total = parallel::total(jobs, run_job);
     println!("all: {}", total.summary());
     assert_eq!(total.missing(LEAST), Vec::<String>::new());
-    let calls = PROFILES.map(|profile| profile.share(LISTS) * lists::length(profile));
+    let calls = PROFILES.map(|profile| count(profile) * JOB * lists::length(profile));
     assert_eq!(total.calls, calls.iter().sum());
     assert!(total.rates >= RATES, "{} rates", total.rates);
     let recorded = total.recorded;

@@ -1,9 +1,12 @@
-//! Up to 1,024 open connections and down again, in several orders of opening and
-//! closing, on addresses as somebody might choose them who wants the calls to be slow;
+//! Up to as many open connections as there can be, 1,024 in the largest edition, and down
+//! again, in several orders of opening and closing, on addresses as somebody might choose them who wants the calls to be slow;
 //! both sides compared, with the comparisons (document 02, L4). Some of the connections
 //! are paths, each with a member (document 02, L13). ABR_SEED gives other lists.
 
-use abr::{CELL_OCTETS, CONNECTIONS_MAX, MAKE_INTERVAL, PATH_VCI, VCI_MAX, VCI_MIN, VPI_MAX};
+use abr::{
+    CELL_OCTETS, COMPARISONS_MAX, CONNECTIONS_MAX, MAKE_INTERVAL, PATH_VCI, VCI_MAX, VCI_MIN,
+    VPI_MAX,
+};
 use abr_differential::call::Call;
 use abr_differential::coverage::{Coverage, Event};
 use abr_differential::generate::Generator;
@@ -15,19 +18,43 @@ use abr_differential::profile::{weights, Profile, NO_OTHERS, PROFILES};
 use abr_differential::rng::Rng;
 use abr_reference::Address;
 
+/// The connections that may be open at once.
+const CAPACITY: u32 = CONNECTIONS_MAX as u32;
+
 /// The number of addresses of a list, more than can be open.
-const ADDRESSES: u32 = 1_040;
+const ADDRESSES: u32 = CAPACITY + 16;
 
 /// After so many opens or closes all allowed rates are compared.
 const ALL_RATES: usize = 64;
 
-/// The numbers of open connections that a list passes through, in any order.
-const TARGETS: [usize; 10] = [0, 1, 63, 64, 65, 512, 1_022, 1_023, 1_024, 1_024];
+/// The numbers of open connections that a list passes through, in any order: a word of bits for
+/// the leaves in use and one more, and up to all of them.
+const TARGETS: [usize; 10] = [
+    0,
+    1,
+    least(63),
+    least(64),
+    least(65),
+    CONNECTIONS_MAX / 2,
+    CONNECTIONS_MAX - 2,
+    CONNECTIONS_MAX - 1,
+    CONNECTIONS_MAX,
+    CONNECTIONS_MAX,
+];
+
+/// A number of connections, or as many as may be open.
+const fn least(connections: usize) -> usize {
+    if connections < CONNECTIONS_MAX {
+        connections
+    } else {
+        CONNECTIONS_MAX
+    }
+}
 
 /// The lists of each sort of addresses that pass through them, and those of each sort
-/// with each order of opening and of closing.
-const ROUNDS: usize = 30;
-const UP_AND_DOWN: usize = 3;
+/// with each order of opening and of closing: more where they are shorter.
+const ROUNDS: usize = 30 * 1_024 / CONNECTIONS_MAX;
+const UP_AND_DOWN: usize = 3 * 1_024 / CONNECTIONS_MAX;
 
 /// Each refusal, kind and number of comparisons must be reached so often.
 const LEAST: u64 = 200;
@@ -92,12 +119,12 @@ fn both_ends(_: &mut Rng) -> Vec<Address> {
     low.chain(high).collect()
 }
 
-/// A path on every VPI, and the same VCIs on all of them.
+/// A path on every VPI, or as a quarter of the addresses, and the same VCIs on all of them.
 fn paths_and_channels(rng: &mut Rng) -> Vec<Address> {
     let first = rng.within(MEMBER_VCI + 1, VCI_MAX - ADDRESSES);
-    let channels =
-        (0..ADDRESSES - VPI_MAX - 1).map(|i| Address::new(i & VPI_MAX, first + i / (VPI_MAX + 1)));
-    let mut addresses: Vec<Address> = (0..=VPI_MAX).map(Address::of_path).collect();
+    let paths = (VPI_MAX + 1).min(ADDRESSES / 4);
+    let channels = (0..ADDRESSES - paths).map(|i| Address::new(i % paths, first + i / paths));
+    let mut addresses: Vec<Address> = (0..paths).map(Address::of_path).collect();
     addresses.extend(channels);
     addresses.sort_unstable();
     addresses
@@ -392,9 +419,9 @@ fn jobs() -> Vec<(u64, usize, Course)> {
         .collect()
 }
 
-/// An open makes one comparison, since nothing waits on it; a slot ten or, if it
+/// An open makes one comparison, since nothing waits on it; a slot the most or, if it
 /// is idle, none; a close, a received cell, an offer, a making and a removal any number
-/// from one to ten; an out-of-rate cell and adding a member none.
+/// from one to the most; an out-of-rate cell and adding a member none.
 fn every_number_of_comparisons(total: &Coverage) {
     let [open, close, receive, offer, level, slot, make, out_of_rate, members @ ..] =
         total.comparisons;
@@ -415,12 +442,12 @@ fn every_number_of_comparisons(total: &Coverage) {
     only(&add, &[0]);
     only(&level, &[0]);
     only(&out_of_rate, &[0]);
-    only(&slot, &[0, 10]);
+    only(&slot, &[0, COMPARISONS_MAX as usize]);
     assert_eq!(slot[0], total.kinds[0], "idle slots");
 }
 
 #[test]
-fn up_to_1_024_connections_and_down_again() {
+fn up_to_all_connections_and_down_again() {
     let total = parallel::total(jobs(), run);
     println!("all: {}", total.summary());
     println!("comparisons: {:?}", &total.comparisons[..12]);

@@ -3,8 +3,8 @@
 //! 02, L5), full addresses (L6) and the ends of a member's (L13).
 
 use abr::{
-    Address, Cell, Closed, Kind, Opened, Params, Refusal, Rm, Table, CELL_OCTETS,
-    OUT_OF_RATE_INTERVAL, TIME_MAX,
+    Address, Cell, Closed, Kind, Opened, Params, Refusal, Rm, Table, CELL_OCTETS, COMPARISONS_MAX,
+    CONNECTIONS_MAX, OUT_OF_RATE_INTERVAL, TIME_MAX,
 };
 
 /// The VPI of the connections, and the connection of most tests.
@@ -219,22 +219,28 @@ fn a_member_past_the_last_vci() {
 }
 
 #[test]
-fn a_thousand_and_24_open_and_no_more_in_any_order() {
+fn as_many_as_the_capacity_open_and_no_more_in_any_order() {
+    let capacity = CONNECTIONS_MAX as u32;
     let params = Params::house(THOUSAND, 0x4000, THOUSAND);
     let mut table = Table::new();
-    for i in 0..1_024 {
-        let vci = 32 + (i * 37) % 1_024;
-        assert_eq!(table.open(channel(vci), 0, &params), on_leaf(i), "{vci}");
+    let vci_of = |leaf: u32| 32 + (leaf * 37) % capacity;
+    for leaf in 0..capacity {
+        let vci = vci_of(leaf);
+        assert_eq!(table.open(channel(vci), 0, &params), on_leaf(leaf), "{vci}");
     }
-    assert_eq!(table.open(channel(1_056), 0, &params), Err(Refusal::Full));
+    let (one_more, closing) = (32 + capacity, vci_of(10));
+    assert_eq!(
+        table.open(channel(one_more), 0, &params),
+        Err(Refusal::Full)
+    );
     let closed = Closed {
         cells: 0,
         comparisons: 1,
     };
-    assert_eq!(table.close(channel(50)), Ok(closed));
-    assert_eq!(table.open(channel(1_056), 0, &params), on_leaf(554)); // 37 x 554 = 18 + 1,024 x 20
-    assert_eq!(table.open(channel(50), 0, &params), Err(Refusal::Full));
-    let open = || (32..=1_056).filter(|vci| *vci != 50);
+    assert_eq!(table.close(channel(closing)), Ok(closed));
+    assert_eq!(table.open(channel(one_more), 0, &params), on_leaf(10));
+    assert_eq!(table.open(channel(closing), 0, &params), Err(Refusal::Full));
+    let open = || (32..=one_more).filter(|vci| *vci != closing);
     for vci in open() {
         table.offer(channel(vci), 1).unwrap();
     }
@@ -243,7 +249,7 @@ fn a_thousand_and_24_open_and_no_more_in_any_order() {
         let sent = table.slot(0, &mut cell).unwrap().unwrap();
         assert_eq!(
             (sent.vci, sent.comparisons),
-            (vci, 10),
+            (vci, COMPARISONS_MAX),
             "ties go to the lower name"
         );
     }

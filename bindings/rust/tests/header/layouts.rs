@@ -112,13 +112,20 @@ fn the_layouts_are_those_of_the_header() {
     assert_eq!(of_header(), of_binding());
 }
 
-/// Header and manual say how many octets a table has.
+/// A number with a comma before its last three digits.
+fn with_comma(number: usize) -> String {
+    match number {
+        0..1_000 => number.to_string(),
+        _ => format!("{},{:03}", number / 1_000, number % 1_000),
+    }
+}
+
+/// The manual says how many comparisons and octets an edition has.
 #[test]
 fn the_size_of_a_table_is_said() {
-    let octets = size_of::<abr_table>();
-    let words = format!("{},{:03} octets", octets / 1_000, octets % 1_000);
-    let header = super::HEADER.matches(&words).count();
-    assert_eq!(header, 2, "{words} in abr.h");
+    let connections = with_comma(abr::CONNECTIONS_MAX);
+    let octets = with_comma(size_of::<abr_table>());
+    let row = format!("\n| {connections} | {} | {octets} |", abr::COMPARISONS_MAX);
     let page = include_str!("../../../../docs/MANUAL.md");
-    assert!(page.contains(&words), "{words} in MANUAL.md");
+    assert!(page.contains(&row), "{row} in MANUAL.md");
 }

@@ -38,11 +38,8 @@ fn value(name: &str) -> u64 {
 /// The limits by their names in the header.
 fn limits() -> Vec<(&'static str, u64)> {
     vec![
-        ("TABLE_WORDS", ffi::ABR_TABLE_WORDS as u64),
         ("CELL_OCTETS", abr::CELL_OCTETS as u64),
-        ("CONNECTIONS_MAX", abr::CONNECTIONS_MAX as u64),
         ("MEMBERS_MAX", abr::MEMBERS_MAX as u64),
-        ("COMPARISONS_MAX", abr::COMPARISONS_MAX.into()),
         ("VPI_MAX", abr::VPI_MAX.into()),
         ("VCI_MIN", abr::VCI_MIN.into()),
         ("VCI_MAX", abr::VCI_MAX.into()),
@@ -68,6 +65,8 @@ fn limits() -> Vec<(&'static str, u64)> {
 #[test]
 fn the_limits_are_those_of_the_header() {
     let others = [
+        "CONNECTIONS",
+        "COMPARISONS_MAX",
         "VERSION",
         "OK",
         "CHANNEL",
@@ -81,12 +80,44 @@ fn the_limits_are_those_of_the_header() {
         .lines()
         .filter_map(|line| line.strip_prefix("#define ABR_")?.split_once(' '))
         .filter(|(_, value)| value.starts_with("UINT64_C(") || value.starts_with(char::is_numeric))
-        .map(|(name, _)| (name, value(&format!("ABR_{name}"))))
         .filter(|(name, _)| !others.contains(name))
         .filter(|(name, _)| !groups.iter().any(|group| name.starts_with(group)))
+        .map(|(name, _)| (name, value(&format!("ABR_{name}"))))
         .collect();
     assert_eq!(header, limits());
     assert_eq!(abr::rate(abr::CODE_MAX), Ok(abr::RATE_MAX));
+}
+
+/// The editions of the header: how many connections, and the most comparisons of a call.
+fn editions() -> Vec<(usize, u32)> {
+    let lines: Vec<&str> = HEADER.lines().collect();
+    let pairs = lines.windows(2).filter_map(|pair| {
+        let condition = pair[0]
+            .strip_prefix("#if ")
+            .or(pair[0].strip_prefix("#elif "))?;
+        let connections = condition.strip_prefix("ABR_CONNECTIONS == ")?;
+        let comparisons = pair[1].strip_prefix("#define ABR_COMPARISONS_MAX ")?;
+        Some((connections.parse().ok()?, number(comparisons) as u32))
+    });
+    pairs.collect()
+}
+
+/// The binding is of one of them, of that of the header unless the environment chose another; build.rs knows all.
+#[test]
+fn the_editions_are_those_of_the_header() {
+    assert_eq!(editions(), [(16, 4), (64, 6), (256, 8), (1_024, 10)]);
+    assert!(editions().contains(&(abr::CONNECTIONS_MAX, abr::COMPARISONS_MAX)));
+    let build = include_str!("../../build.rs");
+    let known: Vec<String> = editions()
+        .iter()
+        .map(|(connections, _)| format!("\"{connections}\""))
+        .collect();
+    assert!(build.contains(&format!("[{}]", known.join(", "))));
+    let default = "const CONNECTIONS: &str = \"1024\";";
+    assert!(HEADER.contains("\n#define ABR_CONNECTIONS 1024\n") && build.contains(default));
+    let chosen = option_env!("ABR_CONNECTIONS").unwrap_or("1024");
+    assert_eq!(abr::CONNECTIONS_MAX.to_string(), chosen);
+    assert_eq!(abr::Table::new().link().connections_max.to_string(), chosen);
 }
 
 /// The names of a group of the header's constants, each with its number.

@@ -1,6 +1,6 @@
 -- The loop's invariant: the winners up to `place` are those of the entries now, the ones above it those before
 -- (`Reached`). `best` has won at `place`, and `other` is its neighbour.
-use Prim.Native.Nat.{ℕ, _+_, _-_, _*_, _≤_, _<_}
+use Prim.Native.Nat.{ℕ, _+_, _-_, _*_, _/_, _≤_, _<_}
 use borrow.Author.Needs.{needs}
 use mathlib.Core.Path.{_≡_, sym, ap, subst, refl, _∙_}
 use mathlib.Core.Logic.{⊎-elim}
@@ -38,7 +38,7 @@ neighbour-requires c κs = search needs
 keyed-leaf-requires-2 : tie.Need-keyed-leaf-requires-2 Inv-loop μ-loop
 keyed-leaf-requires-2 c κs =
     let st = c .before .before .before .before in
-    subst (λ (k : ℕ). k < capacity) (sym (c .before .neighbour .ensures)) (neighbour-below 512 (st .args .leaf) (st .pre))
+    subst (λ (k : ℕ). k < capacity) (sym (c .before .neighbour .ensures)) (neighbour-below (capacity / 2) (st .args .leaf) (st .pre))
 
 add-place : tie.Need-add-place Inv-loop μ-loop
 add-place c = search needs
