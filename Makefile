@@ -17,7 +17,7 @@
 # many connections the library is: 16, 64, 256 or 1024 (default). What is made for another edition than 1024 stands in
 # target/connections-N.
 
-VERSION := 0.20.0
+VERSION := 0.21.0
 PREFIX ?= /usr/local
 DESTDIR ?=
 CC ?= gcc

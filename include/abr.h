@@ -129,13 +129,19 @@ extern "C" {
 /* The connections that may be open at once, channels and paths: unsigned, as the other limits are. */
 #define ABR_CONNECTIONS_MAX (ABR_CONNECTIONS + 0u)
 
-/* The words of a table: a header with a bit for each connection, 35 words for each, and the members of paths. */
-#define ABR_TABLE_WORDS ((ABR_CONNECTIONS_MAX + 63u) / 64u + 35u * ABR_CONNECTIONS_MAX + 259u)
+/*
+ * The words of a table: a header with a bit for each connection and samples of the directory of names, 27 words for
+ * each connection, and the members of paths. A record of a connection has three lines of 64 octets if the table is
+ * aligned to them.
+ */
+#define ABR_TABLE_GROUPS ((ABR_CONNECTIONS_MAX + 63u) / 64u)
+#define ABR_TABLE_HEADER ((ABR_TABLE_GROUPS * 2u + 17u) / 16u * 16u + ABR_TABLE_GROUPS * 8u)
+#define ABR_TABLE_WORDS (ABR_TABLE_HEADER + ABR_CONNECTIONS_MAX * 27u + 256u)
 
 /* ---- Version ------------------------------------------------------------ */
 
-/* 0.20.0: major, minor and patch number, eight bits each. */
-#define ABR_VERSION 0x001400u
+/* 0.21.0: major, minor and patch number, eight bits each. */
+#define ABR_VERSION 0x001500u
 
 /* ---- Limits ------------------------------------------------------------- */
 

@@ -13,18 +13,17 @@
 enum {
     LEAVES = ABR_CONNECTIONS_MAX,
     GROUPS = (LEAVES + 63) / 64,
-    LIVE_WORDS = 19,                    /* of a leaf; the last one: its last out-of-rate cell */
-    CHANGE = 7,                         /* of them: the rates before and after its last backward cell */
-    USED = 2,                           /* a bit for each leaf that is taken */
-    DIRECTORY = USED + GROUPS,          /* (name + 1) * LEAVES + leaf, falling, then zeros */
-    NODES = DIRECTORY + LEAVES,         /* at place p the winner's leaf + 1, or 0; places 2p and 2p + 1 play match p */
-    NONE = NODES + LEAVES,              /* 0 */
-    KEYS = NONE + 1,                    /* 2^64 - 1 - ready instant, or 0 */
-    NAMES = KEYS + LEAVES,              /* the name of each leaf, VPI * 65,536 + VCI */
-    LIVE = NAMES + LEAVES,              /* LIVE_WORDS a leaf */
-    FIXED = LIVE + LIVE_WORDS * LEAVES, /* 12 words a leaf */
-    MEMBER_WORDS = 256,                 /* a member's each: (2^24 - name) * 65,536 + cells, falling, then zeros */
-    MEMBERS = FIXED + 12 * LEAVES,
+    RECORD_WORDS = 24,                     /* of a leaf: first its key, 2^64 - 1 - ready instant, or 0 */
+    IDENTITY = 1,                          /* of them: Trm, n and in the low 24 bits the name, VPI * 65,536 + VCI */
+    CHANGE = 9,                            /* the rates before and after its last backward cell */
+    LAST_OUT_OF_RATE = 23,                 /* its last out-of-rate cell */
+    USED = (2 * GROUPS + 17) / 16 * 16 - 2 * GROUPS, /* a bit for each leaf that is taken */
+    SAMPLES = USED + GROUPS,               /* every 64th word of the directory, then every 8th */
+    DIRECTORY = SAMPLES + 9 * GROUPS,      /* (name + 1) * LEAVES + leaf, falling, then zeros */
+    NODES = DIRECTORY + LEAVES,            /* at p name * 2^32 + 2 * (leaf + 1) of the winner, or 0, and its key */
+    RECORDS = NODES + 2 * LEAVES,          /* RECORD_WORDS a leaf */
+    MEMBER_WORDS = 256,                    /* a member's each: (2^24 - name) * 65,536 + cells, falling, then zeros */
+    MEMBERS = RECORDS + RECORD_WORDS * LEAVES,
     LAYOUT_WORDS = MEMBERS + MEMBER_WORDS
 };
 
@@ -38,8 +37,8 @@ typedef struct {
     unsigned first, count;
 } part;
 
-static const part parts[] = {{USED, GROUPS}, {DIRECTORY, LEAVES}, {NODES, LEAVES},      {NONE, 1},
-                             {KEYS, LEAVES}, {NAMES, LEAVES},     {LIVE, FIXED - LIVE}, {MEMBERS, MEMBER_WORDS}};
+static const part parts[] = {{USED, GROUPS},       {SAMPLES, 9 * GROUPS},        {DIRECTORY, LEAVES},
+                             {NODES, 2 * LEAVES}, {RECORDS, MEMBERS - RECORDS}, {MEMBERS, MEMBER_WORDS}};
 
 static uint64_t state; /* of the generator, xorshift64* (Vigna); never 0 */
 
@@ -137,7 +136,8 @@ static void reached_table(abr_table *table)
 static uint64_t wrong_entry(void)
 {
     uint64_t leaf = next() % LEAVES;
-    return next() % 2 ? leaf + 1 : (name_of(address_of((uint32_t)(next() % MOST_OPENS))) + 1) * LEAVES + leaf;
+    uint64_t name = name_of(address_of((uint32_t)(next() % MOST_OPENS)));
+    return next() % 2 ? (name << 32) + 2 * (leaf + 1) : (name + 1) * LEAVES + leaf;
 }
 
 /* One word of a part of a table made wrong; the words before are those of the part as calls left it. */
@@ -202,7 +202,7 @@ static void arbitrary_table(abr_table *table)
         reached_table(table);
     }
     while (wrong--) {
-        uint64_t place = next() % 3 ? next() % ABR_TABLE_WORDS : next() % LIVE;
+        uint64_t place = next() % 3 ? next() % ABR_TABLE_WORDS : next() % RECORDS;
         uint64_t bit = UINT64_C(1) << (next() & 63);
         table->words[place] = next() % 3 ? edge_word() : table->words[place] ^ bit;
     }

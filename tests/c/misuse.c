@@ -371,6 +371,7 @@ static int unchanged(int call, uint32_t refusal)
 static int places_are_right(void)
 {
     const uint64_t *words = ((abr_table *)at(TABLE))->words;
+    uint64_t won = (UINT64_C(0xFFFFFF) << 32) + 2 * (1 + 1); /* leaf 1, at 255/65535 */
     abr_params params = abr_house(0x7FFF, 0x4000, 0x53E8);
     uint32_t refused = 0;
     memset(at(TABLE), 0, sizes[TABLE]);
@@ -382,13 +383,14 @@ static int places_are_right(void)
     refused |= abr_offer(at(TABLE), 255, 65535, 1).refusal;
     return refused == ABR_OK && words[USED] == 7 && words[DIRECTORY] == UINT64_C(65536) * 256 * LEAVES + 1 &&
            words[DIRECTORY + 1] == (3 * 65536 + 34) * LEAVES + 2 && words[DIRECTORY + 2] == (2 * 65536 + 41) * LEAVES &&
-           words[DIRECTORY + 3] == 0 && words[NODES + 1] == 2 && words[NODES + LEAVES / 2] == 2 &&
-           words[NODES + LEAVES / 2 + 1] == 0 && words[NONE] == 0 && words[KEYS] == 0 &&
-           words[KEYS + 1] == ~UINT64_C(9) && abr_next_ready(at(TABLE)) == 9 && words[NAMES] == 2 * 65536 + 40 &&
-           words[NAMES + 1] == (1 << 24) - 1;
+           words[DIRECTORY + 3] == 0 && words[NODES + 2] == won && words[NODES + 3] == ~UINT64_C(9) &&
+           words[NODES + LEAVES] == won && words[NODES + LEAVES + 2] == 0 && words[RECORDS] == 0 &&
+           words[RECORDS + RECORD_WORDS] == ~UINT64_C(9) && abr_next_ready(at(TABLE)) == 9 &&
+           (words[RECORDS + IDENTITY] & 0xFFFFFF) == 2 * 65536 + 40 &&
+           (words[RECORDS + RECORD_WORDS + IDENTITY] & 0xFFFFFF) == (1 << 24) - 1;
 }
 
-/* An out-of-rate cell on leaf 1, at the time of the last call, changes one word: the last live one of that leaf. */
+/* An out-of-rate cell on leaf 1, at the time of the last call, changes one word: the last of its record. */
 static int one_word_changes(void)
 {
     static abr_table before;
@@ -398,17 +400,17 @@ static int one_word_changes(void)
         return 0;
     }
     for (unsigned i = 0; i < ABR_TABLE_WORDS; i++) {
-        if ((words[i] != before.words[i]) != (i == LIVE + 2 * LIVE_WORDS - 1)) {
+        if ((words[i] != before.words[i]) != (i == RECORDS + RECORD_WORDS + LAST_OUT_OF_RATE)) {
             return 0;
         }
     }
     return 1;
 }
 
-/* The rates before and after a backward cell stand in two of its live words: here 512,000 less a sixteenth. */
+/* The rates before and after a backward cell stand in two words of its record: here 512,000 less a sixteenth. */
 static int change_is_stored(void)
 {
-    const uint64_t *change = ((abr_table *)at(TABLE))->words + LIVE + LIVE_WORDS + CHANGE;
+    const uint64_t *change = ((abr_table *)at(TABLE))->words + RECORDS + RECORD_WORDS + CHANGE;
     abr_rm rm = {255, 65535, 1, 0, 1, 0, 0, ABR_CODE_MAX, 0, 0, 0, 0};
     return change[0] == 512000 && change[1] == 512000 && abr_write_rm(rm, at(CELL), ABR_CELL_OCTETS) == ABR_OK &&
            abr_receive(at(TABLE), at(CELL), ABR_CELL_OCTETS).refusal == ABR_OK &&

@@ -53,9 +53,15 @@ def structs():
 def editions():
     """The editions of the header: of each number of connections the most comparisons and the words of a table."""
     chain = re.findall(r"^#(?:el)?if ABR_CONNECTIONS == (\d+)\n#define ABR_COMPARISONS_MAX (\d+)u$", HEADER, re.M)
-    words = re.search(r"^#define ABR_TABLE_WORDS (.*)$", HEADER, re.M)[1]
-    words = re.sub(r"\b(\d+)u\b", r"\1", words).replace("/", "//")
-    return {int(number): (int(most), eval(words, {"ABR_CONNECTIONS_MAX": int(number)})) for number, most in chain}
+    lines = re.sub(r"\b(\d+)u\b", r"\1", HEADER).replace("/", "//")
+    parts = re.findall(r"^#define (ABR_TABLE_(?:GROUPS|HEADER|WORDS)) (.*)$", lines, re.M)
+    found = {}
+    for number, most in chain:
+        values = {"ABR_CONNECTIONS_MAX": int(number)}
+        for name, formula in parts:
+            values[name] = eval(formula, values)
+        found[int(number)] = (int(most), values["ABR_TABLE_WORDS"])
+    return found
 
 
 def defined(prefix=""):

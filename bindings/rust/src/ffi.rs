@@ -6,10 +6,15 @@
 use crate::CONNECTIONS_MAX;
 
 /// The version of the header: major, minor and patch number, eight bits each.
-pub const ABR_VERSION: u32 = 0x00_14_00;
+pub const ABR_VERSION: u32 = 0x00_15_00;
 
-/// The words of a table: a header with a bit for each connection, 35 words for each, and the members of paths.
-pub const ABR_TABLE_WORDS: usize = CONNECTIONS_MAX.div_ceil(64) + 35 * CONNECTIONS_MAX + 259;
+/// A word has bits for 64 connections.
+const GROUPS: usize = CONNECTIONS_MAX.div_ceil(64);
+
+/// The words of a table: a header with a bit for each connection and samples of the directory of names, 27 words for
+/// each connection, and the members of paths.
+pub const ABR_TABLE_WORDS: usize =
+    (2 * GROUPS + 17) / 16 * 16 + 8 * GROUPS + 27 * CONNECTIONS_MAX + 256;
 
 /// An instant that does not come, or that never was.
 pub const ABR_NEVER: u64 = u64::MAX;

@@ -1,5 +1,5 @@
 -- Where a name leads in the words of a state: one lemma for each way out.
-use Prim.Native.Nat.{ℕ, _+_, _*_, _%_, _^_, _<_}
+use Prim.Native.Nat.{ℕ, _+_, _<_}
 use mathlib.Core.Path.{_≡_, refl, sym, ap, subst, _∙_}
 use mathlib.Core.Bool.{Bool, true, false}
 use mathlib.Core.List.{List}
@@ -14,7 +14,8 @@ use Rattle.model.specs.Invariant.{WellFormed}
 use Rattle.model.specs.Status.{entryStatus, memberCells, statusOf}
 use Rattle.model.specs.declared.status.Status.{Status}
 use Rattle.model.specs.declared.status.Status.the-variants.{NotOpen}
-use Rattle.table.specs.Layout.{words, liveFrom, liveWidth}
+use Rattle.table.specs.Layout.{words, recordFrom}
+use Rattle.table.specs.Loading.{lowIn}
 use Rattle.table.specs.declared.found.Found.{Found}
 use Rattle.table.specs.declared.found.Found.the-variants.{At, Nothing}
 use Rattle.table_names.specs.Finding.{Located, Names, FindsName}
@@ -58,8 +59,8 @@ open-alone s w x c e = go (isMember x (s .members)) refl
 
 -- ---- where it leads
 
-pub own-is : (l : List ℕ) (i x : ℕ) {k : ℕ} → k ≡ kindShown x false → _≡_ {A = Place} (record { name = x; entry = i; kind = k; waiting = getD l (liveFrom + i * liveWidth + 2) 0 % 2 ^ 32 }) (ownPlace l i x)
-own-is l i x e = ap (λ (n : ℕ). record { name = x; entry = i; kind = n; waiting = getD l (liveFrom + i * liveWidth + 2) 0 % 2 ^ 32 }) e
+pub own-is : (l : List ℕ) (i x : ℕ) {k : ℕ} → k ≡ kindShown x false → _≡_ {A = Place} (record { name = x; entry = i; kind = k; waiting = lowIn (getD l (recordFrom i + 4) 0) }) (ownPlace l i x)
+own-is l i x e = ap (λ (n : ℕ). record { name = x; entry = i; kind = n; waiting = lowIn (getD l (recordFrom i + 4) 0) }) e
 
 pub none-points : {s : State} {r : Status} {p : Place} → p ≡ noPlace → NotOpen ≡ r → Points s r p
 none-points {s} {r} e h = subst (Points s r) (sym e) (record { nowhere = λ _. h; holds = λ k. absurd (omega (arith, k)) })

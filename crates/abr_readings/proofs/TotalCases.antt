@@ -1,7 +1,7 @@
 -- The counts of connections and of members in the words of a state.
 use Prim.Native.Nat.{ℕ, suc, _+_, _-_, _*_, _%_}
 use mathlib.Core.Path.{_≡_, refl, _∙_}
-use mathlib.Core.List.{List, [], _∷_}
+use mathlib.Core.List.{List, [], _∷_, _++_}
 use native.Mathlib.Omega.{arith}
 use lib.ListN.{length, getD, replicate}
 use Rattle.connection_members.specs.Members.{Member, memberCapacity}
@@ -11,13 +11,14 @@ use Rattle.model.specs.State.{Entry, free, taken, capacity}
 use Rattle.model.specs.Orders.{openCount}
 use Rattle.model.specs.Status.{totals}
 use Rattle.model.specs.declared.status.Totals.{Totals}
-use Rattle.table.specs.Layout.{words, levelAt, lastAt, directoryFrom, directory, directoryWord, directoryWords, membersFrom, memberWord, packed, memberWords}
+use Rattle.table.specs.Layout.{words, levelAt, lastAt, groups, directoryFrom, directory, samples, directoryWord, directoryWords, membersFrom, memberWord, packed, memberWords}
 use Rattle.table.proofs.Splits.{beforeDirectory, behindDirectory}
 use Rattle.table.proofs.Words.{last-at}
 use Rattle.table_column.specs.Descending.{atLeast}
 use Rattle.table_column.specs.Column.{CountsAtLeast}
 use Rattle.table_column.proofs.Descending.{reaches-yes, reaches-not}
 use Rattle.table_names.proofs.Directories.{directory-count}
+use Rattle.table_names.proofs.Samples.{directory-column}
 use Rattle.table_names.proofs.Found.{in-state}
 use Rattle.table_members.proofs.Packed.{in-column, at-least-append, at-least-zeros}
 use Rattle.engine.specs.Contract.{MeetsReading}
@@ -54,7 +55,7 @@ unfolding totals
 totals-are l f g = record {
   meets = λ s w e.
       rw (
-        f .is (beforeDirectory s) (directory (s .entries)) (behindDirectory s) (in-state s w l e) ∙ directory-count 1 (s .entries) ∙ open-words 0 (s .entries),
+        f .is (beforeDirectory s ++ (samples 64 groups (directory (s .entries)) ++ samples 8 (8 * groups) (directory (s .entries)))) (directory (s .entries)) (behindDirectory s) (directory-column l (beforeDirectory s) (directory (s .entries)) (behindDirectory s) (in-state s w l e)) ∙ directory-count 1 (s .entries) ∙ open-words 0 (s .entries),
         g .is (front s) (memberWords (s .members)) [] (in-column l (front s) (s .members) (with-members s (w .size) (w .members .valid) e)) ∙ member-count (s .members) (w .members .valid),
         level-of s w e,
         last-at s e,

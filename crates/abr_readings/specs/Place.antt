@@ -1,5 +1,5 @@
 -- Where a name or a leaf leads: to an entry in use, or to none.
-use Prim.Native.Nat.{ℕ, _+_, _*_, _%_, _^_, _≤_, _<_}
+use Prim.Native.Nat.{ℕ, _+_, _≤_, _<_}
 use mathlib.Core.Path.{_≡_}
 use mathlib.Core.Bool.{false}
 use mathlib.Core.List.{List}
@@ -10,7 +10,8 @@ use Rattle.model.specs.State.{State, free, taken, capacity}
 use Rattle.model.specs.Queries.{readyWord}
 use Rattle.model.specs.declared.status.Status.{Status}
 use Rattle.model.specs.declared.status.Status.the-variants.{NotOpen}
-use Rattle.table.specs.Layout.{liveFrom, liveWidth}
+use Rattle.table.specs.Layout.{recordFrom}
+use Rattle.table.specs.Loading.{lowIn}
 use Rattle.abr_answers.specs.declared.status.AbrConnection.{AbrConnection}
 use Rattle.abr_answers.specs.Status.{kindShown, shownAs, connectionShown}
 use Rattle.abr_readings.specs.declared.place.Place.{Place}
@@ -20,7 +21,7 @@ noPlace = record { name = 0; entry = capacity; kind = 0; waiting = 0 }
 
 -- the connection in entry i, by its own name
 abbrev pub ownPlace : List ℕ → (i name : ℕ) → Place
-ownPlace l i x = record { name = x; entry = i; kind = kindShown x false; waiting = getD l (liveFrom + i * liveWidth + 2) 0 % 2 ^ 32 }
+ownPlace l i x = record { name = x; entry = i; kind = kindShown x false; waiting = lowIn (getD l (recordFrom i + 4) 0) }
 
 -- what is shown of a connection that stands there
 abbrev pub shownIn : Place → Connection → AbrConnection

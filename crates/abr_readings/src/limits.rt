@@ -5,12 +5,12 @@ ghost use Prim.Native.Nat.{_+_, _-_, _*_, _/_, _^_, _<_, _≤_};
 ghost use Rattle.rate_params.specs.Params.{least, initial, initialUsed};
 ghost use Rattle.table.specs.Loading.{paramsAt};
 ghost use Rattle.model.specs.State.{capacity};
-ghost use Rattle.table.specs.Layout.{fixedFrom, fixedWidth};
+ghost use Rattle.table.specs.Layout.{recordFrom};
 ghost use Rattle.abr_readings.specs.Limits.{LimitsOf};
 use laws::arithmetic::higher;
 use rate_params::params::Params;
-use table::layout::FIXED;
-use table::layout::FIXED_WIDTH;
+use table::layout::RECORD_WIDTH;
+use table::layout::RECORDS;
 use table::layout::WORDS;
 use table_entry::load::params_at;
 
@@ -46,9 +46,9 @@ fn initial_of(p: Params) -> u64
 // Of the connection in entry i.
 pub fn limits_at(t: &[u64; WORDS], i: usize) -> Limits
     requires { ⌜ i < capacity ⌝ }
-    ensures { λ r. ⌜ LimitsOf (paramsAt (now (t .entry)) (fixedFrom + i * fixedWidth + 2)) r ⌝ }
+    ensures { λ r. ⌜ LimitsOf (paramsAt (now (t .entry)) (recordFrom i)) r ⌝ }
 {
-    let p = params_at(t, FIXED + i * FIXED_WIDTH + 2);
+    let p = params_at(t, RECORDS + i * RECORD_WIDTH);
     Limits {
         crm: part(p.tbe, p.n),
         icr: initial_of(p),

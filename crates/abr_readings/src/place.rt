@@ -12,10 +12,10 @@ use connection_members::path::path_of;
 use table::found::Found;
 use table::layout::CAPACITY;
 use table::layout::HALF;
-use table::layout::LIVE;
-use table::layout::LIVE_WIDTH;
+use table::layout::IDENTITY;
 use table::layout::NAME_LIMIT;
-use table::layout::NAMES;
+use table::layout::RECORD_WIDTH;
+use table::layout::RECORDS;
 use table::layout::WORDS;
 use table_members::find::cells_at;
 use table_members::find::find as find_member;
@@ -45,7 +45,7 @@ fn own_place(t: &[u64; WORDS], i: usize, name: u32) -> Place
     requires { ⌜ i < capacity ⌝ }
     ensures { λ r. ⌜ r ≡ ownPlace (now (t .entry)) i name ⌝ }
 {
-    let waiting = (t[LIVE + i * LIVE_WIDTH + 2] % HALF) as u32;
+    let waiting = (t[RECORDS + i * RECORD_WIDTH + 4] % HALF) as u32;
     Place {
         name,
         entry: i,
@@ -93,7 +93,7 @@ pub fn place_at(t: &[u64; WORDS], leaf: u32) -> Place
     if CAPACITY <= i {
         return no_place();
     }
-    let name = (t[NAMES + i] % NAME_LIMIT) as u32;
+    let name = (t[RECORDS + i * RECORD_WIDTH + IDENTITY] % NAME_LIMIT) as u32;
     if name == 0 {
         return no_place();
     }

@@ -1,3 +1,4 @@
 -- Each computed.
 pub mod Counts
 pub mod Crowded
+pub mod Edition

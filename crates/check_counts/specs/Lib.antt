@@ -1,3 +1,4 @@
--- The comparisons that some calls make, and as many members as there can be.
+-- The comparisons that some calls make, as many members as there can be, and the numbers of this edition.
 pub mod Counts
 pub mod Crowded
+pub mod Edition

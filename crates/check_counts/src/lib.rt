@@ -1,1 +1,2 @@
-// Comparisons of some calls, computed from the definitions: in specs/ the counts, in proofs/ the computation, no code.
+// Comparisons of some calls and other numbers, computed from the definitions: in specs/ the numbers, in proofs/ the
+// computation, no code.

@@ -1,4 +1,3 @@
-// When a connection may send, what kind of cell it then sends, and what that makes of it.
+// When a connection may send, and what kind of cell it then sends.
 pub mod kind;
 pub mod ready;
-pub mod slot;

@@ -22,7 +22,7 @@ use Rattle.table_names.proofs.Found.{found-at}
 use Rattle.model.specs.declared.answer.Answer.the-variants.{Refused, Accepted, Closed}
 use Rattle.model.specs.Call.{offering}
 use Rattle.model.specs.Step.{refuse, accept, replay, discard, ofOpen, closeStep, offerStep, levelStep, step}
-use Rattle.table_store.specs.Updates.{Updates, SourceMoved, ClosesEntry}
+use Rattle.table_store.specs.Updates.{Updates, QueueMoved, ClosesEntry}
 use Rattle.table_tournament.specs.Replaying.{Playable}
 use Rattle.table_members.specs.Words.{RemovesPath}
 use Rattle.engine.specs.Contract.{MeetsReading}
@@ -102,9 +102,9 @@ pub offered-same : (n : ℕ) (c : Connection) → KeepsIdentity c (offered n c)
 unfolding offered
 offered-same n c = record { name = refl; opened = refl; trm = refl; params = refl }
 
-pub offered-moved : (n : ℕ) (c : Connection) → SourceMoved c (offered n c)
+pub offered-moved : (n : ℕ) (c : Connection) → QueueMoved c (offered n c)
 unfolding offered
-offered-moved n c = (refl, refl)
+offered-moved n c = (refl, refl, refl)
 
 -- the entry's connection, as it was loaded
 module _ (s : State) (w : WellFormed s) {l : List ℕ} (e : l ≡ words s) (v n i : ℕ) (h : i < capacity) (p : Located (s .entries) v i) (d : Connection) (q : d ≡ connectionAt l i) (b : isPath v ≡ false) where
@@ -116,12 +116,12 @@ module _ (s : State) (w : WellFormed s) {l : List ℕ} (e : l ≡ words s) (v n 
       refused-out s 15 e (over-step s v n (p .holder) (found-at p) b (subst (λ (x : Connection). 65535 < waiting (x .queue) + n) is g))
 
   pub offer-done :
-      {m : List ℕ} {k : ℕ} (x : Connection) → x ≡ offered n d → Updates SourceMoved l m i x k → waiting (d .queue) + n ≤ 65535
+      {m : List ℕ} {k : ℕ} (x : Connection) → x ≡ offered n d → Updates QueueMoved l m i x k → waiting (d .queue) + n ≤ 65535
       → (m ≡ words (offerStep s v n .state)) × (Accepted k ≡ offerStep s v n .answer)
   unfolding step
   offer-done {m} {k} x a u g =
       let c : Connection = offered n (p .holder) in
       let done = done-step s v n (p .holder) (found-at p) b (subst (λ (z : Connection). waiting (z .queue) + n ≤ 65535) is g) in
       replayed-out (leafOf v s) s (withEntryOf v (taken c) s)
-      (updated-is s (w .size) e p c (offered-same n (p .holder)) (subst (λ (z : Connection). Updates SourceMoved l m i z k) (a ∙ ap (offered n) is) u) (offered-moved n (p .holder))
+      (updated-is s (w .size) e p c (offered-same n (p .holder)) (subst (λ (z : Connection). Updates QueueMoved l m i z k) (a ∙ ap (offered n) is) u) (offered-moved n (p .holder))
       (ordered (replay-well-formed w (offering (vpiIn v) (vciIn v) n) (leafOf v s) (withEntryOf v (taken c) s) (ap (λ (u : ℕ). offerStep s u n) (pair-of s w p) ∙ done)))) done

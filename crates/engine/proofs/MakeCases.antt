@@ -1,6 +1,6 @@
 -- One lemma for each way out of making a backward cell.
 use Prim.Native.Nat.{ℕ, _≤_, _<_}
-use mathlib.Core.Path.{_≡_, refl, ap, subst, _∙_}
+use mathlib.Core.Path.{_≡_, refl, ap, _∙_}
 use mathlib.Core.Bool.{true, false}
 use mathlib.Core.List.{List}
 use lib.Dec.{ltb}
@@ -18,12 +18,11 @@ use Rattle.model.specs.Call.{making, Outcome}
 use Rattle.model.specs.Step.{refuse, replay, makeStep, step}
 use Rattle.model.specs.declared.answer.Answer.the-variants.{Accepted}
 use Rattle.table_store.specs.Updates.{Updates, DestinationMoved}
-use Rattle.table_tournament.specs.Replaying.{Playable}
 use Rattle.table.specs.Layout.{words, lastAt}
 use Rattle.table_names.specs.Finding.{Located}
 use Rattle.table_tournament.proofs.Orders.{ordered}
 use Rattle.engine.specs.Timed.{ofTimed, TimedAt}
-use Rattle.engine.proofs.Outcomes.{pair-of, replayed-out, replay-well-formed, time-word, later-put, put-at, put-becomes, same-fixed}
+use Rattle.engine.proofs.Outcomes.{pair-of, replayed-out, replay-well-formed, time-word, later-put, updated-is}
 
 -- what is left of making, on the connection of the name
 abbrev makeRest : State → (name time : ℕ) → Connection → Outcome
@@ -79,9 +78,6 @@ unfolding step withEntryOf withTime
 make-out s w e {v} {i} h p t done u =
     let d : Connection = withMade t (s .level) (p .holder) in
     let z = replay-well-formed w (making (vpiIn v) (vciIn v) t) (leafOf v s) (withEntryOf v (taken d) (withTime t s)) (ap (λ (u : ℕ). makeStep s u t) (pair-of s w p) ∙ done) in
-    let b =
-    put-becomes s v (p .place) (taken d)
-    (u .is s (w .size) e (p .holder) (p .here) (made-same t (s .level) (p .holder) .name) (same-fixed (p .holder) d (made-same t (s .level) (p .holder))) (made-moved t (s .level) (p .holder))
-    (subst (λ (r : State). Playable (r .entries)) (put-at s v (p .place) (taken d)) (ordered z))) in
+    let b = updated-is s (w .size) e p d (made-same t (s .level) (p .holder)) u (made-moved t (s .level) (p .holder)) (ordered z) in
     replayed-out (leafOf v s) s (withEntryOf v (taken d) (withTime t s))
     (ap (λ (x : List ℕ). set x lastAt t) (b .0) ∙ time-word (withEntryOf v (taken d) s) t ∙ ap words (later-put s v t d), b .1) done

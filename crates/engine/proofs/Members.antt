@@ -11,10 +11,10 @@ use Rattle.laws.proofs.Blocks.{length-flat}
 use Rattle.connection_members.specs.Path.{isPath}
 use Rattle.connection_members.specs.Members.{Member, memberCapacity, isMember}
 use Rattle.connection_members.specs.Invariant.{ValidMembers}
-use Rattle.model.specs.State.{State, Entry, withMembers}
+use Rattle.model.specs.State.{State, withMembers}
 use Rattle.model.specs.Invariant.{WellFormed}
-use Rattle.table.specs.Layout.{keyOf, nameWords, liveOf, fixedOf, liveWidth, fixedWidth, memberWords, membersFrom, words}
-use Rattle.table.proofs.Columns.{key-wide, name-wide, live-wide, fixed-wide}
+use Rattle.table.specs.Layout.{recordOf, recordWidth, memberWords, membersFrom, words}
+use Rattle.table.proofs.Records.{record-wide}
 use Rattle.table.proofs.Splits.{header, length-header, header-split}
 use Rattle.table_store.specs.Updates.{Sized}
 use Rattle.table.specs.declared.found.Found.{Found}
@@ -24,27 +24,13 @@ use Rattle.table_members.specs.Words.{WithMembers, MemberInRange, Named, FindsM
 
 -- what stands before the members
 abbrev pub front : State → List ℕ
-front s = header s ++ (flat keyOf (s .entries) ++ (flat nameWords (s .entries) ++ (flat liveOf (s .entries) ++ flat fixedOf (s .entries))))
+front s = header s ++ flat recordOf (s .entries)
 
 front-split : (s : State) → words s ≡ front s ++ memberWords (s .members)
-front-split s = header-split s ∙ simp append-assoc
+front-split s = header-split s ∙ sym (append-assoc (header s) (flat recordOf (s .entries)) (memberWords (s .members)))
 
 length-front : (s : State) → Sized s → length (front s) ≡ membersFrom
-length-front s g =
-    let ss : List Entry = s .entries in
-    omega (
-      arith,
-      length-append (header s) (flat keyOf ss ++ (flat nameWords ss ++ (flat liveOf ss ++ flat fixedOf ss))),
-      length-append (flat keyOf ss) (flat nameWords ss ++ (flat liveOf ss ++ flat fixedOf ss)),
-      length-append (flat nameWords ss) (flat liveOf ss ++ flat fixedOf ss),
-      length-append (flat liveOf ss) (flat fixedOf ss),
-      length-header s g,
-      length-flat keyOf 1 key-wide ss,
-      length-flat nameWords 1 name-wide ss,
-      length-flat liveOf liveWidth live-wide ss,
-      length-flat fixedOf fixedWidth fixed-wide ss,
-      g,
-    )
+length-front s g = omega (arith, length-append (header s) (flat recordOf (s .entries)), length-header s g, length-flat recordOf recordWidth record-wide (s .entries), g)
 
 pub with-members : (s : State) → Sized s → ValidMembers (s .members) → {l : List ℕ} → l ≡ words s → WithMembers l (front s) (s .members)
 with-members s g v e = record { is = e ∙ front-split s; place = length-front s g; valid = v }

@@ -8,11 +8,14 @@ use native.Mathlib.Omega.{arith}
 use lib.Dec.{leb}
 use lib.ListN.{getD, set, length-set}
 use borrow.Author.Tests.{le-leb, lt-leb}
+use Rattle.laws.proofs.Tests.{both}
+use Rattle.rate_params.proofs.Ranges.{fits}
 use Rattle.rate_params.specs.declared.params.Params.{Params}
 use Rattle.rate.specs.Units.{latestTime}
 use Rattle.rate.specs.Code.{codesClear}
 use Rattle.rate_params.specs.Params.{paramsFit, tbeFits, frttFits}
-use Rattle.cell.specs.Name.{addressFits, addressName}
+use Rattle.cell.specs.Name.{noName, addressFits, addressName}
+use Rattle.cell.proofs.Names.{address-lt}
 use Rattle.connection_members.specs.Path.{firstVci}
 use Rattle.connection_members.specs.Members.{isMember}
 use Rattle.connection.specs.declared.parts.Connection.{Connection}
@@ -24,6 +27,7 @@ use Rattle.connection.proofs.Reached.{ready-below}
 use Rattle.model.specs.State.{State, Entry, free, taken, find, withOpened, roomLeft, withTime, isFree, position, capacity}
 use Rattle.model.specs.Invariant.{WellFormed}
 use Rattle.table.specs.Layout.{words, lastAt}
+use Rattle.table.specs.Storing.{FixedFits}
 use Rattle.table_names.specs.Finding.{FoundInRange, Vacant, FindsFree}
 use Rattle.table.specs.declared.found.Found.{Found}
 use Rattle.table.specs.declared.found.Found.the-variants.{At, Nothing}
@@ -130,16 +134,35 @@ with-opened-at : (s : State) (c : Connection) {i : ℕ} → position isFree (s .
 unfolding withOpened
 with-opened-at s c q = rw q
 
+-- its name is one
+pub input-named : {a b t : ℕ} {p : Params} → InputPassed a b t p → addressName a b < noName
+input-named {a} {b} {t} {p} i = address-lt a b (both (addressFits a b) (paramsFit p) (i .fits) .0)
+
+-- what an open has tested fits in the words of a record
+pub fresh-fits : {a b t : ℕ} {p : Params} → InputPassed a b t p → FixedFits (fresh (addressName a b) t p)
+unfolding fresh
+fresh-fits {a} {b} {t} {p} i =
+    let f = fits p (both (addressFits a b) (paramsFit p) (i .fits) .1) in
+    record {
+      named = input-named i;
+      nBelow = omega (arith, f .nMost);
+      rBelow = omega (arith, f .rMost);
+      dBelow = omega (arith, f .dMost);
+      cBelow = omega (arith, f .cMost);
+      trmBelow = omega (arith, f .trmMost);
+    }
+
 -- with a new connection the entries are again those that a tournament orders
-with-opened-ordered : (s : State) → WellFormed s → (v t : ℕ) (p : Params) → t < 2 ^ 63 → find v (s .entries) ≡ free → Playable (withOpened (fresh v t p) s .entries)
+with-opened-ordered : (s : State) → WellFormed s → (v t : ℕ) (p : Params) → v < noName → t < 2 ^ 63 → find v (s .entries) ≡ free → Playable (withOpened (fresh v t p) s .entries)
 unfolding withOpened fresh
-with-opened-ordered s w v t p h e =
+with-opened-ordered s w v t p n h e =
     let c : Connection = fresh v t p in
     let at : ℕ = position isFree (s .entries) in
     record {
       size = length-set (s .entries) at (taken c) ∙ w .size;
       unique = unique-set (s .entries) at (taken c) (w .unique) (each-set (λ d. d .name ≢ v) (s .entries) (find-absent v (s .entries) e) at free tt);
       below = each-set (λ d. InstantBelow (readyInstant d)) (s .entries) (ordered w .below) at (taken c) (ready-below c (fresh-ranged v t p h));
+      named = each-set (λ d. d .name < noName) (s .entries) (ordered w .named) at (taken c) n;
     }
 
 later : (t : ℕ) (s r : State) → s ≡ r → withTime t s .entries ≡ r .entries
@@ -149,15 +172,15 @@ later t s r q = rw q
 -- the entry stored, then the time
 pub open-out :
     {l m : List ℕ} {n : ℕ} (s : State) → WellFormed s → l ≡ words s → (a b t : ℕ) (p : Params) (i : ℕ) → position isFree (s .entries) ≡ i
-    → t ≤ latestTime → find (addressName a b) (s .entries) ≡ free
+    → addressName a b < noName → t ≤ latestTime → find (addressName a b) (s .entries) ≡ free
     → openAddress s a b t p ≡ replay (position isFree (s .entries)) s (withTime t (withOpened (fresh (addressName a b) t p) s)) → OpensEntry l m i (fresh (addressName a b) t p) n
     → (set m lastAt t ≡ words (openAddress s a b t p .state)) × (Opened n i ≡ openAnswer s (openAddress s a b t p))
-open-out {n = n} s w e a b t p i q h new done u =
+open-out {n = n} s w e a b t p i q v h new done u =
     let c : Connection = fresh (addressName a b) t p in
     let at : withOpened c s ≡ withEntry s i (taken c) = with-opened-at s c q in
     let y =
     u .is s (w .size) e (ap (λ (k : ℕ). getD (s .entries) k free) (sym q) ∙ lowest-free (s .entries))
-    (subst (λ (r : State). Playable (r .entries)) at (with-opened-ordered s w (addressName a b) t p (omega (arith, h)) new)) in
+    (subst (λ (r : State). Playable (r .entries)) at (with-opened-ordered s w (addressName a b) t p v (omega (arith, h)) new)) in
     let z = replayed-out (position isFree (s .entries)) s (withTime t (withOpened c s)) (
       ap (λ (x : List ℕ). set x lastAt t) (y .0 ∙ ap words (sym at)) ∙ time-word (withOpened c s) t,
       y .1 ∙ ap (λ (k : ℕ). replayed k (s .entries) (set (s .entries) i (taken c))) (sym q)

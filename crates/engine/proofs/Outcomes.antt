@@ -15,7 +15,7 @@ use Rattle.table.specs.declared.found.Found.{Found}
 use Rattle.table.specs.declared.found.Found.the-variants.{At, Nothing}
 use Rattle.model.specs.State.{State, Entry, free, taken, find, leafOf, withEntryOf, position, holds, withTime, withLevel, capacity}
 use Rattle.model.specs.Invariant.{WellFormed, OnEntry}
-use Rattle.table.specs.Layout.{words, sourceWords, fixedWords, levelAt, lastAt}
+use Rattle.table.specs.Layout.{words, pacedWords, sourceWords, fixedWords, levelAt, lastAt}
 use Rattle.table.specs.Loading.{connectionAt}
 use Rattle.table.specs.Storing.{efciUpdated, outOfRateUpdated}
 use Rattle.table_names.specs.Finding.{FoundInRange, Located, Names, FindsName}
@@ -26,11 +26,11 @@ use Rattle.model.specs.declared.answer.Answer.{Answer}
 use Rattle.model.specs.declared.answer.Answer.the-variants.{Refused, Accepted, Closed}
 use Rattle.model.specs.Call.{Call, Outcome}
 use Rattle.model.specs.Step.{refuse, accept, replay, discard, step}
-use Rattle.model.specs.Tournament.{leafWinner, replayed}
+use Rattle.model.specs.Tournament.{levels, leafWinner, replayed}
 use Rattle.model.proofs.Replays.{replayed-same}
 use Rattle.model.proofs.Reached.{step-well-formed}
 use Rattle.engine.specs.Contract.{Meets}
-use Rattle.table_store.specs.Updates.{Sized, EntryBecomes, Updates}
+use Rattle.table_store.specs.Updates.{Sized, EntryBecomes, Leads, PacedUpdates, PacedMoved, UpdatesWhen, Updates}
 use Rattle.table_tournament.specs.Replaying.{Playable, CountsWon}
 use Rattle.table_tournament.proofs.Orders.{entries-ordered}
 
@@ -133,7 +133,7 @@ unfolding withEntryOf
 put-at s v q x = rw q
 
 pub same-fixed : (c d : Connection) → KeepsIdentity c d → fixedWords d ≡ fixedWords c
-same-fixed c d h = rw (h .opened, h .trm, h .params)
+same-fixed c d h = rw (h .name, h .opened, h .trm, h .params)
 
 -- the same of the words and the count that storing an entry gives
 pub put-becomes :
@@ -144,13 +144,29 @@ put-becomes s v {i} q x {m} {n} h =
     (h .0 ∙ ap words (sym e), h .1 ∙ ap (λ (k : ℕ). replayed k (s .entries) (set (s .entries) i x)) (sym q) ∙ ap (λ (r : State). replayed (leafOf v s) (s .entries) (r .entries)) (sym e))
 
 -- a connection that keeps its entry, with what was stored of it
+pub updated-when :
+    (s : State) → Sized s → {l : List ℕ} → l ≡ words s → {v i : ℕ} (p : Located (s .entries) v i) (d : Connection) → KeepsIdentity (p .holder) d
+    → {When : State → Type 0} → When s → {Moved : Connection → Connection → Type 0} {m : List ℕ} {n : ℕ} → UpdatesWhen When Moved l m i d n → Moved (p .holder) d
+    → Playable (withEntryOf v (taken d) s .entries)
+    → (m ≡ words (withEntryOf v (taken d) s)) × (n ≡ replayed (leafOf v s) (s .entries) (withEntryOf v (taken d) s .entries))
+updated-when s g e {v} p d k a u b z =
+    put-becomes s v (p .place) (taken d)
+    (u .is s a g e (p .holder) (p .here) (k .name) (same-fixed (p .holder) d k) b (subst (λ (r : State). Playable (r .entries)) (put-at s v (p .place) (taken d)) z))
+
 pub updated-is :
     (s : State) → Sized s → {l : List ℕ} → l ≡ words s → {v i : ℕ} (p : Located (s .entries) v i) (d : Connection) → KeepsIdentity (p .holder) d
     → {Moved : Connection → Connection → Type 0} {m : List ℕ} {n : ℕ} → Updates Moved l m i d n → Moved (p .holder) d → Playable (withEntryOf v (taken d) s .entries)
     → (m ≡ words (withEntryOf v (taken d) s)) × (n ≡ replayed (leafOf v s) (s .entries) (withEntryOf v (taken d) s .entries))
-updated-is s g e {v} p d k u b z =
-    put-becomes s v (p .place) (taken d)
-    (u .is s g e (p .holder) (p .here) (k .name) (same-fixed (p .holder) d k) b (subst (λ (r : State). Playable (r .entries)) (put-at s v (p .place) (taken d)) z))
+updated-is s g e p d k u b z = updated-when s g e p d k {When = λ _. Unit} tt u b z
+
+-- the same of the winner's entry, where the code held d, with the queue, the pace and the ready instant of x
+pub paced-is :
+    (s : State) → Sized s → {l : List ℕ} → l ≡ words s → {v i : ℕ} (p : Located (s .entries) v i) (d x : Connection) → KeepsIdentity (p .holder) x → Leads i s
+    → {m : List ℕ} → PacedUpdates l m i d → PacedMoved (p .holder) x → pacedWords d ≡ pacedWords x → readyInstant d ≡ readyInstant x → Playable (withEntryOf v (taken x) s .entries)
+    → (m ≡ words (withEntryOf v (taken x) s)) × (levels ≡ replayed (leafOf v s) (s .entries) (withEntryOf v (taken x) s .entries))
+paced-is s g e {v} p d x k y u b a r z =
+    put-becomes s v (p .place) (taken x)
+    (u .is s y g e (p .holder) x (p .here) (k .name) (same-fixed (p .holder) x k) b a r (subst (λ (y : State). Playable (y .entries)) (put-at s v (p .place) (taken x)) z))
 
 module _ (s : State) (w : WellFormed s) {l : List ℕ} (e : l ≡ words s) {v i : ℕ} (h : i < capacity) (p : Located (s .entries) v i) (d : Connection) (k : KeepsIdentity (p .holder) d) where
   pub efci-is :

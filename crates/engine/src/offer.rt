@@ -13,7 +13,7 @@ use table::found::Found;
 use table::layout::WORDS;
 use table_entry::load::load;
 use table_names::find::find;
-use table_store::store::update_source;
+use table_store::store::update_queue;
 
 // As a count of cells to offer has it.
 const MOST: u64 = WAITING_MOST as u64;
@@ -36,6 +36,6 @@ pub fn offer(t: &mut [u64; WORDS], name: u32, cells: u64) -> Answer
     if MOST - waiting < cells {
         return Answer::Refused(REFUSED_TOO_MUCH_DATA);
     }
-    let comparisons = update_source(t, i, offered(cells as u32, c));
+    let comparisons = update_queue(t, i, offered(cells as u32, c));
     Answer::Accepted { comparisons }
 }

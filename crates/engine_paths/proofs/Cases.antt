@@ -25,7 +25,7 @@ use Rattle.model.specs.declared.answer.Answer.the-variants.{Accepted, Closed}
 use Rattle.model.proofs.Reached.{step-well-formed}
 use Rattle.table.specs.Layout.{words}
 use Rattle.table.specs.Loading.{connectionAt}
-use Rattle.table_store.specs.Updates.{Updates, SourceMoved}
+use Rattle.table_store.specs.Updates.{Updates, QueueMoved}
 use Rattle.table_names.specs.Finding.{Located}
 use Rattle.table_members.specs.Place.{MemberAt}
 use Rattle.table_members.specs.Words.{CellsAt, HasRoom, SetsCells, Adds, RemovesMember}
@@ -120,7 +120,7 @@ on-path s a b {i} p = subst (λ (v : ℕ). Located (s .entries) v i) (sym (path-
 module _ (s : State) (w : WellFormed s) {l k m : List ℕ} (e : l ≡ words s) (a b : ℕ) {i j : ℕ} (p : OnPath s a b i j) (below : i < capacity) {d : Connection} (q : d ≡ connectionAt l i) where
   pub offer-out :
       (n : ℕ) {c : ℕ} → cellsOf (addressName a b) (s .members) + n ≤ 65535 → SetsCells j (cellsOf (addressName a b) (s .members) + n) l k
-      → Updates SourceMoved k m i (offered n d) c → (m ≡ words (offerMemberStep s a b n .state)) × (Accepted c ≡ offerMemberStep s a b n .answer)
+      → Updates QueueMoved k m i (offered n d) c → (m ≡ words (offerMemberStep s a b n .state)) × (Accepted c ≡ offerMemberStep s a b n .answer)
   unfolding step withOffer withMembers withEntryOf on-path
   offer-out n {c} fit set u =
       let x : ℕ = addressName a b in
@@ -132,10 +132,10 @@ module _ (s : State) (w : WellFormed s) {l k m : List ℕ} (e : l ≡ words s) (
       let z = ordered (replay-well-formed w (offeringMember a b n) (leafOf (pathOf x) s) (withOffer x n path s) done) in
       let g : k ≡ words r = members-changed s ms (set .is (front s) (s .members) x (with-members s (w .size) (w .members .valid) e) (p .place)) in
       replayed-out (leafOf (pathOf x) s) s (withOffer x n path s)
-      (updated-is r (w .size) g (on-path s a b p) (offered n path) (offered-same n path) (subst (λ (y : Connection). Updates SourceMoved k m i (offered n y) c) is u) (offered-moved n path) z) done
+      (updated-is r (w .size) g (on-path s a b p) (offered n path) (offered-same n path) (subst (λ (y : Connection). Updates QueueMoved k m i (offered n y) c) is u) (offered-moved n path) z) done
 
   pub remove-out :
-      {c : ℕ} → RemovesMember (addressName a b) l k → Updates SourceMoved k m i (withQueue d (dequeued (cellsOf (addressName a b) (s .members)) (d .queue))) c
+      {c : ℕ} → RemovesMember (addressName a b) l k → Updates QueueMoved k m i (withQueue d (dequeued (cellsOf (addressName a b) (s .members)) (d .queue))) c
       → (m ≡ words (removeStep s a b .state)) × (Closed c (cellsOf (addressName a b) (s .members)) ≡ removeStep s a b .answer)
   unfolding step withoutOne withMembers withEntryOf on-path
   remove-out {c} gone u =
@@ -150,4 +150,4 @@ module _ (s : State) (w : WellFormed s) {l k m : List ℕ} (e : l ≡ words s) (
       let z = ordered (discard-well-formed w (removing a b) n (leafOf (pathOf x) s) (withoutOne x path s) done) in
       let g : k ≡ words r = members-changed s ms (gone .is (front s) (s .members) (with-members s (w .size) (w .members .valid) e) (p .place .member)) in
       discarded-out n (leafOf (pathOf x) s) s (withoutOne x path s)
-      (updated-is r (w .size) g (on-path s a b p) now (removed-same n path) (subst (λ (y : Connection). Updates SourceMoved k m i (withQueue y (dequeued n (y .queue))) c) is u) (refl, refl) z) done
+      (updated-is r (w .size) g (on-path s a b p) now (removed-same n path) (subst (λ (y : Connection). Updates QueueMoved k m i (withQueue y (dequeued n (y .queue))) c) is u) (refl, refl, refl) z) done

@@ -16,7 +16,7 @@ use table_entry::load::load;
 use table_members::change::set_cells;
 use table_members::find::cells_at;
 use table_names::find::find;
-use table_store::store::update_source;
+use table_store::store::update_queue;
 
 // Refusals 11, 28, 15. A VCI out of its range meets 28 too. 15 looks at that member alone. The sum is never
 // formed before it is known to fit.
@@ -36,6 +36,6 @@ pub fn offer_member(t: &mut [u64; WORDS], vpi: u32, vci: u32, cells: u64) -> Ans
     let more = cells as u32;
     let c = load(t, i);
     set_cells(t, j, waiting + more);
-    let comparisons = update_source(t, i, offered(more, c));
+    let comparisons = update_queue(t, i, offered(more, c));
     Answer::Accepted { comparisons }
 }

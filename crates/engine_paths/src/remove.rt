@@ -14,7 +14,7 @@ use table_entry::load::load;
 use table_members::change;
 use table_members::find::cells_at;
 use table_names::find::find;
-use table_store::store::update_source;
+use table_store::store::update_queue;
 
 // Refusals 11, 28, which a VCI out of its range meets too. It answers like a close.
 pub fn remove(t: &mut [u64; WORDS], vpi: u32, vci: u32) -> Answer
@@ -29,7 +29,7 @@ pub fn remove(t: &mut [u64; WORDS], vpi: u32, vci: u32) -> Answer
     let waiting = cells_at(t, j);
     let c = load(t, i);
     change::remove(t, address_name(vpi, vci));
-    let comparisons = update_source(t, i, dequeued(waiting, c));
+    let comparisons = update_queue(t, i, dequeued(waiting, c));
     Answer::Closed {
         comparisons,
         cells: waiting as u64,

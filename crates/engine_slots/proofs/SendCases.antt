@@ -1,79 +1,67 @@
--- What a slot that goes to an entry leaves.
-use Prim.Native.Nat.{ℕ, _%_, _≤_, _<_}
+-- What a slot that goes to an entry leaves: a forward cell, or a turned or made one.
+use Prim.Native.Nat.{ℕ, _/_, _≤_, _<_}
 use mathlib.Core.Path.{_≡_, refl, sym, ap, subst, _∙_}
-use mathlib.Core.Bool.{Bool, true, false, true≢false}
-use mathlib.Core.List.{List, _++_}
-use mathlib.Core.Option.{Option, none, some}
+use mathlib.Core.Logic.{_≢_}
+use mathlib.Core.Bool.{Bool, false, false≢true}
+use mathlib.Core.List.{List}
+use mathlib.Core.Option.{none}
 use native.Mathlib.Omega.{arith}
+use lib.Dec.{leb}
 use lib.ListN.{getD}
-use Rattle.connection_members.specs.Path.{isPath}
-use Rattle.connection_members.specs.Members.{Member, pathCells}
-use Rattle.connection_members.specs.Turn.{turn, afterServing, lastAfter}
-use Rattle.connection_members.proofs.Turns.{turn-none, turn-some}
+use Rattle.rate.specs.Units.{latestTime}
+use Rattle.cell.specs.Name.{noName}
+use Rattle.connection_members.specs.Turn.{afterServing, lastAfter}
 use Rattle.connection.specs.declared.parts.Connection.{Connection}
 use Rattle.connection.specs.declared.kind.Kind.{Kind}
-use Rattle.connection.specs.declared.kind.Kind.the-variants.{Forward, Turned, Data}
+use Rattle.connection.specs.declared.kind.Kind.the-variants.{Forward, Turned}
 use Rattle.connection.specs.Invariant.{ValidAt}
 use Rattle.connection.specs.Kind.{kindAt}
-use Rattle.connection.specs.Parts.{waiting}
 use Rattle.connection.specs.Range.{InRange}
-use Rattle.connection.specs.Source.{sentForward, sentData, withServed}
-use Rattle.connection.specs.Destination.{sentTurned}
+use Rattle.connection.specs.Source.{sentForward, withServed}
+use Rattle.connection.specs.Destination.{sentTurned, backwardCell}
 use Rattle.connection.specs.Slot.{after, memberServed, bufferSent}
-use Rattle.connection.proofs.Keeps.{KeepsIdentity, after-same, after-valid, served-same, served-valid}
+use Rattle.connection.proofs.Keeps.{after-same, after-valid}
+use Rattle.connection.proofs.Ranged.{after-ranged}
 use Rattle.connection.proofs.Reached.{acr-is-rate}
-use Rattle.model.specs.State.{State, Entry, free, taken, position, holds, find, leafOf, withEntryOf, withMembers, capacity}
-use Rattle.model.specs.Invariant.{WellFormed}
+use Rattle.model.specs.State.{State, Entry, taken, leafOf, withEntryOf, withMembers, capacity}
 use Rattle.model.specs.Call.{Outcome}
 use Rattle.model.specs.Step.{nameAnswered, sendFrom, sendStep}
-use Rattle.model.specs.Tournament.{replayed}
+use Rattle.model.specs.Tournament.{levels, neighbour, replayed}
 use Rattle.model.specs.declared.answer.Answer.the-variants.{Sent}
 use Rattle.model.specs.declared.details.SlotAnswer.the-variants.{Sent as SentCell}
-use Rattle.model.specs.Details.{rateIn, isMade, sentWith, slotAnswer}
-use Rattle.model.proofs.Members.{path-sum}
-use Rattle.table.specs.Layout.{words, memberWords}
+use Rattle.model.specs.Details.{noneTurned, rateIn, isMade, sentWith, slotAnswer}
+use Rattle.table.specs.Layout.{words, recordFrom}
 use Rattle.table.specs.Loading.{connectionAt}
+use Rattle.table.proofs.Loaded.{load-named}
 use Rattle.table_names.specs.Finding.{Located}
 use Rattle.table_names.proofs.Found.{found-at}
-use Rattle.table_members.specs.Words.{nameOrZero, Serves}
+use Rattle.table_tournament.proofs.Keyed.{neighbour-below}
+use Rattle.table_tournament.proofs.Winning.{winner-key}
 use Rattle.engine.specs.Contract.{bufferContent}
-use Rattle.engine_slots.specs.Slots.{Carried, MovedBy, isMembers, isMadeCell}
-use Rattle.table_store.specs.Updates.{Updates, SourceMoved}
-use Rattle.engine.proofs.Outcomes.{valid-in, loaded-is, updated-is, put-ordered}
-use Rattle.engine.proofs.Members.{front, with-members, members-changed}
+use Rattle.engine_slots.specs.Slots.{ForwardIn, SlotLeaves, SendsFrom}
+use Rattle.table_store.specs.Updates.{Leads, WinnerUpdates, SourceMoved, BothMoved}
+use Rattle.engine.proofs.Outcomes.{ranged, roomy, valid-in, loaded-is, updated-when, put-ordered}
 
-carried-is :
-    (t : ℕ) (c : Connection) (k : Kind) (old new : List ℕ) → kindAt t c ≡ k → ValidAt t c → Carried k c (after k t c) old new
-    → new ≡ bufferContent (bufferSent k c (after k t c)) old
-unfolding bufferSent
-carried-is t c Forward old new e p h = h .is (acr-is-rate (after Forward t c .rate) (after-valid Forward t c e p .1 .rates))
-carried-is t c Turned old new e p h = h
-carried-is t c Data old new e p h = h
+-- Whatever the words are: the name that was loaded is one, and what a cell makes of the connection keeps it and lies
+-- in range.
+pub loaded-named : (l : List ℕ) (i : ℕ) {d : Connection} → d ≡ connectionAt l i → d .name < noName
+loaded-named l i q = subst (λ (x : Connection). x .name < noName) (sym q) (load-named l i)
 
--- a cell of this kind moves no more than it may
-sent-moved : (k : Kind) (t : ℕ) (c : Connection) → MovedBy k c (after k t c)
-unfolding after sentForward sentTurned sentData
-sent-moved Forward t c = (refl, refl)
-sent-moved Turned t c = refl
-sent-moved Data t c = (refl, refl)
+module _ (t : ℕ) (l : List ℕ) (i : ℕ) {d : Connection} (q : d ≡ connectionAt l i) where
+  after-in-range : (k : Kind) → t ≤ latestTime → InRange (after k t d)
+  after-in-range k h = after-ranged k t d (omega (arith, h)) (ranged l i q) (roomy l i q)
 
--- no member is served but by data of a path
-no-member : (k : Kind) (c : Connection) (ms : List Member) → isMembers k (c .name) ≡ false → memberServed k c ms ≡ none
-unfolding memberServed
-no-member Forward c ms e = refl
-no-member Turned c ms e = refl
-no-member Data c ms e = turn-none (c .name) (c .queue .served) ms e
+  pub forward-named : {n : Connection} → n ≡ sentForward t d → n .name < noName
+  unfolding after
+  forward-named b = subst (λ (x : ℕ). x < noName) (sym (ap (λ (x : Connection). x .name) b ∙ after-same Forward t d .name)) (loaded-named l i q)
 
-of-data : (k : Kind) (v : ℕ) → isMembers k v ≡ true → k ≡ Data
-of-data Forward v e = absurd (true≢false (sym e))
-of-data Turned v e = absurd (true≢false (sym e))
-of-data Data v e = refl
+  pub forward-in-range : {n : Connection} → n ≡ sentForward t d → t ≤ latestTime → InRange n
+  unfolding after
+  forward-in-range b h = subst InRange (sym b) (after-in-range Forward h)
 
--- whether the cell is a made one, of the entry that it goes from
-is-made-cell : (k : Kind) (c : Connection) → isMade k (taken c) ≡ isMadeCell k (c .destination .turned)
-is-made-cell Forward c = refl
-is-made-cell Turned c = refl
-is-made-cell Data c = refl
+  pub turned-in-range : {n : Connection} → n ≡ sentTurned t d → t ≤ latestTime → InRange n
+  unfolding after
+  turned-in-range b h = subst InRange (sym b) (after-in-range Turned h)
 
 -- a slot's outcome without a member
 abbrev plain : State → (t : ℕ) → Connection → Kind → Outcome
@@ -91,142 +79,71 @@ plain-send : (s : State) (t : ℕ) (c : Connection) (k : Kind) → memberServed 
 unfolding sendStep
 plain-send s t c k e = ap (sendFrom s t (c .name) c k) e ∙ unserved s t c k
 
-member-send : (s : State) (t : ℕ) (c : Connection) (k : Kind) (u : ℕ) → memberServed k c (s .members) ≡ some u → sendStep s t (c .name) c k ≡ sendFrom s t (c .name) c k (some u)
-unfolding sendStep
-member-send s t c k u e = ap (sendFrom s t (c .name) c k) e
+module _ (s : State) (t i : ℕ) (c : Connection) (f : SendsFrom t i s c) where
+  abbrev pub located : Located (s .entries) (c .name) i
+  located = record { holder = c; here = f .here; named = refl; place = f .place }
 
-pub served-ranged : (x : Option ℕ) (c : Connection) → InRange c → InRange (withServed x c)
-unfolding withServed
-served-ranged x c h = record { opened = h .opened; trm = h .trm; pace = h .pace; made = h .made; «out_of_rate» = h .«out_of_rate» }
+  pub leading : Leads i s
+  leading = record { unique = f .reached .unique; wins = f .leads }
 
-served-moved : (x : Option ℕ) (k : Kind) (t : ℕ) (c : Connection) → k ≡ Data → SourceMoved c (withServed x (after k t c))
-unfolding withServed after sentData
-served-moved x k t c e = subst (λ (z : Kind). SourceMoved c (withServed x (after z t c))) (sym e) (refl, refl)
+  -- no neighbour has a greater key
+  pub never-behind : {l : List ℕ} → l ≡ words s → i < capacity → (b : Bool) → b ≡ leb (getD l (recordFrom (neighbour i)) 0) (getD l (recordFrom i) 0) → b ≢ false
+  never-behind e h b g z = false≢true (sym z ∙ g ∙ winner-key _ s (f .reached) e i (neighbour i) h (neighbour-below (capacity / 2) i h) (f .leads))
 
--- The connection that was loaded, its kind, and what comes after it, as they stand in the table.
-module _ (s : State) (w : WellFormed s) (t : ℕ) (last : s .last ≡ t) {l : List ℕ} (e : l ≡ words s) (i : ℕ) (h : i < capacity) (c : Connection) (entry : getD (s .entries) i free ≡ taken c)
-    (place : position (holds (c .name)) (s .entries) ≡ i) (d : Connection) (q : d ≡ connectionAt l i) (k : Kind) (a : k ≡ kindAt t d) (n : Connection) (b : n ≡ after k t d) where
-  abbrev located : Located (s .entries) (c .name) i
-  located = record { holder = c; here = entry; named = refl; place = place }
+  pub valid : ValidAt t c
+  valid = subst (λ (z : ℕ). ValidAt z c) (f .timed) (valid-in s (f .reached) located)
 
-  is : d ≡ c
-  is = loaded-is s w located e h q
+  module _ (k : Kind) (kind : kindAt t c ≡ k) where
+    pub next-valid : ValidAt (s .last) (after k t c)
+    next-valid = subst (λ (y : ℕ). ValidAt y (after k t c)) (sym (f .timed)) (after-valid k t c kind valid)
 
-  kind-is : k ≡ kindAt t c
-  kind-is = a ∙ ap (kindAt t) is
+    -- what the slot answers of the entry: its leaf, its rate before the cell, and whether the cell was a made one
+    pub shown : (x a j : ℕ) → SentCell x k a j i (c .rate .acr) (isMade k (taken c)) ≡ sentWith s (Sent (c .name) x k a j)
+    shown x a j =
+        ap (λ (z : ℕ). SentCell x k a j z (c .rate .acr) (isMade k (taken c))) (sym (f .place))
+        ∙ ap (λ (z : Entry). SentCell x k a j (leafOf (c .name) s) (rateIn z) (isMade k z)) (sym (found-at located))
 
-  abbrev next : Connection
-  next = after (kindAt t c) t c
+    -- from the connection itself, once its entry is stored
+    pub sent-out :
+        {m : List ℕ} {j : ℕ} → (m ≡ words (withEntryOf (c .name) (taken (after k t c)) s)) × (j ≡ replayed (leafOf (c .name) s) (s .entries) (withEntryOf (c .name) (taken (after k t c)) s .entries))
+        → memberServed k c (s .members) ≡ none → (old new : List ℕ) → new ≡ bufferContent (bufferSent k c (after k t c)) old
+        → SlotLeaves k t s c m (SentCell (c .name) k (after k t c .rate .acr) j i (c .rate .acr) (isMade k (taken c))) old new
+    sent-out {m} {j} y o old new g =
+        subst
+        (λ (p : Outcome). (m ≡ words (p .state)) × (SentCell (c .name) k (after k t c .rate .acr) j i (c .rate .acr) (isMade k (taken c)) ≡ slotAnswer s p) × (new ≡ bufferContent (p .buffer) old))
+        (sym (plain-send s t c k o))
+        (y .0, shown (c .name) (after k t c .rate .acr) j ∙ ap (λ (n : ℕ). sentWith s (Sent (c .name) (c .name) k (after k t c .rate .acr) n)) (y .1), g)
 
-  next-is : n ≡ next
-  next-is = b ∙ ap (λ (z : Kind). after z t d) kind-is ∙ ap (after (kindAt t c) t) is
+  module _ {l : List ℕ} (e : l ≡ words s) (h : i < capacity) (d : Connection) (q : d ≡ connectionAt l i) where
+    is : d ≡ c
+    is = loaded-is s (f .reached) located e h q
 
-  valid : ValidAt t c
-  valid = subst (λ (z : ℕ). ValidAt z c) last (valid-in s w located)
+    pub forward-out :
+        {m : List ℕ} (old new : List ℕ) (n : Connection) → n ≡ sentForward t d → ForwardIn 0 (n .name) (n .rate) new → WinnerUpdates SourceMoved l m i n → kindAt t c ≡ Forward
+        → SlotLeaves Forward t s c m (SentCell (d .name) Forward (n .rate .acr) levels i (d .rate .acr) false) old new
+    unfolding after sentForward memberServed bufferSent
+    forward-out {m} old new n b g u kind =
+        let a = after-same Forward t c in
+        let v = next-valid Forward kind in
+        let next-is : n ≡ after Forward t c = b ∙ ap (sentForward t) is in
+        let y =
+        updated-when s (f .reached .size) e located (after Forward t c) a leading (subst (λ (z : Connection). WinnerUpdates SourceMoved l m i z) next-is u) (refl, refl)
+        (put-ordered (f .reached) (c .name) (taken (after Forward t c)) v (a .name)) in
+        subst (λ (z : Connection). SlotLeaves Forward t s c m (SentCell (z .name) Forward (n .rate .acr) levels i (z .rate .acr) false) old new) (sym is)
+        (subst (λ (z : Connection). SlotLeaves Forward t s c m (SentCell (c .name) Forward (z .rate .acr) levels i (c .rate .acr) false) old new) (sym next-is)
+        (sent-out Forward kind y refl old new (subst (λ (z : Connection). ForwardIn 0 (z .name) (z .rate) new) next-is g .is (acr-is-rate (after Forward t c .rate) (v .1 .rates)))))
 
-  next-valid : ValidAt (s .last) next
-  next-valid = subst (λ (y : ℕ). ValidAt y next) (sym last) (after-valid (kindAt t c) t c refl valid)
-
-  carried : (old new : List ℕ) → Carried k d n old new → new ≡ bufferContent (bufferSent (kindAt t c) c next) old
-  carried old new g =
-      carried-is t c (kindAt t c) old new refl valid
-      (subst (λ (z : Connection). Carried (kindAt t c) c z old new) next-is
-      (subst (λ (z : Connection). Carried (kindAt t c) z n old new) is (subst (λ (z : Kind). Carried z d n old new) kind-is g)))
-
-  answer-is : (x j : ℕ) → Sent (d .name) x k (n .rate .acr) j ≡ Sent (c .name) x (kindAt t c) (next .rate .acr) j
-  answer-is x j =
-      ap (λ (z : Connection). Sent (z .name) x k (n .rate .acr) j) is ∙ ap (λ (z : Kind). Sent (c .name) x z (n .rate .acr) j) kind-is
-      ∙ ap (λ (z : Connection). Sent (c .name) x (kindAt t c) (z .rate .acr) j) next-is
-
-  member-is : isMembers k (d .name) ≡ isMembers (kindAt t c) (c .name)
-  member-is = ap (λ (z : Connection). isMembers k (z .name)) is ∙ ap (λ (z : Kind). isMembers z (c .name)) kind-is
-
-  -- what the slot answers of the entry: its leaf, its rate before the cell, and whether the cell was a made one
-  found : find (d .name) (s .entries) ≡ taken d
-  found = subst (λ (z : Connection). find (z .name) (s .entries) ≡ taken z) (sym is) (found-at located)
-
-  shown : (x j : ℕ) (b : Bool) → b ≡ isMadeCell k (d .destination .turned) → SentCell x k (n .rate .acr) j i (d .rate .acr) b ≡ sentWith s (Sent (d .name) x k (n .rate .acr) j)
-  shown x j b g =
-      ap (λ (z : ℕ). SentCell x k (n .rate .acr) j z (d .rate .acr) b) (sym (ap (λ (z : Connection). leafOf (z .name) s) is ∙ place))
-      ∙ ap (SentCell x k (n .rate .acr) j (leafOf (d .name) s) (d .rate .acr)) (g ∙ sym (is-made-cell k d))
-      ∙ ap (λ (z : Entry). SentCell x k (n .rate .acr) j (leafOf (d .name) s) (rateIn z) (isMade k z)) (sym found)
-
-  -- from the connection itself
-  from-itself :
-      {m : List ℕ} (old new : List ℕ) → Carried k d n old new → (j : ℕ) → Updates (MovedBy k) l m i n j → isMembers k (d .name) ≡ false
-      → (m ≡ words (sendStep s t (c .name) c (kindAt t c) .state)) × (Sent (d .name) (d .name) k (n .rate .acr) j ≡ sendStep s t (c .name) c (kindAt t c) .answer)
-      × (new ≡ bufferContent (sendStep s t (c .name) c (kindAt t c) .buffer) old)
-  from-itself {m} old new g j u o =
-      let f : Updates (MovedBy (kindAt t c)) l m i next j = subst (λ (y : Connection). Updates (MovedBy (kindAt t c)) l m i y j) next-is (subst (λ (y : Kind). Updates (MovedBy y) l m i n j) kind-is u) in
-      let y = updated-is s (w .size) e located next (after-same (kindAt t c) t c) f (sent-moved (kindAt t c) t c) (put-ordered w (c .name) (taken next) next-valid (after-same (kindAt t c) t c .name)) in
-      subst (λ (p : Outcome). (m ≡ words (p .state)) × (Sent (d .name) (d .name) k (n .rate .acr) j ≡ p .answer) × (new ≡ bufferContent (p .buffer) old))
-      (sym (plain-send s t c (kindAt t c) (no-member (kindAt t c) c (s .members) (sym member-is ∙ o)))) (
-        y .0,
-        answer-is (d .name) j ∙ ap (λ (z : Connection). Sent (c .name) (z .name) (kindAt t c) (next .rate .acr) j) is ∙ ap (Sent (c .name) (c .name) (kindAt t c) (next .rate .acr)) (y .1),
-        carried old new g,
-      )
-
-  pub sent-out :
-      {m : List ℕ} (old new : List ℕ) → Carried k d n old new → (j : ℕ) → Updates (MovedBy k) l m i n j → isMembers k (d .name) ≡ false → (b : Bool) → b ≡ isMadeCell k (d .destination .turned)
-      → (m ≡ words (sendStep s t (c .name) c (kindAt t c) .state)) × (SentCell (d .name) k (n .rate .acr) j i (d .rate .acr) b ≡ slotAnswer s (sendStep s t (c .name) c (kindAt t c)))
-      × (new ≡ bufferContent (sendStep s t (c .name) c (kindAt t c) .buffer) old)
-  sent-out old new g j u o b f = let z = from-itself old new g j u o in (z .0, shown (d .name) j b f ∙ ap (sentWith s) (z .1), z .2)
-
-  -- from a member: its word has one cell less, then the path's entry is stored
-  from-member :
-      {m r : List ℕ} (old new : List ℕ) → Carried k d n old new → (x j : ℕ) → isMembers k (d .name) ≡ true → (kindAt t c ≡ Data → 0 < waiting (c .queue))
-      → Serves (d .name) (d .queue .served % 65536) l m x → Updates SourceMoved m r i (withServed (some x) n) j
-      → (r ≡ words (sendStep s t (c .name) c (kindAt t c) .state)) × (Sent (d .name) x k (n .rate .acr) j ≡ sendStep s t (c .name) c (kindAt t c) .answer)
-      × (new ≡ bufferContent (sendStep s t (c .name) c (kindAt t c) .buffer) old)
-  unfolding sendFrom nameAnswered withMembers withEntryOf memberServed
-  from-member {m} {r} old new g x j o waits sv u = go (turn (c .name) (c .queue .served) (s .members)) refl
-    where
-      data-kind : kindAt t c ≡ Data
-      data-kind = of-data (kindAt t c) (c .name) (sym member-is ∙ o)
-
-      path : isPath (c .name) ≡ true
-      path = ap (λ (z : Kind). isMembers z (c .name)) (sym data-kind) ∙ sym member-is ∙ o
-
-      kept : (v q : ℕ) → q ≤ 65535 → q % 65536 ≡ q
-      kept v q b = omega arith
-
-      served : (m ≡ front s ++ memberWords (afterServing (turn (c .name) (c .queue .served) (s .members)) (s .members))) × (x ≡ nameOrZero (turn (c .name) (c .queue .served) (s .members)))
-      served =
-          subst (λ (z : ℕ). Serves (c .name) z l m x) (kept 0 (c .queue .served) (valid .4 .served)) (subst (λ (z : Connection). Serves (z .name) (z .queue .served % 65536) l m x) is sv)
-          .is (front s) (s .members) (with-members s (w .size) (w .members .valid) e) (valid .0 .coded)
-
-      waiting-there : 0 < pathCells (c .name) (s .members)
-      waiting-there = omega (arith, waits data-kind, path-sum s (w .unique) (w .members) (c .name) c (found-at located) path)
-
-      go : (o : Option ℕ) → turn (c .name) (c .queue .served) (s .members) ≡ o
-          → (r ≡ words (sendStep s t (c .name) c (kindAt t c) .state)) × (Sent (d .name) x k (n .rate .acr) j ≡ sendStep s t (c .name) c (kindAt t c) .answer)
-          × (new ≡ bufferContent (sendStep s t (c .name) c (kindAt t c) .buffer) old)
-      go none p = absurd (turn-some (c .name) (c .queue .served) (s .members) waiting-there p)
-      go (some v) p =
-          let told : x ≡ v = served .1 ∙ ap nameOrZero p in
-          let ms : List Member = afterServing (some v) (s .members) in
-          let z : Connection = withServed (some v) next in
-          let f : Updates SourceMoved m r i z j = subst (λ (y : ℕ). Updates SourceMoved m r i (withServed (some y) next) j) told (subst (λ (y : Connection). Updates SourceMoved m r i (withServed (some x) y) j) next-is u) in
-          let here : m ≡ words (withMembers ms s) = members-changed s ms (served .0 ∙ ap (λ (y : Option ℕ). front s ++ memberWords (afterServing y (s .members))) p) in
-          let y =
-          updated-is (withMembers ms s) (w .size) here located z (same-served (some v)) f (served-moved (some v) (kindAt t c) t c data-kind)
-          (put-ordered w (c .name) (taken z) (served-valid (some v) next next-valid) (served-same (some v) next .name ∙ after-same (kindAt t c) t c .name)) in
-          subst (λ (p : Outcome). (r ≡ words (p .state)) × (Sent (d .name) x k (n .rate .acr) j ≡ p .answer) × (new ≡ bufferContent (p .buffer) old))
-          (sym (member-send s t c (kindAt t c) v (ap (λ (z : Kind). memberServed z c (s .members)) data-kind ∙ p))) (
-            y .0,
-            answer-is x j ∙ ap (λ (z : ℕ). Sent (c .name) z (kindAt t c) (next .rate .acr) j) told ∙ ap (Sent (c .name) v (kindAt t c) (next .rate .acr)) (y .1),
-            carried old new g,
-          )
-        where
-          same-served : (o : Option ℕ) → KeepsIdentity c (withServed o next)
-          same-served o =
-              let a = after-same (kindAt t c) t c in
-              let b = served-same o next in
-              record { name = b .name ∙ a .name; opened = b .opened ∙ a .opened; trm = b .trm ∙ a .trm; params = b .params ∙ a .params }
-
-  pub served-out :
-      {m r : List ℕ} (old new : List ℕ) → Carried k d n old new → (x j : ℕ) → isMembers k (d .name) ≡ true → (kindAt t c ≡ Data → 0 < waiting (c .queue))
-      → Serves (d .name) (d .queue .served % 65536) l m x → Updates SourceMoved m r i (withServed (some x) n) j → (b : Bool) → b ≡ isMadeCell k (d .destination .turned)
-      → (r ≡ words (sendStep s t (c .name) c (kindAt t c) .state)) × (SentCell x k (n .rate .acr) j i (d .rate .acr) b ≡ slotAnswer s (sendStep s t (c .name) c (kindAt t c)))
-      × (new ≡ bufferContent (sendStep s t (c .name) c (kindAt t c) .buffer) old)
-  served-out old new g x j o waits sv u b f = let z = from-member old new g x j o waits sv u in (z .0, shown x j b f ∙ ap (sentWith s) (z .1), z .2)
+    pub turned-out :
+        {m : List ℕ} (old new : List ℕ) (n : Connection) → n ≡ sentTurned t d → new ≡ backwardCell (d .name) (d .rate .params) (d .destination .turned) (d .destination .made .level) → WinnerUpdates BothMoved l m i n → (b : Bool)
+        → b ≡ noneTurned (d .destination .turned) → kindAt t c ≡ Turned → SlotLeaves Turned t s c m (SentCell (d .name) Turned (n .rate .acr) levels i (d .rate .acr) b) old new
+    unfolding after sentTurned memberServed bufferSent
+    turned-out {m} old new n a g u b w kind =
+        let z = after-same Turned t c in
+        let next-is : n ≡ after Turned t c = a ∙ ap (sentTurned t) is in
+        let y =
+        updated-when s (f .reached .size) e located (after Turned t c) z leading (subst (λ (x : Connection). WinnerUpdates BothMoved l m i x) next-is u) refl
+        (put-ordered (f .reached) (c .name) (taken (after Turned t c)) (next-valid Turned kind) (z .name)) in
+        subst (λ (x : Bool). SlotLeaves Turned t s c m (SentCell (d .name) Turned (n .rate .acr) levels i (d .rate .acr) x) old new) (sym w)
+        (subst (λ (x : Connection). SlotLeaves Turned t s c m (SentCell (x .name) Turned (n .rate .acr) levels i (x .rate .acr) (noneTurned (x .destination .turned))) old new) (sym is)
+        (subst (λ (x : Connection). SlotLeaves Turned t s c m (SentCell (c .name) Turned (x .rate .acr) levels i (c .rate .acr) (noneTurned (c .destination .turned))) old new) (sym next-is)
+        (sent-out Turned kind y refl old new (subst (λ (x : Connection). new ≡ backwardCell (x .name) (x .rate .params) (x .destination .turned) (x .destination .made .level)) is g))))

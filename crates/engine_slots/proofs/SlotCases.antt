@@ -101,7 +101,7 @@ module _ (s : State) (w : WellFormed s) (l : List ℕ) (e : l ≡ words s) (t ro
       let c = n .holder in
       let step : slotStep s t room ≡ sendStep (withTime t s) t (c .name) c (kindAt t c) =
       served s t room r u h ∙ send-serve (withTime t s) t (n .instant) (winner t (s .entries)) c (n .won) (found-in s t i c (n .here) (n .place)) in
-      let z = k .sends (withTime t s) (withTime-well-formed w t h u) refl timed-words c (n .here) (n .place) (λ q. data-waits t c (n .instant) (n .readyAt) (n .due) q) in
+      let z = k .sends (withTime t s) c (record { reached = withTime-well-formed w t h u; timed = refl; here = n .here; place = n .place; leads = n .leads }) timed-words (λ q. data-waits t c (n .instant) (n .readyAt) (n .due) q) in
       subst (LeavesSlot s m a old new) (sym step) (z .0, z .1 ∙ timed-answer s t (sendStep (withTime t s) t (c .name) c (kindAt t c) .answer), z .2)
 
 pub entry-below : (x : SlotWinner) (i : ℕ) → SlotWinnerInRange x → x ≡ Entry i → i < capacity

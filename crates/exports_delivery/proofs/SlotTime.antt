@@ -1,11 +1,10 @@
 -- A slot at the time that abr_slot_time returned does what one at its own time would do.
-use Prim.Native.Nat.{ℕ, _+_, _≤_, _<_}
+use Prim.Native.Nat.{ℕ, _≤_, _<_}
 use mathlib.Core.Path.{_≡_, refl, sym, ap, subst, _∙_}
 use mathlib.Core.Bool.{Bool, true, false}
 use mathlib.Core.List.{List}
 use native.Mathlib.Omega.{arith}
 use lib.Dec.{leb}
-use lib.ListN.{getD}
 use borrow.Author.Tests.{leb-true, leb-false, eq-eqb, eqb-true}
 use Rattle.laws.specs.Require.{require}
 use Rattle.rate.specs.Units.{latestTime}
@@ -19,8 +18,7 @@ use Rattle.model.specs.Run.{isAccepted, final}
 use Rattle.model.proofs.Effects.{Effect, Timely, refuses, idles, sends, effect}
 use Rattle.model.proofs.Reached.{reached-well-formed}
 use Rattle.model.proofs.SlotTime.{slot-time}
-use Rattle.table.specs.Layout.{nodesFrom}
-use Rattle.table_tournament.specs.KeyedWinner.{keyedWord}
+use Rattle.table_tournament.specs.KeyedWinner.{keyedNode}
 use Rattle.table_tournament.specs.Next.{GivesNext}
 use Rattle.table_tournament.proofs.Winning.{gives-next}
 use Rattle.abr.specs.Exports.{Observation, Performs, Transcript, Matches, finalWords, zeros}
@@ -96,7 +94,7 @@ module _ (cs : List Call) (os : List Observation) (tr : Transcript cs zeros os) 
   sent-from : (t : ℕ) (o : Observation) → Performs (slot t 53) words-there o → o .returned .refusal ≡ 0 → SentFrom (nextReady here) t o
   unfolding here words-there
   sent-from t o p z =
-      let g = gives-next (finalWords zeros os) (keyedWord (finalWords zeros os) (getD (finalWords zeros os) (nodesFrom + 1) 0)) refl in
+      let g = gives-next (finalWords zeros os) (keyedNode (finalWords zeros os) 1) refl in
       subst (λ (n : ℕ). SentFrom n t o) (exports-are-run .next cs os tr _ g) (exports-next-ready cs os tr _ g t 53 o p z)
 
   module _ (now lag : ℕ) (o p : Observation) (own : Performs (slot now 53) words-there o) (passed : Performs (slot (slotTime here now lag) 53) words-there p) where

@@ -1,7 +1,7 @@
 -- Laws of blocks and of runs of stores, over any width.
 use mathlib.Core.Path.{_≡_, refl, sym, ap, _∙_}
 use Prim.Native.Nat.{ℕ, zero, suc, _+_, _*_, _<_}
-use native.Mathlib.Nat.{zero-mul, zero-add, suc-mul, add-zero, add-comm, add-suc, suc-add, not-suc-le-zero, le-of-suc-le-suc, suc-inj}
+use native.Mathlib.Nat.{zero-mul, zero-add, suc-mul, add-zero, add-comm, add-suc, not-suc-le-zero, le-of-suc-le-suc, suc-inj}
 use native.Mathlib.Numerals.{add-one}
 use native.Mathlib.Omega.{arith}
 use mathlib.Core.List.{List, [], _∷_, _++_, append-assoc, append-nil}
@@ -18,18 +18,6 @@ putFrom-sets l b k (v ∷ vs) =
 pub put-sets : (l : List ℕ) (b : ℕ) (vs : List ℕ) → put l b vs ≡ sets l b vs
 put-sets l b [] = refl
 put-sets l b (v ∷ vs) = putFrom-sets (set l b v) b 1 vs ∙ ap (λ (n : ℕ). sets (set l b v) n vs) (add-one b)
-
--- two runs, the second behind the first
-sets-append : (l : List ℕ) (b : ℕ) (xs ys : List ℕ) → sets l b (xs ++ ys) ≡ sets (sets l b xs) (b + length xs) ys
-sets-append l b [] ys = ap (λ (n : ℕ). sets l n ys) (sym (add-zero b))
-sets-append l b (x ∷ xs) ys =
-    sets-append (set l b x) (suc b) xs ys
-    ∙ ap (λ (n : ℕ). sets (sets (set l b x) (suc b) xs) n ys) (suc-add b (length xs) ∙ sym (add-suc b (length xs)))
-
-pub put-append : (l : List ℕ) (b : ℕ) (xs ys : List ℕ) → put (put l b xs) (b + length xs) ys ≡ put l b (xs ++ ys)
-put-append l b xs ys =
-    put-sets (put l b xs) (b + length xs) ys ∙ ap (λ (m : List ℕ). sets m (b + length xs) ys) (put-sets l b xs)
-    ∙ sym (sets-append l b xs ys) ∙ sym (put-sets l b (xs ++ ys))
 
 -- what stands between p and r is replaced
 pub sets-mid : (p q r v : List ℕ) → length q ≡ length v → sets (p ++ (q ++ r)) (length p) v ≡ p ++ (v ++ r)

@@ -1,9 +1,10 @@
 -- What a replay of a leaf's matches counts.
 use Prim.Native.Nat.{ℕ, zero, suc, _+_, _-_, _/_, _≤_, _<_}
-use mathlib.Core.Path.{_≡_, refl, sym, ap, ap₂, _∙_}
+use mathlib.Core.Path.{_≡_, refl, sym, ap, ap₂, subst, _∙_}
 use mathlib.Core.Logic.{_≢_}
 use mathlib.Core.Bool.{Bool, true, false, cond, not, _&&_}
 use mathlib.Core.List.{List}
+use native.Mathlib.Nat.{zero-add, add-zero}
 use native.Mathlib.Omega.{arith}
 use lib.Dec.{eqb}
 use lib.ListN.{length, getD, set}
@@ -13,6 +14,10 @@ use Rattle.model.specs.Invariant.{NamesUnique}
 use Rattle.model.specs.Winner.{isAhead}
 use Rattle.model.specs.Tournament.{levels, MatchWinner, noWinner, wonBy, instantWinner, leafWinner, first, neighbour, winnerAt, winnerWord, ends, replayedFrom, replayed}
 use Rattle.model.proofs.Places.{above, aside, above-stands, OnMatchWinner, Comes, winner-entry, up, same-leaf, unlike, stands-root}
+
+-- a level more, counted from below
+onward : (d c : ℕ) → d + suc c ≡ suc d + c
+onward d c = omega arith
 
 either-most : (b : Bool) {i j k : ℕ} → i ≤ k → j ≤ k → cond b i j ≤ k
 either-most true p q = p
@@ -86,15 +91,18 @@ one-of (wonBy i v x) (wonBy j u y) w e n = go (isAhead i v j u) e
     go true e = e
     go false e = absurd (n e)
 
-not-below : (ss : List Entry) (x d p : ℕ) (a : MatchWinner) → OnMatchWinner (Comes ss d p) a → above d (capacity + x) ≢ p → winnerWord a ≢ x + 1
+pub not-below : (ss : List Entry) (x d p : ℕ) (a : MatchWinner) → OnMatchWinner (Comes ss d p) a → above d (capacity + x) ≢ p → winnerWord a ≢ x + 1
 unfolding winnerWord
 not-below ss x d p noWinner c n e = omega (arith, e)
 not-below ss x d p (wonBy i v y) c n e = let z : y ≡ x = omega (arith, e) in n (sym (ap (λ (m : ℕ). above d (capacity + m)) z) ∙ c .below)
 
+-- whether leaf x wins the match so many levels above it
+abbrev pub WonAt : (ss : List Entry) (x level : ℕ) → Type 0
+WonAt ss x d = winnerWord (winnerAt ss d (above d (capacity + x))) ≡ x + 1
+
 module _ (x : ℕ) (l : x < capacity) (ss : List Entry) (u : NamesUnique ss) where
   -- the leaf leads the match below
-  won-below : (h d : ℕ) → h + suc d ≡ levels → winnerWord (winnerAt ss (suc d) (above (suc d) (capacity + x))) ≡ x + 1
-      → winnerWord (winnerAt ss d (above d (capacity + x))) ≡ x + 1
+  won-below : (h d : ℕ) → h + suc d ≡ levels → WonAt ss x (suc d) → WonAt ss x d
   unfolding above
   won-below h d e f =
       let s = above-stands x l (suc h) d (omega arith) in
@@ -102,12 +110,10 @@ module _ (x : ℕ) (l : x < capacity) (ss : List Entry) (u : NamesUnique ss) whe
       one-of (winnerAt ss d q) (winnerAt ss d (neighbour q)) (x + 1) (sym (ap winnerWord (up ss u h d q s)) ∙ f)
       (not-below ss x d (neighbour q) (winnerAt ss d (neighbour q)) (winner-entry ss d (neighbour q) (aside q s)) (unlike q))
 
-  won-all : (h d : ℕ) → h + d ≡ levels → winnerWord (winnerAt ss levels 1) ≡ x + 1 → winnerWord (winnerAt ss d (above d (capacity + x))) ≡ x + 1
-  won-all zero d e f =
-      let z : d ≡ levels = omega arith in
-      let s : above levels (capacity + x) ≡ 1 = stands-root (above-stands x l 0 levels refl) in
-      rw z (ap (λ (p : ℕ). winnerWord (winnerAt ss levels p)) s ∙ f)
-  won-all (suc h) d e f = won-below h d (omega arith) (won-all h (suc d) (omega arith) f)
+  -- and those further below
+  won-all : (c d : ℕ) → d + c ≤ levels → WonAt ss x (d + c) → WonAt ss x d
+  won-all zero d e f = subst (WonAt ss x) (add-zero d) f
+  won-all (suc c) d e f = won-below (levels - suc d) d (omega arith) (won-all c (suc d) (omega arith) (subst (WonAt ss x) (onward d c) f))
 
   led-on : (a b : MatchWinner) → winnerWord a ≡ x + 1 → ends x a b ≡ false
   unfolding ends
@@ -117,14 +123,23 @@ module _ (x : ℕ) (l : x < capacity) (ss : List Entry) (u : NamesUnique ss) whe
       go true f = rw (eq-eqb (winnerWord b) (x + 1) (sym (eqb-true (winnerWord a) (winnerWord b) f) ∙ e))
       go false f = refl
 
-  from-all : (rs : List Entry) → winnerWord (winnerAt ss levels 1) ≡ x + 1 → (d n p : ℕ) → d + n ≡ suc levels → p ≡ above d (capacity + x) → replayedFrom x ss rs d p n ≡ n
+  from-won : (rs : List Entry) (c d n p : ℕ) → d + n ≡ levels → c < n → p ≡ above (suc d) (capacity + x) → WonAt ss x (d + c) → c < replayedFrom x ss rs (suc d) p n
   unfolding replayedFrom above
-  from-all rs f d zero p e q = refl
-  from-all rs f d (suc n) p e q =
-      rw (led-on (winnerAt ss d p) (winnerAt rs d p) (rw q (won-all n d (omega arith) f)))
-      (ap suc (from-all rs f (suc d) n (p / 2) (omega arith) (ap (λ (m : ℕ). m / 2) q)))
+  from-won rs c d zero p e m q f = absurd (omega arith)
+  from-won rs zero d (suc n) p e m q f = from-least x ss rs (suc d) p n
+  from-won rs (suc c) d (suc n) p e m q f =
+      let g = subst (WonAt ss x) (onward d c) f in
+      let k = from-won rs c (suc d) n (p / 2) (omega arith) (omega arith) (ap (λ (m : ℕ). m / 2) q) g in
+      rw (led-on (winnerAt ss (suc d) p) (winnerAt rs (suc d) p) (rw q (won-all c (suc d) (omega arith) g))) (omega (arith, k))
+
+  -- the levels up to one at which the leaf leads are replayed, and the next one
+  replayed-won : (rs : List Entry) (d : ℕ) → d < levels → WonAt ss x d → d < replayed x ss rs
+  unfolding replayed above
+  replayed-won rs d m f = from-won rs d 0 levels ((capacity + x) / 2) refl m refl (subst (WonAt ss x) (sym (zero-add d)) f)
 
   -- A leaf that leads the root leads every match above it, so that no level ends a replay.
   pub replayed-all : (rs : List Entry) → winnerWord (winnerAt ss levels 1) ≡ x + 1 → replayed x ss rs ≡ levels
-  unfolding replayed above
-  replayed-all rs f = from-all rs f 1 levels ((capacity + x) / 2) refl refl
+  replayed-all rs f =
+      let s : above levels (capacity + x) ≡ 1 = stands-root (above-stands x l 0 levels refl) in
+      let w : WonAt ss x levels = ap (λ (p : ℕ). winnerWord (winnerAt ss levels p)) s ∙ f in
+      omega (arith, replayed-most x ss rs, replayed-won rs (levels - 1) (omega arith) (won-below 0 (levels - 1) refl w))

@@ -1,14 +1,16 @@
 -- The directory's words, in descending order: how many they are, those of an empty table, and that they stay
 -- while no entry is taken or freed.
-use Prim.Native.Nat.{ℕ, zero, suc}
+use Prim.Native.Nat.{ℕ, zero, suc, _+_, _-_, _*_}
 use mathlib.Core.Path.{_≡_, refl, ap, _∙_}
 use mathlib.Core.Bool.{Bool, true, false, cond}
-use mathlib.Core.List.{List, [], _∷_}
+use mathlib.Core.List.{List, [], _∷_, _++_}
+use native.Mathlib.Omega.{arith}
 use lib.Dec.{ltb}
-use lib.ListN.{length, getD, set, replicate}
+use lib.ListN.{length, getD, set, replicate, length-append, replicate-append-replicate}
+use Rattle.laws.proofs.Rows.{length-row, row-zeros}
 use Rattle.connection.specs.declared.parts.Connection.{Connection}
-use Rattle.model.specs.State.{Entry, free, taken}
-use Rattle.table.specs.Layout.{directory, directoryWord, directoryWords, insertDescending, sortDescending}
+use Rattle.model.specs.State.{Entry, free, taken, capacity}
+use Rattle.table.specs.Layout.{directory, directoryWord, directoryWords, insertDescending, sortDescending, sampleWord, samples, sampled, groups}
 
 pub length-words : (k : ℕ) (ss : List Entry) → length (directoryWords k ss) ≡ length ss
 unfolding directoryWords
@@ -32,6 +34,17 @@ length-sort (x ∷ xs) = length-insert x (sortDescending xs) ∙ ap suc (length-
 pub length-directory : (ss : List Entry) → length (directory ss) ≡ length ss
 length-directory ss = length-sort (directoryWords 0 ss) ∙ length-words 0 ss
 
+-- a directory behind its samples
+pub length-sampled : (ds : List ℕ) → length (sampled ds) ≡ groups + (8 * groups + length ds)
+length-sampled ds =
+    omega (
+      arith,
+      length-append (samples 64 groups ds) (samples 8 (8 * groups) ds ++ ds),
+      length-append (samples 8 (8 * groups) ds) ds,
+      length-row (sampleWord 64 ds) 0 groups,
+      length-row (sampleWord 8 ds) 0 (8 * groups),
+    )
+
 -- ---- no entry
 
 words-free : (k n : ℕ) → directoryWords k (replicate n free) ≡ replicate n 0
@@ -51,6 +64,25 @@ sort-zeros (suc n) = ap (insertDescending 0) (sort-zeros n) ∙ insert-zeros n
 
 pub directory-free : (n : ℕ) → directory (replicate n free) ≡ replicate n 0
 directory-free n = ap sortDescending (words-free 0 n) ∙ sort-zeros n
+
+zero-at : (n j : ℕ) → _≡_ {A = ℕ} (getD (replicate n 0) j 0) 0
+zero-at zero j = refl
+zero-at (suc n) zero = refl
+zero-at (suc n) (suc j) = zero-at n j
+
+sample-zero : (k n j : ℕ) → sampleWord k (replicate n 0) j ≡ 0
+sample-zero k n j = go (ltb (j * k + k) capacity)
+  where
+    go : (b : Bool) → _≡_ {A = ℕ} (cond b (getD (replicate n 0) (j * k + (k - 1)) 0) 0) 0
+    go true = zero-at n (j * k + (k - 1))
+    go false = refl
+
+pub sampled-zeros : (n : ℕ) → sampled (replicate n 0) ≡ replicate (groups + (8 * groups + n)) 0
+sampled-zeros n =
+    ap (λ (l : List ℕ). l ++ (samples 8 (8 * groups) (replicate n 0) ++ replicate n 0)) (row-zeros (sampleWord 64 (replicate n 0)) 0 groups (sample-zero 64 n))
+    ∙ ap (λ (l : List ℕ). replicate groups 0 ++ (l ++ replicate n 0)) (row-zeros (sampleWord 8 (replicate n 0)) 0 (8 * groups) (sample-zero 8 n))
+    ∙ ap (λ (l : List ℕ). replicate groups 0 ++ l) (replicate-append-replicate {A = ℕ} (8 * groups) n 0)
+    ∙ replicate-append-replicate {A = ℕ} groups (8 * groups + n) 0
 
 -- ---- an entry whose connection keeps its name
 

@@ -1,10 +1,10 @@
 -- The laws of the words, for the crates that load and store them.
-pub mod Storing
+pub mod Records
 pub mod Loaded
+pub mod FirstLine
 pub mod Bitmaps
 pub mod Used
 pub mod Directory
 pub mod Nodes
-pub mod Columns
 pub mod Splits
 pub mod Words

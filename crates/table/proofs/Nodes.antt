@@ -1,21 +1,82 @@
--- The winners in a table's words: at which height a place stands, and what a change of one leaf leaves of them.
+-- The winners in a table's words: what stands at a place, at which height it stands, and what a change of one leaf
+-- leaves of them.
 use Prim.Native.Nat.{ℕ, zero, suc, _+_, _-_, _*_, _^_, _≤_, _<_}
-use mathlib.Core.Path.{_≡_, refl, ap, subst}
+use mathlib.Core.Path.{_≡_, refl, sym, ap, ap₂, subst, _∙_}
+use mathlib.Core.Logic.{_≢_}
 use mathlib.Core.Bool.{Bool, true, false, cond}
-use mathlib.Core.List.{List}
-use native.Mathlib.Nat.{two-pow-succ, pow-le-pow-right}
+use mathlib.Core.List.{List, _∷_}
+use native.Mathlib.Nat.{add-zero, add-suc, suc-add, not-suc-le-zero, le-of-suc-le-suc, two-pow-succ, pow-le-pow-right}
 use native.Mathlib.Omega.{arith}
 use lib.Dec.{leb}
 use lib.ListN.{length, getD, set, replicate}
 use borrow.Author.Tests.{leb-true, leb-false, le-leb, lt-leb}
-use Rattle.laws.proofs.Rows.{length-row, row-same, row-zeros}
 use Rattle.model.specs.State.{Entry, free, capacity}
-use Rattle.model.specs.Tournament.{levels, noWinner, leafWinner, first, winnerAt, winnerWord}
+use Rattle.model.specs.Tournament.{MatchWinner, noWinner, levels, leafWinner, first, winnerAt}
 use Rattle.model.proofs.Places.{Stands, lower, upper, even, same-leaf}
-use Rattle.table.specs.Layout.{height, nodeWord, nodes}
+use Rattle.table.specs.Layout.{height, nodeWinner, winnerNumber, winnerKey, winnerWords, nodes}
 
-pub length-nodes : (ss : List Entry) → length (nodes ss) ≡ capacity
-length-nodes ss = length-row (nodeWord ss) 0 capacity
+-- ---- the two words of a place
+
+-- the words of the first place, and of those behind it
+twice : (k : ℕ) → 2 * suc k ≡ suc (suc (2 * k))
+twice k = omega arith
+
+twice-more : (k : ℕ) → 2 * suc k + 1 ≡ suc (suc (2 * k + 1))
+twice-more k = omega arith
+
+onward : (p k : ℕ) → suc p + k ≡ p + suc k
+onward p k = suc-add p k ∙ sym (add-suc p k)
+
+pub length-winners : (w : ℕ → MatchWinner) (p n : ℕ) → length (winnerWords w p n) ≡ 2 * n
+unfolding winnerWords
+length-winners w p zero = refl
+length-winners w p (suc n) = ap (λ (k : ℕ). suc (suc k)) (length-winners w (suc p) n) ∙ sym (twice n)
+
+module _ (w : ℕ → MatchWinner) where
+  pub winner-at : (p n k : ℕ) → k < n → getD (winnerWords w p n) (2 * k) 0 ≡ winnerNumber (w (p + k))
+  unfolding winnerWords
+  winner-at p zero k l = absurd (not-suc-le-zero l)
+  winner-at p (suc n) zero l = ap (λ (j : ℕ). winnerNumber (w j)) (sym (add-zero p))
+  winner-at p (suc n) (suc k) l =
+      ap (λ (j : ℕ). getD (winnerWords w p (suc n)) j 0) (twice k) ∙ winner-at (suc p) n k (le-of-suc-le-suc l) ∙ ap (λ (j : ℕ). winnerNumber (w j)) (onward p k)
+
+  pub key-at : (p n k : ℕ) → k < n → getD (winnerWords w p n) (2 * k + 1) 0 ≡ winnerKey (w (p + k))
+  unfolding winnerWords
+  key-at p zero k l = absurd (not-suc-le-zero l)
+  key-at p (suc n) zero l = ap (λ (j : ℕ). winnerKey (w j)) (sym (add-zero p))
+  key-at p (suc n) (suc k) l =
+      ap (λ (j : ℕ). getD (winnerWords w p (suc n)) j 0) (twice-more k) ∙ key-at (suc p) n k (le-of-suc-le-suc l) ∙ ap (λ (j : ℕ). winnerKey (w j)) (onward p k)
+
+pub winners-same : (v w : ℕ → MatchWinner) (p n : ℕ) → ((j : ℕ) → p ≤ j → j < p + n → v j ≡ w j) → winnerWords v p n ≡ winnerWords w p n
+unfolding winnerWords
+winners-same v w p zero e = refl
+winners-same v w p (suc n) e =
+    ap₂ (λ (a : MatchWinner) (l : List ℕ). winnerNumber a ∷ winnerKey a ∷ l) (e p (omega arith) (omega arith))
+    (winners-same v w (suc p) n (λ j l m. e j (omega arith) (omega arith)))
+
+-- another winner at place p + k
+pub winners-set : (v w : ℕ → MatchWinner) (p n k a b : ℕ) → k < n → ((j : ℕ) → j ≢ p + k → v j ≡ w j) → a ≡ winnerNumber (w (p + k)) → b ≡ winnerKey (w (p + k))
+    → set (set (winnerWords v p n) (2 * k) a) (2 * k + 1) b ≡ winnerWords w p n
+unfolding winnerWords
+winners-set v w p zero k a b l e f g = absurd (not-suc-le-zero l)
+winners-set v w p (suc n) zero a b l e f g =
+    let z : p + 0 ≡ p = add-zero p in
+    rw (f, g, z) (ap (λ (m : List ℕ). winnerNumber (w p) ∷ winnerKey (w p) ∷ m) (winners-same v w (suc p) n (λ j m u. e j (λ z. omega (arith, z)))))
+winners-set v w p (suc n) (suc k) a b l e f g =
+    ap₂ (λ (i j : ℕ). set (set (winnerWords v p (suc n)) i a) j b) (twice k) (twice-more k)
+    ∙ ap₂ (λ (c : MatchWinner) (m : List ℕ). winnerNumber c ∷ winnerKey c ∷ m) (e p (λ z. omega (arith, z)))
+    (winners-set v w (suc p) n k a b (le-of-suc-le-suc l) (λ j z. e j (λ y. z (omega (arith, y)))) (f ∙ ap (λ (j : ℕ). winnerNumber (w j)) (sym (onward p k)))
+    (g ∙ ap (λ (j : ℕ). winnerKey (w j)) (sym (onward p k))))
+
+-- no winner anywhere
+winners-none : (w : ℕ → MatchWinner) (p n : ℕ) → ((j : ℕ) → w j ≡ noWinner) → winnerWords w p n ≡ replicate (2 * n) 0
+unfolding winnerWords winnerNumber winnerKey
+winners-none w p zero e = refl
+winners-none w p (suc n) e =
+    ap₂ (λ (a : MatchWinner) (l : List ℕ). winnerNumber a ∷ winnerKey a ∷ l) (e p) (winners-none w (suc p) n e) ∙ ap (λ (k : ℕ). replicate k 0) (sym (twice n))
+
+pub length-nodes : (ss : List Entry) → length (nodes ss) ≡ 2 * capacity
+length-nodes ss = length-winners (nodeWinner ss) 0 capacity
 
 -- ---- heights
 
@@ -71,26 +132,26 @@ placed (suc n) h p e l m = go (λ u. placed n (suc h) (2 * p) (omega arith) (ome
 pub height-stands : (p : ℕ) → 1 ≤ p → p < 2 * capacity → Placed 0 (height levels p) p
 height-stands p l m = placed levels 0 p refl l m
 
--- the word of a place; place 0 has no match
-pub node-zero : (ss : List Entry) → nodeWord ss 0 ≡ 0
-unfolding nodeWord
+-- the winner of a place; place 0 has no match
+pub node-zero : (ss : List Entry) → nodeWinner ss 0 ≡ noWinner
+unfolding nodeWinner
 node-zero ss = refl
 
-pub node-at : (ss : List Entry) (p : ℕ) {h d : ℕ} → Stands h d p → nodeWord ss p ≡ winnerWord (winnerAt ss d p)
-unfolding nodeWord
+pub node-at : (ss : List Entry) (p : ℕ) {h d : ℕ} → Stands h d p → nodeWinner ss p ≡ winnerAt ss d p
+unfolding nodeWinner
 node-at ss zero {h} s = absurd (omega (arith, s .least, pow-le-pow-right {n = 2} (omega arith) {i = 0} {j = h} (omega arith)))
-node-at ss (suc p) {h} {d} s = ap (λ (e : ℕ). winnerWord (winnerAt ss e (suc p))) (height-at levels d (omega (arith, s .height)) s)
+node-at ss (suc p) {h} {d} s = ap (λ (e : ℕ). winnerAt ss e (suc p)) (height-at levels d (omega (arith, s .height)) s)
 
 -- ---- one leaf changes
 
-node-same : (ss rs : List Entry) → ((d p : ℕ) → winnerAt rs d p ≡ winnerAt ss d p) → (p : ℕ) → nodeWord rs p ≡ nodeWord ss p
-unfolding nodeWord
+node-same : (ss rs : List Entry) → ((d p : ℕ) → winnerAt rs d p ≡ winnerAt ss d p) → (p : ℕ) → nodeWinner rs p ≡ nodeWinner ss p
+unfolding nodeWinner
 node-same ss rs e zero = refl
-node-same ss rs e (suc p) = ap winnerWord (e (height levels (suc p)) (suc p))
+node-same ss rs e (suc p) = e (height levels (suc p)) (suc p)
 
 -- a leaf that leads as before
 pub nodes-same : (ss : List Entry) (i : ℕ) (x : Entry) → i < length ss → leafWinner i x ≡ leafWinner i (getD ss i free) → nodes (set ss i x) ≡ nodes ss
-nodes-same ss i x l e = row-same (nodeWord (set ss i x)) (nodeWord ss) 0 capacity (λ j _ _. node-same ss (set ss i x) (same-leaf ss i x e l) j)
+nodes-same ss i x l e = winners-same (nodeWinner (set ss i x)) (nodeWinner ss) 0 capacity (λ j _ _. node-same ss (set ss i x) (same-leaf ss i x e l) j)
 
 -- an empty table has no winner
 none-won : (n d p : ℕ) → winnerAt (replicate n free) d p ≡ noWinner
@@ -103,10 +164,10 @@ none-won n zero p = ap (leafWinner (p - capacity)) (all-free n (p - capacity))
     all-free (suc n) (suc k) = all-free n k
 none-won n (suc d) p = rw (none-won n d (2 * p), none-won n d (2 * p + 1))
 
-none-word : (n p : ℕ) → nodeWord (replicate n free) p ≡ 0
-unfolding nodeWord winnerWord
-none-word n zero = refl
-none-word n (suc p) = ap winnerWord (none-won n (height levels (suc p)) (suc p))
+none-at : (n p : ℕ) → nodeWinner (replicate n free) p ≡ noWinner
+unfolding nodeWinner
+none-at n zero = refl
+none-at n (suc p) = none-won n (height levels (suc p)) (suc p)
 
-pub nodes-free : (n : ℕ) → nodes (replicate n free) ≡ replicate capacity 0
-nodes-free n = row-zeros (nodeWord (replicate n free)) 0 capacity (none-word n)
+pub nodes-free : (n : ℕ) → nodes (replicate n free) ≡ replicate (2 * capacity) 0
+nodes-free n = winners-none (nodeWinner (replicate n free)) 0 capacity (none-at n)

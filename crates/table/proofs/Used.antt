@@ -10,13 +10,14 @@ use lib.Bits.{bitXor}
 use lib.Count.{trailingZeros, trailing-of-zero}
 use lib.Dec.{ltb}
 use lib.ListN.{length, getD, set, take, drop, replicate, length-take, length-drop, List·getD-append}
-use lib.Seq.{take-set-le, take-set-lt, drop-set-lt, drop-set-add, drop-drop, take-nil, drop-nil, getD-take, getD-drop, set-append-left}
+use lib.Seq.{take-set-le, take-set-lt, drop-set-lt, drop-set-add, drop-drop, take-nil, drop-nil, getD-take, getD-drop, getD-append-add}
 use borrow.Author.Tests.{ltb-true, ltb-false}
 use Rattle.laws.proofs.Rows.{length-row, row-at, row-same, row-set, row-zeros}
 use Rattle.model.specs.State.{Entry, free, position, isFree, capacity}
 use Rattle.model.proofs.Entries.{Case, same, other, case}
-use Rattle.table.specs.Layout.{bitmap, isTaken, group, groups, used}
+use Rattle.table.specs.Layout.{bitmap, isTaken, group, groups, used, usedFrom}
 use Rattle.table.specs.Storing.{entryFlipped}
+use Rattle.table.proofs.Records.{set-inside}
 use Rattle.table.proofs.Bitmaps.{bitmap-same, bitmap-flip, bitmap-lt, vacant-first}
 
 pub length-used : (ss : List Entry) → length (used ss) ≡ groups
@@ -26,13 +27,11 @@ length-used ss = length-row (λ g. bitmap isTaken (group g ss)) 0 groups
 word-at : (ss : List Entry) (g : ℕ) → g < groups → getD (used ss) g 0 ≡ bitmap isTaken (group g ss)
 word-at ss g h = row-at (λ n. bitmap isTaken (group n ss)) 0 groups g h ∙ ap (λ (n : ℕ). bitmap isTaken (group n ss)) (zero-add g)
 
--- behind two words
-two : (x : ℕ) → 2 + x ≡ suc (suc x)
-two x = omega arith
-
-pub used-at : (ss : List Entry) (g : ℕ) → g < groups → (a b : ℕ) (t : List ℕ) → getD (a ∷ b ∷ (used ss ++ t)) (2 + g) 0 ≡ bitmap isTaken (group g ss)
-used-at ss g h a b t =
-    ap (λ (n : ℕ). getD (a ∷ b ∷ (used ss ++ t)) n 0) (two g) ∙ List·getD-append (used ss) t 0 g (omega (arith, length-used ss)) ∙ word-at ss g h
+-- behind what stands before the bits
+pub used-at : (ss : List Entry) (g : ℕ) → g < groups → (z t : List ℕ) → length z ≡ usedFrom → getD (z ++ (used ss ++ t)) (usedFrom + g) 0 ≡ bitmap isTaken (group g ss)
+used-at ss g h z t l =
+    ap (λ (n : ℕ). getD (z ++ (used ss ++ t)) (n + g) 0) (sym l) ∙ getD-append-add z (used ss ++ t) g 0
+    ∙ List·getD-append (used ss) t 0 g (omega (arith, length-used ss)) ∙ word-at ss g h
 
 -- ---- no entry
 
@@ -89,18 +88,17 @@ used-same ss i x e = row-same _ _ 0 groups (λ g _ _. go g (case g (i / 64)))
     go g (other q) = ap (bitmap isTaken) (group-other ss i x g q)
 
 -- an entry that is taken or freed
-pub used-flipped : (ss : List Entry) (i : ℕ) → length ss ≡ capacity → i < capacity → (x : Entry) → isTaken x ≡ not (isTaken (getD ss i free)) → (a b : ℕ) (t : List ℕ)
-    → entryFlipped (a ∷ b ∷ (used ss ++ t)) i ≡ a ∷ b ∷ (used (set ss i x) ++ t)
-used-flipped ss i s h x e a b t =
+pub used-flipped : (ss : List Entry) (i : ℕ) → length ss ≡ capacity → i < capacity → (x : Entry) → isTaken x ≡ not (isTaken (getD ss i free)) → (z t : List ℕ) → length z ≡ usedFrom
+    → entryFlipped (z ++ (used ss ++ t)) i ≡ z ++ (used (set ss i x) ++ t)
+used-flipped ss i s h x e z t l =
     let g : ℕ = i / 64 in
     let inside : g < groups = omega arith in
-    let w : ℕ = bitXor (getD (a ∷ b ∷ (used ss ++ t)) (2 + g) 0) (2 ^ (i % 64)) in
-    ap (λ (n : ℕ). set (a ∷ b ∷ (used ss ++ t)) n w) (two g)
-    ∙ ap (λ (l : List ℕ). a ∷ b ∷ l) (set-append-left (used ss) t g w (omega (arith, length-used ss)))
-    ∙ ap (λ (l : List ℕ). a ∷ b ∷ (l ++ t))
+    let w : ℕ = bitXor (getD (z ++ (used ss ++ t)) (usedFrom + g) 0) (2 ^ (i % 64)) in
+    set-inside z t (used ss) g (usedFrom + g) w (ap (λ (n : ℕ). n + g) l) (omega (arith, length-used ss))
+    ∙ ap (λ (m : List ℕ). z ++ (m ++ t))
     (row-set (λ n. bitmap isTaken (group n ss)) (λ n. bitmap isTaken (group n (set ss i x))) 0 groups g w inside
-    (λ j n. ap (bitmap isTaken) (sym (group-other ss i x j (λ z. n (z ∙ sym (zero-add g))))))
-    (ap (λ (m : ℕ). bitXor m (2 ^ (i % 64))) (used-at ss g inside a b t)
+    (λ j n. ap (bitmap isTaken) (sym (group-other ss i x j (λ y. n (y ∙ sym (zero-add g))))))
+    (ap (λ (m : ℕ). bitXor m (2 ^ (i % 64))) (used-at ss g inside z t l)
     ∙ bitmap-flip isTaken (group g ss) (i % 64) x (omega (arith, length-group ss g s)) (e ∙ ap (λ (y : Entry). not (isTaken y)) (sym (group-at ss i)))
     ∙ ap (bitmap isTaken) (sym (group-set ss i x)) ∙ ap (λ (n : ℕ). bitmap isTaken (group n (set ss i x))) (sym (zero-add g))))
 

@@ -1,6 +1,6 @@
 -- The connection that an entry's words stand for, whatever they are. Each number is brought into the range in
 -- which the engine adds without wrapping. That changes no number of a table that calls made.
-use Prim.Native.Nat.{ℕ, _+_, _-_, _*_, _/_, _%_, _^_}
+use Prim.Native.Nat.{ℕ, _+_, _-_, _/_, _%_, _^_}
 use mathlib.Core.Bool.{cond}
 use mathlib.Core.List.{List}
 use lib.Dec.{ltb, eqb}
@@ -13,66 +13,100 @@ use Rattle.connection.specs.declared.parts.Pace.the-variants.{Unsent, Running}
 use Rattle.connection.specs.declared.parts.Queue.{Queue}
 use Rattle.connection.specs.declared.parts.Waiting.the-variants.{Nothing, Cell}
 use Rattle.connection.specs.declared.parts.Waiting.{Waiting}
+use Rattle.connection.specs.declared.parts.Destination.{Destination}
 use Rattle.connection.specs.declared.parts.Connection.{Connection}
-use Rattle.connection.specs.declared.parts.Made.{Made}
 use Rattle.connection.specs.Parts.{changed}
 use Rattle.connection.specs.declared.ready.Instant.{Instant}
 use Rattle.connection.specs.declared.ready.Instant.the-variants.{Never, At}
-use Rattle.table.specs.Layout.{namesFrom, liveFrom, liveWidth, fixedFrom, fixedWidth}
+use Rattle.table.specs.Layout.{noPayload, recordFrom}
 
-abbrev pub paceOf : (tag sent forward k : ℕ) → Pace
-paceOf tag sent forward k = cond (eqb tag 0) Unsent (Running (sent % 2 ^ 63) (forward % 2 ^ 63) (k % 32768) (eqb tag 2))
+-- the two numbers of a word
+abbrev pub highIn : (word : ℕ) → ℕ
+highIn w = w / 2 ^ 32 % 2 ^ 32
 
-abbrev pub paceAt : List ℕ → ℕ → Pace
-paceAt l b = paceOf (getD l b 0) (getD l (b + 1) 0) (getD l (b + 2) 0) (getD l (b + 3) 0)
+abbrev pub lowIn : (word : ℕ) → ℕ
+lowIn w = w % 2 ^ 32
 
-abbrev pub waitingOf : (tag : ℕ) → Payload → Waiting
-waitingOf tag p = cond (ltb tag 2) Nothing (Cell p)
+abbrev pub paceOf : (sent forward word : ℕ) → Pace
+paceOf sent forward w = cond (eqb (highIn w) 0) Unsent (Running (sent % 2 ^ 63) (forward % 2 ^ 63) (w % 32768) (eqb (highIn w) 2))
 
-abbrev pub waitingAt : List ℕ → ℕ → Waiting
-waitingAt l b =
-    waitingOf (getD l b 0)
-    (record { a = getD l (b + 1) 0; b = getD l (b + 2) 0; c = getD l (b + 3) 0; d = getD l (b + 4) 0; e = getD l (b + 5) 0; f = getD l (b + 6) 0 })
+-- bit 0 is the saved EFCI, bit 1 says that a turned cell waits
+abbrev pub waitingOf : (word : ℕ) → Payload → Waiting
+waitingOf w p = cond (ltb (w % 4) 2) Nothing (Cell p)
+
+abbrev pub payloadAt : List ℕ → ℕ → Payload
+payloadAt l b = record { a = getD l b 0; b = getD l (b + 1) 0; c = getD l (b + 2) 0; d = getD l (b + 3) 0; e = getD l (b + 4) 0; f = getD l (b + 5) 0 }
 
 abbrev pub instantOf : (word : ℕ) → Instant
 instantOf w = cond (eqb w 0) Never (At ((w - 1) % 2 ^ 63))
 
-abbrev pub madeAt : List ℕ → ℕ → Made
-madeAt l b = record { level = getD l b 0 % 2 ^ 32; last = instantOf (getD l (b + 1) 0) }
-
-abbrev pub paramsAt : List ℕ → ℕ → Params
-paramsAt l b = record {
-  pcr = getD l b 0 % 2 ^ 32;
-  mcr = getD l (b + 1) 0 % 2 ^ 32;
-  icr = getD l (b + 2) 0 % 2 ^ 32;
-  n = getD l (b + 3) 0 % 2 ^ 32;
-  r = getD l (b + 4) 0 % 2 ^ 32;
-  d = getD l (b + 5) 0 % 2 ^ 32;
-  c = getD l (b + 6) 0 % 2 ^ 32;
-  tbe = getD l (b + 7) 0 % 2 ^ 32;
-  frtt = getD l (b + 7) 0 / 2 ^ 32 % 2 ^ 32;
-  adtf = getD l (b + 8) 0 % 2 ^ 32;
-  trm = getD l (b + 9) 0 % 2 ^ 32;
-}
+abbrev pub destinationOf : (word : ℕ) → Payload → (last : Instant) → Destination
+destinationOf w p i = record { efci = eqb (w % 2) 1; turned = waitingOf w p; made = record { level = highIn w; last = i } }
 
 -- the waiting data of every path fits in 24 bits, a VCI in 16
 abbrev pub queueOf : (word : ℕ) → Queue
-queueOf w = record { cells = w % 2 ^ 24; served = w / 2 ^ 32 % 2 ^ 16 }
+queueOf w = record { cells = w % 2 ^ 24; served = highIn w % 2 ^ 16 }
 
--- a name; the live words, from index a of the first list on; the fixed words, from index b of the second on
-abbrev pub connectionFrom : (name : ℕ) → List ℕ → (a : ℕ) → List ℕ → (b : ℕ) → Connection
-connectionFrom name l a m b = record {
-  name = name % noName;
-  opened = getD m b 0 % 2 ^ 63;
-  trm = getD m (b + 1) 0 % 2 ^ 32;
-  rate = record { acr = getD l a 0; params = paramsAt m (b + 2) };
-  pace = paceAt l (a + 3);
-  unanswered = getD l (a + 1) 0 % 2 ^ 32;
-  queue = queueOf (getD l (a + 2) 0);
-  change = changed (getD l (a + 7) 0) (getD l (a + 8) 0);
-  destination = record { efci = eqb (getD l (a + 9) 0 % 2) 1; turned = waitingAt l (a + 9); made = madeAt l (a + 16) };
-  «out_of_rate» = instantOf (getD l (a + 18) 0);
+-- an identity: a name in 24 bits, n in eight, Trm in the rest
+abbrev pub nameOf : (word : ℕ) → ℕ
+nameOf w = w % noName
+
+abbrev pub nOf : (word : ℕ) → ℕ
+nOf w = w / 2 ^ 24 % 2 ^ 8
+
+-- the parameters of a record from index b on
+abbrev pub paramsAt : List ℕ → (b : ℕ) → Params
+paramsAt l b = record {
+  pcr = lowIn (getD l (b + 12) 0);
+  mcr = highIn (getD l (b + 12) 0);
+  icr = lowIn (getD l (b + 13) 0);
+  n = nOf (getD l (b + 1) 0);
+  r = getD l (b + 15) 0 % 2 ^ 16;
+  d = getD l (b + 15) 0 / 2 ^ 16 % 2 ^ 16;
+  c = getD l (b + 15) 0 / 2 ^ 32 % 2 ^ 16;
+  tbe = lowIn (getD l (b + 14) 0);
+  frtt = highIn (getD l (b + 14) 0);
+  adtf = highIn (getD l (b + 13) 0);
+  trm = getD l (b + 15) 0 / 2 ^ 48 % 2 ^ 16;
+}
+
+-- a connection from the words of a record from index b on
+abbrev pub connectionFrom : List ℕ → (b : ℕ) → Connection
+connectionFrom l b = record {
+  name = nameOf (getD l (b + 1) 0);
+  opened = getD l (b + 11) 0 % 2 ^ 63;
+  trm = highIn (getD l (b + 1) 0);
+  rate = record { acr = getD l (b + 3) 0; params = paramsAt l b };
+  pace = paceOf (getD l (b + 5) 0) (getD l (b + 6) 0) (getD l (b + 7) 0);
+  unanswered = lowIn (getD l (b + 8) 0);
+  queue = queueOf (getD l (b + 4) 0);
+  change = changed (getD l (b + 9) 0) (getD l (b + 10) 0);
+  destination = destinationOf (getD l (b + 2) 0) (payloadAt l (b + 16)) (instantOf (getD l (b + 22) 0));
+  «out_of_rate» = instantOf (getD l (b + 23) 0);
 }
 
 abbrev pub connectionAt : List ℕ → (entry : ℕ) → Connection
-connectionAt l i = connectionFrom (getD l (namesFrom + i) 0) l (liveFrom + i * liveWidth) l (fixedFrom + i * fixedWidth)
+connectionAt l i = connectionFrom l (recordFrom i)
+
+-- What the first line of a record shows of its connection. The rest is 0, none or never: nothing that a data cell asks
+-- for depends on it.
+abbrev pub onlyN : (n : ℕ) → Params
+onlyN n = record { pcr = 0; mcr = 0; icr = 0; n = n; r = 0; d = 0; c = 0; tbe = 0; frtt = 0; adtf = 0; trm = 0 }
+
+abbrev pub emptied : Waiting → Waiting
+emptied Nothing = Nothing
+emptied (Cell p) = Cell noPayload
+
+abbrev pub firstLine : Connection → Connection
+firstLine c = record {
+  name = c .name;
+  opened = 0;
+  trm = c .trm;
+  rate = record { acr = c .rate .acr; params = onlyN (c .rate .params .n) };
+  pace = c .pace;
+  unanswered = 0;
+  queue = c .queue;
+  change = changed 0 0;
+  destination = record { efci = c .destination .efci; turned = emptied (c .destination .turned); made = record { level = c .destination .made .level; last = Never } };
+  «out_of_rate» = Never;
+}

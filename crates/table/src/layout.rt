@@ -8,46 +8,44 @@ pub const CAPACITY: usize = 1024;
 
 pub const LEVELS: u32 = 10;
 
-// The header: the level, the last accepted time, the bits of the entries in use, the directory of names, the winners of
-// the tournament, and a word that is always 0, the key of no entry.
+// The header: the level, the last accepted time, zeros, the bits of the entries in use, every 64th word of the
+// directory of names, every 8th, the directory itself, and the winners of the tournament, two words a place. By the
+// zeros the 64th words end with a pair of lines of eight words.
 pub const LEVEL: usize = 0;
 
 pub const LAST: usize = 1;
 
-pub const USED: usize = 2;
-
 pub const GROUPS: usize = 16;
 
-pub const DIRECTORY: usize = USED + GROUPS;
+pub const SPARE: usize = (16 - (2 + 2 * GROUPS) % 16) % 16;
+
+pub const USED: usize = 2 + SPARE;
+
+pub const SAMPLES: usize = USED + GROUPS;
+
+pub const FINER: usize = SAMPLES + GROUPS;
+
+pub const DIRECTORY: usize = FINER + 8 * GROUPS;
 
 pub const NODES: usize = DIRECTORY + CAPACITY;
 
-pub const NO_KEY: usize = NODES + CAPACITY;
+// A record for each entry, three lines of eight words. In the first stands what a data cell needs: the ready key, the
+// identity, what waits at the destination, the allowed rate, the queue and the pace. The second has the rest of the
+// source and what the open fixed, the third the waiting payload and two instants.
+pub const RECORDS: usize = NODES + 2 * CAPACITY;
 
-// The columns, with one block an entry: ready keys, names, what moves while a connection is open (of its source, then
-// of its destination, then the last out-of-rate cell), what its open fixed.
-pub const KEYS: usize = NO_KEY + 1;
+pub const RECORD_WIDTH: usize = 24;
 
-pub const NAMES: usize = KEYS + CAPACITY;
+pub const IDENTITY: usize = 1;
 
-pub const LIVE: usize = NAMES + CAPACITY;
+pub const DESTINATION: usize = 2;
 
-pub const SOURCE_WIDTH: usize = 9;
+pub const PACED: usize = 4;
 
-pub const DESTINATION_WIDTH: usize = 9;
+pub const OUT_OF_RATE: usize = 23;
 
-pub const LIVE_WIDTH: usize = SOURCE_WIDTH + DESTINATION_WIDTH + 1;
-
-pub const DESTINATION: usize = LIVE + SOURCE_WIDTH;
-
-pub const OUT_OF_RATE: usize = DESTINATION + DESTINATION_WIDTH;
-
-pub const FIXED: usize = LIVE + CAPACITY * LIVE_WIDTH;
-
-pub const FIXED_WIDTH: usize = 12;
-
-// Behind the columns the members of paths, a word each.
-pub const MEMBERS: usize = FIXED + CAPACITY * FIXED_WIDTH;
+// Behind the records the members of paths, a word each.
+pub const MEMBERS: usize = RECORDS + CAPACITY * RECORD_WIDTH;
 
 pub const MEMBER_CAPACITY: usize = 256;
 
@@ -67,6 +65,11 @@ pub const QUEUE_LIMIT: u64 = 16777216;
 pub const NAME_LIMIT: u64 = NO_NAME as u64;
 
 pub const VCI_LIMIT: u64 = VCIS as u64;
+
+// n stands above the name in eight bits; r, d and c have sixteen each.
+pub const N_LIMIT: u64 = 256;
+
+pub const FACTOR_LIMIT: u64 = 65536;
 
 // The data that waits on a member, in the low bits of its word.
 pub const MEMBER_LIMIT: u64 = 65536;

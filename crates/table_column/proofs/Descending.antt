@@ -109,13 +109,32 @@ at-least-out w (x ∷ xs) f j h l = go (λ k q m. at-least-out w xs (f .1) k q m
     go rest (below q) zero m n = q
     go rest (below q) (suc j) m n = rest j (omega (arith, m, at-least-none w xs (f .1) (omega (arith, f .0, q)))) (le-of-suc-le-suc n)
 
+-- a word that is at least w is among them, another is not
+module _ (w : ℕ) (xs : List ℕ) (f : Descending xs) (j : ℕ) (l : j < length xs) where
+  pub at-least-over : w ≤ getD xs j 0 → j < atLeast w xs
+  at-least-over d = go (reach (suc j) (atLeast w xs))
+    where
+      go : Reach (suc j) (atLeast w xs) → j < atLeast w xs
+      go (above h) = h
+      go (below h) = absurd (omega (arith, at-least-out w xs f j (omega (arith, h)) l, d))
+
+  pub at-least-under : getD xs j 0 < w → atLeast w xs ≤ j
+  at-least-under d = go (reach (suc j) (atLeast w xs))
+    where
+      go : Reach (suc j) (atLeast w xs) → atLeast w xs ≤ j
+      go (above h) = absurd (omega (arith, at-least-in w xs f j h, d))
+      go (below h) = omega (arith, h)
+
 -- a word is counted for itself
 pub at-least-self : (xs : List ℕ) → Descending xs → (j : ℕ) → j < length xs → j < atLeast (getD xs j 0) xs
-at-least-self xs f j l = go (reach (suc j) (atLeast (getD xs j 0) xs))
-  where
-    go : Reach (suc j) (atLeast (getD xs j 0) xs) → j < atLeast (getD xs j 0) xs
-    go (above h) = h
-    go (below h) = absurd (omega (arith, at-least-out (getD xs j 0) xs f j (omega (arith, h)) l))
+at-least-self xs f j l = at-least-over (getD xs j 0) xs f j l (omega arith)
+
+pub descending-le : (xs : List ℕ) → Descending xs → (j i : ℕ) → j ≤ i → getD xs i 0 ≤ getD xs j 0
+descending-le [] f j i h = omega arith
+descending-le (x ∷ xs) f zero zero h = omega arith
+descending-le (x ∷ xs) f zero (suc i) h = omega (arith, descending-le xs (f .1) 0 i (omega arith), f .0)
+descending-le (x ∷ xs) f (suc j) zero h = absurd (not-suc-le-zero h)
+descending-le (x ∷ xs) f (suc j) (suc i) h = descending-le xs (f .1) j i (le-of-suc-le-suc h)
 
 -- so two descending lists with the same counts are one list
 pub descending-same : (xs ys : List ℕ) → Descending xs → Descending ys → length xs ≡ length ys → ((w : ℕ) → atLeast w xs ≡ atLeast w ys) → xs ≡ ys

@@ -1,6 +1,6 @@
 -- The halving over a column in a table.
 use Prim.Native.Nat.{ℕ, zero, suc, _+_, _-_, _/_, _^_, _≤_, _<_, min}
-use mathlib.Core.Path.{_≡_, sym, ap, _∙_}
+use mathlib.Core.Path.{_≡_, sym, ap, subst, _∙_}
 use mathlib.Core.Bool.{cond}
 use mathlib.Core.List.{List, _++_}
 use native.Mathlib.Nat.{pow-suc}
@@ -12,7 +12,7 @@ use lib.Seq.{getD-append-add}
 use borrow.Author.Tests.{le-leb, lt-leb}
 use Rattle.table_column.specs.Descending.{atLeast}
 use Rattle.table_column.specs.Column.{Column, InColumn, AtLeast, CountsAtLeast, CountsUpTo}
-use Rattle.table_column.proofs.Descending.{Reach, above, below, reach, at-least-most, at-least-in, at-least-out}
+use Rattle.table_column.proofs.Descending.{Reach, above, below, reach, at-least-most, at-least-in, at-least-out, at-least-over, at-least-under}
 
 -- word j of the column
 pub in-column : (from len : ℕ) (l h ds t : List ℕ) → InColumn from len l h ds t → (j : ℕ) → j < len → getD l (from + j) 0 ≡ getD ds j 0
@@ -84,21 +84,57 @@ module _ (from len : ℕ) (l : List ℕ) (w p half : ℕ) (b : Halved from len l
       go zero q m f = record { inside = omega (arith, m); is = λ h ds t i. omega (arith, b .low h ds t i, f h ds t i, m) }
       go (suc k) q m f = absurd (omega (arith, q, z, pow-suc 2 k, pow-pos k))
 
+-- the same from word `start` on, where p is counted from the column's first word
+pub record HalvedFrom (from start len : ℕ) (l : List ℕ) (w p half : ℕ) : Type 0 where
+  pub begun : start ≤ p
+  pub is : Halved (from + start) len l w (p - start) half
+
+pub halved-from-start : (from start len : ℕ) → Column (from + start) len → (l : List ℕ) (w : ℕ) → HalvedFrom from start len l w start (len / 2)
+halved-from-start from start len c l w =
+    let e : 0 ≡ start - start = omega arith in
+    record { begun = omega arith; is = subst (λ (p : ℕ). Halved (from + start) len l w p (len / 2)) e (halved-start (from + start) len c l w) }
+
+module _ (from start len : ℕ) (l : List ℕ) (w p half : ℕ) (b : HalvedFrom from start len l w p half) where
+  pub halved-from-next : 0 < half → (r : ℕ) → r ≡ cond (leb w (getD l (from + (p + half - 1)) 0)) (p + half) p → HalvedFrom from start len l w r (half / 2)
+  halved-from-next pos r e = go (reach w (getD l (from + (p + half - 1)) 0))
+    where
+      -- the word that is looked at
+      looked : getD l (from + (p + half - 1)) 0 ≡ getD l (from + start + (p - start + half - 1)) 0
+      looked = ap (λ (n : ℕ). getD l n 0) (omega (arith, b .begun, pos))
+
+      next : (r - start ≡ cond (leb w (getD l (from + start + (p - start + half - 1)) 0)) (p - start + half) (p - start)) → start ≤ r → HalvedFrom from start len l w r (half / 2)
+      next q k = record { begun = k; is = halved-next (from + start) len l w (p - start) half (b .is) pos (r - start) q }
+
+      go : Reach w (getD l (from + (p + half - 1)) 0) → HalvedFrom from start len l w r (half / 2)
+      go (above d) =
+          let a : r ≡ p + half = e ∙ ap (λ x. cond x (p + half) p) (le-leb w _ d) in
+          let s : r - start ≡ p - start + half = omega (arith, a, b .begun) in
+          next (s ∙ sym (ap (λ x. cond x (p - start + half) (p - start)) (le-leb w _ (omega (arith, d, looked))))) (omega (arith, a, b .begun))
+      go (below d) =
+          let a : r ≡ p = e ∙ ap (λ x. cond x (p + half) p) (lt-leb w _ d) in
+          let s : r - start ≡ p - start = omega (arith, a) in
+          next (s ∙ sym (ap (λ x. cond x (p - start + half) (p - start)) (lt-leb w _ (omega (arith, d, looked))))) (omega (arith, a, b .begun))
+
+  pub halved-from-end : half ≤ 0 → (start ≤ p) × AtLeast (from + start) len l w (p - start)
+  halved-from-end z = (b .begun, halved-end (from + start) len l w (p - start) half (b .is) z)
+
+-- from the first word on
+pub column-whole : (from len : ℕ) → Column from len → Column (from + 0) len
+column-whole from len c = record { halvings = c .halvings; is = c .is; inside = omega (arith, c .inside) }
+
+pub halved-whole : (from len : ℕ) (l : List ℕ) (w r : ℕ) → AtLeast (from + 0) len l w (r - 0) → AtLeast from len l w r
+halved-whole from len l w r a =
+    let e : from + 0 ≡ from = omega arith in
+    let f : r - 0 ≡ r = omega arith in
+    subst (λ (p : ℕ). AtLeast from len l w p) f (subst (λ (n : ℕ). AtLeast n len l w (r - 0)) e a)
+
 -- a word that is at least w is among those counted, another is not
 module _ (from len : ℕ) (l : List ℕ) (w j : ℕ) (inside : j < len) (h ds t : List ℕ) (i : InColumn from len l h ds t) where
   count-in : w ≤ getD l (from + j) 0 → j < atLeast w ds
-  count-in d = go (reach (suc j) (atLeast w ds))
-    where
-      go : Reach (suc j) (atLeast w ds) → j < atLeast w ds
-      go (above z) = z
-      go (below z) = absurd (omega (arith, at-least-out w ds (i .3) j (omega (arith, z)) (omega (arith, i .2, inside)), in-column from len l h ds t i j inside, d))
+  count-in d = at-least-over w ds (i .3) j (omega (arith, i .2, inside)) (omega (arith, in-column from len l h ds t i j inside, d))
 
   count-out : getD l (from + j) 0 < w → atLeast w ds ≤ j
-  count-out d = go (reach (suc j) (atLeast w ds))
-    where
-      go : Reach (suc j) (atLeast w ds) → atLeast w ds ≤ j
-      go (above z) = absurd (omega (arith, at-least-in w ds (i .3) j z, in-column from len l h ds t i j inside, d))
-      go (below z) = omega (arith, z)
+  count-out d = at-least-under w ds (i .3) j (omega (arith, i .2, inside)) (omega (arith, in-column from len l h ds t i j inside, d))
 
 -- the word left out is looked at too
 pub counted : (from len : ℕ) (l : List ℕ) (w p : ℕ) → AtLeast from len l w p → (r : ℕ) → r ≡ cond (leb w (getD l (from + p) 0)) (p + 1) p → CountsAtLeast from len l w r

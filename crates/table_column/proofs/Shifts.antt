@@ -1,17 +1,27 @@
 -- A word enters a descending list, or leaves it. The list is descending again, and only the counts of that word change.
 use Prim.Native.Nat.{ℕ, zero, suc, _+_, _≤_, _<_}
 use mathlib.Core.Path.{_≡_, refl, ap, _∙_}
-use mathlib.Core.List.{List, [], _∷_, _++_}
+use mathlib.Core.List.{List, [], _∷_, _++_, append-assoc}
 use native.Mathlib.Nat.{not-suc-le-zero, le-of-suc-le-suc}
 use native.Mathlib.Omega.{arith}
 use lib.ListN.{length, getD, take, drop, length-append}
-use Rattle.table_column.specs.Descending.{atLeast, Descending, shifted, insertedAt, removedAt}
+use Rattle.table_column.specs.Descending.{atLeast, Descending, shifted, pushed, insertedAt, removedAt}
 use Rattle.table_column.proofs.Descending.{reaches, Reach, above, below, reach, reaches-yes, reaches-not, at-least-none}
 
 pub descending-drop : (p : ℕ) (xs : List ℕ) → Descending xs → Descending (drop p xs)
 descending-drop zero xs f = f
 descending-drop (suc p) [] f = tt
 descending-drop (suc p) (x ∷ xs) f = descending-drop p xs (f .1)
+
+take-first : (p y : ℕ) (xs : List ℕ) → getD xs 0 0 ≤ y → getD (take p xs) 0 0 ≤ y
+take-first zero y xs h = omega arith
+take-first (suc p) y [] h = h
+take-first (suc p) y (x ∷ xs) h = h
+
+pub descending-take : (p : ℕ) (xs : List ℕ) → Descending xs → Descending (take p xs)
+descending-take zero xs f = tt
+descending-take (suc p) [] f = tt
+descending-take (suc p) (x ∷ xs) f = (take-first p x xs (f .0), descending-take p xs (f .1))
 
 -- ---- a word enters
 
@@ -31,6 +41,14 @@ unfolding insertedAt
 inserted-split zero w xs h = refl
 inserted-split (suc p) w [] h = absurd (not-suc-le-zero h)
 inserted-split (suc p) w (x ∷ xs) h = ap (λ (l : List ℕ). x ∷ l) (inserted-split p w xs (le-of-suc-le-suc h))
+
+-- the words before it stay
+pub inserted-before : (p w : ℕ) (xs : List ℕ) (i : ℕ) → p ≤ length xs → i < p → getD (insertedAt p w xs) i 0 ≡ getD xs i 0
+unfolding insertedAt
+inserted-before zero w xs i h l = absurd (not-suc-le-zero l)
+inserted-before (suc p) w [] i h l = absurd (not-suc-le-zero h)
+inserted-before (suc p) w (x ∷ xs) zero h l = refl
+inserted-before (suc p) w (x ∷ xs) (suc i) h l = inserted-before p w xs i (le-of-suc-le-suc h) (le-of-suc-le-suc l)
 
 -- the last word is lost
 shifted-count : (v w : ℕ) (xs : List ℕ) → atLeast v (shifted w xs) + reaches v (getD (w ∷ xs) (length xs) 0) ≡ reaches v w + atLeast v xs
@@ -84,6 +102,35 @@ shifted-zeros (x ∷ xs) f h =
     let e : x ≡ 0 = omega (arith, h) in
     rw e (ap (λ (l : List ℕ). 0 ∷ l) (shifted-zeros xs (f .1) (omega (arith, f .0, e))))
 
+-- a part of a list, and the words behind it
+pub shifted-append : (w : ℕ) (xs ys : List ℕ) → shifted w (xs ++ ys) ≡ shifted w xs ++ shifted (pushed w xs) ys
+unfolding shifted pushed
+shifted-append w [] ys = refl
+shifted-append w (x ∷ xs) ys = ap (λ (l : List ℕ). w ∷ l) (shifted-append x xs ys)
+
+pub inserted-append : (p w : ℕ) (xs ys : List ℕ) → p ≤ length xs → insertedAt p w (xs ++ ys) ≡ insertedAt p w xs ++ shifted (pushed w (drop p xs)) ys
+unfolding insertedAt
+inserted-append zero w xs ys h = shifted-append w xs ys
+inserted-append (suc p) w [] ys h = absurd (not-suc-le-zero h)
+inserted-append (suc p) w (x ∷ xs) ys h = ap (λ (l : List ℕ). x ∷ l) (inserted-append p w xs ys (le-of-suc-le-suc h))
+
+pub shifted-snoc : (w : ℕ) (xs : List ℕ) (x : ℕ) → shifted w (xs ++ (x ∷ [])) ≡ w ∷ xs
+unfolding shifted
+shifted-snoc w [] x = refl
+shifted-snoc w (y ∷ xs) x = ap (λ (l : List ℕ). w ∷ l) (shifted-snoc y xs x)
+
+pub pushed-snoc : (w : ℕ) (xs : List ℕ) (x : ℕ) → pushed w (xs ++ (x ∷ [])) ≡ x
+unfolding pushed
+pushed-snoc w [] x = refl
+pushed-snoc w (y ∷ xs) x = pushed-snoc y xs x
+
+pub pushed-zeros : (xs : List ℕ) → Descending xs → getD xs 0 0 ≤ 0 → pushed 0 xs ≡ 0
+unfolding pushed
+pushed-zeros [] f h = refl
+pushed-zeros (x ∷ xs) f h =
+    let e : x ≡ 0 = omega (arith, h) in
+    rw e (pushed-zeros xs (f .1) (omega (arith, f .0, e)))
+
 -- ---- a word leaves
 
 length-snoc : (xs : List ℕ) (a : ℕ) → length (xs ++ (a ∷ [])) ≡ suc (length xs)
@@ -100,6 +147,13 @@ unfolding removedAt
 removed-split p [] h = absurd (not-suc-le-zero h)
 removed-split zero (x ∷ xs) h = refl
 removed-split (suc p) (x ∷ xs) h = ap (λ (l : List ℕ). x ∷ l) (removed-split p xs (le-of-suc-le-suc h))
+
+-- a part of a list, and the words behind it
+pub removed-append : (p : ℕ) (xs ys : List ℕ) → p < length xs → removedAt p (xs ++ ys) ≡ (take p xs ++ drop (suc p) xs) ++ (ys ++ (0 ∷ []))
+unfolding removedAt
+removed-append p [] ys h = absurd (not-suc-le-zero h)
+removed-append zero (x ∷ xs) ys h = append-assoc xs ys (0 ∷ [])
+removed-append (suc p) (x ∷ xs) ys h = ap (λ (l : List ℕ). x ∷ l) (removed-append p xs ys (le-of-suc-le-suc h))
 
 snoc-count : (v : ℕ) (xs : List ℕ) (a : ℕ) → atLeast v (xs ++ (a ∷ [])) ≡ atLeast v xs + reaches v a
 unfolding atLeast

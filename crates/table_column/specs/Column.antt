@@ -2,9 +2,9 @@
 use Prim.Native.Nat.{ℕ, _+_, _-_, _^_, _≤_, _<_, min}
 use mathlib.Core.Path.{_≡_}
 use mathlib.Core.List.{List, _++_}
-use lib.ListN.{length}
+use lib.ListN.{length, drop}
 use Rattle.table.specs.Layout.{size}
-use Rattle.table_column.specs.Descending.{atLeast, Descending, insertedAt, removedAt, withoutRun}
+use Rattle.table_column.specs.Descending.{atLeast, Descending, pushed, insertedAt, removedAt, withoutRun}
 
 -- a column's place in the table: its first word and its length, which is a power of 2
 pub record Column (from len : ℕ) : Type 0 where
@@ -29,6 +29,14 @@ pub record CountsAtLeast (from len : ℕ) (l : List ℕ) (w r : ℕ) : Type 0 wh
 -- the same, where at most p are
 pub record CountsUpTo (from len p : ℕ) (l : List ℕ) (w r : ℕ) : Type 0 where
   pub is : (h ds t : List ℕ) → InColumn from len l h ds t → atLeast w ds ≤ p → r ≡ atLeast w ds
+
+-- a word enters at place p, and the last one comes out
+pub record Enters (from p len w : ℕ) (before after : List ℕ) (r : ℕ) : Type 0 where
+  pub is : (h ds t : List ℕ) → InColumn from len before h ds t → (after ≡ h ++ (insertedAt p w ds ++ t)) × (r ≡ pushed w (drop p ds))
+
+-- the word at place p goes
+pub record Leaves (from p len : ℕ) (before after : List ℕ) : Type 0 where
+  pub is : (h ds t : List ℕ) → InColumn from len before h ds t → after ≡ h ++ (removedAt p ds ++ t)
 
 -- the word stands behind those that are at least it
 pub record Inserts (from len w : ℕ) (before after : List ℕ) : Type 0 where

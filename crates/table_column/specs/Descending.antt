@@ -21,6 +21,11 @@ unfoldable pub shifted : ℕ → List ℕ → List ℕ
 shifted w [] = []
 shifted w (x ∷ xs) = w ∷ shifted x xs
 
+-- the one that is gone
+unfoldable pub pushed : ℕ → List ℕ → ℕ
+pushed w [] = w
+pushed w (x ∷ xs) = pushed x xs
+
 unfoldable pub insertedAt : (place : ℕ) → ℕ → List ℕ → List ℕ
 insertedAt zero w xs = shifted w xs
 insertedAt (suc p) w [] = []

@@ -1,9 +1,10 @@
 // A column of descending words in a table, which starts at word `from` and has `len` words.
 ghost use mathlib.Core.Path.{_≡_};
 ghost use mathlib.Core.Bool.{cond, _&&_};
-ghost use Prim.Native.Nat.{_≤_};
+ghost use Prim.Native.Nat.{_+_, _-_, _≤_, _<_};
 ghost use lib.Dec.{leb, ltb};
-ghost use Rattle.table_column.specs.Column.{Column, AtLeast, CountsAtLeast, CountsUpTo, Inserts, RemovesWord, RemovesRun};
+ghost use Rattle.table.specs.Layout.{size};
+ghost use Rattle.table_column.specs.Column.{Column, AtLeast, CountsAtLeast, CountsUpTo, Enters, Leaves, Inserts, RemovesWord, RemovesRun};
 use table::layout::WORDS;
 
 // Where a halving goes on: behind the word that it looked at, or before it. This is a number, so
@@ -14,19 +15,28 @@ fn passed(word: u64, e: u64, behind: usize, p: usize) -> usize
     if word <= e { behind } else { p }
 }
 
-// How many of the words are at least this one, the last word left out.
-pub fn at_least(t: &[u64; WORDS], from: usize, len: usize, word: u64) -> usize
-    requires { ⌜ Column from len ⌝ }
-    ensures { λ r. ⌜ AtLeast from len (now (t .entry)) word r ⌝ }
+// The word behind those that are at least this one, among the `len` words from word `start` on; the last of them is
+// not looked at.
+pub fn at_least_from(t: &[u64; WORDS], from: usize, start: usize, len: usize, word: u64) -> usize
+    requires { ⌜ Column (from + start) len ⌝ }
+    ensures { λ r. ⌜ (start ≤ r) × AtLeast (from + start) len (now (t .entry)) word (r - start) ⌝ }
 {
-    let mut p: usize = 0;
-    let mut half: usize = len / 2;
+    let mut p = start;
+    let mut half = len / 2;
     while 0 < half {
         let behind = p + half;
         p = passed(word, t[from + (behind - 1)], behind, p);
         half = half / 2;
     }
     p
+}
+
+// How many of the words are at least this one, the last word left out.
+pub fn at_least(t: &[u64; WORDS], from: usize, len: usize, word: u64) -> usize
+    requires { ⌜ Column from len ⌝ }
+    ensures { λ r. ⌜ AtLeast from len (now (t .entry)) word r ⌝ }
+{
+    at_least_from(t, from, 0, len, word)
 }
 
 // How many of the words are at least this one.
@@ -58,30 +68,40 @@ pub fn count_up_to(t: &[u64; WORDS], from: usize, len: usize, p: usize, word: u6
     count(t, from, len, word)
 }
 
-// A word enters before those that are below it, which move up by one.
-pub fn insert(t: &mut [u64; WORDS], from: usize, len: usize, word: u64)
-    requires { ⌜ Column from len ⌝ }
-    ensures { λ _. ⌜ Inserts from len word (now (t .entry)) (now (t .exit)) ⌝ }
+// A word enters at place p, the words from there on move up by one, and the last one comes out.
+pub fn enter(t: &mut [u64; WORDS], from: usize, p: usize, len: usize, word: u64) -> u64
+    requires { ⌜ (p ≤ len) × (from + len ≤ size) ⌝ }
+    ensures { λ r. ⌜ Enters from p len word (now (t .entry)) (now (t .exit)) r ⌝ }
 {
-    let mut i = at_least(t, from, len, word);
+    let mut i = p;
     let mut moved = word;
     while i < len {
         let next = t[from + i];
         t[from + i] = moved;
         if next == 0 {
-            return;
+            return 0;
         }
         moved = next;
         i += 1;
     }
+    moved
 }
 
-// The first word that is below this one leaves, and those behind it move down by one.
-pub fn remove(t: &mut [u64; WORDS], from: usize, len: usize, word: u64)
+// A word enters before those that are below it.
+pub fn insert(t: &mut [u64; WORDS], from: usize, len: usize, word: u64)
     requires { ⌜ Column from len ⌝ }
-    ensures { λ _. ⌜ RemovesWord from len word (now (t .entry)) (now (t .exit)) ⌝ }
+    ensures { λ _. ⌜ Inserts from len word (now (t .entry)) (now (t .exit)) ⌝ }
 {
-    let mut i = at_least(t, from, len, word);
+    let p = at_least(t, from, len, word);
+    enter(t, from, p, len, word);
+}
+
+// The word at place p leaves, and those behind it move down by one.
+pub fn leave(t: &mut [u64; WORDS], from: usize, p: usize, len: usize)
+    requires { ⌜ (p < len) × (from + len ≤ size) ⌝ }
+    ensures { λ _. ⌜ Leaves from p len (now (t .entry)) (now (t .exit)) ⌝ }
+{
+    let mut i = p;
     while i + 1 < len {
         let next = t[from + (i + 1)];
         t[from + i] = next;
@@ -91,6 +111,15 @@ pub fn remove(t: &mut [u64; WORDS], from: usize, len: usize, word: u64)
         i += 1;
     }
     t[from + (len - 1)] = 0;
+}
+
+// The first word that is below this one leaves.
+pub fn remove(t: &mut [u64; WORDS], from: usize, len: usize, word: u64)
+    requires { ⌜ Column from len ⌝ }
+    ensures { λ _. ⌜ RemovesWord from len word (now (t .entry)) (now (t .exit)) ⌝ }
+{
+    let p = at_least(t, from, len, word);
+    leave(t, from, p, len);
 }
 
 // How many words stay of one, 0 or 1, and what stays of it, if those that are at least `low` and below `high` leave.

@@ -1,53 +1,94 @@
 -- A connection from the parts that were loaded one by one.
-use Prim.Native.Nat.{ℕ, _+_, _*_, _%_, _^_}
-use mathlib.Core.Path.{_≡_}
+use Prim.Native.Nat.{ℕ, _+_, _%_, _^_}
+use mathlib.Core.Path.{_≡_, refl, _∙_}
+use mathlib.Core.Bool.{Bool, true, false, cond}
 use mathlib.Core.List.{List}
-use lib.Dec.{eqb}
+use lib.Dec.{ltb, eqb}
 use lib.ListN.{getD}
 use Rattle.rate_params.specs.declared.params.Params.{Params}
-use Rattle.cell.specs.Name.{noName}
+use Rattle.cell_payload.specs.declared.payload.Payload.{Payload}
 use Rattle.connection.specs.declared.parts.Connection.{Connection}
-use Rattle.connection.specs.declared.parts.Made.{Made}
 use Rattle.connection.specs.declared.parts.Pace.{Pace}
 use Rattle.connection.specs.declared.parts.Queue.{Queue}
 use Rattle.connection.specs.declared.parts.Waiting.{Waiting}
+use Rattle.connection.specs.declared.parts.Waiting.the-variants.{Nothing, Cell}
 use Rattle.connection.specs.declared.ready.Instant.{Instant}
-use Rattle.table.specs.Layout.{namesFrom, liveFrom, liveWidth, fixedFrom, fixedWidth}
-use Rattle.table.specs.Loading.{paramsAt, paceAt, waitingAt, madeAt, instantOf, queueOf, connectionAt}
+use Rattle.connection.specs.declared.ready.Instant.the-variants.{Never}
+use Rattle.connection.specs.Parts.{changed}
+use Rattle.table.specs.Layout.{noPayload, recordFrom}
+use Rattle.table.specs.Loading.{highIn, lowIn, nameOf, nOf, onlyN, emptied, paramsAt, paceOf, payloadAt, waitingOf, instantOf, queueOf, connectionAt, firstLine}
+
+-- what the first line shows of a waiting cell
+emptied-is : (w : ℕ) (p : Payload) → waitingOf w noPayload ≡ emptied (waitingOf w p)
+emptied-is w p = go (ltb (w % 4) 2)
+  where
+    go : (b : Bool) → cond b Nothing (Cell noPayload) ≡ emptied (cond b Nothing (Cell p))
+    go true = refl
+    go false = refl
 
 module _ (l : List ℕ) (i : ℕ) where
-  abbrev live : ℕ
-  live = liveFrom + i * liveWidth
-
-  abbrev fixed : ℕ
-  fixed = fixedFrom + i * fixedWidth
+  abbrev word : (k : ℕ) → ℕ
+  word k = getD l (recordFrom i + k) 0
 
   pub loaded-is :
-      {p : Params} {q : Pace} {w : Waiting} {m : Made} {o : Instant} {x : Queue} → p ≡ paramsAt l (fixed + 2) → q ≡ paceAt l (live + 3) → w ≡ waitingAt l (live + 9)
-      → m ≡ madeAt l (live + 16) → o ≡ instantOf (getD l (live + 18) 0) → x ≡ queueOf (getD l (live + 2) 0)
+      {p : Params} {q : Pace} {y : Payload} {w : Waiting} {m o : Instant} {x : Queue} → p ≡ paramsAt l (recordFrom i) → q ≡ paceOf (word 5) (word 6) (word 7) → y ≡ payloadAt l (recordFrom i + 16)
+      → w ≡ waitingOf (word 2) y → m ≡ instantOf (word 22) → o ≡ instantOf (word 23) → x ≡ queueOf (word 4)
       → _≡_ {A = Connection}
       (record {
-        name = getD l (namesFrom + i) 0 % noName;
-        opened = getD l fixed 0 % 2 ^ 63;
-        trm = getD l (fixed + 1) 0 % 2 ^ 32;
-        rate = record { acr = getD l live 0; params = p };
+        name = nameOf (word 1);
+        opened = word 11 % 2 ^ 63;
+        trm = highIn (word 1);
+        rate = record { acr = word 3; params = p };
         pace = q;
-        unanswered = getD l (live + 1) 0 % 2 ^ 32;
+        unanswered = lowIn (word 8);
         queue = x;
-        change = record { before = getD l (live + 7) 0; after = getD l (live + 8) 0 };
-        destination = record { efci = eqb (getD l (live + 9) 0 % 2) 1; turned = w; made = m };
+        change = changed (word 9) (word 10);
+        destination = record { efci = eqb (word 2 % 2) 1; turned = w; made = record { level = highIn (word 2); last = m } };
         «out_of_rate» = o;
       })
       (connectionAt l i)
-  loaded-is hp hq hw hm ho hx = λ j. record {
-    name = getD l (namesFrom + i) 0 % noName;
-    opened = getD l fixed 0 % 2 ^ 63;
-    trm = getD l (fixed + 1) 0 % 2 ^ 32;
-    rate = record { acr = getD l live 0; params = hp j };
-    pace = hq j;
-    unanswered = getD l (live + 1) 0 % 2 ^ 32;
-    queue = hx j;
-    change = record { before = getD l (live + 7) 0; after = getD l (live + 8) 0 };
-    destination = record { efci = eqb (getD l (live + 9) 0 % 2) 1; turned = hw j; made = hm j };
-    «out_of_rate» = ho j;
-  }
+  loaded-is {p} {q} {y} {w} {m} {o} {x} hp hq hy hw hm ho hx =
+      let hv : w ≡ waitingOf (word 2) (payloadAt l (recordFrom i + 16)) = hw ∙ (λ j. waitingOf (word 2) (hy j)) in
+      λ j. record {
+        name = nameOf (word 1);
+        opened = word 11 % 2 ^ 63;
+        trm = highIn (word 1);
+        rate = record { acr = word 3; params = hp j };
+        pace = hq j;
+        unanswered = lowIn (word 8);
+        queue = hx j;
+        change = changed (word 9) (word 10);
+        destination = record { efci = eqb (word 2 % 2) 1; turned = hv j; made = record { level = highIn (word 2); last = hm j } };
+        «out_of_rate» = ho j;
+      }
+
+  pub first-line-is :
+      {p : Params} {q : Pace} {y : Payload} {w : Waiting} {x : Queue} → p ≡ onlyN (nOf (word 1)) → q ≡ paceOf (word 5) (word 6) (word 7) → y ≡ noPayload → w ≡ waitingOf (word 2) y → x ≡ queueOf (word 4)
+      → _≡_ {A = Connection}
+      (record {
+        name = nameOf (word 1);
+        opened = 0;
+        trm = highIn (word 1);
+        rate = record { acr = word 3; params = p };
+        pace = q;
+        unanswered = 0;
+        queue = x;
+        change = changed 0 0;
+        destination = record { efci = eqb (word 2 % 2) 1; turned = w; made = record { level = highIn (word 2); last = Never } };
+        «out_of_rate» = Never;
+      })
+      (firstLine (connectionAt l i))
+  first-line-is {p} {q} {y} {w} {x} hp hq hy hw hx =
+      let hv : w ≡ emptied (waitingOf (word 2) (payloadAt l (recordFrom i + 16))) = hw ∙ (λ j. waitingOf (word 2) (hy j)) ∙ emptied-is (word 2) (payloadAt l (recordFrom i + 16)) in
+      λ j. record {
+        name = nameOf (word 1);
+        opened = 0;
+        trm = highIn (word 1);
+        rate = record { acr = word 3; params = hp j };
+        pace = hq j;
+        unanswered = 0;
+        queue = hx j;
+        change = changed 0 0;
+        destination = record { efci = eqb (word 2 % 2) 1; turned = hv j; made = record { level = highIn (word 2); last = Never } };
+        «out_of_rate» = Never;
+      }

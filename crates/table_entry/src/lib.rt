@@ -1,6 +1,5 @@
-// An entry's connection out of its words, and its words again.
+// An entry's connection out of its record, and its record's words again.
 pub mod destination;
-pub mod fixed;
 pub mod load;
-pub mod sides;
+pub mod record;
 pub mod source;

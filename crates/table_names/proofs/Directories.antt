@@ -20,8 +20,8 @@ use Rattle.table_column.proofs.Descending.{reaches}
 use Rattle.table_column.proofs.Counts.{enters, leaves}
 
 -- where it stands
-pub directory-column : Column directoryFrom capacity
-directory-column = record { halvings = levels; is = refl; inside = lit≤ tt }
+pub names-column : Column directoryFrom capacity
+names-column = record { halvings = levels; is = refl; inside = lit≤ tt }
 
 -- ---- sorting
 

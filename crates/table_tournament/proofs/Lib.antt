@@ -5,4 +5,6 @@ pub mod Stored
 pub mod Matches
 pub mod Midway
 pub mod Replaying
+pub mod States
+pub mod Levels
 pub mod Winning

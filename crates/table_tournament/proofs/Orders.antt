@@ -13,7 +13,12 @@ use Rattle.table_tournament.specs.Replaying.{Playable}
 
 pub entries-ordered : (now : ℕ) (ss : List Entry) → now ≤ latestTime → length ss ≡ capacity → NamesUnique ss → Each (ValidAt now) ss → Playable ss
 entries-ordered now ss h g u v =
-    record { size = g; unique = u; below = each-map (ValidAt now) _ (λ c p. ready-below c (in-range now c h p)) ss v }
+    record {
+      size = g;
+      unique = u;
+      named = each-map (ValidAt now) _ (λ c p. p .0 .coded) ss v;
+      below = each-map (ValidAt now) _ (λ c p. ready-below c (in-range now c h p)) ss v;
+    }
 
 pub ordered : {r : State} → WellFormed r → Playable (r .entries)
 ordered {r} w = entries-ordered (r .last) (r .entries) (w .timely) (w .size) (w .unique) (w .each)

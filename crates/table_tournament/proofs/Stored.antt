@@ -1,95 +1,70 @@
--- What stands in the words of a table with given winners: the winners, and the keys and names of the entries.
-use Prim.Native.Nat.{ℕ, zero, suc, _+_, _<_}
-use mathlib.Core.Path.{_≡_, refl, sym, ap, _∙_}
-use mathlib.Core.List.{List, [], _∷_, _++_, append-assoc}
-use native.Mathlib.Nat.{zero-add, suc-add, not-suc-le-zero, le-of-suc-le-suc}
+-- What stands in the words of a table with given winners: the winners, and the key and the identity of each entry.
+use Prim.Native.Nat.{ℕ, suc, _+_, _*_, _<_}
+use mathlib.Core.Path.{_≡_, sym, ap, ap₂, _∙_}
+use mathlib.Core.List.{List, _++_, append-assoc}
+use native.Mathlib.Nat.{zero-add, add-zero}
 use native.Mathlib.Omega.{arith}
-use lib.ListN.{length, getD, set, length-append, List·getD-append}
-use lib.Seq.{getD-append-add, getD-at, set-append-left}
+use lib.ListN.{length, getD, set, drop, length-append, length-set, List·getD-append}
+use lib.Seq.{getD-append-add, getD-drop}
 use Rattle.laws.specs.Blocks.{flat}
-use Rattle.laws.proofs.Blocks.{length-flat}
-use Rattle.connection.specs.Ready.{readyInstant}
-use Rattle.model.specs.State.{Entry, free, taken, capacity}
-use Rattle.table.specs.Layout.{key, keyOf, nameWords, nodesFrom, noKeyAt, keysFrom, namesFrom}
+use Rattle.laws.proofs.Blocks.{drop-flat}
+use Rattle.model.specs.State.{Entry, free, capacity}
+use Rattle.model.specs.Tournament.{MatchWinner}
+use Rattle.table.specs.Layout.{recordOf, recordWidth, nodesFrom, recordFrom, winnerNumber, winnerKey, winnerWords}
+use Rattle.table.proofs.Nodes.{length-winners, winner-at, key-at}
+use Rattle.table.proofs.Records.{record-wide, get-inside, set-inside}
+use Rattle.table.proofs.Words.{keyNumber, identityNumber, key-first, identity-second}
+use Rattle.table_tournament.specs.KeyedWinner.{keyedWinner, keyedNode}
 use Rattle.table_tournament.specs.Replaying.{withNodes}
+use Rattle.table_tournament.proofs.Keyed.{asKeyed}
 
-abbrev pub keyNumber : Entry → ℕ
-keyNumber free = 0
-keyNumber (taken c) = key (readyInstant c)
-
-abbrev pub number : Entry → ℕ
-number free = 0
-number (taken c) = c .name
-
-key-block : (x : Entry) → keyOf x ≡ keyNumber x ∷ []
-key-block free = refl
-key-block (taken c) = refl
-
-name-block : (x : Entry) → nameWords x ≡ number x ∷ []
-name-block free = refl
-name-block (taken c) = refl
-
--- a column of one word an entry
-module _ (f : Entry → List ℕ) (g : Entry → ℕ) (one : (x : Entry) → f x ≡ g x ∷ []) where
-  wide : (x : Entry) → length (f x) ≡ 1
-  wide x = ap length (one x)
-
-  flat-at : (ss : List Entry) (t : List ℕ) (i : ℕ) → i < length ss → getD (flat f ss ++ t) i 0 ≡ g (getD ss i free)
-  flat-at [] t i l = absurd (not-suc-le-zero l)
-  flat-at (s ∷ ss) t zero l = ap (λ (b : List ℕ). getD ((b ++ flat f ss) ++ t) 0 0) (one s)
-  flat-at (s ∷ ss) t (suc i) l = ap (λ (b : List ℕ). getD ((b ++ flat f ss) ++ t) (suc i) 0) (one s) ∙ flat-at ss t i (le-of-suc-le-suc l)
-
-  -- it stands behind p
-  column-at : (p : List ℕ) (ss : List Entry) (t : List ℕ) (b i : ℕ) → length p ≡ b → i < length ss → getD (p ++ (flat f ss ++ t)) (b + i) 0 ≡ g (getD ss i free)
-  column-at p ss t b i e l = ap (λ (n : ℕ). getD (p ++ (flat f ss ++ t)) (n + i) 0) (sym e) ∙ getD-append-add p (flat f ss ++ t) i 0 ∙ flat-at ss t i l
-
--- a front, winners and entries as long as those of a table
-pub record Sized (h ns : List ℕ) (ss : List Entry) : Type 0 where
+-- a front and entries as long as those of a table
+pub record Sized (h : List ℕ) (ss : List Entry) : Type 0 where
   pub front : length h ≡ nodesFrom
-  pub winners : length ns ≡ capacity
   pub entries : length ss ≡ capacity
 
-module _ (h ns : List ℕ) (ss : List Entry) (t : List ℕ) (z : Sized h ns ss) where
-  pub node-in : (p : ℕ) → p < capacity → getD (withNodes h ns ss t) (nodesFrom + p) 0 ≡ getD ns p 0
-  node-in p l =
-      ap (λ (n : ℕ). getD (withNodes h ns ss t) (n + p) 0) (sym (z .front))
-      ∙ getD-append-add h (ns ++ (0 ∷ (flat keyOf ss ++ (flat nameWords ss ++ t)))) p 0
-      ∙ List·getD-append ns (0 ∷ (flat keyOf ss ++ (flat nameWords ss ++ t))) 0 p (omega (arith, z .winners))
+-- ---- the winners
 
-  pub no-key-in : getD (withNodes h ns ss t) noKeyAt 0 ≡ 0
-  no-key-in =
-      ap (λ (l : List ℕ). getD l noKeyAt 0) (sym (append-assoc h ns (0 ∷ (flat keyOf ss ++ (flat nameWords ss ++ t)))))
-      ∙ getD-at (h ++ ns) 0 (flat keyOf ss ++ (flat nameWords ss ++ t)) 0 noKeyAt (omega (arith, length-append h ns, z .front, z .winners))
+module _ (h : List ℕ) (ss : List Entry) (t : List ℕ) (z : Sized h ss) where
+  -- as the code reads them
+  pub node-in : (w : ℕ → MatchWinner) (p : ℕ) → p < capacity → keyedNode (withNodes h (winnerWords w 0 capacity) ss t) p ≡ keyedWinner (w p)
+  node-in w p l = ap₂ asKeyed word beside
+    where
+      ns : List ℕ
+      ns = winnerWords w 0 capacity
 
-  key-split : (a n k r : List ℕ) → a ++ (n ++ (0 ∷ (k ++ r))) ≡ (a ++ (n ++ (0 ∷ []))) ++ (k ++ r)
-  key-split a n k r = simp append-assoc
+      word : getD (withNodes h ns ss t) (nodesFrom + 2 * p) 0 ≡ winnerNumber (w p)
+      word =
+          get-inside h (flat recordOf ss ++ t) ns (2 * p) (nodesFrom + 2 * p) (omega (arith, z .front)) (omega (arith, length-winners w 0 capacity))
+          ∙ winner-at w 0 capacity p l ∙ ap (λ (j : ℕ). winnerNumber (w j)) (zero-add p)
 
-  name-split : (a n k m r : List ℕ) → a ++ (n ++ (0 ∷ (k ++ (m ++ r)))) ≡ (a ++ (n ++ (0 ∷ k))) ++ (m ++ r)
-  name-split a n k m r = simp append-assoc
+      beside : getD (withNodes h ns ss t) (nodesFrom + 2 * p + 1) 0 ≡ winnerKey (w p)
+      beside =
+          get-inside h (flat recordOf ss ++ t) ns (2 * p + 1) (nodesFrom + 2 * p + 1) (omega (arith, z .front)) (omega (arith, length-winners w 0 capacity))
+          ∙ key-at w 0 capacity p l ∙ ap (λ (j : ℕ). winnerKey (w j)) (zero-add p)
 
-  pub key-in : (x : ℕ) → x < capacity → getD (withNodes h ns ss t) (keysFrom + x) 0 ≡ keyNumber (getD ss x free)
-  key-in x l =
-      ap (λ (l : List ℕ). getD l (keysFrom + x) 0) (key-split h ns (flat keyOf ss) (flat nameWords ss ++ t))
-      ∙ column-at keyOf keyNumber key-block (h ++ (ns ++ (0 ∷ []))) ss (flat nameWords ss ++ t) keysFrom x
-      (omega (arith, length-append h (ns ++ (0 ∷ [])), length-append ns (0 ∷ []), z .front, z .winners)) (omega (arith, z .entries))
+  -- and stores them
+  pub set-node : (ns : List ℕ) (p a b : ℕ) → p < capacity → length ns ≡ 2 * capacity
+      → set (set (withNodes h ns ss t) (nodesFrom + 2 * p) a) (nodesFrom + 2 * p + 1) b ≡ withNodes h (set (set ns (2 * p) a) (2 * p + 1) b) ss t
+  set-node ns p a b l e =
+      ap (λ (m : List ℕ). set m (nodesFrom + 2 * p + 1) b)
+      (set-inside h (flat recordOf ss ++ t) ns (2 * p) (nodesFrom + 2 * p) a (omega (arith, z .front)) (omega (arith, e)))
+      ∙ set-inside h (flat recordOf ss ++ t) (set ns (2 * p) a) (2 * p + 1) (nodesFrom + 2 * p + 1) b (omega (arith, z .front)) (omega (arith, e, length-set ns (2 * p) a))
 
-  pub name-in : (x : ℕ) → x < capacity → getD (withNodes h ns ss t) (namesFrom + x) 0 ≡ number (getD ss x free)
-  name-in x l =
-      ap (λ (l : List ℕ). getD l (namesFrom + x) 0) (name-split h ns (flat keyOf ss) (flat nameWords ss) t)
-      ∙ column-at nameWords number name-block (h ++ (ns ++ (0 ∷ flat keyOf ss))) ss t namesFrom x
-      (omega (arith, length-append h (ns ++ (0 ∷ flat keyOf ss)), length-append ns (0 ∷ flat keyOf ss), length-flat keyOf 1 (wide keyOf keyNumber key-block) ss, z .front, z .winners, z .entries))
-      (omega (arith, z .entries))
+  -- ---- the records, behind them
 
--- a winner stored
-set-behind : (h r : List ℕ) (i v b : ℕ) → length h ≡ b → set (h ++ r) (b + i) v ≡ h ++ set r i v
-set-behind h r i v b e = ap (λ (n : ℕ). set (h ++ r) (n + i) v) (sym e) ∙ go h
-  where
-    go : (h : List ℕ) → set (h ++ r) (length h + i) v ≡ h ++ set r i v
-    go [] = ap (λ (n : ℕ). set r n v) (zero-add i)
-    go (a ∷ h) = ap (λ (n : ℕ). set (a ∷ (h ++ r)) n v) (suc-add (length h) i) ∙ ap (λ (l : List ℕ). a ∷ l) (go h)
+  module _ (ns : List ℕ) (e : length ns ≡ 2 * capacity) (x : ℕ) (l : x < capacity) where
+    record-in : (k : ℕ) → k < recordWidth → getD (withNodes h ns ss t) (recordFrom x + k) 0 ≡ getD (recordOf (getD ss x free)) k 0
+    record-in k m =
+        let at : recordFrom x + k ≡ length (h ++ ns) + (x * recordWidth + k) = omega (arith, length-append h ns, z .front, e) in
+        ap₂ (λ (m : List ℕ) (j : ℕ). getD m j 0) (sym (append-assoc h ns (flat recordOf ss ++ t))) at
+        ∙ getD-append-add (h ++ ns) (flat recordOf ss ++ t) (x * recordWidth + k) 0
+        ∙ sym (getD-drop (x * recordWidth) (flat recordOf ss ++ t) k 0)
+        ∙ ap (λ (m : List ℕ). getD m k 0) (drop-flat recordOf recordWidth record-wide ss t x free (omega (arith, z .entries)))
+        ∙ List·getD-append (recordOf (getD ss x free)) (flat recordOf (drop (suc x) ss) ++ t) 0 k (omega (arith, m, record-wide (getD ss x free)))
 
-pub set-node : (h ns : List ℕ) (ss : List Entry) (t : List ℕ) → length h ≡ nodesFrom → length ns ≡ capacity → (p v : ℕ) → p < capacity
-    → set (withNodes h ns ss t) (nodesFrom + p) v ≡ withNodes h (set ns p v) ss t
-set-node h ns ss t e f p v l =
-    set-behind h (ns ++ (0 ∷ (flat keyOf ss ++ (flat nameWords ss ++ t)))) p v nodesFrom e
-    ∙ ap (λ (m : List ℕ). h ++ m) (set-append-left ns (0 ∷ (flat keyOf ss ++ (flat nameWords ss ++ t))) p v (omega (arith, f)))
+    pub key-in : getD (withNodes h ns ss t) (recordFrom x) 0 ≡ keyNumber (getD ss x free)
+    key-in = ap (λ (j : ℕ). getD (withNodes h ns ss t) j 0) (sym (add-zero (recordFrom x))) ∙ record-in 0 (omega arith) ∙ key-first (getD ss x free)
+
+    pub identity-in : getD (withNodes h ns ss t) (recordFrom x + 1) 0 ≡ identityNumber (getD ss x free)
+    identity-in = record-in 1 (omega arith) ∙ identity-second (getD ss x free)

@@ -1,35 +1,40 @@
--- The winner at a place of the tournament, as the code holds it: a word, which is its leaf plus 1 or 0 for none,
--- and its ready key, 0 for none.
-use Prim.Native.Nat.{ℕ, _+_, _-_, _*_, _%_}
+-- The winner at a place of the tournament, as the code holds it: its number and its ready key, both 0 for none.
+use Prim.Native.Nat.{ℕ, _+_, _-_, _*_, _/_, _%_}
 use mathlib.Core.Bool.{cond}
 use mathlib.Core.List.{List}
-use lib.Dec.{leb, ltb, eqb}
+use lib.Dec.{ltb, eqb}
 use lib.ListN.{getD}
-use Rattle.connection.specs.declared.ready.Instant.the-variants.{At}
 use Rattle.model.specs.State.{capacity}
-use Rattle.model.specs.Tournament.{MatchWinner, noWinner, wonBy}
-use Rattle.table.specs.Layout.{key, noKeyAt, keysFrom, namesFrom}
+use Rattle.model.specs.Tournament.{MatchWinner}
+use Rattle.table.specs.Layout.{halves, nodesFrom, recordFrom, winnerNumber, winnerKey}
+use Rattle.table.specs.Loading.{nameOf}
 use Rattle.table_tournament.specs.declared.winner.KeyedWinner.{KeyedWinner}
 
 -- a lead as the code holds it
 abbrev pub keyedWinner : MatchWinner → KeyedWinner
-keyedWinner noWinner = record { word = 0; key = 0 }
-keyedWinner (wonBy i v x) = record { word = x + 1; key = key (At i) }
+keyedWinner a = record { word = winnerNumber a; key = winnerKey a }
 
--- the winner that a word gives, and a leaf
-abbrev pub keyedWord : List ℕ → (word : ℕ) → KeyedWinner
-keyedWord l w = record { word = w % (2 * capacity); key = getD l (noKeyAt + w % (2 * capacity)) 0 }
+-- the mark by which a replay tells its own leaf's word from every word of the table, whose lowest bit is 0
+abbrev pub wordMark : ℕ
+wordMark = 1
 
-abbrev pub keyedLeaf : List ℕ → (leaf : ℕ) → KeyedWinner
-keyedLeaf l x = cond (eqb (getD l (keysFrom + x) 0) 0) (record { word = 0; key = 0 }) (record { word = x + 1; key = getD l (keysFrom + x) 0 })
+-- the winner of a place's match, and that of a leaf, to whose word a mark is added
+abbrev pub keyedNode : List ℕ → (place : ℕ) → KeyedWinner
+keyedNode l p = record { word = getD l (nodesFrom + 2 * p) 0; key = getD l (nodesFrom + 2 * p + 1) 0 }
 
--- the name of the leaf that a word gives
-abbrev pub wordName : List ℕ → (word : ℕ) → ℕ
-wordName l w = getD l (namesFrom - 1 + w) 0
+abbrev pub leafWord : List ℕ → (leaf : ℕ) → ℕ
+leafWord l x = halves (nameOf (getD l (recordFrom x + 1) 0)) (2 * (x + 1))
 
--- the winner of a match: the greater key, ties to the lower name
-abbrev pub tiedOf : (names : ℕ → ℕ) → KeyedWinner → KeyedWinner → KeyedWinner
-tiedOf n a b = cond (leb (n (a .word)) (n (b .word))) a b
+abbrev pub keyedLeaf : List ℕ → (leaf mark : ℕ) → KeyedWinner
+keyedLeaf l x m = cond (eqb (getD l (recordFrom x) 0) 0) (record { word = 0; key = 0 }) (record { word = leafWord l x + m; key = getD l (recordFrom x) 0 })
 
-abbrev pub matched : (names : ℕ → ℕ) → KeyedWinner → KeyedWinner → KeyedWinner
-matched n a b = cond (eqb (a .key) (b .key)) (tiedOf n a b) (cond (ltb (a .key) (b .key)) b a)
+-- the leaf of a winner's word
+abbrev pub wordLeaf : (word : ℕ) → ℕ
+wordLeaf w = (w / 2 % capacity + (capacity - 1)) % capacity
+
+-- the winner of a match: the greater key, ties to the lower word, which is that of the lower name
+abbrev pub tiedOf : KeyedWinner → KeyedWinner → KeyedWinner
+tiedOf a b = cond (ltb (b .word) (a .word)) b a
+
+abbrev pub matched : KeyedWinner → KeyedWinner → KeyedWinner
+matched a b = cond (eqb (a .key) (b .key)) (tiedOf a b) (cond (ltb (a .key) (b .key)) b a)

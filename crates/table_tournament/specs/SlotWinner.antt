@@ -1,5 +1,5 @@
 -- What the choice for a slot says of a table's words. (Document 01, "Slots".)
-use Prim.Native.Nat.{ℕ, _≤_, _<_}
+use Prim.Native.Nat.{ℕ, _+_, _≤_, _<_}
 use mathlib.Core.Path.{_≡_}
 use mathlib.Core.List.{List}
 use lib.ListN.{getD}
@@ -12,6 +12,7 @@ use Rattle.model.specs.State.{State, Entry, free, taken, position, holds, capac
 use Rattle.model.specs.Invariant.{WellFormed}
 use Rattle.table.specs.Layout.{words}
 use Rattle.model.specs.Winner.{noneReady, wins, winner}
+use Rattle.model.specs.Tournament.{levels, winnerAt, winnerWord}
 
 -- of any table: an entry that it has
 abbrev pub SlotWinnerInRange : SlotWinner → Type 0
@@ -27,6 +28,7 @@ pub record Won (t : ℕ) (ss : List Entry) (i : ℕ) : Type 0 where
   pub readyAt : readyInstant holder ≡ At instant
   pub due : instant ≤ t
   pub won : winner t ss ≡ wins instant (holder .name)
+  pub leads : winnerWord (winnerAt ss levels 1) ≡ i + 1
 
 abbrev pub Picks : ℕ → List Entry → SlotWinner → Type 0
 Picks t ss (InEntry i) = Won t ss i

@@ -1,5 +1,5 @@
 use borrow.Author.Needs.{needs}
-use Rattle.table_names.proofs.Directories.{directory-column}
+use Rattle.table_names.proofs.Directories.{names-column}
 use Rattle.table_members.proofs.Packed.{members-column}
 use Rattle.abr_readings.proofs.TotalCases.{totals-are}
 use Rattle.abr_readings.proofs.totals.read_totals.Statement.{statement}
@@ -15,7 +15,7 @@ pub read-totals-spec : {M : Type 1} → statement M
 read-totals-spec =
     tie.close
     (tie.spec
-    (λ c κs. search (needs, directory-column))
+    (λ c κs. search (needs, names-column))
     (λ c. search needs)
     (λ c κs. search (needs, members-column))
     (λ c. search needs)

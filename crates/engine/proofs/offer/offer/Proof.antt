@@ -76,8 +76,8 @@ returns-3 c = record { meets = over (c .before .before) (omega (arith, c .if2 .t
 returns-4 : tie.Need-returns-4
 returns-4 c = record { meets = over (c .before .before .before) (omega (arith, c .if3 .taken, c .before .if2 .left)) }
 
-update-source-requires : tie.Need-update-source-requires
-update-source-requires c κs =
+update-queue-requires : tie.Need-update-queue-requires
+update-queue-requires c κs =
     let ld = c .before .before .before .before .before in
     let i = past ld in
     (entry i, subst InRange (sym (c .offered .ensures)) (offered-ranged (ld .load .result) (ranged (start i .args .t .now) (index i) (ld .load .ensures)) _))
@@ -91,9 +91,9 @@ returns-5 c =
     let a = start i .args in
     record {
       meets = λ s w e.
-          offer-done s w e (a .name) (a .cells) (index i) (entry i) (located i s w e) (ld .load .result) (ld .load .ensures) (channel ld) (o .offered .result) (o .offered .ensures) (c .update-source .ensures)
+          offer-done s w e (a .name) (a .cells) (index i) (entry i) (located i s w e) (ld .load .result) (ld .load .ensures) (channel ld) (o .offered .result) (o .offered .ensures) (c .update-queue .ensures)
           (omega (arith, e3 .if3 .left, e3 .before .if2 .left));
     }
 
 pub offer-spec : {M : Type 1} → statement M
-offer-spec = tie.close (tie.spec (λ c κs. search needs) (λ c. search needs) (λ c. search needs) returns returns-2 load-requires (λ c. search needs) returns-3 returns-4 (λ c. search needs) (λ c κs. search needs) update-source-requires returns-5)
+offer-spec = tie.close (tie.spec (λ c κs. search needs) (λ c. search needs) (λ c. search needs) returns returns-2 load-requires (λ c. search needs) returns-3 returns-4 (λ c. search needs) (λ c κs. search needs) update-queue-requires returns-5)

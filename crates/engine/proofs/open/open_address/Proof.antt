@@ -16,6 +16,7 @@ use Rattle.model.specs.State.{State, free, position, isFree, find, capacity}
 use Rattle.model.specs.Invariant.{WellFormed}
 use Rattle.table.specs.Layout.{words}
 use Rattle.connection.specs.declared.parts.Connection.{Connection}
+use Rattle.table.specs.Storing.{FixedFits}
 use Rattle.table_store.specs.Updates.{OpensEntry}
 use Rattle.table_names.specs.Finding.{FindsName}
 use Rattle.table_names.proofs.Found.{found-at, room-at}
@@ -23,7 +24,7 @@ use Rattle.table_members.specs.Words.{FindsMember}
 use Rattle.engine.proofs.Outcomes.{missing, entry-located}
 use Rattle.engine.proofs.Members.{no-member, member-at}
 use Rattle.table.proofs.Words.{last-at}
-use Rattle.engine.proofs.OpenCases.{open-refused, open-reserved, open-unfit, open-tbe, open-frtt, open-late, InputPassed, open-taken, open-member, open-full, open-early, open-done, lowest, entry-below, no-room, open-out}
+use Rattle.engine.proofs.OpenCases.{open-refused, open-reserved, open-unfit, open-tbe, open-frtt, open-late, InputPassed, open-taken, open-member, open-full, open-early, open-done, input-named, fresh-fits, lowest, entry-below, no-room, open-out}
 use Rattle.engine.proofs.open.open_address.Statement.{statement}
 use Rattle.engine.proofs.open.open_address.Tie as tie
 
@@ -186,7 +187,13 @@ store-requires c κs =
     let i = c .before .before .before .before .before in
     let f = first (second (third i)) in
     let a = start (input f) .args in
-    (entry i, subst InRange (sym (c .fresh .ensures)) (fresh-ranged (f .before .before .address-name .result) (a .time) (a .params) (omega (arith, input f .if5 .left))))
+    let new = c .fresh .ensures ∙ ap (λ (n : ℕ). fresh n (a .time) (a .params)) (f .before .before .address-name .ensures) in (
+      entry i,
+      (
+        subst InRange (sym (c .fresh .ensures)) (fresh-ranged (f .before .before .address-name .result) (a .time) (a .params) (omega (arith, input f .if5 .left))),
+        subst FixedFits (sym new) (fresh-fits (passed (input f))),
+      ),
+    )
 
 returns-10 : tie.Need-returns-10
 returns-10 c =
@@ -199,7 +206,7 @@ returns-10 c =
     let a = start e5 .args in
     record {
       meets = λ s w e.
-          open-out s w e (a .vpi) (a .vci) (a .time) (a .params) (i .i .given .0 .0) (least i s w e) (e5 .if5 .left) (closed m s w e)
+          open-out s w e (a .vpi) (a .vci) (a .time) (a .params) (i .i .given .0 .0) (least i s w e) (input-named (passed e5)) (e5 .if5 .left) (closed m s w e)
           (open-done s (passed e5) (closed m s w e) (apart (third i) s w e) (room-at s w (i .i .given .0 .0) (entry i) (least i s w e))
           (subst (λ x. x ≤ a .time) (last-at s e) (e6 .if6 .left)))
           (subst (λ (x : Connection). OpensEntry (a .t .now) (c .store .last .0) (i .i .given .0 .0) x (c .store .result))

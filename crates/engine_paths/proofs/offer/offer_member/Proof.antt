@@ -13,7 +13,7 @@ use Rattle.model.specs.Step.{offerMemberStep}
 use Rattle.table.specs.Layout.{words}
 use Rattle.table.proofs.Loaded.{load-queue}
 use Rattle.table.specs.declared.found.Found.the-variants.{At}
-use Rattle.table_store.specs.Updates.{Updates, SourceMoved}
+use Rattle.table_store.specs.Updates.{Updates, QueueMoved}
 use Rattle.table_members.specs.Words.{SetsCells}
 use Rattle.engine.proofs.Outcomes.{refused-out, below, ranged}
 use Rattle.engine_paths.specs.Member.{AddressInRange, OnPath}
@@ -104,8 +104,8 @@ offered-requires c κs =
       ld .before .before .if1 .left,
     )
 
-update-source-requires : tie.Need-update-source-requires
-update-source-requires c κs =
+update-queue-requires : tie.Need-update-queue-requires
+update-queue-requires c κs =
     let ld = c .before .before .before .before in
     let i = past (at (counted ld)) in
     (entry i, subst InRange (sym (c .offered .ensures)) (offered-ranged (ld .load .result) (ranged (start i .args .t .now) (path i) (ld .load .ensures)) _))
@@ -124,9 +124,9 @@ returns-4 c =
           let n = waits ca s w e in
           offer-out s w e (a .vpi) (a .vci) (found j s w e) (entry i) (ld .load .ensures) (a .cells) (omega (arith, n, ca .cells-at .ensures .few, ld .before .before .if1 .left))
           (subst (λ (x : ℕ). SetsCells (member j) (x + a .cells) (a .t .now) (sc .set-cells .last .0)) n (sc .set-cells .ensures))
-          (subst (λ (x : Connection). Updates SourceMoved (sc .set-cells .last .0) (c .update-source .last .0) (path i) x (c .update-source .result)) (o .offered .ensures) (c .update-source .ensures));
+          (subst (λ (x : Connection). Updates QueueMoved (sc .set-cells .last .0) (c .update-queue .last .0) (path i) x (c .update-queue .result)) (o .offered .ensures) (c .update-queue .ensures));
     }
 
 pub offer-member-spec : {M : Type 1} → statement M
 offer-member-spec = tie.close
-    (tie.spec (λ c κs. search needs) (λ c κs. search needs) (λ c. search needs) (λ c. search needs) returns (λ c κs. search needs) (λ c. search needs) (λ c. search needs) returns-2 cells-at-requires (λ c. search needs) (λ c. search needs) returns-3 (λ c. search needs) load-requires (λ c. search needs) set-cells-requires offered-requires update-source-requires returns-4)
+    (tie.spec (λ c κs. search needs) (λ c κs. search needs) (λ c. search needs) (λ c. search needs) returns (λ c κs. search needs) (λ c. search needs) (λ c. search needs) returns-2 cells-at-requires (λ c. search needs) (λ c. search needs) returns-3 (λ c. search needs) load-requires (λ c. search needs) set-cells-requires offered-requires update-queue-requires returns-4)

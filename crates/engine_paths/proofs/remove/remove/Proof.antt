@@ -12,7 +12,7 @@ use Rattle.model.specs.Step.{removeStep}
 use Rattle.model.specs.declared.answer.Answer.the-variants.{Closed}
 use Rattle.table.specs.Layout.{words}
 use Rattle.table.specs.declared.found.Found.the-variants.{At}
-use Rattle.table_store.specs.Updates.{Updates, SourceMoved}
+use Rattle.table_store.specs.Updates.{Updates, QueueMoved}
 use Rattle.table_members.specs.Words.{RemovesMember}
 use Rattle.engine.proofs.Outcomes.{refused-out, below, ranged}
 use Rattle.engine_paths.specs.Member.{AddressInRange, OnPath}
@@ -83,8 +83,8 @@ load-requires c κs = entry (past (at (c .before)))
 remove-requires : tie.Need-remove-requires
 remove-requires c κs = subst (λ (x : ℕ). x < noName) (sym (c .address-name2 .ensures)) (inside (at (counted (c .before .before))) .1)
 
-update-source-requires : tie.Need-update-source-requires
-update-source-requires c κs =
+update-queue-requires : tie.Need-update-queue-requires
+update-queue-requires c κs =
     let ld = c .before .before .before .before .before in
     let i = past (at (counted ld)) in
     (entry i, subst InRange (sym (c .dequeued .ensures)) (removed-ranged _ (ld .load .result) (ranged (start i .args .t .now) (path i) (ld .load .ensures))))
@@ -104,11 +104,11 @@ returns-3 c =
           let z =
           remove-out s w e (a .vpi) (a .vci) (found j s w e) (entry i) (ld .load .ensures)
           (subst (λ (x : ℕ). RemovesMember x (a .t .now) (rm .remove .last .0)) (pn .address-name2 .ensures) (rm .remove .ensures))
-          (subst (λ (x : Connection). Updates SourceMoved (rm .remove .last .0) (c .update-source .last .0) (path i) x (c .update-source .result))
-          (o .dequeued .ensures ∙ ap (λ (k : ℕ). withQueue (ld .load .result) (dequeued k (ld .load .result .queue))) n) (c .update-source .ensures)) in
-          (z .0, ap (Closed (c .update-source .result)) n ∙ z .1);
+          (subst (λ (x : Connection). Updates QueueMoved (rm .remove .last .0) (c .update-queue .last .0) (path i) x (c .update-queue .result))
+          (o .dequeued .ensures ∙ ap (λ (k : ℕ). withQueue (ld .load .result) (dequeued k (ld .load .result .queue))) n) (c .update-queue .ensures)) in
+          (z .0, ap (Closed (c .update-queue .result)) n ∙ z .1);
     }
 
 pub remove-spec : {M : Type 1} → statement M
 remove-spec = tie.close
-    (tie.spec (λ c κs. search needs) (λ c κs. search needs) (λ c. search needs) (λ c. search needs) returns (λ c κs. search needs) (λ c. search needs) (λ c. search needs) returns-2 cells-at-requires load-requires (λ c κs. search needs) remove-requires (λ c κs. search needs) update-source-requires (λ c. search needs) returns-3)
+    (tie.spec (λ c κs. search needs) (λ c κs. search needs) (λ c. search needs) (λ c. search needs) returns (λ c κs. search needs) (λ c. search needs) (λ c. search needs) returns-2 cells-at-requires load-requires (λ c κs. search needs) remove-requires (λ c κs. search needs) update-queue-requires (λ c. search needs) returns-3)

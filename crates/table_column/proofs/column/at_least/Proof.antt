@@ -1,37 +1,12 @@
--- The loop's invariant: what is looked for is among the words from p on, and half of them is looked at next.
-use borrow.Author.Needs.{needs}
-use Rattle.table_column.proofs.Halving.{Halved, halved-start, halved-next, halved-end}
+use Rattle.table_column.proofs.Halving.{column-whole, halved-whole}
 use Rattle.table_column.proofs.column.at_least.Statement.{statement}
 use Rattle.table_column.proofs.column.at_least.Tie as tie
 
-abbrev Inv-loop : tie.InvT-loop
-Inv-loop t from len word p₀ half₀ p half = Halved from len t word p half
+at-least-from-requires : tie.Need-at-least-from-requires
+at-least-from-requires c κs = column-whole _ _ (c .pre)
 
-abbrev μ-loop : tie.MeasureT-loop
-μ-loop t from len word p₀ half₀ p half = half
-
-loop-holds : tie.Need-loop-holds Inv-loop μ-loop
-loop-holds c = halved-start _ _ (c .pre) _ _
-
-loop-again : tie.Need-loop-again Inv-loop μ-loop
-loop-again c = let lp = c .before .before .before in halved-next _ _ _ _ _ _ (lp .loop .inv) (search needs) _ (c .passed .ensures)
-
-returns : tie.Need-returns Inv-loop μ-loop
-returns c = halved-end _ _ _ _ _ _ (c .before .loop .inv) (search needs)
+returns : tie.Need-returns
+returns c = halved-whole _ _ _ _ _ (c .at-least-from .ensures .1)
 
 pub at-least-spec : {M : Type 1} → statement M
-at-least-spec =
-    tie.close
-    (tie.spec
-    Inv-loop
-    μ-loop
-    loop-holds
-    (λ c. search needs)
-    (λ c. search needs)
-    (λ c. search needs)
-    (λ c. search needs)
-    (λ c. search needs)
-    (λ c κs. search needs)
-    (λ c. search needs)
-    loop-again
-    returns)
+at-least-spec = tie.close (tie.spec at-least-from-requires returns)

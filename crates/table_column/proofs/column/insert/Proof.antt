@@ -1,44 +1,10 @@
--- The loop's invariant: the words before word i stand in their new places, and `moved` is to stand before the others.
-use Prim.Native.Nat.{_-_}
 use borrow.Author.Needs.{needs}
-use Rattle.table_column.proofs.Moves.{Inserting, inserting-start, inserting-next, inserting-zero, inserting-end}
+use Rattle.table_column.proofs.Moves.{inserted}
 use Rattle.table_column.proofs.column.insert.Statement.{statement}
 use Rattle.table_column.proofs.column.insert.Tie as tie
 
-abbrev Inv-loop : tie.InvT-loop
-Inv-loop t₀ from len word i₀ moved₀ t i moved = Inserting from len word t₀ t i moved
-
-abbrev μ-loop : tie.MeasureT-loop
-μ-loop t₀ from len word i₀ moved₀ t i moved = len - i
-
-loop-holds : tie.Need-loop-holds Inv-loop μ-loop
-loop-holds c = inserting-start _ _ _ _ _ (c .at-least .ensures)
-
-returns : tie.Need-returns Inv-loop μ-loop
-returns c = let lp = c .before .before .before in inserting-zero _ _ _ _ _ _ _ (lp .loop .inv) (search needs) (c .if1 .taken)
-
-loop-again : tie.Need-loop-again Inv-loop μ-loop
-loop-again c = let lp = c .before .before .before in inserting-next _ _ _ _ _ _ _ (lp .loop .inv) (search needs)
-
-returns-2 : tie.Need-returns-2 Inv-loop μ-loop
-returns-2 c = inserting-end _ _ _ _ _ _ _ (c .before .loop .inv) (search needs)
+returns : tie.Need-returns
+returns c = inserted _ _ _ _ _ _ _ (c .before .before .at-least .ensures) (c .enter .ensures)
 
 pub insert-spec : {M : Type 1} → statement M
-insert-spec =
-    tie.close
-    (tie.spec
-    Inv-loop
-    μ-loop
-    (λ c κs. search needs)
-    loop-holds
-    (λ c. search needs)
-    (λ c. search needs)
-    (λ c. search needs)
-    (λ c. search needs)
-    (λ c. search needs)
-    (λ c. search needs)
-    returns
-    (λ c. search needs)
-    (λ c. search needs)
-    loop-again
-    returns-2)
+insert-spec = tie.close (tie.spec (λ c κs. search needs) (λ c κs. search needs) returns)

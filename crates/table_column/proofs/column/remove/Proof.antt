@@ -1,50 +1,10 @@
--- The loop's invariant: the words before word i stand in their new places, and those behind it are to move down by one.
-use Prim.Native.Nat.{_-_}
 use borrow.Author.Needs.{needs}
-use Rattle.table_column.proofs.Moves.{Removing, removing-start, removing-next, removing-zero, removing-end}
+use Rattle.table_column.proofs.Moves.{removed}
 use Rattle.table_column.proofs.column.remove.Statement.{statement}
 use Rattle.table_column.proofs.column.remove.Tie as tie
 
-abbrev Inv-loop : tie.InvT-loop
-Inv-loop t₀ from len word i₀ t i = Removing from len word t₀ t i
-
-abbrev μ-loop : tie.MeasureT-loop
-μ-loop t₀ from len word i₀ t i = len - i
-
-loop-holds : tie.Need-loop-holds Inv-loop μ-loop
-loop-holds c = removing-start _ _ _ _ _ (c .at-least .ensures)
-
-returns : tie.Need-returns Inv-loop μ-loop
-returns c = let lp = c .before .before .before in removing-zero _ _ _ _ _ _ (lp .loop .inv) (search needs) (c .if1 .taken)
-
-loop-again : tie.Need-loop-again Inv-loop μ-loop
-loop-again c = let lp = c .before .before .before in removing-next _ _ _ _ _ _ (lp .loop .inv) (search needs)
-
-returns-2 : tie.Need-returns-2 Inv-loop μ-loop
-returns-2 c = removing-end _ _ _ _ _ _ (c .before .loop .inv) (search needs)
+returns : tie.Need-returns
+returns c = removed _ _ _ _ _ _ (c .before .before .at-least .ensures) (c .leave .ensures)
 
 pub remove-spec : {M : Type 1} → statement M
-remove-spec =
-    tie.close
-    (tie.spec
-    Inv-loop
-    μ-loop
-    (λ c κs. search needs)
-    loop-holds
-    (λ c. search needs)
-    (λ c. search needs)
-    (λ c. search needs)
-    (λ c. search needs)
-    (λ c. search needs)
-    (λ c. search needs)
-    (λ c. search needs)
-    (λ c. search needs)
-    returns
-    (λ c. search needs)
-    (λ c. search needs)
-    loop-again
-    (λ c. search needs)
-    (λ c. search needs)
-    (λ c. search needs)
-    (λ c. search needs)
-    returns-2)
+remove-spec = tie.close (tie.spec (λ c κs. search needs) (λ c κs. search needs) returns)

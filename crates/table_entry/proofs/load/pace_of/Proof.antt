@@ -6,11 +6,8 @@ use Rattle.table_entry.proofs.load.pace_of.Tie as tie
 returns : tie.Need-returns
 returns c = simp (eq-eqb _ _ (c .if1 .taken))
 
-cast-t9 : tie.Need-cast-t9
-cast-t9 c = search needs
-
 returns-2 : tie.Need-returns-2
 returns-2 c = simp (ne-eqb _ _ (c .if1 .left))
 
 pub pace-of-spec : {M : Type 1} → statement M
-pace-of-spec = tie.close (tie.spec returns cast-t9 returns-2)
+pace-of-spec = tie.close (tie.spec returns (λ c. search needs) returns-2)

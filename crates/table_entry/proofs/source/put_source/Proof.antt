@@ -3,7 +3,8 @@ use Rattle.table_entry.proofs.source.put_source.Statement.{statement}
 use Rattle.table_entry.proofs.source.put_source.Tie as tie
 
 returns : tie.Need-returns
-returns c = let p = c .before .before .before .pace-words .ensures in rw (p .0, p .1, p .2, p .3, c .queue-word .ensures)
+returns c =
+    rw (c .put-paced .ensures)
 
 pub put-source-spec : {M : Type 1} → statement M
-put-source-spec = tie.close (tie.spec (λ c κs. search needs) (λ c. search needs) (λ c. search needs) (λ c. search needs) (λ c. search needs) (λ c. search needs) (λ c. search needs) (λ c. search needs) (λ c. search needs) (λ c. search needs) (λ c. search needs) (λ c. search needs) (λ c. search needs) (λ c. search needs) (λ c. search needs) (λ c. search needs) (λ c. search needs) (λ c. search needs) (λ c. search needs) (λ c. search needs) (λ c. search needs) (λ c. search needs) (λ c. search needs) (λ c. search needs) (λ c. search needs) (λ c. search needs) (λ c. search needs) (λ c. search needs) (λ c. search needs) returns)
+put-source-spec = tie.close (tie.spec (λ c. search needs) (λ c. search needs) (λ c. search needs) (λ c. search needs) (λ c κs. search needs) (λ c. search needs) (λ c. search needs) (λ c. search needs) (λ c. search needs) (λ c. search needs) (λ c. search needs) (λ c. search needs) (λ c. search needs) (λ c. search needs) returns)

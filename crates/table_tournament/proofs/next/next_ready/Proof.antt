@@ -4,8 +4,7 @@ use Rattle.table_tournament.proofs.next.next_ready.Statement.{statement
 use Rattle.table_tournament.proofs.next.next_ready.Tie as tie
 
 returns : tie.Need-returns
-returns c = let w = c .before in gives-next (w .before .before .args .t .now) (w .keyed-word .result) (w .keyed-word .ensures)
+returns c = let f = c .before in gives-next (f .before .args .t .now) (f .keyed-node .result) (f .keyed-node .ensures)
 
 pub next-ready-spec : {M : Type 1} → statement M
-next-ready-spec =
-    tie.close (tie.spec (λ c. search needs) (λ c. search needs) (λ c. search needs) (λ c κs. search needs) (λ c. search needs) returns)
+next-ready-spec = tie.close (tie.spec (λ c κs. search needs) (λ c. search needs) returns)
