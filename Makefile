@@ -5,6 +5,7 @@
 #   make demo               two connections, slot by slot, and pictures: of them, and of ten sources at a port
 #   make test               the gate: proofs, then every test; of another edition its proofs and tests alone
 #   make target TARGET=     the library for another processor, target/TARGET/libabr.a; without a name it says which there are
+#   make page               docs/abr.html, the proved library of 1,024 connections on a page for a browser
 #   make tools              abr-judge and abr-trace, in target/cargo/release
 #   make transmitter        a whole transmitter, both ends of a link, and its picture; make demo runs it too
 #   make install PREFIX=    library, as an archive and as a shared object linked from it, header and abr.pc
@@ -54,7 +55,7 @@ LIB_GOAL := lib
 endif
 export ABR_LIB := $(LIB)
 
-.PHONY: lib demo test target tools transmitter install dist bench soak soak-targets clean
+.PHONY: lib demo test target page tools transmitter install dist bench soak soak-targets clean
 
 lib:
 	$(PROVE)
@@ -75,6 +76,12 @@ target:
 	@scripts/target --known "$(TARGET)"
 	@scripts/module
 	@scripts/target "$(TARGET)"
+
+page: export ABR_CONNECTIONS := 1024
+page:
+	@scripts/target --known wasm32
+	@scripts/module
+	@scripts/page
 
 tools: $(LIB_GOAL)
 	cargo build --release --quiet -p abr-tools
