@@ -17,18 +17,12 @@
  * Every answer is checked. A refusal that should not be ends the program.
  */
 #include <inttypes.h>
-#include <stdio.h>
-#include <stdlib.h>
-#include <string.h>
 
-#include "abr.h"
+#include "common.h"
 
-#define US UINT64_C(1000)
-#define MS UINT64_C(1000000)
 #define SLOT (100 * US)
 #define DELAY (5 * MS)
 #define END (600 * MS)
-#define LINE 4096u /* cells that a line holds */
 #define LEASED_RATE UINT64_C(2400) /* cells per second: minimum and peak of the leased circuit */
 #define LEASED_GAP UINT64_C(416667) /* nanoseconds from one of its cells to the next */
 #define PEAK UINT64_C(2500) /* of each other connection */
@@ -56,19 +50,12 @@ typedef struct {
     uint64_t next_out, next_in;    /* numbers of data cells */
 } connection;
 
-/* Cells on their way, each with the time of its arrival, in the order in which they arrive. */
-typedef struct {
-    uint64_t arrival[LINE];
-    uint8_t cell[LINE][ABR_CELL_OCTETS];
-    size_t first, count;
-} line;
-
 typedef struct {
     const char *name;
     abr_table table;
     connection connections[CONNECTIONS];
     connection *in_leaf[ABR_CONNECTIONS_MAX]; /* by the leaf that the engine's answers carry: no search by address */
-    line in;
+    wire in;
     uint64_t passed;  /* the time of the last slot, as it was passed */
     uint64_t unknown; /* received cells of connections that are not open */
     uint64_t idle;    /* slots */
@@ -84,83 +71,7 @@ static uint64_t lag = CONNECTIONS * SLOT;
 /* The network: when its queue will be empty, who sent data when, and the cells that it marked. */
 static uint64_t queue_end, last_data[CONNECTIONS], marked;
 
-/* ---- Checks ------------------------------------------------------------- */
-
-static void fail(const char *what, const char *why)
-{
-    fprintf(stderr, "%s: %s\n", what, why);
-    exit(1);
-}
-
-static void accepted(const char *what, uint32_t refusal)
-{
-    if (refusal != ABR_OK) {
-        fail(what, abr_refusal_text(refusal));
-    }
-}
-
-static void must(int condition, const char *what)
-{
-    if (!condition) {
-        fail(what, "not so");
-    }
-}
-
-/* ---- Rates and octets --------------------------------------------------- */
-
-/* The least code whose rate is not below this one, for what was sold. */
-static uint32_t code_up(uint64_t rate)
-{
-    abr_coded coded = abr_code(rate);
-    accepted("code", coded.refusal);
-    abr_rated rated = abr_rate(coded.code);
-    accepted("rate", rated.refusal);
-    if (rated.rate == rate) {
-        return coded.code;
-    }
-    return coded.code == 0 ? 0x4000 : coded.code + 1;
-}
-
-/* Octet 5 of a header: the remainder of octets 1 to 4, times x^8, by x^8 + x^2 + x + 1, exclusive-or 0x55. */
-static uint8_t header_check(const uint8_t *header)
-{
-    uint8_t remainder = 0;
-    for (int octet = 0; octet < 4; octet++) {
-        remainder ^= header[octet];
-        for (int bit = 0; bit < 8; bit++) {
-            remainder = (uint8_t)(remainder & 0x80 ? remainder << 1 ^ 0x07 : remainder << 1);
-        }
-    }
-    return remainder ^ 0x55;
-}
-
-/* The header of a data cell: GFC 0, CLP 0, a payload type from 0 to 3: 2 is the congestion mark. */
-static void write_header(uint8_t *cell, uint32_t vpi, uint32_t vci, uint32_t type)
-{
-    cell[0] = (uint8_t)(vpi >> 4);
-    cell[1] = (uint8_t)(vpi << 4 | vci >> 12);
-    cell[2] = (uint8_t)(vci >> 4);
-    cell[3] = (uint8_t)(vci << 4 | type << 1);
-    cell[4] = header_check(cell);
-}
-
-/* A data cell: its header, and its number as payload. */
-static void write_data(uint8_t *cell, uint32_t vpi, uint32_t vci, uint64_t number)
-{
-    memset(cell, 0, ABR_CELL_OCTETS);
-    write_header(cell, vpi, vci, 0);
-    memcpy(cell + 5, &number, sizeof number);
-}
-
 /* ---- The network -------------------------------------------------------- */
-
-static void put(line *to, uint64_t arrival, const uint8_t *cell)
-{
-    must(to->count < LINE, "a line has room");
-    size_t place = (to->first + to->count++) % LINE;
-    to->arrival[place] = arrival;
-    memcpy(to->cell[place], cell, ABR_CELL_OCTETS);
-}
 
 /* The connection of a cell. The network has no engine, and looks for its address. */
 static int connection_of(uint32_t vpi, uint32_t vci)
@@ -186,10 +97,10 @@ static uint64_t room(uint64_t now)
 /* The cells that have not left the queue. */
 static uint64_t queue_length(uint64_t now)
 {
-    const line *to = &ends[FAR].in;
+    const wire *to = &ends[FAR].in;
     uint64_t length = 0;
     for (size_t place = 0; place < to->count; place++) {
-        length += to->arrival[(to->first + place) % LINE] > now + DELAY;
+        length += to->arrival[(to->first + place) % WIRE] > now + DELAY;
     }
     return length;
 }
@@ -247,6 +158,14 @@ static void send(station *from, uint64_t now, uint8_t *cell)
 
 /* ---- The transmitter ---------------------------------------------------- */
 
+/* A data cell: its header, and its number as payload. */
+static void write_data(uint8_t *cell, uint32_t vpi, uint32_t vci, uint64_t number)
+{
+    memset(cell, 0, ABR_CELL_OCTETS);
+    write_header(cell, vpi, vci, 0);
+    memcpy(cell + 5, &number, sizeof number);
+}
+
 /* In an idle slot, a connection whose rate is 0 asks for one. */
 static void ask_for_a_rate(station *end, uint64_t now)
 {
@@ -302,9 +221,8 @@ static void take_data(connection *it, const uint8_t *cell)
 /* All cells that have arrived. Those of a connection that was closed are refused. */
 static void receive(station *end, uint64_t now)
 {
-    line *in = &end->in;
-    while (in->count > 0 && in->arrival[in->first] <= now) {
-        const uint8_t *cell = in->cell[in->first];
+    const uint8_t *cell;
+    while ((cell = arrived(&end->in, now)) != NULL) {
         abr_received received = abr_receive(&end->table, cell, ABR_CELL_OCTETS);
         if (received.refusal == ABR_REFUSED_NOT_OPEN) {
             end->unknown++;
@@ -316,8 +234,6 @@ static void receive(station *end, uint64_t now)
                 take_data(it, cell);
             }
         }
-        in->first = (in->first + 1) % LINE;
-        in->count--;
     }
 }
 

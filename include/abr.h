@@ -140,8 +140,8 @@ extern "C" {
 
 /* ---- Version ------------------------------------------------------------ */
 
-/* 0.21.0: major, minor and patch number, eight bits each. */
-#define ABR_VERSION 0x001500u
+/* 0.22.0: major, minor and patch number, eight bits each. */
+#define ABR_VERSION 0x001600u
 
 /* ---- Limits ------------------------------------------------------------- */
 
@@ -566,8 +566,8 @@ ABR_MUST_USE abr_allowed abr_acr(const abr_table *table, uint32_t vpi, uint32_t 
 ABR_MUST_USE abr_connection abr_status(const abr_table *table, uint32_t vpi, uint32_t vci);
 
 /*
- * Reads the same of the connection in a leaf, a channel or a path (section 21). So a
- * loop from 0 to ABR_CONNECTIONS_MAX - 1 lists all that are open.
+ * Reads everything of the connection in a leaf, a channel or a path, as abr_status does
+ * (section 21). So a loop from 0 to ABR_CONNECTIONS_MAX - 1 lists all that are open.
  * Refusal: 11 no connection is open in that leaf, or leaf over ABR_CONNECTIONS - 1.
  */
 ABR_MUST_USE abr_connection abr_at(const abr_table *table, uint32_t leaf);
@@ -857,12 +857,12 @@ ABR_MUST_USE abr_share abr_fair_share(uint64_t capacity, const uint64_t *demands
 ABR_MUST_USE uint32_t abr_limit(uint64_t rate, uint8_t *cell, size_t len);
 
 /*
- * For connections without a minimum rate: the share knows none, and a cell may be limited
- * below its contract's MCR. Where contracts have minimums, share what is left above them
- * and call abr_limit with minimum plus share.
  * A passing cell at the port of a switch (section 18): abr_fair_share and, if there
  * is a limit, abr_limit with that share. With no limit every octet stays, but the cell is
  * looked at all the same.
+ * For connections without a minimum rate: the share knows none, and a cell may be limited
+ * below its contract's MCR. Where contracts have minimums, share what is left above them
+ * and call abr_limit with minimum plus share.
  * Refusals in order: 21, 22, as for abr_fair_share; then 1, 2, 4, 5, 6, 19, as for
  * abr_receive.
  */
@@ -917,7 +917,7 @@ ABR_MUST_USE abr_verdict abr_judge(const uint8_t *trace, size_t len);
 
 /* ---- The text of a refusal ---------------------------------------------- */
 
-/* The text of an answer, as it is beside its number above; never null. */
+/* The text of an answer, as it is beside its number in this header; never null. */
 static inline const char *abr_refusal_text(uint32_t refusal)
 {
     switch (refusal) {

@@ -12,7 +12,7 @@ extern abr_params params;
 extern abr_sent sent;
 extern abr_connection seen[ABR_CONNECTIONS_MAX];
 extern uint32_t vpi, vci, peak_code, minimum_code, initial_code, far_peak_code;
-extern uint64_t time, lag, capacity_above_minimums, demands_above_minimums[], last_share, minimum_of_source;
+extern uint64_t time, lag, memory_rate, capacity_above_minimums, demands_above_minimums[], last_share, minimum_of_source;
 extern size_t sources;
 extern double planned, left_over;
 

@@ -92,8 +92,9 @@ function* boxes() {
     }
 }
 
-function legible() {
-    const wrong = wrongLines(), shown = [...texts()];
+/* A page without drawings of its own has no lines. */
+function legible(drawn = true) {
+    const wrong = drawn ? wrongLines() : [], shown = [...texts()];
     const say = (element, text, what) => wrong.push(`${what}: ${text.slice(0, 60)} (${element.outerHTML.slice(0, 60)})`);
     for (const { element, text, box } of shown) {
         for (const what of wrongLetters(element)) say(element, text, what);

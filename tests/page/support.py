@@ -2,6 +2,9 @@
 
 import os
 import subprocess
+import sys
+import time
+import traceback
 from pathlib import Path
 
 from browser import Failure
@@ -13,6 +16,24 @@ LIBRARY = Path(os.environ.get("ABR_LIB", ROOT / "target/staticlib/libabr.a"))
 PAGE = Path(os.environ.get("ABR_PAGE", ROOT / "docs/abr.html"))
 TABS = ["link", "card", "cell"]
 STRICT = ["-std=c99", "-O2", "-Wall", "-Wextra", "-pedantic", "-Werror", "-Iinclude"]
+
+
+def tried(browser, name, test):
+    """Whether a test passes; what is wrong is printed."""
+    begin = time.monotonic()
+    try:
+        test(browser)
+        wrong = "\n".join(browser.errors)
+    except Failure as failure:
+        wrong = str(failure)
+    except Exception:
+        wrong = traceback.format_exc()
+    seconds = time.monotonic() - begin
+    print(f"{'FAILED' if wrong else 'ok    '}  {name} ({seconds:.1f} s)")
+    for line in wrong.splitlines():
+        print(f"    {line}")
+    sys.stdout.flush()
+    return not wrong
 
 
 def expect(found, wanted, what):

@@ -13,15 +13,18 @@ pub const STANDARD: &str = "-";
 pub const FILES: &str = "--";
 
 /// What the arguments of this program ask for, by a function that says what is wrong with them;
-/// its exit status if they are wrong or ask for help.
+/// its exit status if they are wrong or ask for help or the version.
 pub fn options<T>(
     console: Console,
     help_text: &str,
     options: impl FnOnce(Vec<OsString>) -> Result<T, String>,
 ) -> Result<T, ExitCode> {
     let arguments: Vec<OsString> = std::env::args_os().skip(1).collect();
-    if help(&arguments) {
+    if asked(&arguments, "--help") {
         return Err(console.help(help_text));
+    }
+    if asked(&arguments, "--version") {
+        return Err(console.help(&version(console.program)));
     }
     options(arguments).map_err(|why| console.wrong_arguments(why))
 }
@@ -57,10 +60,16 @@ pub fn address(text: &str) -> Result<Address, String> {
     Ok(Address::new(number(vpi)?, number(vci)?))
 }
 
-/// Whether help is asked for.
-pub fn help(arguments: &[OsString]) -> bool {
+/// Whether an option is among the arguments, wherever it stands.
+fn asked(arguments: &[OsString], option: &str) -> bool {
     let mut options = arguments.iter().take_while(|argument| *argument != FILES);
-    options.any(|argument| argument == "--help")
+    options.any(|argument| argument == option)
+}
+
+/// A program with the version of the library in it, which is what judges and sends.
+fn version(program: &str) -> String {
+    let number = |place: u32| abr::ffi::ABR_VERSION >> (8 * place) & 0xFF;
+    format!("{program} {}.{}.{}\n", number(2), number(1), number(0))
 }
 
 /// Whether an argument is written as options are.

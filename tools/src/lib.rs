@@ -8,8 +8,9 @@
 //! * [`text`]: traces written as decimal numbers;
 //! * [`input`], [`progress`]: files read, and the progress line of all that is done with one;
 //! * [`excerpt`]: what is said of a trace, from one reading of its cells;
-//! * [`explain`], [`draw`]: the verdict in a sentence, and the picture;
-//! * [`record`], [`scenario`], [`random`]: traces recorded from a transmitter.
+//! * [`explain`], [`json`], [`draw`]: the verdict in a sentence and for programs, and the picture;
+//! * [`record`], [`scenario`], [`random`], [`log`]: traces recorded from a transmitter, one that
+//!   runs here and one that printed what it did.
 
 pub mod arguments;
 pub mod draw;
@@ -18,6 +19,8 @@ pub mod explain;
 pub mod fault;
 pub mod history;
 pub mod input;
+pub mod json;
+pub mod log;
 pub mod number;
 pub mod progress;
 pub mod random;

@@ -31,6 +31,31 @@ fn both_have_help() {
     }
 }
 
+/// The version is the library's, which the Makefile has too.
+#[test]
+fn both_have_a_version() {
+    let folder = folder("version");
+    let makefile = concat!(env!("CARGO_MANIFEST_DIR"), "/../Makefile");
+    let makefile = std::fs::read_to_string(makefile).expect("a file");
+    let line = makefile
+        .lines()
+        .find_map(|line| line.strip_prefix("VERSION := "));
+    let version = line.expect("a version");
+    for (name, (status, out, err)) in [
+        ("abr-judge", folder.judge(&["--version"])),
+        (
+            "abr-judge",
+            folder.judge(&["missing", "--wrong", "--version"]),
+        ),
+        ("abr-trace", folder.trace(&["--version"])),
+    ] {
+        assert_eq!((status, err.as_str()), (0, ""));
+        assert_eq!(out, format!("{name} {version}\n"));
+    }
+    let (status, out, _) = folder.judge(&["good", "--", "--version"]);
+    assert_eq!((status, out.lines().count()), (2, 1));
+}
+
 /// Behind `--` every argument is a file.
 #[test]
 fn files_that_look_like_options() {
@@ -66,14 +91,32 @@ fn standard_input_and_output() {
     assert!(!folder.path.join("-").exists());
 }
 
+/// Without a file `abr-judge` reads standard input, with every option.
+#[test]
+fn no_file_is_standard_input() {
+    let folder = folder("nameless");
+    for words in [&[][..], &["--"], &["--svg", "out"], &["-"]] {
+        let recorded = folder.command(TRACE, &[]).stdout(Stdio::piped()).spawn();
+        let pipe = recorded.expect("it runs").stdout.expect("a pipe");
+        let judged = folder.command(JUDGE, words).stdin(pipe).output();
+        let judged = judged.expect("it runs");
+        let out = String::from_utf8_lossy(&judged.stdout).into_owned();
+        assert!(out.starts_with("-: passes: "), "{words:?}: {out}");
+        assert_eq!(judged.status.code(), Some(0), "{words:?}");
+    }
+    assert!(folder.path.join("out").exists());
+    // Nothing to read is an empty trace.
+    let (status, out, _) = folder.judge(&["--text"]);
+    assert_eq!(out, "-: refused with 24: the trace is empty.\n");
+    assert_eq!(status, 1);
+}
+
 /// Those of `abr-judge` that have status 2. Nothing is judged or drawn.
 #[test]
 fn wrong_arguments_of_the_judge() {
     let folder = folder("wrong-judge");
     for (words, why) in [
-        (&[][..], "no trace is named"),
-        (&["--"], "no trace is named"),
-        (&["--svg"], "--svg needs a file"),
+        (&["--svg"][..], "--svg needs a file"),
         (&["--svg", "--text", "good"], "--svg needs a file"),
         (&["--svg", "-", "good"], "--svg needs a file"),
         (&["--wrong", "good"], "unknown option --wrong"),
@@ -131,6 +174,18 @@ fn wrong_arguments_of_the_recorder() {
         (&["--wrong"], true),
         (&["a", "b"], true),
         (&["a", "--", "b"], true),
+        (&["--log"], true),
+        (&["--log", "--text"], true),
+        (&["--log", "good", "--scenario", "two"], true),
+        (&["--log", "good", "--seed", "1"], true),
+        (&["--opening", "1"], true),
+        (&["--log", "good", "--opening", "0"], true),
+        (&["--log", "good", "--opening"], true),
+        (&["--list", "--text"], true),
+        (&["--list", "--connection", "1/32"], true),
+        (&["--list", "--log", "good", "--opening", "1"], true),
+        (&["--log", "missing"], false),
+        (&["--log", "good"], false),            // nothing is opened there
         (&["--connection", "9/9", "x"], false), // the message names those that there are
         (&["none/out"], false),
     ] {

@@ -10,13 +10,17 @@ use std::process::{Output, Stdio};
 use common::{Folder, JUDGE, TRACE};
 
 /// Every call of the programs that prints, with files that the folder has.
-const PRINTING: [(&str, &[&str]); 6] = [
+const PRINTING: [(&str, &[&str]); 10] = [
     (JUDGE, &["--help"]),
+    (JUDGE, &["--version"]),
     (JUDGE, &["good", "good"]),
+    (JUDGE, &["--json", "good", "bad"]),
     (JUDGE, &["bad", "good"]),
     (TRACE, &["--help"]),
+    (TRACE, &["--version"]),
     (TRACE, &[]),
     (TRACE, &["--text", "-"]),
+    (TRACE, &["--list"]),
 ];
 
 fn folder(name: &str) -> Folder {
@@ -70,7 +74,7 @@ fn standard_error_cannot_be_written_to() {
     let folder = folder("mute");
     for (program, words) in [
         (JUDGE, &["missing"][..]),
-        (JUDGE, &[]),
+        (JUDGE, &["--wrong"]),
         (TRACE, &["a", "b"]),
         (TRACE, &["none/out"]),
     ] {

@@ -8,11 +8,12 @@ from .constants import VERSION
 
 
 def path() -> str:
-    """The shared object: the one that ABR_SHARED names, else, in an unpacked delivery, that of its lib, else the one
-    that the loader finds by its name."""
-    major_minor = f"{VERSION >> 16}.{VERSION >> 8 & 0xFF}"
-    delivered = Path(__file__).resolve().parents[2] / "lib" / f"libabr.so.{major_minor}"
-    return os.environ.get("ABR_SHARED") or (str(delivered) if delivered.is_file() else delivered.name)
+    """The shared object: the one that ABR_SHARED names, else, installed from a wheel, that beside this file, else, in
+    an unpacked delivery, that of its lib, else the one that the loader finds by its name."""
+    name = f"libabr.so.{VERSION >> 16}.{VERSION >> 8 & 0xFF}"
+    here = Path(__file__).resolve()
+    delivered = [place / name for place in (here.parent, here.parents[2] / "lib") if (place / name).is_file()]
+    return os.environ.get("ABR_SHARED") or (str(delivered[0]) if delivered else name)
 
 
 def load(name: str) -> PyDLL:

@@ -2,10 +2,11 @@
 
 from __future__ import annotations
 
+from ctypes import c_uint8
 from dataclasses import astuple, dataclass, fields
 from typing import NamedTuple
 
-from .c import abr_rm, c_uint8, library
+from .c import abr_rm, library
 from .constants import CELL_OCTETS
 from .arguments import octets, u32
 from .refusal import accepted

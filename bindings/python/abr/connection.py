@@ -4,7 +4,7 @@ from __future__ import annotations
 
 from dataclasses import dataclass, fields
 import enum
-from typing import NamedTuple
+from typing import Any, NamedTuple
 
 from .c import abr_connection
 from .constants import NEVER
@@ -51,12 +51,13 @@ class Connection:
     @classmethod
     def from_c(cls, read: abr_connection) -> Connection:
         """The connection of an accepted reading."""
-        values = {field.name: getattr(read, field.name) for field in fields(cls)}
+        values: dict[str, Any] = {field.name: getattr(read, field.name) for field in fields(cls)}
         for name in ("last_sent", "last_forward", "ready", "last_made", "last_out_of_rate"):
             values[name] = instant(values[name])
         for name in ("backward_sent", "efci", "turned"):
             values[name] = bool(values[name])
-        return cls(**values | {"kind": ConnectionKind(read.kind), "params": Params.from_c(read.params)})
+        values |= {"kind": ConnectionKind(read.kind), "params": Params.from_c(read.params)}
+        return cls(**values)
 
 
 class Member(NamedTuple):

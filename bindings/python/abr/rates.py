@@ -26,14 +26,14 @@ def code(rate: int) -> int:
     """The code of the greatest code rate not above a rate, in units of 1/512 cell per second."""
     coded = library.abr_code(u64("rate", rate))
     accepted(coded.refusal)
-    return coded.code
+    return int(coded.code)
 
 
 def rate(code: int) -> int:
     """The rate of a code, in units of 1/512 cell per second."""
     rated = library.abr_rate(u32("code", code))
     accepted(rated.refusal)
-    return rated.rate
+    return int(rated.rate)
 
 
 def import_rate(cells_per_second: float) -> Imported:

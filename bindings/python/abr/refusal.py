@@ -1,12 +1,16 @@
 """Why a call was refused (the manual, section 14)."""
 
+from __future__ import annotations
+
 import enum
 
 
 class Refusal(enum.IntEnum):
     """The refusals, each with its number and its text. 3 is no longer given."""
 
-    def __new__(cls, number: int, text: str):
+    text: str
+
+    def __new__(cls, number: int, text: str = "") -> Refusal:
         refusal = int.__new__(cls, number)
         refusal._value_ = number
         refusal.text = text

@@ -2,9 +2,10 @@
 
 from __future__ import annotations
 
+from ctypes import Array, c_uint8, c_uint64
 from typing import Iterable
 
-from .c import c_uint8, c_uint64, library
+from .c import library
 from .arguments import octets, u64, u64s
 from .refusal import accepted
 
@@ -32,13 +33,13 @@ def port(capacity: int, demands: Iterable[int], cell: bytes) -> bytes:
     return bytes(passed)
 
 
-def array(demands: Iterable[int]):
+def array(demands: Iterable[int]) -> Array[c_uint64]:
     """Demands for a call."""
     rates = u64s("demands", demands)
     return (c_uint64 * len(rates))(*rates)
 
 
-def copy(cell: bytes):
+def copy(cell: bytes) -> Array[c_uint8]:
     """A cell for a call that writes it."""
     cell = octets("cell", cell)
     return (c_uint8 * len(cell)).from_buffer_copy(cell)

@@ -21,7 +21,7 @@ class Table:
     Times are nanoseconds, rates whole numbers of 1/512 cell per second. A refused call raises Refused and changes
     nothing; include/abr.h has the refusals of each in order."""
 
-    def __init__(self):
+    def __init__(self) -> None:
         self._table = abr_table()
 
     def copy(self) -> Table:
@@ -140,7 +140,7 @@ class Table:
         """The time to pass to a slot whose own time is now: the next ready instant if that has come, but not before the
         last accepted time, and at most lag behind now, so that the next gap counts from the instant at which the cell
         was ready. A now before the last accepted time comes back as it is, and a slot refuses it."""
-        return library.abr_slot_time(self._table, u64("now", now), u64("lag", lag))
+        return int(library.abr_slot_time(self._table, u64("now", now), u64("lag", lag)))
 
     def out_of_rate(self, vpi: int, vci: int, time: int) -> bytes:
         """An out-of-rate forward RM cell of a connection, to be sent beside the slots."""
@@ -165,7 +165,7 @@ def _connection(read: abr_connection) -> Connection:
 
 def _comparisons(answer: abr_answer) -> int:
     accepted(answer.refusal)
-    return answer.comparisons
+    return int(answer.comparisons)
 
 
 def _closed(closed: abr_closed) -> Closed:

@@ -71,6 +71,17 @@ def defined(prefix=""):
     return {name: (int(digits, 0), comment) for name, digits, comment in lines}
 
 
+def find(name):
+    """A call of the binding, of a table or without one."""
+    return getattr(abr.Table, name, None) or getattr(abr, name)
+
+
+def public(tree):
+    """The functions, classes and methods of a file whose names anybody may use, without the structs of C."""
+    kinds = (ast.FunctionDef, ast.ClassDef)
+    return [node for node in ast.walk(tree) if isinstance(node, kinds) and not node.name.startswith(("_", "abr_"))]
+
+
 class Header(unittest.TestCase):
     def test_every_function_is_declared_with_its_types_and_no_other(self):
         self.assertEqual(len(prototypes()), len(re.findall(r"^(?!ABR_LAYOUT)[A-Za-z].*\);$", HEADER, re.M)))
@@ -83,6 +94,18 @@ class Header(unittest.TestCase):
                 if isinstance(node, ast.Attribute) and node.attr.startswith("abr_"):
                     called.add(node.attr)
         self.assertEqual(called | {"abr_version", "abr_table_words"}, set(prototypes()))
+
+    def test_every_call_has_a_docstring(self):
+        others = {"abr_import": abr.import_rate, "abr_house": abr.Params.house}
+        calls = [name for name in prototypes() if name not in ("abr_version", "abr_table_words")]
+        offered = {name: others.get(name) or find(name.removeprefix("abr_")) for name in calls}
+        self.assertEqual([name for name, each in offered.items() if len(each.__doc__ or "") < 12], [])
+        self.assertEqual(len({each.__doc__ for each in offered.values()}), len(prototypes()) - 2)
+
+    def test_all_that_is_offered_has_a_docstring(self):
+        found = [node for path in PACKAGE.glob("*.py") for node in public(ast.parse(path.read_text()))]
+        self.assertGreater(len(found), 60)
+        self.assertEqual([node.name for node in found if not ast.get_docstring(node)], [])
 
     def test_every_struct_has_its_fields_in_order(self):
         self.assertEqual(len(structs()), HEADER.count("typedef struct"))

@@ -6,7 +6,7 @@
 use crate::CONNECTIONS_MAX;
 
 /// The version of the header: major, minor and patch number, eight bits each.
-pub const ABR_VERSION: u32 = 0x00_15_00;
+pub const ABR_VERSION: u32 = 0x00_16_00;
 
 /// A word has bits for 64 connections.
 const GROUPS: usize = CONNECTIONS_MAX.div_ceil(64);

@@ -39,6 +39,13 @@ impl Table {
     /// # Panics
     /// If the linked archive is of another version or edition than this binding, whose
     /// table could then be too short for its calls.
+    ///
+    /// ```
+    /// use abr::{Table, CONNECTIONS_MAX};
+    /// let table = Table::new();
+    /// assert_eq!((table.link().connections, table.next_ready()), (0, None));
+    /// assert_eq!(table.link().connections_max as usize, CONNECTIONS_MAX); // those of the edition
+    /// ```
     pub fn new() -> Self {
         assert!(
             ffi::abr_matches(),

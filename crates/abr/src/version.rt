@@ -3,12 +3,12 @@ ghost use mathlib.Core.Path.{_≡_};
 ghost use Rattle.table.specs.Layout.{size};
 use table::layout::WORDS;
 
-// 0.21.0: major, minor and patch number, eight bits each.
-const VERSION: u32 = 0x001500;
+// 0.22.0: major, minor and patch number, eight bits each.
+const VERSION: u32 = 0x001600;
 
 #[no_mangle]
 pub extern "C" fn abr_version() -> u32
-    ensures { λ r. ⌜ r ≡ 0x001500 ⌝ }
+    ensures { λ r. ⌜ r ≡ 0x001600 ⌝ }
 {
     VERSION
 }

@@ -12,3 +12,4 @@ pub mod Alike
 pub mod OutOfRateAlone
 pub mod Addresses
 pub mod Forward
+pub mod Limited

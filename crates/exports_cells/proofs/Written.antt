@@ -66,7 +66,7 @@ turned-marks o g e d n =
     let f = rm-received o g e .fields in
     two-bits (octet 7 o / 64) (ap (λ (x : ℕ). x % 2) (halved (octet 7 o)) ∙ sym (ap (λ (h : Fields). h .dir) f) ∙ d) (sym (ap (λ (h : Fields). h .bn) f) ∙ n)
 
-written-turned :
+pub written-turned :
     (level : ℕ) (b : Bool) (o : List ℕ) (f : Fields) → AreOctets o → reading o ≡ RmCell f → (vpi vci : ℕ) → vpi ≤ 255 → vci ≤ 65535
     → WrittenCell 0 (turnedCell vpi vci (payloadOf (turnedPayload level b (payload o))))
 unfolding returned
@@ -76,7 +76,7 @@ written-turned level b o f a e vpi vci g l =
     subst (WrittenCell 0) (sym (turned-words level b vpi vci o (r .size) a))
     (record { admitted = read-admitted _ _ q; framed = turned-framed level b vpi vci o (r .size) (r .protocol); blank = λ n. absurd (n (turned-marks _ _ q refl refl)) })
 
-written-made : (clp : ℕ) (f : Fields) → clp ≤ 1 → fieldsFit f ≡ true → WrittenCell clp (rmCell clp f)
+pub written-made : (clp : ℕ) (f : Fields) → clp ≤ 1 → fieldsFit f ≡ true → WrittenCell clp (rmCell clp f)
 written-made clp f l e = let h = written-form clp f l in record { admitted = read-admitted _ f (read-written clp f l e); framed = h .0; blank = λ _. h .1 }
 
 -- a caller sees whether a cell was written

@@ -9,3 +9,4 @@ pub mod Spaced
 pub mod OutOfRateAlone
 pub mod Addresses
 pub mod Forward
+pub mod Limited

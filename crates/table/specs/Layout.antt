@@ -232,8 +232,8 @@ sortDescending (x ∷ xs) = insertDescending x (sortDescending xs)
 abbrev pub directory : List Entry → List ℕ
 directory ss = sortDescending (directoryWords 0 ss)
 
--- Every k-th word of the directory, and 0 behind the last whole run of k words but one: so the number of samples not
--- below a word tells which run it belongs to.
+-- Sample j is the last word of run j of k words, and that of the last run is 0: so the number of samples not below a
+-- word tells which run it belongs to.
 abbrev pub sampleWord : (k : ℕ) → List ℕ → (number : ℕ) → ℕ
 sampleWord k ds j = cond (ltb (j * k + k) capacity) (getD ds (j * k + (k - 1)) 0) 0
 

@@ -1,31 +1,35 @@
-//! `abr-judge FILE..`: judges traces of transmitters.
+//! `abr-judge [FILE..]`: judges traces of transmitters.
 
 use std::ffi::{OsStr, OsString};
-use std::io;
+use std::io::{self, IsTerminal};
 use std::process::ExitCode;
 
 use abr_tools::arguments::{self, is_option, STANDARD};
 use abr_tools::console::{self, Console, FAILED};
 use abr_tools::fault::Unit;
 use abr_tools::progress::Progress;
-use abr_tools::{draw, explain, input};
+use abr_tools::{draw, explain, input, json};
 
 const CONSOLE: Console = Console {
     program: "abr-judge",
 };
 
 const HELP: &str = "\
-usage: abr-judge [--text] [--svg OUT] FILE..
+usage: abr-judge [--text] [--json] [--svg OUT] [FILE..]
 
 Judges the cells that a transmitter sent on one ABR connection, from the first on, and
 prints a sentence for each trace: that it passes; or which cell breaks which rule, with
 what was expected and what was found; or why the trace is refused.
 
-  FILE        a trace; - is standard input, once
+  FILE        a trace; - is standard input, once; without a FILE standard input is judged,
+              unless it is a terminal
   --text      traces are decimal numbers with white space between; # begins a comment
+  --json      prints an object in a line of its own for each trace in place of a sentence; the
+              manual page has its fields
   --svg OUT   also draws the trace, with the cell that breaks a rule marked; for one FILE
   --          what follows are files
   --help      this text
+  --version   the version of the library that judges
 
 A trace begins with two numbers, the exponent of Nrm (5 for 32) and the number of Trm. Three
 follow for every cell: the nanoseconds from the cell before to it, 0 for the first; what it is,
@@ -49,6 +53,7 @@ of standard output closes it.
 #[derive(Default)]
 struct Options {
     text: bool,
+    json: bool,
     svg: Option<OsString>,
     files: Vec<OsString>,
 }
@@ -74,6 +79,7 @@ fn options(arguments: Vec<OsString>) -> Result<Options, String> {
     options.files = arguments::files(arguments, |option, behind| {
         match option {
             "--text" => options.text = true,
+            "--json" => options.json = true,
             "--svg" => {
                 let named = |file: &OsString| file != STANDARD && !is_option(file);
                 let file = behind.next().filter(named);
@@ -83,6 +89,9 @@ fn options(arguments: Vec<OsString>) -> Result<Options, String> {
         }
         Ok(true)
     })?;
+    if options.files.is_empty() && !io::stdin().is_terminal() {
+        options.files.push(STANDARD.into());
+    }
     let standard = options.files.iter().filter(|file| *file == STANDARD);
     match (options.files.len(), standard.count(), &options.svg) {
         (0, ..) => Err("no trace is named".to_owned()),
@@ -92,23 +101,24 @@ fn options(arguments: Vec<OsString>) -> Result<Options, String> {
     }
 }
 
-/// Judges one trace and prints its sentence; the exit status. The error is that of standard
-/// output.
+/// Judges one trace and prints what is said of it; the exit status. The error is that of
+/// standard output.
 fn judge(file: &OsStr, options: &Options) -> io::Result<u8> {
     let name = file.display().to_string();
     let (outcome, excerpt) = match input::judged(file, options.text, Progress::begin(&name)) {
         Ok(judged) => judged,
-        Err(why) => {
-            CONSOLE.complain(format_args!("{name}: {why}"));
-            return Ok(FAILED);
-        }
+        Err(why) => return unread(&name, &why, options),
     };
     let unit = match options.text {
         true => Unit::Numbers,
         false => Unit::Octets,
     };
     let sentence = explain::sentence(&excerpt, outcome, unit);
-    console::print(format!("{name}: {sentence}.\n").as_bytes())?;
+    let said = match options.json {
+        true => json::judged(&name, &sentence, outcome, &excerpt, unit),
+        false => format!("{name}: {sentence}.\n"),
+    };
+    console::print(said.as_bytes())?;
     if let Some(path) = &options.svg {
         let picture = draw::svg(&name, &sentence, &excerpt);
         if let Err(error) = std::fs::write(path, picture) {
@@ -117,4 +127,13 @@ fn judge(file: &OsStr, options: &Options) -> io::Result<u8> {
         }
     }
     Ok(u8::from(outcome != Ok(abr::Verdict::Passes)))
+}
+
+/// Says why a file can't be read. Who reads objects has one for each file all the same.
+fn unread(name: &str, why: &str, options: &Options) -> io::Result<u8> {
+    CONSOLE.complain(format_args!("{name}: {why}"));
+    if options.json {
+        console::print(json::unread(name, why).as_bytes())?;
+    }
+    Ok(FAILED)
 }
