@@ -17,8 +17,9 @@
 #   make dist [TARGET=]     the tarball that is sold; only of a commit for which make test has passed
 #   make deb [PACKAGES=]    Debian packages of library, header and archive, tools and Python binding, in dist or there
 #   make bench              the cost of each call, library and reference, and of a slot of many links
-#   make soak [SEED=n]      random lists without end
-#   make soak-targets       fifty million calls on each processor, compared with x86-64
+#   make soak [SEED=n]      random lists without end; with SEED and SECONDS=n for so long
+#   make soak-targets       random lists on each processor, compared with x86-64, for SECONDS=n (default 3600) on each;
+#                           TARGET= for one of them
 #
 # ABR_LIB names another archive than the proved one, which then is not built. CONNECTIONS chooses the edition, for how
 # many connections the library is: 16, 64, 256 or 1024 (default). What is made for another edition than 1024 stands in
@@ -153,10 +154,11 @@ bench: $(LIB_GOAL)
 	bench/links $(MADE)/bench
 
 soak: $(LIB_GOAL)
-	cargo run --release --quiet -p abr-differential --bin soak -- $(SEED)
+	cargo run --release --quiet -p abr-differential --bin soak -- $(SEED) $(SECONDS)
 
 soak-targets:
-	CALLS=50000000 LONG=100000000 tests/targets/run
+	tests/targets/run $(TARGET)
+	tests/targets/soak $(or $(SECONDS),3600) $(TARGET)
 
 clean:
 	rm -rf dist target/manual $(foreach made,target target/connections-*,$(addprefix $(made)/,make cargo tests bench))

@@ -1,5 +1,5 @@
-//! Random lists without end: `soak [SEED]`. A difference ends it with status 1
-//! and names the list; `soak LIST` then starts with that list.
+//! Random lists without end, or for so many seconds: `soak [SEED [SECONDS]]`. A difference ends
+//! it with status 1 and names the list; `soak LIST` then starts with that list.
 
 use std::io::Write;
 use std::process::ExitCode;
@@ -14,22 +14,28 @@ use abr_differential::profile::{NO_MINIMUM, SPACED};
 const PROGRESS: Duration = Duration::from_secs(10);
 
 fn main() -> ExitCode {
-    let first = match std::env::args().nth(1).map(|text| text.parse()) {
-        None => lists::seed(),
-        Some(Ok(seed)) => seed,
-        Some(Err(_)) => {
-            eprintln!("usage: soak [SEED]");
+    let numbers: Result<Vec<u64>, _> = std::env::args().skip(1).map(|text| text.parse()).collect();
+    let (first, seconds) = match numbers.as_deref() {
+        Ok([]) => (lists::seed(), None),
+        Ok([seed]) => (*seed, None),
+        Ok([seed, seconds]) => (*seed, Some(Duration::from_secs(*seconds))),
+        _ => {
+            eprintln!("usage: soak [SEED [SECONDS]]");
             return ExitCode::from(2);
         }
     };
-    println!("seed {first}; runs until it is stopped");
-    let Err(difference) = soak(first);
-    println!("FAILED: {difference}");
-    ExitCode::FAILURE
+    println!("seed {first}");
+    match soak(first, seconds) {
+        Ok(()) => ExitCode::SUCCESS,
+        Err(difference) => {
+            println!("FAILED: {difference}");
+            ExitCode::FAILURE
+        }
+    }
 }
 
-/// Runs lists and pairs until one fails.
-fn soak(first: u64) -> Result<std::convert::Infallible, String> {
+/// Runs lists and pairs until one fails, or for the time given.
+fn soak(first: u64, time: Option<Duration>) -> Result<(), String> {
     let mut coverage = Coverage::default();
     let mut tally = Tally::default();
     let (start, mut shown) = (Instant::now(), Instant::now());
@@ -37,12 +43,16 @@ fn soak(first: u64) -> Result<std::convert::Infallible, String> {
         lists::run(seed, lists::profile_of(seed), &mut coverage)?;
         pairs::run(seed, SPACED, &mut tally)?;
         pairs::run(seed, NO_MINIMUM, &mut tally)?;
-        if shown.elapsed() >= PROGRESS {
+        let ends = time.is_some_and(|time| start.elapsed() >= time);
+        if ends || shown.elapsed() >= PROGRESS {
             shown = Instant::now();
             progress(seed, start.elapsed(), &coverage, &tally);
         }
+        if ends {
+            break;
+        }
     }
-    Err("every seed was tried".to_owned())
+    Ok(())
 }
 
 fn progress(seed: u64, passed: Duration, coverage: &Coverage, tally: &Tally) {
