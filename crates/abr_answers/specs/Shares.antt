@@ -1,4 +1,4 @@
--- What the share of an explicit-rate port returns. `Passed` (port/Limit) says what a port's call returns
+-- What the share of an explicit-rate port returns. `Forwarded` (port/Limit) says what a port's call returns
 -- and leaves. (Document 02, L10.)
 use Rattle.rate.specs.Units.{largestRate}
 use Rattle.port_share.specs.declared.share.FairShare.{FairShare}

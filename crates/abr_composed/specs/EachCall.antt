@@ -1,4 +1,4 @@
--- The exported calls in a row are a trace, from the words at entry to the words at exit.
+-- The exported calls in a row make a transcript, from the words at entry to the words at exit.
 use Prim.Native.Nat.{ℕ}
 use mathlib.Core.Path.{_≡_}
 use mathlib.Core.List.{List, [], _∷_}
@@ -36,4 +36,4 @@ pub record EachCall (a : Arguments) (received before after : List ℕ) (r : AbrA
   pub rate : ReturnsAllowed (addressName (a .vpi) (a .vci)) (made .table) r
   pub table : closed .table ≡ after
   pub buffer : left .new ≡ new
-  pub trace : Transcript (eachCalls a passed received old (sent .new)) before (opened ∷ offered ∷ levelled ∷ taken ∷ sent ∷ left ∷ made ∷ closed ∷ [])
+  pub transcript : Transcript (eachCalls a passed received old (sent .new)) before (opened ∷ offered ∷ levelled ∷ taken ∷ sent ∷ left ∷ made ∷ closed ∷ [])

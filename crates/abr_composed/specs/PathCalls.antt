@@ -1,4 +1,4 @@
--- The exported calls on a path and a member in a row are a trace, from the words at entry to the words at exit.
+-- The exported calls on a path and a member in a row make a transcript, from the words at entry to the words at exit.
 -- (Document 02, L13.)
 use Prim.Native.Nat.{ℕ}
 use mathlib.Core.List.{List, [], _∷_}
@@ -19,4 +19,4 @@ pub record PathCalls (a : Arguments) (before after : List ℕ) (r : AbrClosed) :
   pub added : Observation
   pub offered : Observation
   pub removed : Observation
-  pub trace : Transcript (pathCallsOf a) before (opened ∷ added ∷ offered ∷ removed ∷ afterClose after r ∷ [])
+  pub transcript : Transcript (pathCallsOf a) before (opened ∷ added ∷ offered ∷ removed ∷ afterClose after r ∷ [])

@@ -1,6 +1,6 @@
 // One exported call of each sort in a row, on one table. It is here for its contract: what the exports ensure, as
-// they stand, makes a trace. So the theorem on traces (abr/specs/Exports.antt) and the promises above it are
-// about exactly these functions.
+// they stand, makes a transcript. So the theorem on transcripts (abr/Exports) and the promises above it are about
+// exactly these functions.
 ghost use Rattle.abr_composed.specs.EachCall.{EachCall};
 use abr::connections::abr_acr;
 use abr::connections::abr_close;

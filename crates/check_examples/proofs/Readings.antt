@@ -23,4 +23,5 @@ readings = record {
   short = refl;
   unfit = refl;
   fit = refl;
+  whole = refl;
 }

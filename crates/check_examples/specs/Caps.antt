@@ -18,8 +18,8 @@ use Rattle.promise_caps.specs.Fixed.{TurnsFit, behindAt}
 abbrev pub steady : Params
 steady = houseSet 0x53E8 0x53E8 0x53E8
 
-abbrev pub openedThree : List Call
-openedThree = opening 0 33 0 steady ∷ opening 0 34 0 steady ∷ offering 0 33 9 ∷ offering 0 34 9 ∷ []
+abbrev pub openedTwo : List Call
+openedTwo = opening 0 33 0 steady ∷ opening 0 34 0 steady ∷ offering 0 33 9 ∷ offering 0 34 9 ∷ []
 
 abbrev pub exampleNames : List ℕ
 exampleNames = 33 ∷ 34 ∷ []
@@ -35,7 +35,7 @@ timesPassed lag s [] = []
 timesPassed lag s (x ∷ xs) = timePassed lag s x ∷ timesPassed lag (slotOf lag s x .state) xs
 
 pub record CapsExample : Type 0 where
-  pub lag : behindAt exampleNames 400_000 0 (final empty openedThree) four ≡ 800_000
-  pub fit : TurnsFit exampleNames (λ v. 512_000) 400_000 800_000 0 (final empty openedThree) four
-  pub waits : AllWait 34 800_000 (final empty openedThree) four
-  pub passed : timesPassed 800_000 (final empty openedThree) four ≡ 0 ∷ 0 ∷ 1_000_000 ∷ 1_000_000 ∷ []
+  pub lag : behindAt exampleNames 400_000 0 (final empty openedTwo) four ≡ 800_000
+  pub fit : TurnsFit exampleNames (λ v. 512_000) 400_000 800_000 0 (final empty openedTwo) four
+  pub waits : AllWait 34 800_000 (final empty openedTwo) four
+  pub passed : timesPassed 800_000 (final empty openedTwo) four ≡ 0 ∷ 0 ∷ 1_000_000 ∷ 1_000_000 ∷ []

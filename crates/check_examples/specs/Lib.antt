@@ -10,4 +10,5 @@ pub mod ConservedCalls
 pub mod SetupCalls
 pub mod Limits
 pub mod Readings
+pub mod PortCalls
 pub mod Caps

@@ -7,7 +7,7 @@ use mathlib.Core.List.{List, [], _∷_, _++_}
 use lib.ListN.{replicate}
 use Rattle.cell_crc.specs.Checks.{headerCheck}
 use Rattle.cell.specs.Header.{header}
-use Rattle.cell.specs.Fields.{withCrc}
+use Rattle.cell.specs.Fields.{withCrc, rmCell}
 use Rattle.cell.specs.Reading.{reading}
 use Rattle.cell.specs.Writing.{writing}
 use Rattle.cell.specs.declared.fields.Fields.{Fields}
@@ -25,6 +25,10 @@ rmOf protocol er = header 0 0 33 ++ withCrc (protocol ∷ 0 ∷ er ∷ replicate
 -- fields of a cell of VCI 33 with this DIR
 abbrev pub withDir : ℕ → Fields
 withDir dir = record { vpi = 0; vci = 33; dir = dir; bn = 0; ci = 0; ni = 0; ra = 0; er = 0; ccr = 0; mcr = 0; ql = 0; sn = 0 }
+
+-- each field with a value of its own
+abbrev pub distinctFields : Fields
+distinctFields = record { vpi = 0xAB; vci = 0xCDEF; dir = 1; bn = 0; ci = 1; ni = 0; ra = 1; er = 0x1234; ccr = 0x2345; mcr = 0x3456; ql = 0x789ABCDE; sn = 0x13579BDF }
 
 pub record Readings : Type 0 where
   -- 1 before 2, 2 before 4
@@ -47,3 +51,8 @@ pub record Readings : Type 0 where
   pub short : writing 52 (withDir 2) ≡ Unwritten 1
   pub unfit : writing 53 (withDir 2) ≡ Unwritten 7
   pub fit : writing 53 (withDir 1) ≡ Done
+  -- a whole cell, with every field in its octets
+  pub whole :
+      rmCell 0 distinctFields
+      ≡ 0x0A ∷ 0xBC ∷ 0xDE ∷ 0xFC ∷ 0x4F ∷ 0x01 ∷ 0xA8 ∷ 0x12 ∷ 0x34 ∷ 0x23 ∷ 0x45 ∷ 0x34 ∷ 0x56
+      ∷ 0x78 ∷ 0x9A ∷ 0xBC ∷ 0xDE ∷ 0x13 ∷ 0x57 ∷ 0x9B ∷ 0xDF ∷ (replicate 30 0x6A ++ (0x01 ∷ 0x69 ∷ []))

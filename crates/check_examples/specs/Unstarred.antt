@@ -6,7 +6,6 @@ use mathlib.Core.List.{List, [], _∷_}
 use mathlib.Core.Option.{Option, none, some}
 use Rattle.rate_params.specs.declared.params.Params.{Params}
 use Rattle.rate_params.specs.Params.{houseSet}
-use Rattle.rate.specs.Units.{latestTime}
 use Rattle.connection.specs.declared.parts.Pace.{Pace}
 use Rattle.connection.specs.declared.parts.Pace.the-variants.{Unsent, Running}
 use Rattle.connection.specs.declared.kind.Kind.{Kind}
@@ -81,10 +80,10 @@ pub record Unstarred : Type 0 where
   pub atAdtf : next raised (slot 500_000_000 53) ≡ sent 33 Forward 48_384
   pub afterAdtf : next raised (slot 500_000_001 53) ≡ sent 33 Forward 16_384
   -- time 2^62 is accepted, one more is refused
-  pub lastOpen : next [] (opening 0 33 latestTime house) ≡ accepted
-  pub lateOpen : next [] (opening 0 33 (latestTime + 1) house) ≡ refused 8
-  pub lastSlot : next [] (slot latestTime 53) ≡ idle
-  pub lateSlot : next [] (slot (latestTime + 1) 53) ≡ refused 8
+  pub lastOpen : next [] (opening 0 33 4_611_686_018_427_387_904 house) ≡ accepted
+  pub lateOpen : next [] (opening 0 33 4_611_686_018_427_387_905 house) ≡ refused 8
+  pub lastSlot : next [] (slot 4_611_686_018_427_387_904 53) ≡ idle
+  pub lateSlot : next [] (slot 4_611_686_018_427_387_905 53) ≡ refused 8
   -- VCI 32 opens, 31 does not
   pub lowestVci : next [] (opening 0 32 0 house) ≡ accepted
   pub reservedVci : next [] (opening 0 31 0 house) ≡ refused 10

@@ -34,7 +34,7 @@ abbrev pub rmOnPath : (vpi vci dir ci : ℕ) → List ℕ
 rmOnPath vpi vci dir ci = rmCell 0 (record { vpi = vpi; vci = vci; dir = dir; bn = 0; ci = ci; ni = 0; ra = 0; er = 0x4A00; ccr = 0; mcr = 0; ql = 0; sn = 0 })
 
 pub record PathRefusals : Type 0 where
-  -- opening a path: 19, 7, 8, 12, 14 (29 and 30: SetupCalls of examples); no 10
+  -- opening a path: 19, 7, 8, 12, 14 (29 and 30: SetupCalls, check_examples); no 10
   pub opens : next [] (openingPath 255 0 house) ≡ accepted
   pub reservedBit : next [] (openingPath 256 0 (houseSet 0xD3E8 0x4000 0x4200)) ≡ refused 19
   pub vpiOver : next [] (openingPath 256 (latestTime + 1) house) ≡ refused 7

@@ -24,7 +24,7 @@ erLarge = largestRate
 
 pub record CheckedValues : Type 0 where
   pub smallest : rateOf 0x4000 ≡ 512
-  pub largest : rateOf 0x7FFF ≡ largestRate
+  pub largest : rateOf 0x7FFF ≡ 2_196_875_771_904
   pub thousandCells : coded 512_000 ≡ Code 0x53E8
   pub below1024 : coded 1023 ≡ Code 0x41FF
   pub above1024 : coded 1025 ≡ Code 0x4200

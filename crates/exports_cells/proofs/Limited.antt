@@ -1,67 +1,88 @@
 -- What was written may be limited.
-use Prim.Native.Nat.{ℕ, _≤_, min}
-use mathlib.Core.Path.{_≡_, refl, sym, ap, subst, _∙_}
-use mathlib.Core.Bool.{true}
-use mathlib.Core.List.{List}
+use Prim.Native.Nat.{ℕ, _≤_}
+use mathlib.Core.Path.{_≡_, refl, sym, subst, _∙_}
 use mathlib.Core.Logic.{by-cases}
+use mathlib.Core.Bool.{Bool, true}
+use mathlib.Core.List.{List}
 use native.Mathlib.Decide.{ℕ-discrete}
 use native.Mathlib.Omega.{arith}
-use Rattle.rate.specs.Code.{rateOf}
-use Rattle.cell.specs.Admitted.{Admitted}
+use Rattle.cell.specs.Octets.{payload, AreOctets}
+use Rattle.cell.specs.Fields.{fieldsFit, rmCell}
+use Rattle.cell.specs.Turning.{turnedPayload, turnedCell}
 use Rattle.cell.specs.Reading.{reading}
 use Rattle.cell.specs.declared.fields.Fields.{Fields}
-use Rattle.cell.specs.declared.read.Reading.{Reading}
-use Rattle.cell.specs.declared.read.Reading.the-variants.{Refused, DataCell, RmCell}
-use Rattle.cell.proofs.Admits.{admitted-taken}
-use Rattle.port.specs.Limit.{Forwarded, passed, refusalOf, heldEr, limit}
+use Rattle.cell.specs.declared.read.Reading.the-variants.{RmCell}
+use Rattle.cell.proofs.Admits.{rm-received}
+use Rattle.cell.proofs.Written.{read-written}
+use Rattle.cell.proofs.Turned.{turned-read, turned-words}
+use Rattle.cell_payload.specs.Payload.{payloadOf}
+use Rattle.port.specs.Limit.{Forwarded, passed, heldEr, limit}
 use Rattle.port.specs.Limited.{Limited}
 use Rattle.port.proofs.Cases.{limit-forward}
 use Rattle.port.proofs.Limited.{backward-limited}
-use Rattle.port.proofs.Followed.{none-above}
-use Rattle.port.proofs.Unchanged.{others-unchanged}
 use Rattle.promise_cells.specs.ReservedBit.{WrittenAs}
 use Rattle.promise_cells.proofs.WrittenCells.{written-as}
 use Rattle.exports.proofs.Transport.{each-call}
-use Rattle.exports_cells.specs.Written.{clpWritten, WrittenCell}
+use Rattle.exports_cells.specs.Written.{clpWritten}
 use Rattle.exports_cells.specs.Limited.{AsksNoMore, LimitsWritten, WrittenLimited}
-use Rattle.exports_cells.proofs.Written.{written-made, written-turned, holds-seen}
+use Rattle.exports_cells.proofs.Written.{read-admitted, holds-seen}
 
-fields-same : {u v : Fields} → RmCell u ≡ RmCell v → u ≡ v
-fields-same e = cc
+-- octets that are read as an RM cell
+record ReadAsRm (clp : ℕ) (octets : List ℕ) : Type 0 where
+  fields : Fields
+  reads : reading octets ≡ RmCell fields
 
-module _ (rate : ℕ) (o : List ℕ) (a : Admitted o) where
-  not-refused : (r : Reading) → reading o ≡ r → refusalOf r ≡ 0
-  not-refused (Refused n) e = absurd (admitted-taken o a n e)
-  not-refused (DataCell vpi vci efci) e = refl
-  not-refused (RmCell f) e = refl
+made-read : (clp : ℕ) (f : Fields) → clp ≤ 1 → fieldsFit f ≡ true → ReadAsRm clp (rmCell clp f)
+made-read clp f l e = record { fields = f; reads = read-written clp f l e }
 
-  accepted : limit rate o .refusal ≡ 0
-  accepted = not-refused (reading o) refl
+turned-as-rm :
+    (level : ℕ) (b : Bool) (o : List ℕ) (f : Fields) → AreOctets o → reading o ≡ RmCell f → (vpi vci : ℕ) → vpi ≤ 255 → vci ≤ 65535
+    → ReadAsRm 0 (turnedCell vpi vci (payloadOf (turnedPayload level b (payload o))))
+turned-as-rm level b o f a e vpi vci g l =
+    let size = rm-received o f e .size in
+    subst (ReadAsRm 0) (sym (turned-words level b vpi vci o size a)) (record { fields = _; reads = turned-read level b vpi vci o size f e g l })
 
-  lower : (f g : Fields) → reading o ≡ RmCell f → reading (limit rate o .cell) ≡ RmCell g → rateOf (g .er) ≤ rateOf (f .er)
-  lower f g e h =
-      by-cases (ℕ-discrete (f .dir) 1)
-      (λ d.
+module _ (rate : ℕ) (o : List ℕ) (f : Fields) (e : reading o ≡ RmCell f) where
+  backward : f .dir ≡ 1 → AsksNoMore rate o (limit rate o .refusal) (limit rate o .cell)
+  backward d =
       let l : Limited rate o f = backward-limited rate o f e d in
-      let q : heldEr rate (f .er) ≡ g .er = ap (λ (x : Fields). x .er) (fields-same (sym (l .fields) ∙ h)) in
-      let s : rateOf (heldEr rate (f .er)) ≡ rateOf (g .er) = ap rateOf q in
-      omega (arith, l .greatest .notAbove))
-      (λ d.
-      let q : f ≡ g = fields-same (sym e ∙ ap (λ (p : Forwarded). reading (p .cell)) (limit-forward rate o e d) ∙ h) in
-      let s : rateOf (f .er) ≡ rateOf (g .er) = ap (λ (x : Fields). rateOf (x .er)) q in
-      omega arith)
+      record {
+        accepted = l .accepted;
+        admitted = read-admitted _ _ (l .fields);
+        asked = f;
+        asks = e;
+        er = heldEr rate (f .er);
+        reads = l .fields;
+        octets = l .octets;
+        lower = omega (arith, l .greatest .notAbove);
+        limited = λ _. omega (arith, l .greatest .notAbove);
+      }
+
+  forward : (f .dir ≡ 1 → ⊥) → AsksNoMore rate o 0 o
+  forward d =
+      record {
+        accepted = refl;
+        admitted = read-admitted o f e;
+        asked = f;
+        asks = e;
+        er = f .er;
+        reads = e;
+        octets = record { start = refl; middle = refl; reserved = refl };
+        lower = omega arith;
+        limited = λ b. absurd (d b);
+      }
 
   asks-no-more : (n : ℕ) (after : List ℕ) → passed n after ≡ limit rate o → AsksNoMore rate o n after
   asks-no-more n after q =
-      let left : after ≡ limit rate o .cell = ap (λ (p : Forwarded). p .cell) q in
-      record {
-        accepted = ap (λ (p : Forwarded). p .refusal) q ∙ accepted;
-        admitted = subst Admitted (sym left) (others-unchanged .held rate o .admitted accepted);
-        lower = λ f g e h. lower f g e (ap reading (sym left) ∙ h);
-        limited = λ g h d. none-above rate o g (ap reading (sym left) ∙ h) d;
-      }
+      by-cases (ℕ-discrete (f .dir) 1)
+      (λ d. subst (λ (p : Forwarded). AsksNoMore rate o (p .refusal) (p .cell)) (sym q) (backward d))
+      (λ d. subst (λ (p : Forwarded). AsksNoMore rate o (p .refusal) (p .cell)) (limit-forward rate o e d ∙ sym q) (forward d))
 
 pub written-limited : WrittenLimited
 written-limited =
-    each-call (λ c p. WrittenAs (WrittenCell (clpWritten c)) (p .buffer)) LimitsWritten (written-as WrittenCell written-made written-turned)
-    (λ s c o z h. record { is = λ e rate n after q. asks-no-more rate (o .new) (holds-seen z (WrittenCell (clpWritten c)) h e .admitted) n after q })
+    each-call (λ c p. WrittenAs (ReadAsRm (clpWritten c)) (p .buffer)) LimitsWritten (written-as ReadAsRm made-read turned-as-rm)
+    (λ s c o z h. record {
+      is = λ w rate n after q.
+          let r = holds-seen z (ReadAsRm (clpWritten c)) h w in
+          asks-no-more rate (o .new) (r .fields) (r .reads) n after q;
+    })

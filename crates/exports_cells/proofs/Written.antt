@@ -45,7 +45,7 @@ use Rattle.promise_cells.specs.ReservedBit.{WrittenAs}
 use Rattle.promise_cells.proofs.WrittenCells.{written-as}
 
 -- what is read as an RM cell is admitted
-read-admitted : (o : List ℕ) (f : Fields) → reading o ≡ RmCell f → Admitted o
+pub read-admitted : (o : List ℕ) (f : Fields) → reading o ≡ RmCell f → Admitted o
 read-admitted o f e = taken-admitted o (λ n q. let z : _≡_ {A = ℕ} 0 1 = cc in omega arith)
 
 -- a turned cell is newly framed, and has DIR 1 and BN 0

@@ -1,5 +1,5 @@
--- Before feedback the allowed rate is at most the initial rate used. A connection starts at it (`begins` and
--- `beginsPath` of Changes.antt), and only its own backward cells raise the rate above it. (Document 02, L14.)
+-- Before feedback the allowed rate is at most the initial rate used. A connection starts at it (`opens` and
+-- `opensPath` of Changes.antt), and only its own backward cells raise the rate above it. (Document 02, L14.)
 use Prim.Native.Nat.{ℕ, _≤_}
 use mathlib.Core.Path.{_≡_}
 use mathlib.Core.List.{List}

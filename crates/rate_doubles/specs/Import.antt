@@ -8,7 +8,7 @@ pub use Rattle.rate_doubles.specs.declared.import.Imported.{Imported}
 pub use Rattle.rate_doubles.specs.declared.import.Imported.the-variants.{Refused, Exact, Below}
 
 -- what is left of a / b units of 1/512 after the code's rate is subtracted, in cells per second; `round` changes
--- nothing here: see `Exactly`, Exact.antt
+-- nothing here: see `ImportsExactly`, Exact.antt
 abbrev pub remainderOf : (code a b : ℕ) → Float
 remainderOf code a b = round binary64 false (a - rateOf code * b) (512 * b)
 

@@ -10,7 +10,7 @@ use Rattle.table.specs.Layout.{halves, nodesFrom, recordFrom, winnerNumber, win
 use Rattle.table.specs.Loading.{nameOf}
 use Rattle.table_tournament.specs.declared.winner.KeyedWinner.{KeyedWinner}
 
--- a lead as the code holds it
+-- the winner of a match as the code holds it
 abbrev pub keyedWinner : MatchWinner → KeyedWinner
 keyedWinner a = record { word = winnerNumber a; key = winnerKey a }
 

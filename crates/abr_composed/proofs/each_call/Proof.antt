@@ -50,7 +50,7 @@ returns c =
       rate = a .abr-acr .ensures;
       table = refl;
       buffer = refl;
-      trace =
+      transcript =
           then (abrOpen (o .abr-open .ensures))
           (then (abrOffer (f .abr-offer .ensures))
           (then (abrSetLevel (l .abr-set-level .ensures))

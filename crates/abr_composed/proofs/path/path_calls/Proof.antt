@@ -14,7 +14,7 @@ returns c =
       added = noSlot (j .abr-add-member .last .0) (j .abr-add-member .result);
       offered = noSlot (g .abr-offer-member .last .0) (g .abr-offer-member .result);
       removed = afterClose (x .abr-remove-member .last .0) (x .abr-remove-member .result);
-      trace =
+      transcript =
           then (abrOpenPath (h .abr-open-path .ensures))
           (then (abrAddMember (j .abr-add-member .ensures))
           (then (abrOfferMember (g .abr-offer-member .ensures))
