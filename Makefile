@@ -25,7 +25,7 @@
 # many connections the library is: 16, 64, 256 or 1024 (default). What is made for another edition than 1024 stands in
 # target/connections-N.
 
-VERSION := 0.22.0
+VERSION := 1.0.0
 PREFIX ?= /usr/local
 DESTDIR ?=
 CC ?= gcc

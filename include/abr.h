@@ -42,7 +42,12 @@
  * many for most stacks (section 24). Only these calls may write a table that is in use. One
  * table is used by one thread at a time; different tables are independent of each
  * other. A table may be moved or copied as a whole, octet by octet, between
- * calls.
+ * calls. Its size is a part of the interface, what its words mean is not: only a library
+ * with the same abr_version(), all three numbers, and the same abr_table_words() as the
+ * one that made a table may go on with it.
+ *
+ * Versions. In all versions with the major number of this one no call, struct, number or
+ * refusal changes; calls may be added (section 28).
  *
  * Pointers. The only ones are to tables, to octets and to demanded rates, and in
  * abr_export to the number that takes the refusal. None may be null, also if the
@@ -140,8 +145,8 @@ extern "C" {
 
 /* ---- Version ------------------------------------------------------------ */
 
-/* 0.22.0: major, minor and patch number, eight bits each. */
-#define ABR_VERSION 0x001600u
+/* 1.0.0: major, minor and patch number, eight bits each. */
+#define ABR_VERSION 0x010000u
 
 /* ---- Limits ------------------------------------------------------------- */
 
@@ -482,16 +487,18 @@ typedef struct {
 
 /* ---- Header and archive ------------------------------------------------- */
 
-/* ABR_VERSION and ABR_TABLE_WORDS of the header that the archive was made with. */
+/* ABR_VERSION and ABR_TABLE_WORDS of the header that the library was made with. */
 uint32_t abr_version(void);
 uint32_t abr_table_words(void);
 
-/* Whether this header and the linked archive belong together: one version, and one
- * edition, since no two editions have tables of one size. Ask it first: with another
- * archive a table may be too short for its calls. */
+/* Whether this header and the linked library belong together: the same major number, no
+ * earlier minor number than the header's, since calls may have been added, any patch
+ * number, and one edition, since no two editions have tables of one size. Ask it first:
+ * with another library a table may be too short for its calls. */
 static inline int abr_matches(void)
 {
-    return abr_version() == ABR_VERSION && abr_table_words() == ABR_TABLE_WORDS;
+    return abr_version() >> 16 == ABR_VERSION >> 16 && abr_version() >> 8 >= ABR_VERSION >> 8 &&
+           abr_table_words() == ABR_TABLE_WORDS;
 }
 
 /* ---- Connections -------------------------------------------------------- */

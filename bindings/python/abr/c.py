@@ -10,19 +10,25 @@ from .constants import VERSION
 def path() -> str:
     """The shared object: the one that ABR_SHARED names, else, installed from a wheel, that beside this file, else, in
     an unpacked delivery, that of its lib, else the one that the loader finds by its name."""
-    name = f"libabr.so.{VERSION >> 16}.{VERSION >> 8 & 0xFF}"
+    name = f"libabr.so.{VERSION >> 16}"
     here = Path(__file__).resolve()
     delivered = [place / name for place in (here.parent, here.parents[2] / "lib") if (place / name).is_file()]
     return os.environ.get("ABR_SHARED") or (str(delivered[0]) if delivered else name)
 
 
+def serves(version: int) -> bool:
+    """Whether a library of a version serves this binding, as abr_matches of the header says: the major number is the
+    same and the minor number not earlier."""
+    return version >> 16 == VERSION >> 16 and version >> 8 >= VERSION >> 8
+
+
 def load(name: str) -> PyDLL:
-    """Loads the shared object, which must be of this binding's version and may be of any edition. The interpreter's
-    lock is held while a call runs (PyDLL), so that no two threads are in one table; where Python runs without that
-    lock, the caller must see to it."""
+    """Loads the shared object, which may be of any edition; its version must serve this binding. The interpreter's lock
+    is held while a call runs (PyDLL), so that no two threads are in one table; where Python runs without that lock, the
+    caller must see to it."""
     library = PyDLL(name)
     library.abr_version.restype = c_uint32
-    if library.abr_version() != VERSION:
+    if not serves(library.abr_version()):
         raise ImportError(f"{name} is of another version than this binding")
     return library
 

@@ -1,7 +1,7 @@
 """The numbers of include/abr.h that no edition changes, by their names without ABR_. Those of the loaded edition are in
 c.py."""
 
-VERSION = 0x001600
+VERSION = 0x010000
 
 CELL_OCTETS = 53
 MEMBERS_MAX = 256

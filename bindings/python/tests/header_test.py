@@ -71,6 +71,12 @@ def defined(prefix=""):
     return {name: (int(digits, 0), comment) for name, digits, comment in lines}
 
 
+def number(version):
+    """A version, three numbers, as one."""
+    major, minor, patch = map(int, version.split("."))
+    return major << 16 | minor << 8 | patch
+
+
 def find(name):
     """A call of the binding, of a table or without one."""
     return getattr(abr.Table, name, None) or getattr(abr, name)
@@ -169,13 +175,24 @@ class Header(unittest.TestCase):
 
 class Loading(unittest.TestCase):
     def test_another_version_is_not_loaded(self):
-        with unittest.mock.patch.object(c, "VERSION", abr.VERSION + 1):
+        with unittest.mock.patch.object(c, "VERSION", abr.VERSION + (1 << 8)):
             self.assertRaisesRegex(ImportError, "another version", c.load, c.path())
+        with unittest.mock.patch.object(c, "VERSION", abr.VERSION + 1):
+            c.load(c.path())
+
+    def test_the_versions_that_serve_are_those_of_the_header(self):
+        record = (ROOT / "tests/interface/1.0.txt").read_text()
+        pairs = re.findall(r"^matches header ([\d.]+), library ([\d.]+): (yes|no)$", record, re.M)
+        self.assertEqual(len(pairs), record.count("\nmatches header "))
+        self.assertGreater(len(pairs), 12)
+        for header, library, answer in pairs:
+            with unittest.mock.patch.object(c, "VERSION", number(header)):
+                self.assertEqual(c.serves(number(library)), answer == "yes", (header, library))
 
     def test_where_the_shared_object_is_looked_for(self):
         with unittest.mock.patch.dict("os.environ", {"ABR_SHARED": "x/y.so"}):
             self.assertEqual(c.path(), "x/y.so")
         with unittest.mock.patch.dict("os.environ"):
             c.os.environ.pop("ABR_SHARED", None)
-            version = re.search(r"^/\* (\d+\.\d+)\.\d+: major", HEADER, re.M)[1]
+            version = re.search(r"^/\* (\d+)\.\d+\.\d+: major", HEADER, re.M)[1]
             self.assertEqual(c.path(), f"libabr.so.{version}")

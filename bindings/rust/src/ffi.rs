@@ -6,7 +6,7 @@
 use crate::CONNECTIONS_MAX;
 
 /// The version of the header: major, minor and patch number, eight bits each.
-pub const ABR_VERSION: u32 = 0x00_16_00;
+pub const ABR_VERSION: u32 = 0x01_00_00;
 
 /// A word has bits for 64 connections.
 const GROUPS: usize = CONNECTIONS_MAX.div_ceil(64);
@@ -301,5 +301,11 @@ extern "C" {
 pub fn abr_matches() -> bool {
     // SAFETY: neither call has an argument.
     let (version, words) = unsafe { (abr_version(), abr_table_words()) };
-    version == ABR_VERSION && words as usize == ABR_TABLE_WORDS
+    serves(version, ABR_VERSION) && words as usize == ABR_TABLE_WORDS
+}
+
+/// Whether an archive of a version serves who was compiled for another: the same major number, and
+/// no earlier minor number.
+pub const fn serves(archive: u32, declared: u32) -> bool {
+    archive >> 16 == declared >> 16 && archive >> 8 >= declared >> 8
 }

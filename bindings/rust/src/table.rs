@@ -37,8 +37,8 @@ impl Table {
     /// A table with nothing open and congestion level 0.
     ///
     /// # Panics
-    /// If the linked archive is of another version or edition than this binding, whose
-    /// table could then be too short for its calls.
+    /// If the linked archive is of another major number, of an earlier minor number or of another
+    /// edition than this binding, whose table could then be too short for its calls.
     ///
     /// ```
     /// use abr::{Table, CONNECTIONS_MAX};

@@ -3,12 +3,12 @@ ghost use mathlib.Core.Path.{_≡_};
 ghost use Rattle.table.specs.Layout.{size};
 use table::layout::WORDS;
 
-// 0.22.0: major, minor and patch number, eight bits each.
-const VERSION: u32 = 0x001600;
+// 1.0.0: major, minor and patch number, eight bits each.
+const VERSION: u32 = 0x010000;
 
 #[no_mangle]
 pub extern "C" fn abr_version() -> u32
-    ensures { λ r. ⌜ r ≡ 0x001600 ⌝ }
+    ensures { λ r. ⌜ r ≡ 0x010000 ⌝ }
 {
     VERSION
 }

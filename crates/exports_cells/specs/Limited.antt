@@ -1,6 +1,6 @@
--- What a call wrote may pass abr_limit: it is accepted, keeps all but ER and the CRC-10, and asks for no more than before;
--- a backward cell for no more than the rate. So a destination may lower ER of what its slot wrote. (Document 02, L10;
--- ATM Forum TM 4.0, behaviour of a destination.)
+-- What a call wrote may pass abr_limit: it is accepted, keeps all but ER and the CRC-10, and asks for no more than
+-- before; a backward cell for no more than the rate. So a destination may lower ER of what its slot wrote. (Document
+-- 02, L10; ATM Forum TM 4.0, behaviour of a destination.)
 use Prim.Native.Nat.{ℕ, _≤_}
 use mathlib.Core.Path.{_≡_}
 use mathlib.Core.Bool.{true}

@@ -196,11 +196,34 @@ fn the_sorts_of_a_cell_are_those_of_the_header() {
     assert!(matches!(cell("ABR_CELL_RM"), Cell::Rm(_)));
 }
 
+/// A version, three numbers, as one.
+fn version(text: &str) -> u32 {
+    let parts = text.split('.').map(|part| part.parse::<u32>().unwrap());
+    parts.fold(0, |version, part| version << 8 | part)
+}
+
+/// The versions that serve are those of the header, as they are recorded.
+#[test]
+fn the_versions_that_serve_are_those_of_the_header() {
+    let record = include_str!("../../../../tests/interface/1.0.txt");
+    let pairs = record
+        .lines()
+        .filter_map(|line| line.strip_prefix("matches header "));
+    let mut answers = [0, 0];
+    for line in pairs {
+        let (versions, answer) = line.split_once(": ").unwrap();
+        let (header, library) = versions.split_once(", library ").unwrap();
+        let serves = ffi::serves(version(library), version(header));
+        assert_eq!(serves, answer == "yes", "{line}");
+        answers[usize::from(serves)] += 1;
+    }
+    assert!(answers[0] > 6 && answers[1] > 5, "{answers:?}");
+}
+
 #[test]
 fn one_version_everywhere() {
     let text = env!("CARGO_PKG_VERSION");
-    let parts = text.split('.').map(|part| part.parse::<u32>().unwrap());
-    let version = parts.fold(0, |version, part| version << 8 | part);
+    let version = version(text);
     assert_eq!(value("ABR_VERSION"), u64::from(version));
     assert_eq!(ffi::ABR_VERSION, version);
     // SAFETY: neither call has an argument.
@@ -214,9 +237,9 @@ fn one_version_everywhere() {
     let delivery = include_str!("../../../../docs/DELIVERY.md");
     let shared = format!("`lib/libabr.so.{text}`");
     assert!(delivery.contains(&shared), "{shared} in DELIVERY.md");
-    let (minor, _) = text.rsplit_once('.').expect("three numbers");
+    let (major, _) = text.split_once('.').expect("three numbers");
     let python = include_str!("../../../python/README.md");
-    let shared = format!("`libabr.so.{minor}`");
+    let shared = format!("`libabr.so.{major}`");
     assert!(python.contains(&shared), "{shared} in README.md of Python");
     let changes = include_str!("../../../../docs/CHANGES.md");
     let first = changes.lines().find(|line| line.starts_with("## "));
