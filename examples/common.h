@@ -39,17 +39,29 @@ static inline void must(int condition, const char *what)
 
 /* ---- Rates and octets --------------------------------------------------- */
 
-/* The least code whose rate is not below this one, for what was sold. */
-static inline uint32_t code_up(uint64_t rate)
+static inline uint64_t rate_of(uint32_t code)
+{
+    abr_rated rated = abr_rate(code);
+    accepted("rate", rated.refusal);
+    return rated.rate;
+}
+
+/* The greatest code whose rate is not above this one, for a peak that is policed. */
+static inline uint32_t code_down(uint64_t rate)
 {
     abr_coded coded = abr_code(rate);
     accepted("code", coded.refusal);
-    abr_rated rated = abr_rate(coded.code);
-    accepted("rate", rated.refusal);
-    if (rated.rate == rate) {
-        return coded.code;
+    return coded.code;
+}
+
+/* The least code whose rate is not below this one, for what was sold. */
+static inline uint32_t code_up(uint64_t rate)
+{
+    uint32_t code = code_down(rate);
+    if (rate_of(code) == rate) {
+        return code;
     }
-    return coded.code == 0 ? 0x4000 : coded.code + 1;
+    return code == 0 ? 0x4000 : code + 1;
 }
 
 /* Octet 5 of a header: the remainder of octets 1 to 4, times x^8, by x^8 + x^2 + x + 1, exclusive-or 0x55. */

@@ -13,15 +13,16 @@
 /* Section 15: a clock that jumps. */
 typedef struct {
     uint64_t raw, engine; /* begin with the first reading in both */
+    uint64_t slot;        /* your shortest slot; a jump counts as one */
 } steady_clock;
 
 static uint64_t steady(steady_clock *clock, uint64_t raw)
 {
-    const uint64_t most = UINT64_C(100000000); /* 100 ms; a longer step counts as that */
+    const uint64_t most = UINT64_C(100000000); /* 100 ms; a longer step is a jump */
     uint64_t step = raw > clock->raw ? raw - clock->raw : 0;
     clock->raw = raw;
-    clock->engine += step > most ? most : step;
-    return clock->engine; /* the time to pass */
+    clock->engine += step > most ? clock->slot : step;
+    return clock->engine; /* the slot's own time */
 }
 
 /* Section 20: the own line as a port, here with the leaves as numbers of the connections. */
@@ -30,7 +31,7 @@ typedef struct {
     uint64_t s, g;                       /* the longest slot, and what the capacity needs: s < g */
     uint64_t depth, filled;              /* A, and what opens and rises have poured into the bucket */
     uint64_t total, cap[64];             /* of the connections, 0 while closed */
-    uint64_t least[64], peak[64];        /* their minimums and peaks, in units */
+    uint64_t least[64], peak[64];        /* the rates of their codes of MCR and PCR; set them with each open */
 } own_line;
 
 static void line_slot(own_line *line) /* before each slot */

@@ -60,10 +60,19 @@ static const struct {
     [TELEMETRY] = {"telemetry", 0, 70, 0, {{10, 40, 10}, {10, 40, 10}}},
 };
 
-/* The same in units. */
-static uint64_t least_of(int end, int which) { return contracts[which].sold[end].least * ABR_RATE_ONE; }
-static uint64_t peak_of(int end, int which) { return contracts[which].sold[end].peak * ABR_RATE_ONE; }
-static uint64_t initial_of(int end, int which) { return contracts[which].sold[end].initial * ABR_RATE_ONE; }
+/* The rates of their codes, in units: the minimum up, the peak down, since it is policed (section 3). */
+static uint64_t least_of(int end, int which)
+{
+    return rate_of(code_up(contracts[which].sold[end].least * ABR_RATE_ONE));
+}
+static uint64_t peak_of(int end, int which)
+{
+    return rate_of(code_down(contracts[which].sold[end].peak * ABR_RATE_ONE));
+}
+static uint64_t initial_of(int end, int which)
+{
+    return rate_of(code_up(contracts[which].sold[end].initial * ABR_RATE_ONE));
+}
 
 /* The least time from one cell to the next at a rate in cells per second. */
 static uint64_t gap_of(uint64_t cells) { return (1000 * MS + cells - 1) / cells; }
@@ -352,6 +361,7 @@ static void set_line(int end, uint64_t start, uint64_t cells)
     at->jitter = jitter_of(cells);
     at->start = start;
     at->number = 0;
+    it->clock.slot = at->slot - at->jitter; /* the shortest */
     it->line.s = longest_slot(cells);
     it->line.g = needed_slot(cells);
     it->line.capacity = capacity_of(cells);
@@ -380,15 +390,11 @@ static void send(int end, uint64_t now, int which, const uint8_t *cell)
 
 /* ---- The transmitter ---------------------------------------------------- */
 
-/* The time to pass to a slot. Where the clock has jumped, or the line was down, the first slot is passed its own: else
- * connections would have what they lag twice, before and behind the jump, and the policer would find cells early. */
+/* The time to pass to a slot. A jump of the clock counts as a slot, so that no cell goes early. */
 static uint64_t time_to_pass(int end, uint64_t now)
 {
     processor *it = &processors[end];
-    steady_clock before = it->clock;
-    uint64_t raw = now + cards[end].clock, time = steady(&it->clock, raw);
-    int jumped = raw - before.raw != time - before.engine;
-    return abr_slot_time(&it->table, time, jumped ? 0 : it->lag);
+    return abr_slot_time(&it->table, steady(&it->clock, now + cards[end].clock), it->lag);
 }
 
 /* The trace has the times that slots were passed (section 18). */
@@ -509,8 +515,8 @@ static void open_one(int end, int which)
 {
     processor *it = &processors[end];
     uint32_t vpi = contracts[which].vpi;
-    uint32_t peak = code_up(peak_of(end, which)), least = code_up(least_of(end, which));
-    abr_params params = abr_house(peak, least, code_up(initial_of(end, which)));
+    uint32_t peak = code_down(peak_of(end, which)), least = code_down(least_of(end, which));
+    abr_params params = abr_house(peak, least, code_down(initial_of(end, which)));
     abr_opened opened = which == PATH ? abr_open_path(&it->table, vpi, it->passed, params)
                                       : abr_open(&it->table, vpi, contracts[which].vci, it->passed, params);
     accepted("open", opened.refusal);
@@ -572,7 +578,7 @@ static void lower(int end, uint64_t now, uint64_t cells)
         uint64_t share = share_of(end, now, capacity, which), cap = it->line.cap[leaf];
         abr_rm rm = {.vpi = contracts[which].vpi, .vci = contracts[which].vci, .dir = 1, .bn = 1, .ni = 1};
         uint8_t cell[ABR_CELL_OCTETS];
-        rm.er = code_up(peak_of(end, which));
+        rm.er = code_down(peak_of(end, which));
         accepted("write", abr_write_rm(rm, cell, sizeof cell));
         accepted("lower", line_receive(&it->line, &it->table, leaf, share < cap ? share : cap, cell));
     }
@@ -580,7 +586,7 @@ static void lower(int end, uint64_t now, uint64_t cells)
 }
 
 /* The line goes down, the cells on it are gone, and it comes up with three quarters of its rate. No slot is asked for
- * meanwhile; `steady` counts the pause as 100 ms, so that rates stay what they are. */
+ * meanwhile; `steady` counts the pause as a slot, so that rates stay what they are. */
 static void retrain(uint64_t now)
 {
     static const uint64_t cells[ENDS] = {1500, 6000};

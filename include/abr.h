@@ -73,7 +73,7 @@
  * many it replayed, one comparison each: 1 to ABR_COMPARISONS_MAX. Refused calls, idle
  * slots and all other calls replay none.
  *
- * Rates are whole numbers of 1/512 cell per second, but for the doubles of abr_export
+ * Units. Rates are whole numbers of 1/512 cell per second, but for the doubles of abr_export
  * and abr_import, which are in cells per second; times are nanoseconds
  * (sections 2 and 3). Where floating point may not be used, as in a kernel, define
  * ABR_NO_DOUBLES before this header: these two calls are then left out. The archives for
@@ -504,7 +504,8 @@ static inline int abr_matches(void)
 /* ---- Connections -------------------------------------------------------- */
 
 /*
- * Opens a channel at a time (section 4). The initial rate that is used is the given
+ * Opens a channel at a time (section 4): that which the last slot was passed, before the
+ * first slot the clock's. The initial rate that is used is the given
  * one, lowered to 512,000,000 * TBE / FRTT, rounded down, if that is less, but never
  * under MCR; with FRTT 0 it is the given one. The first cell of a connection, and a
  * forward cell more than ADTF after the last, bring the allowed rate down to it. The
@@ -668,6 +669,7 @@ ABR_MUST_USE abr_closed abr_remove_member(abr_table *table, uint32_t vpi, uint32
  * a member saves its mark as that of the path, whichever member it is of
  * (section 10). The answer says what was received: kind, address, the leaf of its
  * connection and that connection's allowed rate afterwards.
+ * Kinds: ABR_RECEIVED_FORWARD 1, ABR_RECEIVED_BACKWARD 2, ABR_RECEIVED_DATA 3.
  * Comparisons: 1 to ABR_COMPARISONS_MAX, for a data cell too.
  * Refusals in order:
  *    1  len is not 53
@@ -696,8 +698,9 @@ ABR_MUST_USE uint32_t abr_set_level(abr_table *table, uint32_t level);
  * code of PCR, and CCR and MCR 0; a later level does not change it. It waits beside the
  * turned cell and is sent after it, replaces an earlier made cell that still
  * waits, and neither takes nor clears a saved congestion mark. A slot sends it by
- * the rules for a turned cell and answers ABR_SENT_TURNED. Its time then counts
- * for refusal 14 as a slot's does.
+ * the rules for a turned cell and answers ABR_SENT_TURNED, with made 1. Where the far
+ * source's peak is above PCR, raise ER in what that slot wrote (section 7). The time is
+ * that which the last slot was passed, and counts for refusal 14 as a slot's does.
  * Comparisons: 1 to ABR_COMPARISONS_MAX.
  * Refusals in order:
  *    8  time over 2^62
@@ -725,6 +728,10 @@ ABR_MUST_USE abr_answer abr_make(abr_table *table, uint32_t vpi, uint32_t vci, u
  * as accepted at its time. A connection with an allowed rate of 0 is never ready,
  * whatever waits on it (section 9).
  * A forward cell carries a minimum of 0 as 0x0000, whatever code the open gave.
+ * The time is that of abr_slot_time; with the slot's own time in its place what the slot
+ * comes late is lost, and a minimum may not be delivered (section 20).
+ * Kinds: ABR_SENT_IDLE 0, ABR_SENT_FORWARD 1, ABR_SENT_TURNED 2, of a made cell too,
+ * ABR_SENT_DATA 3.
  * Comparisons: ABR_COMPARISONS_MAX if a cell is sent, since the connection that sends
  * wins every round; 0 if the slot is idle.
  * Refusals in order:
@@ -831,8 +838,9 @@ ABR_MUST_USE abr_imported abr_import(double cells_per_second);
 #endif
 
 /*
- * The house set with three rate codes (section 4). Nothing is refused
- * here: an open checks the result.
+ * The house set with three rate codes (section 4): n 5, r 4, d 4, c 4, tbe 16,777,215,
+ * frtt 0, adtf 50 and trm 7 (ABR_HOUSE_N and so on). Nothing is refused here: an open
+ * checks the result.
  */
 abr_params abr_house(uint32_t pcr, uint32_t mcr, uint32_t icr);
 

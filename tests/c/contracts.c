@@ -302,6 +302,7 @@ static void tolerances(void)
     const way lag = {16, 0.88, STM1_SLOT, 0, 0, 10, 16 * STM1_SLOT};
     const way lag_uneven = {16, 0.88, STM1_SLOT, tenth, 0, 10, 16 * uneven};
     const way lag_later = {16, 0.88, STM1_SLOT, tenth, STM1_SLOT - tenth, 10, 16 * uneven};
+    const way grid = {16, 0.88, STM1_SLOT, 0, tenth, 10, 16 * STM1_SLOT};
     const way taken = {16, 0.45, STM1_SLOT, 0, 0, 9, 16 * 2 * STM1_SLOT};
     printf("%-62s %9s %13s %13s %11s\n", "what a slot is passed", "longest", "to ask for", "needed", "delivered");
     print_way("its own time", own);
@@ -310,6 +311,7 @@ static void tolerances(void)
     print_way("abr_slot_time, 16 slots of lag", lag);
     print_way("abr_slot_time, slots up to a tenth late, 16 of the longest", lag_uneven);
     print_way("the same, cells leave up to nine tenths of a slot later", lag_later);
+    print_way("abr_slot_time of the grid, slots up to a tenth late", grid);
     print_way("abr_slot_time, every tenth slot left out, 16 of the longest", taken);
 }
 
@@ -482,7 +484,7 @@ static double line_value(int row, size_t which)
     case 7: return fill_line(which, 1).data;
     case 8: return fill_line(which, 1).data * PAYLOAD_BITS / 1000;
     case 9: return fill_line(which, 1).turned;
-    default: return tbe_for((uint64_t)line_cells(which) + 1, 20);
+    default: return tbe_for((uint64_t)cells_of(rate_of(line_code(which))), 20);
     }
 }
 
@@ -579,7 +581,7 @@ static void clock_replaced(void)
 static void steady_replaced(int set)
 {
     wire_row row;
-    steady_clock clock = {0, 0};
+    steady_clock clock = {0, 0, MS};
     memset(&row, 0, sizeof row);
     begin(leased(code_down(CELLS(100))));
     for (uint64_t at = 0; at < 110; at++) {
@@ -645,6 +647,63 @@ static void on_the_wire(void)
     taken_over(EVENT + 1, "a standby with a copy of 25 ms");
     taken_over(EVENT + 10, "the same, its first slot a gap of the peak after the switch-over");
     same_calls();
+}
+
+/* ---- A clock that jumps, with a lag ------------------------------------------- */
+
+enum { NO_JUMP, READINGS, OWN_TIME, TWO_SLOTS, STEADY, WAITS };
+
+/* The slot's own time by a clock that is an hour ahead from a slot on, in these ways. */
+static uint64_t time_over_jump(int how, steady_clock *clock, uint64_t wire, int jumped)
+{
+    uint64_t raw = wire + (jumped ? hour : 0);
+    switch (how) {
+    case NO_JUMP: return wire;
+    case TWO_SLOTS: return wire + (jumped ? STM1_SLOT : 0);
+    case STEADY: return steady(clock, raw);
+    default: return raw;
+    }
+}
+
+/* The tolerance that the wire needs: five circuits, a lag of five slots. */
+static uint64_t needed_after_jump(int how, uint64_t jump)
+{
+    const way of = {5, 0.9, STM1_SLOT, 0, 0, 10, 5 * STM1_SLOT};
+    uint64_t pause = gap_of(rate_of(code_of_circuit(of, 4))) + of.lag, needed = 0;
+    steady_clock clock = {0, 0, STM1_SLOT};
+    policed each[MOST];
+    memset(each, 0, sizeof each);
+    open_circuits(of);
+    for (uint64_t number = 0; number < jump + 200; number++) {
+        uint64_t wire = number * STM1_SLOT, now = time_over_jump(how, &clock, wire, number >= jump);
+        if (how == WAITS && number >= jump && wire < (jump - 1) * STM1_SLOT + pause) {
+            continue;
+        }
+        abr_sent sent = slot(abr_slot_time(&table, now, how == OWN_TIME && number == jump ? 0 : of.lag));
+        if (sent.kind != ABR_SENT_IDLE) {
+            police(&each[sent.vci - 32], wire, gap_of(rate_of(code_of_circuit(of, sent.vci - 32))), &needed);
+        }
+    }
+    return needed;
+}
+
+static void jumps_with_lag(void)
+{
+    static const char *const names[] = {
+        "no jump", "the readings passed", "the same, the first slot after the jump with a lag of 0",
+        "a jump counts as two slots", "steady: a jump counts as one slot",
+        "the readings passed, the next slot a gap of the slowest peak and a lag later",
+    };
+    uint64_t most[] = {0, 0, 0, 0, 0, 0};
+    for (int how = NO_JUMP; how <= WAITS; how++) {
+        for (uint64_t jump = 1000; jump < 1200; jump++) {
+            uint64_t needed = needed_after_jump(how, jump);
+            most[how] = needed > most[how] ? needed : most[how];
+        }
+        printf("%-76s %5.2f slots\n", names[how], (double)most[how] / STM1_SLOT);
+    }
+    CHECK(most[READINGS] > 5 * STM1_SLOT && most[OWN_TIME] > 5 * STM1_SLOT && most[WAITS] <= 5 * STM1_SLOT);
+    CHECK(most[STEADY] == most[NO_JUMP] && most[TWO_SLOTS] > most[NO_JUMP] && most[TWO_SLOTS] <= 6 * STM1_SLOT);
 }
 
 /* ---- Which trace to judge after a switch-over --------------------------------- */
@@ -846,6 +905,24 @@ static uint64_t needed_over(uint64_t jump)
     return needed;
 }
 
+/* The cells of one circuit in a row, one in each slot, after a jump: I.371's burst. The gaps here are whole slots. */
+static void row_after_jump(void)
+{
+    static const uint64_t gaps[] = {2, 4, 5, 8};
+    for (size_t each = 0; each < sizeof gaps / sizeof gaps[0]; each++) {
+        for (uint64_t lag = 4; lag <= 32; lag += 4) {
+            uint64_t row = 0, most = 0;
+            begin(leased(code_down(CELLS(1000) / gaps[each])));
+            for (uint64_t number = 0; number < 200; number++) {
+                uint64_t now = number * MS + (number < 50 ? 0 : hour);
+                row = slot(abr_slot_time(&table, now, lag * MS)).kind == ABR_SENT_IDLE ? 0 : row + 1;
+                most = row > most ? row : most;
+            }
+            CHECK(most == lag / (gaps[each] - 1) + 1);
+        }
+    }
+}
+
 /* It is the lag and the jump, and less does not always do. */
 static void jump_and_lag(void)
 {
@@ -889,10 +966,13 @@ int main(void)
         {"data by rate", data_by_rate}, {"what to open", what_to_open},
         {"by lag", by_lag},             {"tolerances", tolerances},
         {"ADTF and TBE", adtf_and_tbe}, {"lines", beside_each_other},
-        {"on the wire", on_the_wire},   {"which trace", which_trace},
-        {"made ER", made_er},           {"level or rate", level_or_rate},
+        {"on the wire", on_the_wire},   {"jumps", jumps_with_lag},
+        {"which trace", which_trace},   {"made ER", made_er},
+        {"level or rate", level_or_rate},
     };
-    static void (*const checks[])(void) = {contract_codes, idle_beforehand, standby_waits, held_offers, jump_and_lag};
+    static void (*const checks[])(void) = {
+        contract_codes, idle_beforehand, standby_waits, held_offers, row_after_jump, jump_and_lag,
+    };
     for (size_t each = 0; each < sizeof blocks / sizeof blocks[0]; each++) {
         printf("-- %s\n", blocks[each].name);
         blocks[each].print();

@@ -1183,7 +1183,7 @@ static int a_second_from(steady_clock *clock, uint64_t raw)
 /* A clock that jumps back by 5 s and ahead by an hour changes no rate, though that has risen above ICR. */
 static void steady_times(void)
 {
-    steady_clock clock = {10000 * MS, 10000 * MS};
+    steady_clock clock = {10000 * MS, 10000 * MS, MS};
     begin(house(100, 10, 50));
     offer(1000);
     CHECK(slot(steady(&clock, 10000 * MS)).kind == ABR_SENT_FORWARD);

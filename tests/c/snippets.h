@@ -14,9 +14,11 @@ extern abr_connection seen[ABR_CONNECTIONS_MAX];
 extern uint32_t vpi, vci, peak_code, minimum_code, initial_code, far_peak_code;
 extern uint64_t time, lag, memory_rate, capacity_above_minimums, demands_above_minimums[], last_share, minimum_of_source;
 extern size_t sources;
+extern own_line line;
 extern double planned, left_over;
 
 uint64_t now(void);
+uint64_t share_of(uint32_t leaf);
 void report(const char *text);
 void count_refusal(uint32_t refusal);
 int cell_has_arrived(uint8_t *to);

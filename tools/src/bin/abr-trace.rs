@@ -51,8 +51,8 @@ Of a log these lines are read, and every other one is passed over:
   abr-trace close VPI/VCI                   it is closed
 
 Exit status: 0 if the trace is written, 2 if the arguments are wrong, if the log can't be read or
-has a wrong line, or if the trace can't be written; of standard output closed by its reader
-nothing is said.
+has a wrong line, if there is no such connection, or if the trace can't be written; of standard
+output closed by its reader nothing is said.
 ";
 
 /// What is asked for.
