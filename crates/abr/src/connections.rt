@@ -1,4 +1,5 @@
-// The calls that name a connection (document 01, "Opening" and "Slots"; document 02, L1, L5, L6 and L12).
+// The calls on one connection, by its address or its leaf, and on a member by its number (document 01, "Opening" and
+// "Slots"; document 02, L1, L5, L6, L12 and L13).
 ghost use lib.ListN.{length};
 ghost use Rattle.cell.specs.Name.{addressName};
 ghost use Rattle.model.specs.Step.{openStep, closeStep, offerStep, makeStep, outOfRateStep};
