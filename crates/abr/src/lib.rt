@@ -1,5 +1,7 @@
 // The C interface. Each export is one call of the engine, of the cell or of the rate. It returns the documents'
 // number, or a struct with that number first and with zeros beside a refusal. include/abr.h is the header.
+#![tactic(auto)]
+
 pub mod cells;
 pub mod codes;
 pub mod connections;

@@ -8,7 +8,7 @@ use model::answer::Answer;
 
 // The documents' number for an answer, 0 if it is no refusal, and the comparisons that the call made (document 02, L4).
 #[repr(C)]
-#[derive(Drop)]
+#[derive(Clone, Copy)]
 pub struct AbrAnswer {
     pub refusal: u32,
     pub comparisons: u32,
@@ -52,7 +52,7 @@ pub fn answer_of(a: Answer) -> AbrAnswer
 
 // The same of a close, and the data cells that waited (document 02, L12).
 #[repr(C)]
-#[derive(Drop)]
+#[derive(Clone, Copy)]
 pub struct AbrClosed {
     pub refusal: u32,
     pub comparisons: u32,
@@ -98,7 +98,7 @@ pub fn closed_of(a: Answer) -> AbrClosed
 }
 
 #[repr(C)]
-#[derive(Drop)]
+#[derive(Clone, Copy)]
 pub struct AbrAllowed {
     pub refusal: u32,
     pub reserved: u32,

@@ -8,7 +8,7 @@ use cell::write::Written;
 
 // kind 1 is a data cell, of whose fields only the VPI and the VCI count; 2 is an RM cell.
 #[repr(C)]
-#[derive(Drop)]
+#[derive(Clone, Copy)]
 pub struct AbrCell {
     pub refusal: u32,
     pub kind: u32,

@@ -6,7 +6,7 @@ use laws::refusals::{REFUSED_RANGE, REFUSED_RESERVED_BIT};
 use rate::code::{Coded, SIXTEEN_BITS_MOST, rate_of, reserved_clear};
 
 #[repr(C)]
-#[derive(Drop)]
+#[derive(Clone, Copy)]
 pub struct AbrCoded {
     pub refusal: u32,
     pub code: u32,
@@ -25,7 +25,7 @@ pub fn coded_of(a: Coded) -> AbrCoded
 }
 
 #[repr(C)]
-#[derive(Drop)]
+#[derive(Clone, Copy)]
 pub struct AbrRated {
     pub refusal: u32,
     pub reserved: u32,

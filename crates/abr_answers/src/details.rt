@@ -9,7 +9,7 @@ use laws::arithmetic::bit_u32;
 use model::details::{OpenAnswer, ReceiveAnswer, SlotAnswer};
 
 #[repr(C)]
-#[derive(Drop)]
+#[derive(Clone, Copy)]
 pub struct AbrOpened {
     pub refusal: u32,
     pub comparisons: u32,
@@ -45,7 +45,7 @@ fn kind_number(k: Kind) -> u32
 
 // kind 0: refused.
 #[repr(C)]
-#[derive(Drop)]
+#[derive(Clone, Copy)]
 pub struct AbrReceived {
     pub refusal: u32,
     pub comparisons: u32,
@@ -89,7 +89,7 @@ pub fn received_of(a: ReceiveAnswer) -> AbrReceived
 
 // kind 0: an idle slot.
 #[repr(C)]
-#[derive(Drop)]
+#[derive(Clone, Copy)]
 pub struct AbrSent {
     pub refusal: u32,
     pub comparisons: u32,

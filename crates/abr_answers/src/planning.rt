@@ -8,7 +8,7 @@ use rate_doubles::export::{Exported, export};
 use rate_doubles::import::Imported;
 
 // The refusal, beside the rates that are returned.
-#[derive(Drop)]
+#[derive(Clone, Copy)]
 pub struct AbrExported {
     pub refusal: u32,
     pub rates: Exported,
@@ -35,7 +35,7 @@ pub fn exported_of(c: Contract) -> AbrExported
 
 // The remainder is 0 if the code's rate is the double itself.
 #[repr(C)]
-#[derive(Drop)]
+#[derive(Clone, Copy)]
 pub struct AbrImported {
     pub refusal: u32,
     pub code: u32,

@@ -7,7 +7,7 @@ use rate::units::LARGEST_RATE;
 
 // limited 0: no limit, and the largest rate.
 #[repr(C)]
-#[derive(Drop)]
+#[derive(Clone, Copy)]
 pub struct AbrShare {
     pub refusal: u32,
     pub limited: u32,

@@ -11,7 +11,7 @@ use table::layout::CAPACITY;
 
 // kind 1 is a channel, 2 a path, 3 a member, of which everything but the name and what waits is its path's.
 #[repr(C)]
-#[derive(Drop)]
+#[derive(Clone, Copy)]
 pub struct AbrConnection {
     pub refusal: u32,
     pub kind: u32,
@@ -95,7 +95,7 @@ pub fn not_open() -> AbrConnection
 }
 
 #[repr(C)]
-#[derive(Drop)]
+#[derive(Clone, Copy)]
 pub struct AbrMember {
     pub refusal: u32,
     pub vpi: u32,
@@ -123,7 +123,7 @@ pub fn member_shown(a: MemberStatus) -> AbrMember
 }
 
 #[repr(C)]
-#[derive(Drop)]
+#[derive(Clone, Copy)]
 pub struct AbrTotals {
     pub connections: u32,
     pub connections_max: u32,

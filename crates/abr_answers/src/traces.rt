@@ -6,7 +6,7 @@ use trace_judge::judge::Verdict;
 
 // rule 0: the trace passes, and cell is 0.
 #[repr(C)]
-#[derive(Drop)]
+#[derive(Clone, Copy)]
 pub struct AbrVerdict {
     pub refusal: u32,
     pub rule: u32,

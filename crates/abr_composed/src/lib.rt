@@ -1,6 +1,8 @@
 // One exported call of each sort in a row, on one table. It is here for its contract: what the exports ensure, as
 // they stand, makes a transcript. So the theorem on transcripts (abr/Exports) and the promises above it are about
 // exactly these functions.
+#![tactic(auto)]
+
 ghost use Rattle.abr_composed.specs.EachCall.{EachCall};
 
 use abr::connections::{abr_acr, abr_close, abr_make, abr_offer, abr_open, abr_out_of_rate};
@@ -13,7 +15,7 @@ pub mod path;
 pub mod planning;
 pub mod readings;
 
-#[derive(Drop)]
+#[derive(Clone, Copy)]
 pub struct Arguments {
     pub vpi: u32,
     pub vci: u32,

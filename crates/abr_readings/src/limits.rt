@@ -12,7 +12,7 @@ use rate_params::params::Params;
 use table::layout::{RECORD_WIDTH, RECORDS, WORDS};
 use table_entry::load::params_at;
 
-#[derive(Drop)]
+#[derive(Clone, Copy)]
 pub struct Limits {
     pub crm: u32,
     pub icr: u64,

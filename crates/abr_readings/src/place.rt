@@ -15,7 +15,7 @@ use table_members::find::{cells_at, find as find_member};
 use table_names::find::find;
 
 // An entry below CAPACITY, read by this name; of a member's name, the cells that wait on the member.
-#[derive(Drop)]
+#[derive(Clone, Copy)]
 pub struct Place {
     pub name: u32,
     pub entry: usize,

@@ -6,7 +6,7 @@ use crate::name::{VCI_MOST, VPI_MOST};
 use rate::code::CODE_MOST;
 
 #[repr(C)]
-#[derive(Drop)]
+#[derive(Clone, Copy)]
 pub struct Fields {
     pub vpi: u32,
     pub vci: u32,

@@ -1,5 +1,7 @@
 // The cell of 53 octets: its fields, what reading one gives and what writing one answers. The definitions and their
 // laws are in specs/ and proofs/; the crates cell_write, cell_read and cell_turn have the code.
+#![tactic(auto)]
+
 pub mod fields;
 pub mod name;
 pub mod octets;

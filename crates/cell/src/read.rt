@@ -2,7 +2,7 @@
 use crate::fields::Fields;
 
 // The refusal that a cell meets, a data cell's VPI, VCI and EFCI, or an RM cell's fields.
-#[derive(Drop)]
+#[derive(Clone, Copy)]
 pub enum Reading {
     Refused(u32),
     DataCell { vpi: u32, vci: u32, efci: bool },

@@ -1,2 +1,4 @@
 // A payload's 48 octets in six words.
+#![tactic(auto)]
+
 pub mod payload;

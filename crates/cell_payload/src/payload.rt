@@ -2,7 +2,7 @@
 ghost use Rattle.std.specs.Prelude.{◌≡◌, ◌+◌, ◌*◌, ◌≤◌, length, drop};
 ghost use Rattle.cell_payload.specs.Payload.{word_at, payload_of};
 
-#[derive(Drop)]
+#[derive(Clone, Copy)]
 pub struct Payload {
     pub a: u64,
     pub b: u64,

@@ -1,2 +1,4 @@
 // A received forward cell turned round.
+#![tactic(auto)]
+
 pub mod turn;

@@ -1,5 +1,5 @@
 // What kind of cell a slot sends (document 01, "Slots").
-#[derive(Drop)]
+#[derive(Clone, Copy)]
 pub enum Kind {
     Forward,
     Turned,

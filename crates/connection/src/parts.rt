@@ -9,7 +9,7 @@ use rate_params::params::{Params, trm_time};
 
 // The cells sent: none yet; or the instants of the last cell and of the last forward cell, the cells k since then, and
 // whether a turned or made cell is among them.
-#[derive(Drop)]
+#[derive(Clone, Copy)]
 pub enum Pace {
     Unsent,
     Running {
@@ -28,7 +28,7 @@ pub const UNANSWERED_MOST: u32 = 8388608;
 
 // The data cells that wait: on a path those of all its members. Of a path also the VCI of the member that was served
 // last, 0 before any (document 02, L13).
-#[derive(Drop)]
+#[derive(Clone, Copy)]
 pub struct Queue {
     pub cells: u32,
     pub served: u32,
@@ -36,14 +36,14 @@ pub struct Queue {
 
 // The allowed rate before the last backward cell and after it; before the first one both are the initial rate used
 // (document 02, L9 and L14).
-#[derive(Drop)]
+#[derive(Clone, Copy)]
 pub struct Change {
     pub before: u64,
     pub after: u64,
 }
 
 // The one turned cell that waits, if any.
-#[derive(Drop)]
+#[derive(Clone, Copy)]
 pub enum Waiting {
     Nothing,
     Cell(Payload),
@@ -51,14 +51,14 @@ pub enum Waiting {
 
 // The backward cells that the connection makes itself (document 02, L1): the level at which the one that waits was
 // made, 0 if none waits, and the instant of the last making.
-#[derive(Drop)]
+#[derive(Clone, Copy)]
 pub struct Made {
     pub level: u32,
     pub last: Instant,
 }
 
 // What the destination keeps: the saved EFCI, the waiting turned cell, and the cells made.
-#[derive(Drop)]
+#[derive(Clone, Copy)]
 pub struct Destination {
     pub efci: bool,
     pub turned: Waiting,
@@ -67,7 +67,7 @@ pub struct Destination {
 
 // trm is Trm in nanoseconds, looked up once, at the open; unanswered is the count Y; out_of_rate is the instant of the
 // last out-of-rate forward cell (document 02, L5).
-#[derive(Drop)]
+#[derive(Clone, Copy)]
 pub struct Connection {
     pub name: u32,
     pub opened: u64,

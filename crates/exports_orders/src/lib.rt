@@ -1,2 +1,3 @@
 // The order of the refusals in whole lists of exported calls, by what a caller knows. Definitions are in specs/,
 // theorems in proofs/. There is no code.
+#![tactic(auto)]

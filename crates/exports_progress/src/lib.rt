@@ -1,2 +1,3 @@
 // Each connection makes progress in every list of exported calls. Definitions are in specs/, theorems in proofs/. There
 // is no code.
+#![tactic(auto)]

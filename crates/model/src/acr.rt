@@ -2,7 +2,7 @@
 // (document 01, "Slots"; document 02, L9).
 use connection::parts::Change;
 
-#[derive(Drop)]
+#[derive(Clone, Copy)]
 pub enum Acr {
     NotOpen,
     Rate { acr: u64, change: Change },

@@ -5,7 +5,7 @@ use connection::kind::Kind;
 // close also says how many data cells waited. A slot that sends also gives the connection that it goes
 // to, the name that it answers, the kind of cell, and the allowed rate afterwards. For a data cell of a
 // path the name is the member's.
-#[derive(Drop)]
+#[derive(Clone, Copy)]
 pub enum Answer {
     Refused(u32),
     Accepted {

@@ -2,14 +2,14 @@
 // connection, what was received, and what was sent. A refusal has only its number.
 use connection::kind::Kind;
 
-#[derive(Drop)]
+#[derive(Clone, Copy)]
 pub enum OpenAnswer {
     Refused(u32),
     Opened { comparisons: u32, leaf: u32 },
 }
 
 // The kind of a backward cell is that of the turned one that it was; acr is the allowed rate afterwards.
-#[derive(Drop)]
+#[derive(Clone, Copy)]
 pub enum ReceiveAnswer {
     Refused(u32),
     Received {
@@ -22,7 +22,7 @@ pub enum ReceiveAnswer {
 }
 
 // A cell that the connection made itself has the kind of a turned one, and made says which it is.
-#[derive(Drop)]
+#[derive(Clone, Copy)]
 pub enum SlotAnswer {
     Refused(u32),
     Idle,

@@ -3,7 +3,7 @@ use connection::parts::Connection;
 
 // What a pair or a leaf stands for: an open connection, or a member with the connection of its path. What waits is
 // the pair's own. ready is the ready instant, 2^64 - 1 for never.
-#[derive(Drop)]
+#[derive(Clone, Copy)]
 pub enum Status {
     NotOpen,
     Open {
@@ -16,14 +16,14 @@ pub enum Status {
     },
 }
 
-#[derive(Drop)]
+#[derive(Clone, Copy)]
 pub enum MemberStatus {
     NoMember,
     Member { name: u32, waiting: u32 },
 }
 
 // How many connections are open and how many members there are, the congestion level, and the last accepted time.
-#[derive(Drop)]
+#[derive(Clone, Copy)]
 pub struct Totals {
     pub connections: u32,
     pub members: u32,

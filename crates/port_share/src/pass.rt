@@ -7,7 +7,7 @@ ghost use Rattle.port_share.specs.Above.{one_above, above};
 use laws::arithmetic::lower;
 
 // The sum of the demands, each cut to s, and how many of them are above s.
-#[derive(Drop)]
+#[derive(Clone, Copy)]
 pub struct Sums {
     pub sum: u64,
     pub above: u64,

@@ -8,7 +8,7 @@ use crate::pass::pass;
 use laws::refusals::{REFUSED_DEMAND_TOO_LARGE, REFUSED_TOO_MANY_DEMANDS};
 use rate::units::LARGEST_RATE;
 
-#[derive(Drop)]
+#[derive(Clone, Copy)]
 pub enum FairShare {
     Refused(u32),
     NoLimit,

@@ -16,7 +16,7 @@ pub const SIXTEEN_BITS_MOST: u32 = 65535;
 pub const CODE_MOST: u32 = 32767;
 
 // A rate's code, or the number of the refusal.
-#[derive(Drop)]
+#[derive(Clone, Copy)]
 pub enum Coded {
     Code(u32),
     Refused(u32),

@@ -7,7 +7,7 @@ use rate::code::rate_of;
 
 // In cells per second.
 #[repr(C)]
-#[derive(Drop)]
+#[derive(Clone, Copy)]
 pub struct Exported {
     pub pcr: f64,
     pub mcr: f64,

@@ -6,7 +6,7 @@ ghost use Rattle.rate_doubles.specs.Pattern.{pattern_split};
 use laws::refusals::REFUSED_DOUBLE;
 
 // The remainder is in cells per second, as the double is.
-#[derive(Drop)]
+#[derive(Clone, Copy)]
 pub enum Imported {
     Refused(u32),
     Exact(u32),

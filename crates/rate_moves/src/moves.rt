@@ -6,7 +6,7 @@ ghost use Rattle.rate_moves.specs.Moves.{moved, opened, first_cell, idle, unansw
 use laws::arithmetic::{higher, lower};
 use rate_params::params::Params;
 
-#[derive(Drop)]
+#[derive(Clone, Copy)]
 pub struct Rate {
     pub acr: u64,
     pub params: Params,

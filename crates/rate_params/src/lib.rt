@@ -1,2 +1,4 @@
 // The parameters of an open, with their ranges, and the house set.
+#![tactic(auto)]
+
 pub mod params;

@@ -39,7 +39,7 @@ fn within(low: u32, high: u32, x: u32) -> bool
 }
 
 #[repr(C)]
-#[derive(Drop)]
+#[derive(Clone, Copy)]
 pub struct Params {
     pub pcr: u32,
     pub mcr: u32,

@@ -1,5 +1,5 @@
 // What a search in a table's words gives: a place, or that there is none.
-#[derive(Drop)]
+#[derive(Clone, Copy)]
 pub enum Found {
     At(usize),
     Nothing,

@@ -13,7 +13,7 @@ pub fn halves(high: u32, low: u32) -> u64
     high as u64 * HALF + low as u64
 }
 
-#[derive(Drop)]
+#[derive(Clone, Copy)]
 struct PaceWords {
     sent: u64,
     forward: u64,

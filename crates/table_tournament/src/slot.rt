@@ -11,7 +11,7 @@ use table::layout::{LEVELS, WORDS};
 // is aligned.
 const WON_BELOW: u32 = LEVELS - 1;
 
-#[derive(Drop)]
+#[derive(Clone, Copy)]
 pub enum SlotWinner {
     Entry(usize),
     NoneReady,

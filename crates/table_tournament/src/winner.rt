@@ -8,7 +8,7 @@ ghost use Rattle.table.specs.Layout.{record_from};
 use table::layout::{CAPACITY, HALF, IDENTITY, NAME_LIMIT, NODES, RECORD_WIDTH, RECORDS, WORDS};
 
 // The winner's number, which is its name above its leaf, and its ready key; both are 0 for none.
-#[derive(Drop)]
+#[derive(Clone, Copy)]
 pub struct KeyedWinner {
     pub word: u64,
     pub key: u64,

@@ -4,7 +4,7 @@ ghost use Rattle.trace.specs.Numbers.{number_at};
 
 use laws::refusals::{REFUSED_TRACE_END, REFUSED_TRACE_NUMBER};
 
-#[derive(Drop)]
+#[derive(Clone, Copy)]
 pub enum Number {
     // The number, and the offset after its last octet.
     Value(u64, usize),

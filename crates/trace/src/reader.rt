@@ -4,7 +4,7 @@ ghost use Rattle.trace.specs.Numbers.{number_at};
 
 use crate::number::{Number, number_at};
 
-#[derive(Drop)]
+#[derive(Clone, Copy)]
 pub struct Reader<'a> {
     pub octets: &'a [u8],
     pub offset: usize,

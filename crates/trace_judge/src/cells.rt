@@ -8,14 +8,14 @@ use trace::number::Number;
 use trace::reader::number_from;
 
 // The nanoseconds since the cell before, the kind (1 forward, 2 backward, 3 data) and the rate in force before it.
-#[derive(Drop)]
+#[derive(Clone, Copy)]
 pub struct Cell {
     pub since: u64,
     pub kind: u64,
     pub rate: u64,
 }
 
-#[derive(Drop)]
+#[derive(Clone, Copy)]
 pub enum Record {
     // A cell, and the offset after it.
     Whole(Cell, usize),

@@ -10,7 +10,7 @@ use rate::units::LATEST_TIME;
 use rate_params::params::trm_time;
 use trace::number::Number;
 
-#[derive(Drop)]
+#[derive(Clone, Copy)]
 pub enum Verdict {
     // 23, 24, 25.
     Refused(u32),

@@ -9,7 +9,7 @@ use rate::gap::gap;
 
 // What was sent before a cell: how many cells; when the last one and the last forward one went, counted from the
 // first; and how many since the last forward one.
-#[derive(Drop)]
+#[derive(Clone, Copy)]
 pub struct Sent {
     pub cells: u64,
     pub time: u64,
@@ -18,7 +18,7 @@ pub struct Sent {
 }
 
 // The first cell that breaks a rule, counted from 1, and the lowest rule that it breaks; rule 0 if none does so far.
-#[derive(Drop)]
+#[derive(Clone, Copy)]
 pub struct Broken {
     pub cell: u64,
     pub rule: u32,
