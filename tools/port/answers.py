@@ -78,23 +78,49 @@ class Names:
 
     def __init__(self, of):
         self.needs = of["needs"]
-        self.steps = {}
-        for place in of["places"]:
+        self.asked = [it[0] for it in of["asked_at"]]
+        self.steps = {"wellformed": "well_formed"}
+        self.above = {}
+        self.places = {}
+        for place, new_name in zip(of["places"], of["places_by_name"]):
+            self.above[place[0]] = place[1]
+            self.places[plain(place[0])] = (place[0], new_name)
             old, new = place[2]
             if old:
                 self.steps.setdefault(plain(old), new)
         self.loops = of["loops"]
         self.changed = of["changed"]
+        self.cited = set()
+        # helpers that take what is known at a place, by name
+        self.takes = {}
+
+    def step(self, name):
+        new = self.steps.get(plain(name))
+        if new is None and re.search(r"[a-z]\d+$", name):
+            new = self.steps.get(plain(re.sub(r"\d+$", "", name)))
+        return new
 
     def turn(self, text):
         """Paths through `before` become direct, and steps get today's names."""
-        text = re.sub(r"\.before(?=[.\s)},;]|$)", "", text)
 
-        def step(m):
-            new = self.steps.get(plain(m[1]))
-            return "." + new if new else m[0]
+        def path(m):
+            var, befores, rest = m[1], m[2] or "", m[3]
+            if not rest:
+                return var
+            first, *more = rest[1:].split(".")
+            return ".".join([var, self.step(first) or first, *more])
 
-        return re.sub(r"\.([A-Za-z_][\w'-]*)", step, text)
+        out = re.sub(r"(?<![\w.'₀-₉-])([A-Za-z_][\w'₀-₉]*)((?:\.before)+(?![\w-]))?((?:\.[\w«»'₀-₉*-]+)*)", path, text)
+        # a test of `not b` gives an equation on b today
+        out = re.sub(r"not-(?:true|false) _ (\(?[\w.]*\.if-not-[\w-]*\.(?:true|false)\)?)", r"\1", out)
+
+        def place_named(m):
+            new = self.places.get(plain(m[1]), (0, m[1]))[1]
+            self.cited.add(new)
+            return new
+
+        out = re.sub(r"\btie\.([A-Z][\w-]*)( invariant-[\w-]+)*( decreases-[\w-]+)*", place_named, out)
+        return re.sub(r"(?<=\w)( invariant-loop[\w-]*)( decreases-loop[\w-]*)?(?=\) →)", "", out)
 
 
 def use_lines(text):
@@ -153,6 +179,79 @@ def invariant(block, name, new, names, index):
     return "\n".join(sig + [f"{new} l = {body}"])
 
 
+def place_of(names, goal):
+    return next((at for (_, new), at in zip(names.needs, names.asked) if new == goal), None)
+
+
+HELPER = re.compile(
+    r"(?:^--[^\n]*\n)*^(\S+) : \((\w+) : ([A-Z][\w-]*)\) → (.*?)\n(unfolding [^\n]*\n)?\1 (\w+) ?([^=\n]*)=(.*)\Z",
+    re.S | re.M,
+)
+
+
+def inlined(names, helpers, answers):
+    """Facts of a place, which only answers at that very place can call, are written in the answers at others."""
+    facts, rest = {}, []
+    for b in helpers:
+        m = HELPER.match(b)
+        if m and m[1] in names.takes and not re.search(r"^  where$", b, re.M):
+            facts[m[1]] = m
+        else:
+            rest.append(b)
+    kept, out = set(), []
+
+    def called(name, text):
+        return re.search(rf"(?<![\w.'-]){re.escape(name)}(?![\w'-])", text)
+
+    def lets_of(place, body):
+        lets = []
+
+        def need(text):
+            for f, h in facts.items():
+                if called(f, text) and f not in [x for x, _ in lets]:
+                    if place == names.takes[f]:
+                        kept.add(f)
+                        continue
+                    need(h[8])
+                    lets.append((f, h))
+
+        need(body)
+        return lets
+
+    def within(place, var, body, opened):
+        """The body behind lets for the facts that it calls from elsewhere, and what is to be unfolded."""
+        lets, said = lets_of(place, body), []
+        for f, h in lets:
+            body = re.sub(rf"(?<![\w.'-]){re.escape(f)} [a-z]\w*(?![\w.=-])", f, body)
+            opened = ", ".join(x for x in [opened, (h[5] or "").replace("unfolding ", "").strip()] if x)
+            value = h[8]
+            for g, _ in lets:
+                value = re.sub(rf"(?<![\w.'-]){re.escape(g)} {re.escape(h[6])}(?![\w.=-])", g, value)
+            bound = f"λ {h[7].strip()}. " if h[7].strip() else ""
+            flat = " ".join((f"{f} : {h[4]} = {bound}{value}").split())
+            said.append("    let " + re.sub(rf"(?<![\w.-]){h[2]}(?=\.)", var, flat) + " in")
+        opened = ", ".join(dict.fromkeys(x.strip() for x in opened.split(",") if x.strip()))
+        return (" =\n" + "\n".join(said) + "\n    " + body.strip() if said else " =" + body), opened
+
+    for b in answers:
+        m = re.match(r"(?:--[^\n]*\n)*pub (\S+) : goal\.\S+\n(unfolding [^\n]*\n)?\1 (\w+) =(.*)\Z", b, re.S)
+        if m:
+            body, opened = within(place_of(names, m[1]), m[3], m[4], (m[2] or "").replace("unfolding ", "").strip())
+            said = "".join(l + "\n" for l in b.splitlines() if l.startswith("--"))
+            b = f"{said}pub {m[1]} : goal.{m[1]}\n" + (f"unfolding {opened}\n" if opened else "") + f"{m[1]} {m[3]}{body}"
+        out.append(b)
+    done = {}
+    while set(kept) - set(done):
+        for f in set(kept) - set(done):
+            h = facts[f]
+            body, opened = within(names.takes[f], h[6], h[8], (h[5] or "").replace("unfolding ", "").strip())
+            said = "".join(l + "\n" for l in h[0].splitlines() if l.startswith("--"))
+            done[f] = f"{said}{f} : ({h[2]} : {h[3]}) → {h[4]}\n" + (f"unfolding {opened}\n" if opened else "")
+            done[f] += f"{f} {h[6]} {h[7].strip()}".rstrip() + body
+    names.cited = {p for p in names.cited if any(p == facts[f][3] for f in kept) or any(p in r for r in rest)}
+    return rest + [done[f] for f in facts if f in kept], out
+
+
 def turn(folder, path, of, crate_name):
     with open(os.path.join(folder, "Proof.antt"), encoding="utf-8") as it:
         text = it.read()
@@ -187,6 +286,10 @@ def turn(folder, path, of, crate_name):
                 inline[new] = a
     answers, invariants, helpers = [], [], []
     for b in blocks:
+        m = re.search(r"^(\S+) : \((?:c|\w+) : tie\.([A-Z][\w-]*)", b, re.M)
+        if m and plain(m[2]) in names.places:
+            names.takes[m[1]] = names.places[plain(m[2])][0]
+    for b in blocks:
         name, _ = declared(b)
         if b is spec or name is None or all(l.startswith(("use ", "--")) for l in b.splitlines()):
             continue
@@ -216,11 +319,15 @@ def turn(folder, path, of, crate_name):
     for new, a in inline.items():
         m = re.match(r"\(λ (\w+)(?: κs)?\. (.*)\)$", a)
         answers.append(names.turn(f"pub {new} : goal.{new}\n{new} {m[1]} = {m[2]}") if m else f"pub {new} : goal.{new}\n{new} c = {a} c")
+    helpers, answers = inlined(names, helpers, answers)
     mod = f"Rattle.{crate_name}.proofs.{path}"
     if invariants:
         write(folder, "Invariants.antt", head, uses, f"use {mod}.Given as goal", invariants)
     if answers or (helpers and not invariants):
-        write(folder, "Answers.antt", [] if invariants else head, uses, f"use {mod}.Goals as goal", helpers + answers)
+        goals = f"use {mod}.Goals as goal"
+        if names.cited:
+            goals = f"use {mod}.Goals.{{{', '.join(sorted(names.cited))}}}\n" + goals
+        write(folder, "Answers.antt", [] if invariants else head, uses, goals, helpers + answers)
     os.remove(os.path.join(folder, "Proof.antt"))
     if not os.listdir(folder):
         os.rmdir(folder)

@@ -4,7 +4,7 @@ use Rattle.rate_moves.proofs.moves.Rate.idle.Goals as goal
 
 pub returns-then-self-passed : goal.returns-then-self-passed
 unfolding first_cell idle
-returns-then-self-passed c = simp (lt-ltb _ _ c.if-self-passed.true) c.first_Cell.ensures
+returns-then-self-passed c = simp (lt-ltb _ _ c.if-self-passed.true) c.first_cell.ensures
 
 pub returns-else-self-passed : goal.returns-else-self-passed
 unfolding idle
