@@ -111,6 +111,8 @@ class Names:
             return ".".join([var, self.step(first) or first, *more])
 
         out = re.sub(r"(?<![\w.'₀-₉-])([A-Za-z_][\w'₀-₉]*)((?:\.before)+(?![\w-]))?((?:\.[\w«»'₀-₉*-]+)*)", path, text)
+        out = re.sub(r"(\.(?:if-[\w-]*|loop-[\w-]*-test))\.(taken|left)\b", lambda m: m[1] + (".true" if m[2] == "taken" else ".false"), out)
+        out = re.sub(r"\.inv(?=[.\s)])", ".invariant", out)
         # a test of `not b` gives an equation on b today
         out = re.sub(r"not-(?:true|false) _ (\(?[\w.]*\.if-not-[\w-]*\.(?:true|false)\)?)", r"\1", out)
 
@@ -181,6 +183,26 @@ def invariant(block, name, new, names, index):
 
 def place_of(names, goal):
     return next((at for (_, new), at in zip(names.needs, names.asked) if new == goal), None)
+
+
+HIGHER = re.compile(
+    r"(?:^--[^\n]*\n)*^(?:abbrev )?(\S+) : tie\.[A-Z][^→\n]* → tie\.[A-Z][^→\n]*\n\1 (\w+) = \2(?:\.before)*\Z", re.M
+)
+
+
+def direct(blocks):
+    """The blocks without functions that only lead from one place to one above it."""
+    names = [m[1] for m in map(HIGHER.match, blocks) if m]
+    out = []
+    for b in blocks:
+        if HIGHER.match(b):
+            continue
+        for _ in range(3):
+            for name in names:
+                b = re.sub(rf"\((?<![\w.'-]){re.escape(name)} ([a-z]\w*(?:\.before)*)\)", r"\1", b)
+                b = re.sub(rf"(?<![\w.'-]){re.escape(name)} ([a-z]\w*(?:\.before)*)(?![\w.-])", r"\1", b)
+        out.append(b)
+    return out
 
 
 HELPER = re.compile(
@@ -285,6 +307,7 @@ def turn(folder, path, of, crate_name):
             elif not SEARCH.match(a):
                 inline[new] = a
     answers, invariants, helpers = [], [], []
+    blocks = direct(blocks)
     for b in blocks:
         m = re.search(r"^(\S+) : \((?:c|\w+) : tie\.([A-Z][\w-]*)", b, re.M)
         if m and plain(m[2]) in names.places:

@@ -6,20 +6,12 @@ use Rattle.rate.specs.Units.{largest_rate}
 use Rattle.port_share.specs.Demands.{cut_sum}
 use Rattle.port_share.specs.Above.{above}
 use Rattle.port_share.proofs.Cases.{too_many, too-high, no-limit, ranged, over, limited}
-use Rattle.port_share.proofs.share.fair_share.Goals.{After-pass-whole, Else-whole-capacity, Else-whole-ne0, Start}
+use Rattle.port_share.proofs.share.fair_share.Goals.{Else-whole-capacity}
 use Rattle.port_share.proofs.share.fair_share.Goals as goal
 
--- where the demands were added up: the start of the call
-abbrev start : After-pass-whole → Start
-start c = c
-
--- no demand is above the largest rate
-abbrev past : Else-whole-ne0 → After-pass-whole
-past c = c
-
 -- and so the cut at the largest rate is the plain sum, which does not fit
-above-capacity : (c : Else-whole-capacity) → let a = (start (past c)).args in a.capacity < cut_sum largest_rate a.demands.now
-above-capacity c = omega (arith, (past c).pass.ensures.0, c.if-whole-capacity.false)
+above-capacity : (c : Else-whole-capacity) → let a = c.args in a.capacity < cut_sum largest_rate a.demands.now
+above-capacity c = omega (arith, c.pass-whole.ensures.0, c.if-whole-capacity.false)
 
 pub returns-then-demands-gt1024 : goal.returns-then-demands-gt1024
 returns-then-demands-gt1024 c = let a = c.args in too_many a.capacity a.demands.now c.if-demands-gt1024.true
@@ -27,32 +19,32 @@ returns-then-demands-gt1024 c = let a = c.args in too_many a.capacity a.demands.
 pub returns-then-whole-ne0 : goal.returns-then-whole-ne0
 returns-then-whole-ne0 c =
     let p = c in
-    let a = (start p).args in
+    let a = p.args in
     too-high a.capacity a.demands.now p.if-demands-gt1024.false (λ z. c.if-whole-ne0.true (p.pass-whole.ensures.1 ∙ z))
 
 pub returns-then-whole-capacity : goal.returns-then-whole-capacity
 returns-then-whole-capacity c =
-    let none : above largest_rate (start (past c)).args.demands.now ≡ 0 = sym (past c).pass.ensures.1 ∙ c.if-whole-ne0.false in
+    let none : above largest_rate c.args.demands.now ≡ 0 = sym c.pass-whole.ensures.1 ∙ c.if-whole-ne0.false in
     let d = c in
-    let p = past d in
-    let a = (start p).args in
-    no-limit a.capacity a.demands.now p.if-demands-gt1024.left (none) (omega (arith, p.pass-whole.ensures.0, c.if-whole-capacity.true))
+    let p = d in
+    let a = p.args in
+    no-limit a.capacity a.demands.now p.if-demands-gt1024.false (none) (omega (arith, p.pass-whole.ensures.0, c.if-whole-capacity.true))
 
 pub greatest-requires : goal.greatest-requires
 greatest-requires c =
-    let none : above largest_rate (start (past c)).args.demands.now ≡ 0 = sym (past c).pass.ensures.1 ∙ c.if-whole-ne0.false in
+    let none : above largest_rate c.args.demands.now ≡ 0 = sym c.pass-whole.ensures.1 ∙ c.if-whole-ne0.false in
     let d = c in
-    let p = past d in
-    let a = (start p).args in
-    let few = p.if-demands-gt1024.left in
+    let p = d in
+    let a = p.args in
+    let few = p.if-demands-gt1024.false in
     (few, (ranged a.capacity a.demands.now few (none), over a.capacity a.demands.now few (none) (above-capacity c)))
 
 pub returns : goal.returns
 returns c =
-    let none : above largest_rate (start (past c)).args.demands.now ≡ 0 = sym (past c).pass.ensures.1 ∙ c.if-whole-ne0.false in
-    let above-capacity : let a = (start (past c)).args in a.capacity < cut_sum largest_rate a.demands.now = omega (arith, (past c).pass.ensures.0, c.if-whole-capacity.false) in
+    let none : above largest_rate c.args.demands.now ≡ 0 = sym c.pass-whole.ensures.1 ∙ c.if-whole-ne0.false in
+    let above-capacity : let a = c.args in a.capacity < cut_sum largest_rate a.demands.now = omega (arith, c.pass-whole.ensures.0, c.if-whole-capacity.false) in
     let e = c in
     let d = e in
-    let p = past d in
-    let a = (start p).args in
-    limited a.capacity a.demands.now p.if-demands-gt1024.left (none) (above-capacity) c.greatest.ensures
+    let p = d in
+    let a = p.args in
+    limited a.capacity a.demands.now p.if-demands-gt1024.false (none) (above-capacity) c.greatest.ensures
