@@ -82,12 +82,16 @@ class Names:
         self.steps = {"wellformed": "well_formed"}
         self.above = {}
         self.places = {}
-        for place, new_name in zip(of["places"], of["places_by_name"]):
+        self.arms = {}
+        self.own = {}
+        for place, new_name, arm in zip(of["places"], of["places_by_name"], of["arms"]):
             self.above[place[0]] = place[1]
             self.places[plain(place[0])] = (place[0], new_name)
+            self.arms[place[0]] = arm
             old, new = place[2]
             if old:
                 self.steps.setdefault(plain(old), new)
+                self.own[place[0]] = (plain(old), new)
         self.loops = of["loops"]
         self.changed = of["changed"]
         self.cited = set()
@@ -100,7 +104,29 @@ class Names:
             new = self.steps.get(plain(re.sub(r"\d+$", "", name)))
         return new
 
-    def turn(self, text):
+    def path(self, place, first, more):
+        """A path from what is known at a place, today: what an arm gives, and steps by their names."""
+        at = place
+        for at in self.chain(place):
+            arm = self.arms.get(at)
+            for new, old, fields in arm[2] if arm else []:
+                if plain(old) == plain(first) and fields and more[: len(fields)] == fields:
+                    return [arm[0], new, *more[len(fields):]]
+        for at in self.chain(place):
+            old, new = self.own.get(at, (None, None))
+            if old == plain(first):
+                return [new, *more]
+        return [self.step(first) or first, *more]
+
+    def chain(self, place):
+        """A place and those above it; all places where none is named."""
+        if place is None:
+            yield from reversed(self.above)
+        while place is not None:
+            yield place
+            place = self.above.get(place)
+
+    def turn(self, text, place=None):
         """Paths through `before` become direct, and steps get today's names."""
 
         def path(m):
@@ -108,7 +134,7 @@ class Names:
             if not rest:
                 return var
             first, *more = rest[1:].split(".")
-            return ".".join([var, self.step(first) or first, *more])
+            return ".".join([var, *self.path(place, first, more)])
 
         out = re.sub(r"(?<![\w.'₀-₉-])([A-Za-z_][\w'₀-₉]*)((?:\.before)+(?![\w-]))?((?:\.[\w«»'₀-₉*-]+)*)", path, text)
         out = re.sub(r"(\.(?:if-[\w-]*|loop-[\w-]*-test))\.(taken|left)\b", lambda m: m[1] + (".true" if m[2] == "taken" else ".false"), out)
@@ -327,7 +353,7 @@ def turn(folder, path, of, crate_name):
                 if not new:
                     note += f"; {name} : {m[0]} has no goal"
         if kind is None:
-            helpers.append(names.turn(b))
+            helpers.append(names.turn(b, names.takes.get(name)))
         elif kind[0] == "inv":
             new = "invariant-" + names.loops[kind[1]][0][1]
             invariants.append(invariant(b, name, new, names, kind[1]))
@@ -338,10 +364,10 @@ def turn(folder, path, of, crate_name):
             body = body_of(b, name, kind[1], "pub ")
             if re.search(rf"^{re.escape(kind[1])} \w+ = search rules$", body, re.M):
                 continue
-            answers.append(names.turn(body))
+            answers.append(names.turn(body, place_of(names, kind[1])))
     for new, a in inline.items():
         m = re.match(r"\(λ (\w+)(?: κs)?\. (.*)\)$", a)
-        answers.append(names.turn(f"pub {new} : goal.{new}\n{new} {m[1]} = {m[2]}") if m else f"pub {new} : goal.{new}\n{new} c = {a} c")
+        answers.append(names.turn(f"pub {new} : goal.{new}\n{new} {m[1]} = {m[2]}", place_of(names, new)) if m else f"pub {new} : goal.{new}\n{new} c = {a} c")
     helpers, answers = inlined(names, helpers, answers)
     mod = f"Rattle.{crate_name}.proofs.{path}"
     if invariants:
