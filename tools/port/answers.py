@@ -84,6 +84,7 @@ class Names:
         self.places = {}
         self.arms = {}
         self.own = {}
+        self.callee = {}
         for place, new_name, arm in zip(of["places"], of["places_by_name"], of["arms"]):
             self.above[place[0]] = place[1]
             self.places[plain(place[0])] = (place[0], new_name)
@@ -92,6 +93,7 @@ class Names:
             if old:
                 self.steps.setdefault(plain(old), new)
                 self.own[place[0]] = (plain(old), new)
+                self.callee[place[0]] = place[3]
         self.loops = of["loops"]
         self.changed = of["changed"]
         self.cited = set()
@@ -104,19 +106,33 @@ class Names:
             new = self.steps.get(plain(re.sub(r"\d+$", "", name)))
         return new
 
+    def clause(self, path, at, first):
+        """A part of a contract by the clause's name where it has several."""
+        for i, word in enumerate(path[:-1]):
+            if word in ("ensures", "requires") and re.fullmatch(r"\d+", path[i + 1]):
+                function = self.callee.get(at) if word == "ensures" or i else self.function
+                names = clauses_of(function, self.crates)[word == "requires"] if function else []
+                if len(names) > int(path[i + 1]):
+                    return path[: i + 1] + [names[int(path[i + 1])]] + path[i + 2:]
+        return path
+
     def path(self, place, first, more):
+        out, at = self.found(place, first, more)
+        return self.clause(out, at, first)
+
+    def found(self, place, first, more):
         """A path from what is known at a place, today: what an arm gives, and steps by their names."""
         at = place
         for at in self.chain(place):
             arm = self.arms.get(at)
             for new, old, fields in arm[2] if arm else []:
                 if plain(old) == plain(first) and fields and more[: len(fields)] == fields:
-                    return [arm[0], new, *more[len(fields):]]
+                    return [arm[0], new, *more[len(fields):]], at
         for at in self.chain(place):
             old, new = self.own.get(at, (None, None))
             if old == plain(first):
-                return [new, *more]
-        return [self.step(first) or first, *more]
+                return [new, *more], at
+        return [self.step(first) or first, *more], None
 
     def chain(self, place):
         """A place and those above it; all places where none is named."""
@@ -149,6 +165,50 @@ class Names:
 
         out = re.sub(r"\btie\.([A-Z][\w-]*)( invariant-[\w-]+)*( decreases-[\w-]+)*", place_named, out)
         return re.sub(r"(?<=\w)( invariant-loop[\w-]*)( decreases-loop[\w-]*)?(?=\) →)", "", out)
+
+
+def clauses_of(function, crates):
+    """The names of a function's ensures and requires clauses, from the source."""
+    crate, *rest = function.split("::")
+    name = rest[-1]
+    found = []
+    for file in (os.path.join(crates, crate, "src", *rest[:k]) + ".rt" for k in range(len(rest) - 1, 0, -1)):
+        if os.path.exists(file):
+            with open(file, encoding="utf-8") as it:
+                m = re.search(rf"fn {name}\b.*?\n *\{{\n", it.read(), re.S)
+            if m:
+                found = [(k, n) for k, n in re.findall(r"\n *(ensures|requires) ([a-z]\w*) \{", m[0])]
+            break
+    return [n for k, n in found if k == "ensures"], [n for k, n in found if k == "requires"]
+
+
+def record_of(body, fields):
+    """The body with its last tuple as a record of these fields, if it has as many parts."""
+    at = body.rfind("\n    (") + 5 if "\n    (" in body else (body.find(" = (") + 3 if " = (" in body else -1)
+    m = re.search(r" in \(\n", body)
+    if m:
+        at = m.end() - 2
+    if at < 3 or len(fields) < 2:
+        return body
+    text = body[at:].rstrip()
+    if not text.endswith(")"):
+        return body
+    parts, depth, word = [], 0, ""
+    for i, ch in enumerate(text[1:-1]):
+        depth += ch in "([{"
+        depth -= ch in ")]}"
+        if depth < 0:
+            return body
+        if ch == "," and depth == 0:
+            parts.append(word.strip())
+            word = ""
+        else:
+            word += ch
+    if word.strip():
+        parts.append(word.strip())
+    if len(parts) != len(fields):
+        return body
+    return body[:at] + "record { " + "; ".join(f"{f} = {p}" for f, p in zip(fields, parts)) + " }"
 
 
 def use_lines(text):
@@ -306,6 +366,9 @@ def turn(folder, path, of, crate_name):
     if "tie.spec" not in text:
         return "walks by hand"
     names = Names(of)
+    names.crates = os.path.dirname(os.path.abspath(folder).split("/proofs/")[0])
+    names.function = f"{crate_name}::{path.replace('.', '::')}"
+    ensured = clauses_of(names.function, names.crates)[0]
     blocks = blocks_of(text)
     head = [l for l in blocks[0].splitlines() if l.startswith("--")] if blocks[0].startswith("--") else []
     uses = use_lines(text)
@@ -362,8 +425,10 @@ def turn(folder, path, of, crate_name):
             invariants.append(invariant(b, name, new, names, kind[1]))
         else:
             body = body_of(b, name, kind[1], "pub ")
-            if re.search(rf"^{re.escape(kind[1])} \w+ = search rules$", body, re.M):
+            if re.search(rf"^{re.escape(kind[1])} \w+ = search rules$", body, re.M) and "\nunfolding " not in body:
                 continue
+            if kind[1].startswith("returns"):
+                body = record_of(body, ensured)
             answers.append(names.turn(body, place_of(names, kind[1])))
     for new, a in inline.items():
         m = re.match(r"\(λ (\w+)(?: κs)?\. (.*)\)$", a)
