@@ -155,8 +155,8 @@ pub step-well-formed : {s : State} → WellFormed s → (c : Call) → WellForme
 step-well-formed {s} w c = effect-well-formed w (effect s w.unique c)
 
 pub final-well-formed : {s : State} → WellFormed s → (cs : List Call) → WellFormed (final s cs)
-final-well-formed w [] = w
-final-well-formed w (c ∷ cs) = final-well-formed (step-well-formed w c) cs
+final-well-formed {s = s} w [] = w
+final-well-formed {s = s} w (c ∷ cs) = final-well-formed {s = (step s c).state} (step-well-formed w c) cs
 
 -- every table that calls make from the empty one
 pub reached-well-formed : (cs : List Call) → WellFormed (final empty cs)
