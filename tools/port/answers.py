@@ -145,15 +145,21 @@ class Names:
     def turn(self, text, place=None):
         """Paths through `before` become direct, and steps get today's names."""
 
+        bound = re.findall(r"\blet ([a-z]\w*)(?: :[^=]*)? = ((?:[^\s()]+(?= in\b))?)", text)
+        others = {x for x, value in bound if not re.fullmatch(r"[a-z]\w*(\.before)*", value)}
+
         def path(m):
             var, befores, rest = m[1], m[2] or "", m[3]
             if not rest:
                 return var
+            if var in others:
+                return m[0]
             first, *more = rest[1:].split(".")
             return ".".join([var, *self.path(place, first, more)])
 
         out = re.sub(r"(?<![\w.'₀-₉-])([A-Za-z_][\w'₀-₉]*)((?:\.before)+(?![\w-]))?((?:\.[\w«»'₀-₉*-]+)*)", path, text)
         out = re.sub(r"(\.(?:if-[\w-]*|loop-[\w-]*-test))\.(taken|left)\b", lambda m: m[1] + (".true" if m[2] == "taken" else ".false"), out)
+        out = out.replace(".type-inv", ".type_inv").replace(".well-formed", ".well_formed")
         out = re.sub(r"\.inv(?=[.\s)])", ".invariant", out)
         # a test of `not b` gives an equation on b today
         out = re.sub(r"not-(?:true|false) _ (\(?[\w.]*\.if-not-[\w-]*\.(?:true|false)\)?)", r"\1", out)

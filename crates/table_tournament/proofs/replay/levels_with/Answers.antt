@@ -1,0 +1,26 @@
+use Prim.Native.Nat.{◌-◌}
+use borrow.Author.Rules.{rules}
+use mathlib.Core.Path.{refl}
+use Rattle.table_tournament.proofs.Levels.{looked-other, looked-same, looked-all}
+use Rattle.table_tournament.proofs.replay.levels_with.Goals as goal
+
+pub returns-then-t-place : goal.returns-then-t-place
+returns-then-t-place c =
+    let lp = c in
+    let a = lp.args in
+    looked-other a.t.now a.leaf _ a.most lp.loop-n.n lp.loop-n.place lp.loop-n.invariant.1 (search rules) c.if-t-place.true
+
+pub loop-n-preserved : goal.loop-n-preserved
+loop-n-preserved c =
+    let lp = c in
+    let a = lp.args in
+    (search rules, looked-same a.t.now a.leaf _ a.most lp.loop-n.n lp.loop-n.place lp.loop-n.invariant.1 (search rules) c.if-t-place.false)
+
+pub returns : goal.returns
+returns c =
+    let lp = c in
+    let a = lp.args in
+    looked-all a.t.now a.leaf _ a.most lp.loop-n.n lp.loop-n.place lp.loop-n.invariant.1 (search rules)
+
+pub loop-n-init : goal.loop-n-init
+loop-n-init c = (search rules, refl)

@@ -1,0 +1,14 @@
+-- The loop's invariant: that of `replay`, without marks and without a count.
+use Prim.Native.Nat.{◌+◌, ◌-◌, ◌≤◌, ◌<◌}
+use mathlib.Core.Path.{◌≡◌}
+use Rattle.model.specs.State.{capacity}
+use Rattle.model.specs.Tournament.{levels}
+use Rattle.model.proofs.Places.{above}
+use Rattle.table_tournament.proofs.Replaying.{Reached}
+use Rattle.table_tournament.proofs.replay.replay_all.Given as goal
+
+abbrev pub invariant-loop-n : goal.invariant-loop-n
+invariant-loop-n l = (l.n ≤ levels) × (l.place < capacity) × (l.place ≡ above (l.n + 1) (capacity + l.leaf)) × Reached 0 l.initial.t l.t l.leaf l.n l.best l.other
+
+abbrev pub decreases-loop-n : goal.decreases-loop-n
+decreases-loop-n l = levels - l.n
