@@ -85,6 +85,7 @@ class Names:
         self.arms = {}
         self.own = {}
         self.callee = {}
+        self.params = of["params"]
         for place, new_name, arm in zip(of["places"], of["places_by_name"], of["arms"]):
             self.above[place[0]] = place[1]
             self.places[plain(place[0])] = (place[0], new_name)
@@ -118,6 +119,9 @@ class Names:
 
     def path(self, place, first, more):
         out, at = self.found(place, first, more)
+        names = self.params.get(self.callee.get(at), [])
+        if out[1:2] == ["new"] and re.fullmatch(r"\d+", "".join(out[2:3])) and len(names) > int(out[2]):
+            out = out[:2] + [names[int(out[2])]] + out[3:]
         return self.clause(out, at, first)
 
     def found(self, place, first, more):
