@@ -149,14 +149,16 @@ class Names:
     def turn(self, text, place=None):
         """Paths through `before` become direct, and steps get today's names."""
 
-        bound = re.findall(r"\blet ([a-z]\w*)(?: :[^=]*)? = ((?:[^\s()]+(?= in\b))?)", text)
-        others = {x for x, value in bound if not re.fullmatch(r"[a-z]\w*(\.before)*", value)}
+        records = {"c"} | set(re.findall(r"\((\w+) : tie\.[A-Z]", text)) | set(re.findall(r"^[\w'-]+ (\w+) (?:κs )?=", text, re.M))
+        for x, value in re.findall(r"\blet ([a-z]\w*) = ([a-z]\w*)(?:\.before)* in\b", text):
+            if value in records:
+                records.add(x)
 
         def path(m):
             var, befores, rest = m[1], m[2] or "", m[3]
             if not rest:
                 return var
-            if var in others:
+            if var not in records:
                 return m[0]
             first, *more = rest[1:].split(".")
             return ".".join([var, *self.path(place, first, more)])
@@ -282,18 +284,27 @@ def place_of(names, goal):
 
 
 HIGHER = re.compile(
-    r"(?:^--[^\n]*\n)*^(?:abbrev )?(\S+) : tie\.[A-Z][^→\n]* → tie\.[A-Z][^→\n]*\n\1 (\w+) = \2(?:\.before)*\Z", re.M
+    r"(?:^--[^\n]*\n)*^(?:abbrev )?(\S+) : tie\.[A-Z][^→\n]* → tie\.[A-Z][^→\n]*\n\1 (\w+) = (?:[\w-]+ \(?)*\2(?:\.before)*\)*\Z", re.M
 )
+
+
+# a name for a path from a place
+SHORT = re.compile(r"(?:^--[^\n]*\n)*^abbrev (\S+) : tie\.[A-Z][^→\n]* → [^→\n]*\n\1 (\w+) = \2((?:\.[\w-]+)+)\Z", re.M)
 
 
 def direct(blocks):
     """The blocks without functions that only lead from one place to one above it."""
     names = [m[1] for m in map(HIGHER.match, blocks) if m]
+    short = {m[1]: m for m in map(SHORT.match, blocks) if m}
     out = []
     for b in blocks:
-        if HIGHER.match(b):
+        if HIGHER.match(b) or SHORT.match(b):
             continue
-        for _ in range(3):
+        for _ in range(4):
+            for name, m in short.items():
+                value = m[3]
+                b = re.sub(rf"\((?<![\w.'-]){re.escape(name)} ([a-z]\w*)(?:\.before)*\)", lambda x: x[1] + value, b)
+                b = re.sub(rf"(?<![\w.'-]){re.escape(name)} ([a-z]\w*)(?:\.before)*(?![\w.-])", lambda x: x[1] + value, b)
             for name in names:
                 b = re.sub(rf"\((?<![\w.'-]){re.escape(name)} ([a-z]\w*(?:\.before)*)\)", r"\1", b)
                 b = re.sub(rf"(?<![\w.'-]){re.escape(name)} ([a-z]\w*(?:\.before)*)(?![\w.-])", r"\1", b)
@@ -302,7 +313,7 @@ def direct(blocks):
 
 
 HELPER = re.compile(
-    r"(?:^--[^\n]*\n)*^(\S+) : \((\w+) : ([A-Z][\w-]*)\) → (.*?)\n(unfolding [^\n]*\n)?\1 (\w+) ?([^=\n]*)=(.*)\Z",
+    r"(?:^--[^\n]*\n)*^(?:abbrev )?(\S+) :\s+\((\w+) : ([A-Z][\w+-]*)\)\s+(.*?)\n(unfolding [^\n]*\n)?\1 (\w+) ?([^=\n]*)=(.*)\Z",
     re.S | re.M,
 )
 
@@ -342,11 +353,12 @@ def inlined(names, helpers, answers):
         for f, h in lets:
             body = re.sub(rf"(?<![\w.'-]){re.escape(f)} [a-z]\w*(?![\w.=-])", f, body)
             opened = ", ".join(x for x in [opened, (h[5] or "").replace("unfolding ", "").strip()] if x)
-            value = h[8]
+            type_, value = h[4], h[8]
             for g, _ in lets:
-                value = re.sub(rf"(?<![\w.'-]){re.escape(g)} {re.escape(h[6])}(?![\w.=-])", g, value)
+                called_with = rf"(?<![\w.'-]){re.escape(g)} [a-z]\w*(?![\w.=-])"
+                type_, value = re.sub(called_with, g, type_), re.sub(called_with, g, value)
             bound = f"λ {h[7].strip()}. " if h[7].strip() else ""
-            flat = " ".join((f"{f} : {h[4]} = {bound}{value}").split())
+            flat = " ".join((f"{f} : {re.sub('^→ ', '', type_)} = {bound}{value}").split())
             said.append("    let " + re.sub(rf"(?<![\w.-]){h[2]}(?=\.)", var, flat) + " in")
         opened = ", ".join(dict.fromkeys(x.strip() for x in opened.split(",") if x.strip()))
         return (" =\n" + "\n".join(said) + "\n    " + body.strip() if said else " =" + body), opened
@@ -364,7 +376,7 @@ def inlined(names, helpers, answers):
             h = facts[f]
             body, opened = within(names.takes[f], h[6], h[8], (h[5] or "").replace("unfolding ", "").strip())
             said = "".join(l + "\n" for l in h[0].splitlines() if l.startswith("--"))
-            done[f] = f"{said}{f} : ({h[2]} : {h[3]}) → {h[4]}\n" + (f"unfolding {opened}\n" if opened else "")
+            done[f] = f"{said}{f} : ({h[2]} : {h[3]}) {h[4]}\n" + (f"unfolding {opened}\n" if opened else "")
             done[f] += f"{f} {h[6]} {h[7].strip()}".rstrip() + body
     names.cited = {p for p in names.cited if any(p == facts[f][3] for f in kept) or any(p in r for r in rest)}
     return rest + [done[f] for f in facts if f in kept], out
@@ -408,7 +420,7 @@ def turn(folder, path, of, crate_name):
     answers, invariants, helpers = [], [], []
     blocks = direct(blocks)
     for b in blocks:
-        m = re.search(r"^(\S+) : \((?:c|\w+) : tie\.([A-Z][\w-]*)", b, re.M)
+        m = re.search(r"^(?:abbrev )?(\S+) :\s+\((?:c|\w+) : tie\.([A-Z][\w+-]*)", b, re.M)
         if m and plain(m[2]) in names.places:
             names.takes[m[1]] = names.places[plain(m[2])][0]
     for b in blocks:

@@ -1,0 +1,20 @@
+use Rattle.engine.proofs.TimedCases.{timed-late, timed-missing, timed-early, timed-found}
+use Rattle.engine.proofs.timed.timed_entry.Goals as goal
+
+pub returns-then-time-gt-LATEST_TIME : goal.returns-then-time-gt-LATEST_TIME
+returns-then-time-gt-LATEST_TIME c = timed-late _ _ _ c.if-time-gt-LATEST_TIME.true
+
+pub returns-in_default : goal.returns-in_default
+returns-in_default c = let f = c in timed-missing _ _ _ f.if-time-gt-LATEST_TIME.false f.find.ensures c.in_default.is
+
+pub returns-then-time-t : goal.returns-then-time-t
+returns-then-time-t c =
+    let i = c in
+    let f = i in
+    timed-early _ _ _ f.if-time-gt-LATEST_TIME.false f.find.ensures i.in-At.is c.if-time-t.true
+
+pub returns : goal.returns
+returns c =
+    let i = c in
+    let f = i in
+    timed-found _ _ _ f.if-time-gt-LATEST_TIME.false f.find.ensures i.in-At.is c.if-time-t.false
