@@ -165,6 +165,7 @@ class Names:
 
         out = re.sub(r"(?<![\w.'₀-₉-])([A-Za-z_][\w'₀-₉]*)((?:\.before)+(?![\w-]))?((?:\.[\w«»'₀-₉*-]+)*)", path, text)
         out = re.sub(r"(\.(?:if-[\w-]*|loop-[\w-]*-test))\.(taken|left)\b", lambda m: m[1] + (".true" if m[2] == "taken" else ".false"), out)
+        out = re.sub(r"\b([a-z]\w*)\.pre(?=[.\s)])", r"\1.requires", out)
         out = out.replace(".type-inv", ".type_inv").replace(".well-formed", ".well_formed")
         out = re.sub(r"\.inv(?=[.\s)])", ".invariant", out)
         # a test of `not b` gives an equation on b today

@@ -4,15 +4,14 @@ use lib.Ieee.{binary64, fits, to_bits, of_bits}
 use Rattle.rate_doubles.proofs.Patterns.{Within, a-number}
 use Rattle.rate_doubles.proofs.Tests.{zero-found, low-refused, high-refused, in-range}
 use Rattle.rate_doubles.proofs.Digits.{split-is}
+use Rattle.rate_doubles.proofs.import.import.Goals.{Then-x-3}
 use Rattle.rate_doubles.proofs.import.import.Goals as goal
 
--- what owning a double tells: the format holds it
-held : (c : tie.Start) → T (fits binary64 c.args.x)
-held c = subst T (sym c.well-formed.0.1) tt
-
-within : (c : tie.Then3) → Within c.args.x (to_bits binary64 c.args.x)
+within : (c : Then-x-3) → Within c.args.x (to_bits binary64 c.args.x)
 unfolding of_bits
-within c = in-range c.args.x (held c) c.if-x-2.true c.if-x-3.true
+within c =
+    let held : T (fits binary64 c.args.x) = subst T (sym c.well_formed.0.1) tt in
+    in-range c.args.x (held) c.if-x-2.true c.if-x-3.true
 
 pub returns-then-x : goal.returns-then-x
 unfolding of_bits
@@ -25,7 +24,11 @@ pub split-requires : goal.split-requires
 split-requires c = ((within c).fields.least, (within c).fields.most)
 
 pub returns-then-x-3 : goal.returns-then-x-3
-returns-then-x-3 c = c.split.ensures ∙ split-is (within c)
+unfolding of_bits
+returns-then-x-3 c =
+    let held : T (fits binary64 c.args.x) = subst T (sym c.well_formed.0.1) tt in
+    let within : Within c.args.x (to_bits binary64 c.args.x) = in-range c.args.x (held) c.if-x-2.true c.if-x-3.true in
+    c.split.ensures ∙ split-is (within)
 
 pub returns-else-x-3 : goal.returns-else-x-3
 unfolding of_bits
