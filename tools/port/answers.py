@@ -285,7 +285,7 @@ def place_of(names, goal):
 
 
 HIGHER = re.compile(
-    r"(?:^--[^\n]*\n)*^(?:abbrev )?(\S+) : tie\.[A-Z][^→\n]* → tie\.[A-Z][^→\n]*\n\1 (\w+) = (?:[\w-]+ \(?)*\2(?:\.before)*\)*\Z", re.M
+    r"(?:^--[^\n]*\n)*^(?:abbrev )?(\S+) : tie\.[A-Z][^→\n]* → tie\.[A-Z][^→\n]*\n\1 (\w+) = (?:\(?[\w-]+ |\()*\2(?:\.before|\))*\Z", re.M
 )
 
 
