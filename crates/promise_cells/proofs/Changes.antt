@@ -68,15 +68,21 @@ begun :
     {s : State} {o : Outcome} {vpi vci t : ℕ} {p : Params} (n : ℕ) → Effect s (opening vpi vci t p) o → o.answer ≡ Accepted n
     → acr_of o.state (address_name vpi vci) ≡ Rate (initial_used p) (changed (initial_used p) (initial_used p))
 unfolding refuse accept replay acr_of with_time
-begun n (refuses _ k h) e = let z : ◌≡◌ {A = ℕ} 0 1 = cc in absurd (omega arith)
-begun {s} {o} {vpi} {vci} {t} {p} n (opens _ _ _ _ g) e = opened-entry s (address_name vpi vci) t p g
+begun {s} {o} {vpi} {vci} {t} {p} n h e = go p o h e
+  where
+    go : (p : Params) (o : Outcome) → Effect s (opening vpi vci t p) o → o.answer ≡ Accepted n → acr_of o.state (address_name vpi vci) ≡ Rate (initial_used p) (changed (initial_used p) (initial_used p))
+    go p o (refuses _ k h) e = let z : ◌≡◌ {A = ℕ} 0 1 = cc in absurd (omega arith)
+    go p o (opens _ _ _ _ g) e = opened-entry s (address_name vpi vci) t p g
 
 opened-path :
     {s : State} {o : Outcome} {vpi t : ℕ} {p : Params} (n : ℕ) → Effect s (opening_path vpi t p) o → o.answer ≡ Accepted n
     → acr_of o.state (address_name vpi path_vci) ≡ Rate (initial_used p) (changed (initial_used p) (initial_used p))
 unfolding refuse accept replay acr_of with_time
-opened-path n (refuses _ k h) e = let z : ◌≡◌ {A = ℕ} 0 1 = cc in absurd (omega arith)
-opened-path {s} {o} {vpi} {t} {p} n (opens_path _ _ _ g) e = opened-entry s (address_name vpi path_vci) t p g
+opened-path {s} {o} {vpi} {t} {p} n h e = go p o h e
+  where
+    go : (p : Params) (o : Outcome) → Effect s (opening_path vpi t p) o → o.answer ≡ Accepted n → acr_of o.state (address_name vpi path_vci) ≡ Rate (initial_used p) (changed (initial_used p) (initial_used p))
+    go p o (refuses _ k h) e = let z : ◌≡◌ {A = ℕ} 0 1 = cc in absurd (omega arith)
+    go p o (opens_path _ _ _ g) e = opened-entry s (address_name vpi path_vci) t p g
 
 -- what was read stands in the entry
 rate-in : (x : Entry) (a : ℕ) (z : Change) → entry_acr x ≡ Rate a z → Has (λ d. (d.rate.acr ≡ a) × (d.change ≡ z)) x

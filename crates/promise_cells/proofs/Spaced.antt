@@ -133,7 +133,7 @@ all-since :
     → Has (Since k t) (find (address_name vpi vci) s.entries) → Has (Since k t) (find (address_name vpi vci) (final s cs).entries)
 all-since k vpi vci l t w [] q m = m
 all-since k vpi vci l t {s} w (c ∷ cs) q m =
-    all-since k vpi vci l t (step-well-formed w c) cs q.1
+    all-since k vpi vci l t {s = (step s c).state} (step-well-formed w c) cs q.1
     (effect-kept (Since k t) (address_name vpi vci) w.unique (effect s w.unique c) (since-stable k (address_name vpi vci) t w) (open_kept k vpi vci l t s c (step s c) q.0 (sort_of c) refl) m)
 
 -- an accepted call for v at t that sends or makes such a cell, 100 ms or more after the one

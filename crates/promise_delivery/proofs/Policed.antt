@@ -145,6 +145,8 @@ module _ (g lag : ℕ) (f : SentCell → ℕ) (bound : (t : ℕ) (x : SentCell) 
   row-conforms : (t last : ℕ) (xs : List SentCell) (ms : List ℕ) → Row g t xs → OnWire lag xs ms → last ≤ t + lag → nonconforming lag last (arrivals f xs ms) ≡ 0
   unfolding nonconforming
   row-conforms t last [] [] h w l = refl
+  row-conforms t last [] (m ∷ ms) h w l = absurd w
+  row-conforms t last (x ∷ xs) [] h w l = absurd w
   row-conforms t last (x ∷ xs) (m ∷ ms) h w l =
       let b = bound t x h.0 in
       rw (le-leb (last + f x) (m + lag) (omega (arith, b, w.0.0, l)))
@@ -153,6 +155,8 @@ module _ (g lag : ℕ) (f : SentCell → ℕ) (bound : (t : ℕ) (x : SentCell) 
   none_dropped : (xs : List SentCell) (ms : List ℕ) → Later g xs → OnWire lag xs ms → dropped lag (arrivals f xs ms) ≡ 0
   unfolding dropped
   none_dropped [] [] h w = refl
+  none_dropped [] (m ∷ ms) h w = absurd w
+  none_dropped (x ∷ xs) [] h w = absurd w
   none_dropped (x ∷ xs) (m ∷ ms) h w = row-conforms x.time m xs ms h w.1 w.0.1
 
 policed-row : (g : ℕ) (xs : List SentCell) → Later g xs → PolicedCells g xs

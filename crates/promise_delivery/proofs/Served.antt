@@ -275,7 +275,7 @@ module _ (v low high lag : ℕ) (some-rate : 1 ≤ low) (k : ℕ) where
 -- at one rate, exactly
 served-exact : (v a lag at : ℕ) (xs : List Turn) (s : State) → AllServed v a a lag at at s xs → AllExactlyServed v a lag at s xs
 served-exact v a lag at [] s h = tt
-served-exact v a lag at (x ∷ xs) s h = (λ g. omega (arith, h.0.not_late, h.0.not_early g), served-exact v a lag _ xs (slot_of lag s x).state h.1)
+served-exact v a lag at (x ∷ xs) s h = (λ g. omega (arith, h.0.not_late, h.0.not_early g), served-exact v a lag (moved_on v (gap a) (time_passed lag s x) at (goes_to (slot_of lag s x).answer)) xs (slot_of lag s x).state h.1)
 
 -- Counted: each cell moves the latest instant for the next by a gap at most.
 moved-counted : (v g t by start n : ℕ) (w : Option ℕ) → t ≤ by → by ≤ start + n * g → moved_on v g t by w ≤ start + one_more v n w * g
@@ -293,7 +293,7 @@ served-counted :
 served-counted v low high k lag from by start n [] s l o h = tt
 served-counted v low high k lag from by start n (x ∷ xs) s l o h = (
   omega (arith, l, o.0.near, h.0.not_late),
-  served-counted v low high k lag _ _ start _ xs (slot_of lag s x).state
+  served-counted v low high k lag (moved_on v (gap high) (time_passed lag s x) from (goes_to (slot_of lag s x).answer)) (moved_on v (gap low) (time_passed lag s x) by (goes_to (slot_of lag s x).answer)) start (one_more v n (goes_to (slot_of lag s x).answer)) xs (slot_of lag s x).state
       (moved-counted v (gap low) (time_passed lag s x) by start n (goes_to (slot_of lag s x).answer) h.0.not_late l) o.1 h.1,
 )
 

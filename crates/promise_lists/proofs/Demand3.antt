@@ -9,6 +9,7 @@ use Rattle.model.proofs.Entries.{find-each}
 use Rattle.model.proofs.Preserved.{empty-well-formed}
 use Rattle.model.specs.declared.answer.Answer.{Answer}
 use Rattle.model.specs.Call.{Call, Outcome, refusal, kind_sent}
+use Rattle.model.specs.Step.{step}
 use Rattle.model.specs.Run.{run, final, entry_rate, allowed, params_given}
 use Rattle.model.proofs.Reached.{step-well-formed, reached-well-formed}
 use Rattle.model.proofs.Given.{entry_params, params-given}
@@ -58,9 +59,9 @@ pairs-from :
 pairs-from w r [] [] h g = tt
 pairs-from w r [] (y ∷ ys) h g = absurd h
 pairs-from w r (x ∷ xs) [] h g = absurd h
-pairs-from w r (x ∷ xs) (y ∷ ys) h g =
+pairs-from {s₁ = s₁} {s₂ = s₂} w r (x ∷ xs) (y ∷ ys) h g =
     let k = step-meets w r h.0 g.0 in
-    (agree k, pairs-from (step-well-formed w x) k.states xs ys h.1 g.1)
+    (agree k, pairs-from {s₁ = (step s₁ x).state} {s₂ = (step s₂ y).state} (step-well-formed w x) k.states xs ys h.1 g.1)
 
 pub demand3 : Demand3
 demand3 = record { bounds = bounds; pairs = pairs-from empty-well-formed empty-tables }

@@ -1,5 +1,6 @@
 -- The allowed rate of a source in a loop with a port settles.
 use Prim.Native.Nat.{ℕ, zero, suc, ◌≤◌, ◌<◌}
+use mathlib.Core.Bool.{false}
 use mathlib.Core.Path.{◌≡◌, refl, sym, ap, subst, ◌∙◌}
 use mathlib.Core.List.{List}
 use mathlib.Core.Option.{Option, some}
@@ -40,7 +41,7 @@ pub run-from-port :
 unfolding feedback
 run-from-port {q = q} w z e ended = record { after = q; stands = z; params = e; lower = λ l. l; fed = λ l. absurd (omega arith) }
 run-from-port {share = share} {p} {q} w z e (fed_back {o = o} h r) =
-    let x = run-from-port (step-well-formed w (receiving o)) (from-port-step h w z) e r in
+    let x = run-from-port {q = as_fed h q} (step-well-formed w (receiving o)) (from-port-step h w z) e r in
     let low = x.lower (subst (λ (y : Params). (as_fed h q).acr ≤ settled y share) e (from-port-low h q (in_bounds w z))) in
     record { after = x.after; stands = x.stands; params = x.params; lower = λ _. low; fed = λ _. low }
 run-from-port {q = q} w z e (other_call {c = c} n k r) =
@@ -53,7 +54,7 @@ run-unmarked :
     → Stands v (fed_times n (port_rate p share) q) (final s ds)
 unfolding feedback
 run-unmarked w z e ended = z
-run-unmarked {q = q} w z e (fed_back {o = o} t r) = run-unmarked (step-well-formed w (receiving o)) (unmarked-step q t w z e) e r
+run-unmarked {share = share} {p = p} {q = q} w z e (fed_back {o = o} t r) = run-unmarked {q = feedback false false (port_rate p share) q} (step-well-formed w (receiving o)) (unmarked-step q t w z e) e r
 run-unmarked w z e (other_call {c = c} n k r) = run-unmarked (step-well-formed w c) (kept_step w z c k) e r
 
 run-kept :
@@ -61,7 +62,7 @@ run-kept :
     → Feedbacks v (Unmarked v p share) (RateKept v) s n ds
 unfolding feedback entry_rate
 run-kept w z e ended = ended
-run-kept {q = q} w z e (fed_back {o = o} t r) = fed_back t (run-kept (step-well-formed w (receiving o)) (unmarked-step q t w z e) e r)
+run-kept {share = share} {p = p} {q = q} w z e (fed_back {o = o} t r) = fed_back t (run-kept {q = feedback false false (port_rate p share) q} (step-well-formed w (receiving o)) (unmarked-step q t w z e) e r)
 run-kept {v} {q = q} w z e (other_call {s = s} {c = c} n l r) =
     let x = other_step w z c (not-closed w z c l.not_closed) in
     let y : Stands v q (step s c).state = record { holder = x.holder; found = x.found; rate = x.same n l } in

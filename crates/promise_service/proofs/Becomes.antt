@@ -128,4 +128,4 @@ always P k v cs d f = subst (OnEntry P) f (go empty-well-formed cs (rw (absent-f
   where
     go : {s : State} → WellFormed s → (cs : List Call) → OnEntry P (find v s.entries) → OnEntry P (find v (final s cs).entries)
     go w [] h = h
-    go {s} w (c ∷ cs) h = go (step-well-formed w c) cs (k.each v _ _ c _ (becomes v s w.unique c) h)
+    go {s} w (c ∷ cs) h = go {s = (step s c).state} (step-well-formed w c) cs (k.each v _ _ c _ (becomes v s w.unique c) h)

@@ -294,7 +294,7 @@ module _ (p : Params) (a : ℕ) (uncut : p.c ≡ 7) where
 
   stays-run : (v : ℕ) {s : State} → WellFormed s → (ds : List Call) → All (Silent v) ds → StaysAt p a (find v s.entries) → StaysAt p a (find v (final s ds).entries)
   stays-run v w [] u h = h
-  stays-run v {s} w (c ∷ cs) u h = stays-run v (step-well-formed w c) cs u.1 (stays_step v _ _ c _ (becomes v s w.unique c) u.0 h)
+  stays-run v {s} w (c ∷ cs) u h = stays-run v {s = (step s c).state} (step-well-formed w c) cs u.1 (stays_step v _ _ c _ (becomes v s w.unique c) u.0 h)
 
 pub deaf-stays : DeafStays
 deaf-stays cs ds v d e f g u c =

@@ -236,7 +236,7 @@ call-swapped v a b f y another g = g
 
 swapped : (v a b : ℕ) (s : State) (cs : List Call) → Stretch v a b s cs → Stretch v b a s cs
 swapped v a b s [] g = tt
-swapped v a b s (c ∷ cs) g = (call-swapped v a b _ _ (sort_of c) g.0, swapped v a b (step s c).state cs g.1)
+swapped v a b s (c ∷ cs) g = (call-swapped v a b (λ x. cells_of x s.members) _ (sort_of c) g.0, swapped v a b (step s c).state cs g.1)
 
 fair :
     (cs ds : List Call) (a b : ℕ) → let s = final empty cs in

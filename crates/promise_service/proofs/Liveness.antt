@@ -147,7 +147,7 @@ served :
 served {s} w v c f i r [] n l a =
     absurd (omega (arith, count-put (entry_by i) (none_free i) free (none_free i) v s (ap (entry_by i) f ∙ by-now i i c r (le_refl i))))
 served {s} w v c f i r (t ∷ ts) n l a =
-    go (λ f n. served (step-well-formed w (slot t 53)) v c f i r ts n l.1 a.1)
+    go (λ f n. served {s = (step s (slot t 53)).state} (step-well-formed w (slot t 53)) v c f i r ts n l.1 a.1)
     (slot_next w v c f i t l.0 (slot-goes v c i t 53 f r l.0 (effect s w.unique (slot t 53)) a.0))
   where
     o : Outcome

@@ -156,7 +156,7 @@ passed :
     → Somewhere (GoesTo v) (run s ds)
 passed m v w [] r p h = absurd (omega (arith, p))
 passed m v {s} w (c ∷ cs) r p h =
-    go (λ n p h. passed m v (step-well-formed w c) cs (r.1 n) p h) (turn m v w c r.0 (sort v (shown w c)))
+    go (λ n p h. passed m v {s = (step s c).state} (step-well-formed w c) cs (r.1 n) p h) (turn m v w c r.0 (sort v (shown w c)))
   where
     o : Outcome
     o = step s c
@@ -244,7 +244,7 @@ found-ready : (m v : ℕ) {s : State} → WellFormed s → StillWaits m (find v 
 found-ready m v w h [] l k = tt
 found-ready m v {s} w h (c ∷ cs) l k = (
   λ _. (k.0, ready_by m v s w h),
-  λ n. found-ready m v (step-well-formed w c) (still-waits m (becomes v s w.unique c) l.0 n h) cs l.1 k.1,
+  λ n. found-ready m v {s = (step s c).state} (step-well-formed w c) (still-waits m (becomes v s w.unique c) l.0 n h) cs l.1 k.1,
 )
 
 open-one : (v : ℕ) (s : State) (c : Connection) → find v s.entries ≡ taken c → 0 < open_connections s

@@ -273,7 +273,7 @@ row-run v w [] u d f = end
 row-run v {s} w (c ∷ cs) u d f =
     subst (λ (x : Entry). Row (nrm d.rate.params) (place d.pace) (own_cell v x (step s c).answer ++ cells_sent v (step s c).state cs)) (sym f)
     (go _ (find v (step s c).state.entries) (subst (λ (x : Entry). MovedAt x (own_cell v x (step s c).answer) (find v (step s c).state.entries)) f (moved_at v _ _ c _ (becomes v s w.unique c) u.0))
-    (λ e h. row-run v (step-well-formed w c) cs u.1 e h))
+    (λ e h. row-run v {s = (step s c).state} (step-well-formed w c) cs u.1 e h))
   where
     rest : List OwnCell
     rest = cells_sent v (step s c).state cs
