@@ -1,5 +1,5 @@
-// The static library that C links: the calls of crate abr under the names of include/abr.h, and nothing else. Each export
-// calls the function of abr with its name and states its clauses again.
+// The static library that C links: the calls of crate abr under the names of include/abr.h, and nothing else. Each
+// export calls the function of abr with its name and states its clauses again.
 #![tactic(auto)]
 
 pub mod cells;
