@@ -2,8 +2,9 @@
  * The C interface on any processor, over the functions of the proved module.
  *
  * Those take and return numbers and pointers alone, which every C passes alike: an answer that is a struct is written
- * through the first pointer, parameters that are structs are read through one, and a slice is its address and its length
- * in 64 bits. Here they become the functions of abr.h, with structs by value as the processor's own C passes them.
+ * through the first pointer, parameters that are structs are read through one, and a slice is its address and its
+ * length in 64 bits. Here they become the functions of abr.h, with structs by value as the processor's own C passes
+ * them.
  * scripts/portable holds every prototype below against the module.
  *
  * ABR_NO_DOUBLES leaves out the two calls with doubles, for kernels.
