@@ -2,5 +2,5 @@
 use Rattle.check_vectors.proofs.Published.{crc8}
 use Rattle.check_vectors.proofs.checks.crc8_check.Goals as goal
 
-returns : goal.returns
-returns c = crc8 _ _ _ c.header_check.ensures c.header_check2.ensures c.header_check3.ensures
+pub returns : goal.returns
+returns c = crc8 _ _ _ c.header_check-four.ensures c.header_check-eight.ensures c.header_check.ensures
