@@ -45,12 +45,10 @@ export ABR_CONNECTIONS := $(CONNECTIONS)
 ifeq ($(CONNECTIONS),1024)
 MADE := target
 ARCHIVE := target/staticlib/libabr.a
-PROVE := rt staticlib abr
 TEST := .ci/run
 else
 MADE := target/connections-$(CONNECTIONS)
 ARCHIVE := $(MADE)/libabr.a
-PROVE := scripts/module
 TEST := tests/editions $(CONNECTIONS)
 DIST := $(DIST)-connections-$(CONNECTIONS)
 export CARGO_TARGET_DIR := $(abspath $(MADE)/cargo)
@@ -70,7 +68,7 @@ export ABR_LIB := $(LIB)
     soak-targets clean
 
 lib:
-	$(PROVE)
+	scripts/module
 
 demo: $(LIB_GOAL) transmitter modem
 	@mkdir -p $(BUILD)

@@ -9,16 +9,14 @@ use cell_read::read::read;
 use cell_write::write::write;
 
 // Refusals 1, 7.
-#[unsafe(no_mangle)]
-pub extern "C" fn abr_write_rm(rm: Fields, cell: &mut [u8]) -> u32
+pub fn abr_write_rm(rm: Fields, cell: &mut [u8]) -> u32
     ensures { (result ≡ write_refusal rm cell.old) × (cell.new ≡ octets_after rm cell.old) }
 {
     written_of(write(cell, rm))
 }
 
 // Refusals 1, 2, 4, then 5, 6 and 19 for RM cells.
-#[unsafe(no_mangle)]
-pub extern "C" fn abr_read(cell: &[u8]) -> AbrCell
+pub fn abr_read(cell: &[u8]) -> AbrCell
     ensures { result ≡ cell_of (reading cell.now) }
 {
     cell_of(read(cell))

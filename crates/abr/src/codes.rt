@@ -10,24 +10,21 @@ use rate::code::code_of;
 use rate_params::params::Params;
 
 // Refusal 9.
-#[unsafe(no_mangle)]
-pub extern "C" fn abr_code(rate: u64) -> AbrCoded
+pub fn abr_code(rate: u64) -> AbrCoded
     ensures { result ≡ coded_of (coded rate) }
 {
     coded_of(code_of(rate))
 }
 
 // Refusal 7 over 16 bits, then 19 where bit 15 is set.
-#[unsafe(no_mangle)]
-pub extern "C" fn abr_rate(code: u32) -> AbrRated
+pub fn abr_rate(code: u32) -> AbrRated
     ensures { result ≡ rated_of code }
 {
     rated_of(code)
 }
 
 // The house set around three rate codes. Nothing is refused here: an open judges the result.
-#[unsafe(no_mangle)]
-pub extern "C" fn abr_house(pcr: u32, mcr: u32, icr: u32) -> Params
+pub fn abr_house(pcr: u32, mcr: u32, icr: u32) -> Params
     ensures { result ≡ house_set pcr mcr icr }
 {
     Params::house(pcr, mcr, icr)

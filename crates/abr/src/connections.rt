@@ -23,8 +23,7 @@ use rate_params::params::Params;
 use table::layout::{CAPACITY, WORDS};
 
 // Refusals 10, 19, 7, 29, 30, 8, 12, 27, 13, 14.
-#[unsafe(no_mangle)]
-pub extern "C" fn abr_open(
+pub fn abr_open(
     table: &mut [u64; WORDS],
     vpi: u32,
     vci: u32,
@@ -37,8 +36,7 @@ pub extern "C" fn abr_open(
 }
 
 // Refusal 11.
-#[unsafe(no_mangle)]
-pub extern "C" fn abr_close(table: &mut [u64; WORDS], vpi: u32, vci: u32) -> AbrClosed
+pub fn abr_close(table: &mut [u64; WORDS], vpi: u32, vci: u32) -> AbrClosed
     ensures { ReturnsClosed (λ s. close_step s (address_name vpi vci)) table.old table.new result }
 {
     let name = address_name(vpi, vci);
@@ -46,8 +44,7 @@ pub extern "C" fn abr_close(table: &mut [u64; WORDS], vpi: u32, vci: u32) -> Abr
 }
 
 // Refusals 11, 28, 15.
-#[unsafe(no_mangle)]
-pub extern "C" fn abr_offer(table: &mut [u64; WORDS], vpi: u32, vci: u32, cells: u64) -> AbrAnswer
+pub fn abr_offer(table: &mut [u64; WORDS], vpi: u32, vci: u32, cells: u64) -> AbrAnswer
     ensures { ReturnsAnswer (λ s. offer_step s (address_name vpi vci) cells) table.old table.new result }
 {
     let name = address_name(vpi, vci);
@@ -55,8 +52,7 @@ pub extern "C" fn abr_offer(table: &mut [u64; WORDS], vpi: u32, vci: u32, cells:
 }
 
 // Refusals 8, 11, 14, 16, 17.
-#[unsafe(no_mangle)]
-pub extern "C" fn abr_make(table: &mut [u64; WORDS], vpi: u32, vci: u32, time: u64) -> AbrAnswer
+pub fn abr_make(table: &mut [u64; WORDS], vpi: u32, vci: u32, time: u64) -> AbrAnswer
     ensures { ReturnsAnswer (λ s. make_step s (address_name vpi vci) time) table.old table.new result }
 {
     let name = address_name(vpi, vci);
@@ -64,8 +60,7 @@ pub extern "C" fn abr_make(table: &mut [u64; WORDS], vpi: u32, vci: u32, time: u
 }
 
 // Refusals 1, 8, 11, 14, 18. It makes no comparisons.
-#[unsafe(no_mangle)]
-pub extern "C" fn abr_out_of_rate(
+pub fn abr_out_of_rate(
     table: &mut [u64; WORDS],
     vpi: u32,
     vci: u32,
@@ -80,8 +75,7 @@ pub extern "C" fn abr_out_of_rate(
 }
 
 // Refusal 11.
-#[unsafe(no_mangle)]
-pub extern "C" fn abr_acr(table: &[u64; WORDS], vpi: u32, vci: u32) -> AbrAllowed
+pub fn abr_acr(table: &[u64; WORDS], vpi: u32, vci: u32) -> AbrAllowed
     ensures { ReturnsAllowed (address_name vpi vci) table.now result }
 {
     let name = address_name(vpi, vci);
@@ -89,8 +83,7 @@ pub extern "C" fn abr_acr(table: &[u64; WORDS], vpi: u32, vci: u32) -> AbrAllowe
 }
 
 // Refusal 11, of a pair that is neither an open connection nor a member.
-#[unsafe(no_mangle)]
-pub extern "C" fn abr_status(table: &[u64; WORDS], vpi: u32, vci: u32) -> AbrConnection
+pub fn abr_status(table: &[u64; WORDS], vpi: u32, vci: u32) -> AbrConnection
     ensures { ReturnsStatus (address_name vpi vci) table.now result }
 {
     let name = address_name(vpi, vci);
@@ -103,8 +96,7 @@ pub extern "C" fn abr_status(table: &[u64; WORDS], vpi: u32, vci: u32) -> AbrCon
 }
 
 // Refusal 11, of a free leaf and of a number that is none.
-#[unsafe(no_mangle)]
-pub extern "C" fn abr_at(table: &[u64; WORDS], leaf: u32) -> AbrConnection
+pub fn abr_at(table: &[u64; WORDS], leaf: u32) -> AbrConnection
     ensures { ReturnsAt leaf table.now result }
 {
     let place = place_at(table, leaf);
@@ -116,8 +108,7 @@ pub extern "C" fn abr_at(table: &[u64; WORDS], leaf: u32) -> AbrConnection
 }
 
 // Refusal 11, of a number that no member has.
-#[unsafe(no_mangle)]
-pub extern "C" fn abr_member_at(table: &[u64; WORDS], number: u32) -> AbrMember
+pub fn abr_member_at(table: &[u64; WORDS], number: u32) -> AbrMember
     ensures { ReturnsMember number table.now result }
 {
     member_shown(read_member_at(table, number))

@@ -17,16 +17,14 @@ use table_tournament::next::next_ready;
 use table_tournament::slot_time::slot_time;
 
 // Refusals 1, 2, 4, then 5, 6 and 19 for RM cells, 11.
-#[unsafe(no_mangle)]
-pub extern "C" fn abr_receive(table: &mut [u64; WORDS], cell: &[u8]) -> AbrReceived
+pub fn abr_receive(table: &mut [u64; WORDS], cell: &[u8]) -> AbrReceived
     ensures { ReturnsReceived cell.now (λ s. receive_step s cell.now) table.old table.new result }
 {
     received_of(receive(table, cell))
 }
 
 // Refusal 9.
-#[unsafe(no_mangle)]
-pub extern "C" fn abr_set_level(table: &mut [u64; WORDS], level: u32) -> u32
+pub fn abr_set_level(table: &mut [u64; WORDS], level: u32) -> u32
     ensures { ReturnsRefusal (λ s. level_step s level) table.old table.new result }
 {
     let answer = answer_of(set_level(table, level));
@@ -34,32 +32,28 @@ pub extern "C" fn abr_set_level(table: &mut [u64; WORDS], level: u32) -> u32
 }
 
 // Refusals 1, 8, 14.
-#[unsafe(no_mangle)]
-pub extern "C" fn abr_slot(table: &mut [u64; WORDS], time: u64, cell: &mut [u8]) -> AbrSent
+pub fn abr_slot(table: &mut [u64; WORDS], time: u64, cell: &mut [u8]) -> AbrSent
     ensures { ReturnsSent (λ s. slot_step s time (length cell.old)) table.old table.new result cell.old cell.new }
 {
     sent_of(slot(table, time, cell))
 }
 
 // No refusal: 2^64 - 1 if no connection is ever ready as things stand.
-#[unsafe(no_mangle)]
-pub extern "C" fn abr_next_ready(table: &[u64; WORDS]) -> u64
+pub fn abr_next_ready(table: &[u64; WORDS]) -> u64
     ensures { GivesNext table.now result }
 {
     next_ready(table)
 }
 
 // No refusal: at most the slot's own time, which a time before the last accepted one gives as it is.
-#[unsafe(no_mangle)]
-pub extern "C" fn abr_slot_time(table: &[u64; WORDS], time: u64, lag: u64) -> u64
+pub fn abr_slot_time(table: &[u64; WORDS], time: u64, lag: u64) -> u64
     ensures { GivesSlotTime table.now time lag result }
 {
     slot_time(table, time, lag)
 }
 
 // No refusal.
-#[unsafe(no_mangle)]
-pub extern "C" fn abr_link(table: &[u64; WORDS]) -> AbrTotals
+pub fn abr_link(table: &[u64; WORDS]) -> AbrTotals
     ensures { ReturnsTotals table.now result }
 {
     totals_shown(read_totals(table))

@@ -12,42 +12,28 @@ use rate_params::params::Params;
 use table::layout::WORDS;
 
 // Refusals 19, 7, 29, 30, 8, 12, 13, 14.
-#[unsafe(no_mangle)]
-pub extern "C" fn abr_open_path(
-    table: &mut [u64; WORDS],
-    vpi: u32,
-    time: u64,
-    params: Params,
-) -> AbrOpened
+pub fn abr_open_path(table: &mut [u64; WORDS], vpi: u32, time: u64, params: Params) -> AbrOpened
     ensures { ReturnsOpened (λ s. open_path_step s vpi time params) table.old table.new result }
 {
     opened_of(open_path(table, vpi, time, params))
 }
 
 // Refusals 10, 11, 12, 27, 26. It makes no comparisons.
-#[unsafe(no_mangle)]
-pub extern "C" fn abr_add_member(table: &mut [u64; WORDS], vpi: u32, vci: u32) -> AbrAnswer
+pub fn abr_add_member(table: &mut [u64; WORDS], vpi: u32, vci: u32) -> AbrAnswer
     ensures { ReturnsAnswer (λ s. add_step s vpi vci) table.old table.new result }
 {
     answer_of(add(table, vpi, vci))
 }
 
 // Refusals 11, 28, which a VCI over 65,535 meets too, 15.
-#[unsafe(no_mangle)]
-pub extern "C" fn abr_offer_member(
-    table: &mut [u64; WORDS],
-    vpi: u32,
-    vci: u32,
-    cells: u64,
-) -> AbrAnswer
+pub fn abr_offer_member(table: &mut [u64; WORDS], vpi: u32, vci: u32, cells: u64) -> AbrAnswer
     ensures { ReturnsAnswer (λ s. offer_member_step s vpi vci cells) table.old table.new result }
 {
     answer_of(offer_member(table, vpi, vci, cells))
 }
 
 // Refusals 11, 28, which a VCI over 65,535 meets too.
-#[unsafe(no_mangle)]
-pub extern "C" fn abr_remove_member(table: &mut [u64; WORDS], vpi: u32, vci: u32) -> AbrClosed
+pub fn abr_remove_member(table: &mut [u64; WORDS], vpi: u32, vci: u32) -> AbrClosed
     ensures { ReturnsClosed (λ s. remove_step s vpi vci) table.old table.new result }
 {
     closed_of(remove(table, vpi, vci))

@@ -11,13 +11,7 @@ use rate_doubles::import::import;
 use table::layout::WORDS;
 
 // Refusal 11. The refusal, or 0, is always written.
-#[unsafe(no_mangle)]
-pub extern "C" fn abr_export(
-    table: &[u64; WORDS],
-    vpi: u32,
-    vci: u32,
-    refusal: &mut u32,
-) -> Exported
+pub fn abr_export(table: &[u64; WORDS], vpi: u32, vci: u32, refusal: &mut u32) -> Exported
     ensures { ReturnsContract (address_name vpi vci) table.now refusal.new result }
 {
     let name = address_name(vpi, vci);
@@ -27,8 +21,7 @@ pub extern "C" fn abr_export(
 }
 
 // Refusal 20.
-#[unsafe(no_mangle)]
-pub extern "C" fn abr_import(rate: f64) -> AbrImported
+pub fn abr_import(rate: f64) -> AbrImported
     ensures { Imports rate result }
 {
     imported_of(import(rate))

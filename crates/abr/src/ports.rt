@@ -11,24 +11,21 @@ use port::port::port;
 use port_share::share::fair_share;
 
 // Refusals 21, 22.
-#[unsafe(no_mangle)]
-pub extern "C" fn abr_fair_share(capacity: u64, demands: &[u64]) -> AbrShare
+pub fn abr_fair_share(capacity: u64, demands: &[u64]) -> AbrShare
     ensures { result ≡ share_of (fair_share capacity demands.now) }
 {
     share_of(fair_share(capacity, demands))
 }
 
 // Refusals as for abr_read.
-#[unsafe(no_mangle)]
-pub extern "C" fn abr_limit(rate: u64, cell: &mut [u8]) -> u32
+pub fn abr_limit(rate: u64, cell: &mut [u8]) -> u32
     ensures { passed result cell.new ≡ limit rate cell.old }
 {
     limit(rate, cell)
 }
 
 // Refusals 21, 22, then as for abr_read.
-#[unsafe(no_mangle)]
-pub extern "C" fn abr_port(capacity: u64, demands: &[u64], cell: &mut [u8]) -> u32
+pub fn abr_port(capacity: u64, demands: &[u64], cell: &mut [u8]) -> u32
     ensures { passed result cell.new ≡ port capacity demands.now cell.old }
 {
     port(capacity, demands, cell)

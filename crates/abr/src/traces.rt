@@ -7,8 +7,7 @@ use abr_answers::traces::{AbrVerdict, judged_of};
 use trace_judge::judge::judge;
 
 // Refusals 23, 24, 25.
-#[unsafe(no_mangle)]
-pub extern "C" fn abr_judge(trace: &[u8]) -> AbrVerdict
+pub fn abr_judge(trace: &[u8]) -> AbrVerdict
     ensures { result ≡ judged_of (judged_octets trace.now) }
 {
     judged_of(judge(trace))

@@ -7,16 +7,14 @@ use table::layout::WORDS;
 // 1.0.0: major, minor and patch number, eight bits each.
 const VERSION: u32 = 0x010000;
 
-#[unsafe(no_mangle)]
-pub extern "C" fn abr_version() -> u32
+pub fn abr_version() -> u32
     ensures { result ≡ 0x010000 }
 {
     VERSION
 }
 
 // The words of a table.
-#[unsafe(no_mangle)]
-pub extern "C" fn abr_table_words() -> u32
+pub fn abr_table_words() -> u32
     ensures { result ≡ size }
 {
     WORDS as u32

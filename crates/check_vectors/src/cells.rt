@@ -5,17 +5,21 @@ use cell::read::Reading;
 use cell::write::Written;
 use cell_read::read::read;
 use cell_write::write::write;
+use std::io;
 
 // Octets; then what reading them gives: a refusal, a data cell's VPI, VCI and EFCI, or an RM cell's fields.
-pub fn reading(cell: &[u8]) {
-    print::octets(cell);
+pub fn reading(rt: &impl Print, cell: &[u8]) -> io::Result<()> {
+    print::octets(rt, cell)?;
     let got = read(cell);
     match got {
-        Reading::Refused(number) => print::codes(&[number]),
-        Reading::DataCell { vpi, vci, efci } => print::codes(&[vpi, vci, efci as u32]),
-        Reading::RmCell(f) => print::codes(&[
-            f.vpi, f.vci, f.dir, f.bn, f.ci, f.ni, f.ra, f.er, f.ccr, f.mcr, f.ql, f.sn,
-        ]),
+        Reading::Refused(number) => print::codes(rt, &[number]),
+        Reading::DataCell { vpi, vci, efci } => print::codes(rt, &[vpi, vci, efci as u32]),
+        Reading::RmCell(f) => print::codes(
+            rt,
+            &[
+                f.vpi, f.vci, f.dir, f.bn, f.ci, f.ni, f.ra, f.er, f.ccr, f.mcr, f.ql, f.sn,
+            ],
+        ),
     }
 }
 
@@ -46,38 +50,41 @@ fn refusal(answer: Written) -> u32 {
 }
 
 // The refusals of writing into 52 octets and into 53; then what reading the 53 gives.
-fn written(f: Fields) {
+fn written(rt: &impl Print, f: Fields) -> io::Result<()> {
     let mut short = [0u8; 52];
     let mut cell = [0u8; 53];
     let first = refusal(write(&mut short, f));
     let second = refusal(write(&mut cell, f));
-    print::codes(&[first, second]);
-    reading(&cell);
+    print::codes(rt, &[first, second])?;
+    reading(rt, &cell)
 }
 
 // A sample, all at their most, ER, CI, VCI and VPI out of range; buffers of 52 and 54 octets.
-pub fn show() {
-    written(sample(0xa5, 0x1234, 0, 0x7fff));
-    written(Fields {
-        vpi: 255,
-        vci: 65535,
-        dir: 1,
-        bn: 1,
-        ci: 1,
-        ni: 1,
-        ra: 1,
-        er: 0x7fff,
-        ccr: 0x7fff,
-        mcr: 0x7fff,
-        ql: 0xffffffff,
-        sn: 0xffffffff,
-    });
-    written(sample(0xa5, 0x1234, 0, 0x8000));
-    written(sample(0xa5, 0x1234, 2, 0x7fff));
-    written(sample(0xa5, 65536, 0, 0x7fff));
-    written(sample(256, 0x1234, 0, 0x7fff));
+pub fn show(rt: &impl Print) -> io::Result<()> {
+    written(rt, sample(0xa5, 0x1234, 0, 0x7fff))?;
+    written(
+        rt,
+        Fields {
+            vpi: 255,
+            vci: 65535,
+            dir: 1,
+            bn: 1,
+            ci: 1,
+            ni: 1,
+            ra: 1,
+            er: 0x7fff,
+            ccr: 0x7fff,
+            mcr: 0x7fff,
+            ql: 0xffffffff,
+            sn: 0xffffffff,
+        },
+    )?;
+    written(rt, sample(0xa5, 0x1234, 0, 0x8000))?;
+    written(rt, sample(0xa5, 0x1234, 2, 0x7fff))?;
+    written(rt, sample(0xa5, 65536, 0, 0x7fff))?;
+    written(rt, sample(256, 0x1234, 0, 0x7fff))?;
     let short = [0u8; 52];
-    reading(&short);
+    reading(rt, &short)?;
     let long = [0u8; 54];
-    reading(&long);
+    reading(rt, &long)
 }

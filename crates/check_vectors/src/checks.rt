@@ -8,6 +8,7 @@ use crate::print;
 use cell_crc::crc10::crc10;
 use cell_crc::header::header_check;
 use cell_payload::payload::Payload;
+use std::io;
 
 // CRC-8/I-432-1 of the nine octets, four at a time. Between the steps the exclusive-or with 0x55 is taken back. The
 // remainder so far goes into the next octet. Leading zero octets have no remainder.
@@ -36,11 +37,11 @@ fn crc10_check() -> u64
 
 // Octet 5 of the cell headers that ITU-T I.432 assigns: unassigned, idle, physical layer OAM F1 and F3. Then
 // the checks of the nine octets.
-pub fn show() {
+pub fn show(rt: &impl Print) -> io::Result<()> {
     let unassigned = header_check(0, 0, 0, 0x00);
     let idle = header_check(0, 0, 0, 0x01);
     let first = header_check(0, 0, 0, 0x03);
     let third = header_check(0, 0, 0, 0x09);
-    print::octets(&[unassigned, idle, first, third, crc8_check()]);
-    print::codes(&[crc10_check() as u32]);
+    print::octets(rt, &[unassigned, idle, first, third, crc8_check()])?;
+    print::codes(rt, &[crc10_check() as u32])
 }

@@ -3,6 +3,8 @@
 // compares them with the file stdout beside src/. The check compares this program's output with it too.
 #![tactic(auto)]
 
+use std::io;
+
 mod cells;
 mod changes;
 mod checks;
@@ -11,11 +13,11 @@ mod print;
 mod rates;
 mod turned;
 
-fn main() {
-    rates::show();
-    opening::show();
-    checks::show();
-    cells::show();
-    changes::show();
-    turned::show();
+fn main(rt: HostRuntime) -> io::Result<()> {
+    rates::show(&rt)?;
+    opening::show(&rt)?;
+    checks::show(&rt)?;
+    cells::show(&rt)?;
+    changes::show(&rt)?;
+    turned::show(&rt)
 }

@@ -1,28 +1,26 @@
 // Rows of numbers on standard output, a line each.
+use std::io;
 
 // Rates and times, in decimal.
-pub fn rates(row: &[u64]) {
-    for i in 0..row.len() {
-        io::print_decimal(1, row[i]);
-        io::write_all(1, b" ");
+pub fn rates(rt: &impl Print, row: &[u64]) -> io::Result<()> {
+    for number in row {
+        print!(rt; "{number} ")?;
     }
-    io::write_all(1, b"\n");
+    println!(rt; "")
 }
 
 // Codes and other numbers of up to 32 bits, in hexadecimal.
-pub fn codes(row: &[u32]) {
-    for i in 0..row.len() {
-        io::print_hex(1, row[i] as u64, 2);
-        io::write_all(1, b" ");
+pub fn codes(rt: &impl Print, row: &[u32]) -> io::Result<()> {
+    for number in row {
+        print!(rt; "{number:02x} ")?;
     }
-    io::write_all(1, b"\n");
+    println!(rt; "")
 }
 
 // Octets, in hexadecimal.
-pub fn octets(row: &[u8]) {
-    for i in 0..row.len() {
-        io::print_hex(1, row[i] as u64, 2);
-        io::write_all(1, b" ");
+pub fn octets(rt: &impl Print, row: &[u8]) -> io::Result<()> {
+    for octet in row {
+        print!(rt; "{octet:02x} ")?;
     }
-    io::write_all(1, b"\n");
+    println!(rt; "")
 }
