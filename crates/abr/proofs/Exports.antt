@@ -186,6 +186,8 @@ onward :
     (s : State) → WellFormed s → (cs : List Call) (l : List ℕ) (os : List Observation) → Transcript cs l os → l ≡ words s
     → AllMatch (run s cs) os × (final_words l os ≡ words (final s cs))
 onward s w [] l [] ended e = (neither, e)
+onward s w [] l (o ∷ os) x e = elim x [ ]
+onward s w (c ∷ cs) l [] x e = elim x [ ]
 onward s w (c ∷ cs) l (o ∷ os) (then h t) e =
     let g = performs-matches w h e in
     let rest = onward (step s c).state (step-well-formed w c) cs o.table os t g.table in

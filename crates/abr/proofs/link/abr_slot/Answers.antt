@@ -1,0 +1,6 @@
+use Rattle.abr_answers.specs.Details.{sent_of}
+use Rattle.abr.proofs.Answered.{returned-writing}
+use Rattle.abr.proofs.link.abr_slot.Goals as goal
+
+pub returns : goal.returns
+returns c = returned-writing sent_of c.sent_of.ensures c.slot.ensures

@@ -1,0 +1,6 @@
+use Rattle.abr_answers.specs.Calls.{closed_of}
+use Rattle.abr.proofs.Answered.{returned}
+use Rattle.abr.proofs.path.abr_remove_member.Goals as goal
+
+pub returns : goal.returns
+returns c = returned closed_of c.closed_of.ensures c.remove.ensures
