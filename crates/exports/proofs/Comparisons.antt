@@ -174,7 +174,9 @@ observed-counted {s} w c o g =
 
 all-counted : {s : State} → WellFormed s → (cs : List Call) (os : List Observation) → AllMatch (run s cs) os → InPlace CountedObserved cs os
 all-counted w [] [] neither = tt
-all-counted w (c ∷ cs) (o ∷ os) (both g gs) = (observed-counted w c o g, all-counted (step-well-formed w c) cs os gs)
+all-counted {s = s} w (c ∷ cs) (o ∷ os) (both g gs) = (observed-counted w c o g, all-counted {s = (step s c).state} (step-well-formed w c) cs os gs)
+all-counted {s = s} w [] (o ∷ os) x3 = elim x3 [ ]
+all-counted {s = s} w (c ∷ cs) [] x4 = elim x4 [ ]
 
 pub exports-comparisons : ExportsComparisons
 exports-comparisons cs os t = all-counted empty-well-formed cs os (exports-are-run.each cs os t)

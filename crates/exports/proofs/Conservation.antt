@@ -46,6 +46,8 @@ slots-from v s w f k [] [] neither = refl
 slots-from v s w f k (c ∷ cs) (o ∷ os) (both m ms) =
     ap (λ (n : ℕ). n + slots_from v (member_seen c o f) cs os) (ap (data_returned v f) m.returned ∙ data-number v f (step s c).answer (names-connection w f k c))
     ∙ ap (λ (n : ℕ). data_slot_of v (step s c).answer + n) (slots-from v (step s c).state (step-well-formed w c) (member_seen c o f) (knows_after w c f k _ (accepted-seen w c m)) cs os ms)
+slots-from v s w f k [] (o ∷ os) x4 = elim x4 [ ]
+slots-from v s w f k (c ∷ cs) [] x5 = elim x5 [ ]
 
 -- each term of one sum is that of the other
 abbrev SameTerm : (Call → Observation → ℕ) → (Call → Answer → ℕ) → Type 0
@@ -56,6 +58,8 @@ observed-sum :
     → sum_observed f cs os ≡ sum_over g s cs
 observed-sum f g h s w [] [] neither = refl
 observed-sum f g h s w (c ∷ cs) (o ∷ os) (both m ms) = rw (h s w c o m, observed-sum f g h (step s c).state (step-well-formed w c) cs os ms) refl
+observed-sum f g h s w [] (o ∷ os) x3 = elim x3 [ ]
+observed-sum f g h s w (c ∷ cs) [] x4 = elim x4 [ ]
 
 module _ (v : ℕ) (cs : List Call) (os : List Observation) (t : Transcript cs zeros os) where
   summed : (f : Call → Observation → ℕ) (g : Call → Answer → ℕ) → SameTerm f g → sum_observed f cs os ≡ sum_over g empty cs

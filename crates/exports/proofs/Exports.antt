@@ -100,6 +100,8 @@ leave-from s w (c ∷ cs) l (o ∷ os) (both g gs) e = (
       (g.table ∙ ap words k.0 ∙ sym e, g.buffer ∙ ap (λ (b : Buffer). buffer_content b o.old) k.1),
   leave-from (step s c).state (step-well-formed w c) cs o.table os gs g.table,
 )
+leave-from s w [] l (o ∷ os) x5 e = elim x5 [ ]
+leave-from s w (c ∷ cs) l [] x5 e = elim x5 [ ]
 
 pub exports-demand1 : ExportsDemand1
 exports-demand1 cs os t = leave-from empty empty-well-formed cs zeros os (exports-are-run.each cs os t) zeros-words
@@ -112,6 +114,8 @@ params-observed v s w b [] [] neither = refl
 params-observed v s w b (c ∷ cs) (o ∷ os) (both g gs) =
     ap (λ (a : Bool). params_observed v (params_after v c a b) cs os) (ap (λ r. eqb r.refusal 0) g.returned ∙ effect-accepted (effect s w.unique c))
     ∙ params-observed v (step s c).state (step-well-formed w c) (params_after v c (is_accepted (step s c).answer) b) cs os gs
+params-observed v s w b [] (o ∷ os) x3 = elim x3 [ ]
+params-observed v s w b (c ∷ cs) [] x4 = elim x4 [ ]
 
 entry-rate : (x : Entry) → rate_returned (allowed_of (entry_acr x)) ≡ entry_rate x
 unfolding entry_acr entry_rate
@@ -138,15 +142,17 @@ place-from :
 place-from w z f g k l [] [] neither neither e = tt
 place-from w z f g k l [] (y ∷ ys) neither (both h hs) e = absurd e
 place-from w z f g k l (x ∷ xs) [] (both m ms) neither e = absurd e
-place-from {s₁} {s₂} w z f g k l (x ∷ xs) (y ∷ ys) (both m ms) (both h hs) e = (
+place-from {s₁ = s₁} {s₂ = s₂} w z f g k l (x ∷ xs) (y ∷ ys) (both m ms) (both h hs) e = (
   sym (went_to_lem f (step s₁ x).answer (names-connection w f k x)) ∙ ap (went_to f) (sym m.returned) ∙ e.0 ∙ ap (went_to g) h.returned ∙ went_to_lem g (step s₂ y).answer (names-connection z g l y),
-  place-from (step-well-formed w x) (step-well-formed z y) _ _ (knows_after w x f k _ (accepted-seen w x m)) (knows_after z y g l _ (accepted-seen z y h)) xs ys ms hs e.1,
+  place-from {s₁ = (step s₁ x).state} {s₂ = (step s₂ y).state} (step-well-formed w x) (step-well-formed z y) _ _ (knows_after w x f k _ (accepted-seen w x m)) (knows_after z y g l _ (accepted-seen z y h)) xs ys ms hs e.1,
 )
 
 rate-not-above : (x y : Entry) → NotAbove (entry_rate x) (entry_rate y) → RateNotAbove (allowed_of (entry_acr x)) (allowed_of (entry_acr y))
 unfolding entry_acr entry_rate
 rate-not-above free free none_open = record { refusals = refl; rates = le_refl 0 }
 rate-not-above (taken c) (taken d) (both_open l) = record { refusals = refl; rates = l }
+rate-not-above free (taken d) x3 = elim x3 [ ]
+rate-not-above (taken c) free x4 = elim x4 [ ]
 
 acr-not-above : (s₁ s₂ : State) (v : ℕ) → NotAbove (allowed v s₁) (allowed v s₂) → RateNotAbove (allowed_of (acr_of s₁ v)) (allowed_of (acr_of s₂ v))
 unfolding acr_of
@@ -166,8 +172,8 @@ agree-from :
 agree-from w z [] [] neither neither a = tt
 agree-from w z [] (y ∷ ys) g h a = absurd a
 agree-from w z (x ∷ xs) [] g h a = absurd a
-agree-from w z (x ∷ xs) (y ∷ ys) (both g gs) (both h hs) a =
-    (observed-agree (step-well-formed w x) (step-well-formed z y) g h a.0, agree-from (step-well-formed w x) (step-well-formed z y) xs ys gs hs a.1)
+agree-from {s₁ = s₁} {s₂ = s₂} w z (x ∷ xs) (y ∷ ys) (both {o = o} {os = os} g gs) (both {o = o'} {os = os'} h hs) a =
+    (observed-agree (step-well-formed w x) (step-well-formed z y) g h a.0, agree-from {s₁ = (step s₁ x).state} (step-well-formed w x) (step-well-formed z y) xs ys gs hs a.1)
 
 pub exports-demand3 : ExportsDemand3
 exports-demand3 = record {

@@ -83,11 +83,15 @@ recorded-sent v (c ∷ cs) s w f k l e (o ∷ os) (a ∷ rs) (both m ms) (read_t
     ∙ ap (λ (x : List SentCell). cond (closes_connection v c (is_accepted (step s c).answer)) [] (x ++ recorded v (member_seen c o f) cs os rs)) (sent-seen v s w f k c o m a (h.meets s w e))
     ∙ ap (λ (x : List SentCell). cond (closes_connection v c (is_accepted (step s c).answer)) [] (sent_by v s c (step s c).answer ++ x))
     (recorded-sent v cs (step s c).state (step-well-formed w c) (member_seen c o f) (knows_after w c f k _ (accepted-seen w c m)) o.table m.table os rs ms r)
+recorded-sent v (c ∷ cs) s w f k l e [] rs m r = elim m [ ]
+recorded-sent v (c ∷ cs) s w f k l e (o ∷ os) [] m r = elim r [ ]
 
 -- what a caller knows of members after calls
 pub knows-run : {s : State} → WellFormed s → (f : ℕ → Bool) → Knows f s → (cs : List Call) (os : List Observation) → AllMatch (run s cs) os → Knows (members_seen f cs os) (final s cs)
 knows-run w f h [] [] neither = h
-knows-run w f h (c ∷ cs) (o ∷ os) (both m ms) = knows-run (step-well-formed w c) (member_seen c o f) (knows_after w c f h _ (accepted-seen w c m)) cs os ms
+knows-run {s = s} w f h (c ∷ cs) (o ∷ os) (both m ms) = knows-run {s = (step s c).state} (step-well-formed w c) (member_seen c o f) (knows_after w c f h _ (accepted-seen w c m)) cs os ms
+knows-run {s = s} w f h [] (o ∷ os) x4 = elim x4 [ ]
+knows-run {s = s} w f h (c ∷ cs) [] x5 = elim x5 [ ]
 
 recorded-run :
     (before after : List Call) (c : Call) (v : ℕ) (p : Params) → Opening c v p → (f : ℕ → Bool) → Knows f (final empty before) → (o : Observation) (ps : List Observation) (rs : List AbrAllowed)

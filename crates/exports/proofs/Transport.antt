@@ -99,7 +99,9 @@ returned-zero {o = o} z e = eqb-true o.returned.refusal 0 (z.accepted ∙ e)
 
 pub stands_after : {s : State} {l : List ℕ} → Stands s l → (cs : List Call) (os : List Observation) → Transcript cs l os → Stands (final s cs) (final_words l os)
 stands_after st [] [] ended = st
-stands_after st (c ∷ cs) (o ∷ os) (then p t) = stands_after (sees st p).next cs os t
+stands_after {s = s} {l = l} st (c ∷ cs) (o ∷ os) (then p t) = stands_after {s = (step s c).state} (sees st p).next cs os t
+stands_after {s = s} {l = l} st [] (o ∷ os) x3 = elim x3 [ ]
+stands_after {s = s} {l = l} st (c ∷ cs) [] x4 = elim x4 [ ]
 
 -- after calls from the zero table
 pub stands : (cs : List Call) (os : List Observation) → Transcript cs zeros os → Stands (final empty cs) (final_words zeros os)
@@ -120,11 +122,15 @@ module _ {K : Type 0} (next : Call → Observation → K → K) (Means : K → S
   carry G base more s l st k m [] [] ended = base s k
   carry G base more s l st k m (c ∷ cs) (o ∷ os) (then p t) =
       let z = sees st p in more s c o k cs os m z (carry G base more (step s c).state o.table z.next (next c o k) (n.goes s c o k m z) cs os t)
+  carry G base more s l st k m [] (o ∷ os) x4 = elim x4 [ ]
+  carry G base more s l st k m (c ∷ cs) [] x5 = elim x5 [ ]
 
   -- what is kept after a trace is so
   pub kept-so : (s : State) (l : List ℕ) → Stands s l → (k : K) → Means k s → (cs : List Call) (os : List Observation) → Transcript cs l os → Means (kept next k cs os) (final s cs)
   kept-so s l st k m [] [] ended = m
   kept-so s l st k m (c ∷ cs) (o ∷ os) (then p t) = let z = sees st p in kept-so (step s c).state o.table z.next (next c o k) (n.goes s c o k m z) cs os t
+  kept-so s l st k m [] (o ∷ os) x4 = elim x4 [ ]
+  kept-so s l st k m (c ∷ cs) [] x5 = elim x5 [ ]
 
   -- every call of a trace from the zero table is so
   pub each_seen :
