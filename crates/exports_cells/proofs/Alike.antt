@@ -106,6 +106,8 @@ module _ (v t : ℕ) where
   pub length-same : (ss rs : List Entry) → Alike ss rs → length ss ≡ length rs
   length-same [] [] h = refl
   length-same (s ∷ ss) (r ∷ rs) h = ap suc (length-same ss rs h.1)
+  length-same [] (r ∷ rs) h = elim h [ ]
+  length-same (s ∷ ss) [] h = elim h [ ]
 
   count-like : (ss rs : List Entry) → open_count ss ≡ open_count rs → (x y : Entry) → Like v t x y → open_count (x ∷ ss) ≡ open_count (y ∷ rs)
   unfolding open_count
@@ -116,21 +118,29 @@ module _ (v t : ℕ) where
   pub count_same : (ss rs : List Entry) → Alike ss rs → open_count ss ≡ open_count rs
   count_same [] [] h = refl
   count_same (s ∷ ss) (r ∷ rs) h = count-like ss rs (count_same ss rs h.1) s r h.0
+  count_same [] (r ∷ rs) h = elim h [ ]
+  count_same (s ∷ ss) [] h = elim h [ ]
 
   position-same : (f : Entry → Bool) → ((x y : Entry) → Like v t x y → f x ≡ f y) → (ss rs : List Entry) → Alike ss rs → position f ss ≡ position f rs
   unfolding position
   position-same f k [] [] h = refl
   position-same f k (s ∷ ss) (r ∷ rs) h = rw (k s r h.0, position-same f k ss rs h.1)
+  position-same f k [] (r ∷ rs) h = elim h [ ]
+  position-same f k (s ∷ ss) [] h = elim h [ ]
 
   pub get-like : (ss rs : List Entry) → Alike ss rs → (i : ℕ) → Like v t (get_or ss i free) (get_or rs i free)
   get-like [] [] h i = alike
   get-like (s ∷ ss) (r ∷ rs) h zero = h.0
   get-like (s ∷ ss) (r ∷ rs) h (suc i) = get-like ss rs h.1 i
+  get-like [] (r ∷ rs) h i = elim h [ ]
+  get-like (s ∷ ss) [] h i = elim h [ ]
 
   set-like : (ss rs : List Entry) → Alike ss rs → (i : ℕ) (x y : Entry) → Like v t x y → Alike (set ss i x) (set rs i y)
   set-like [] [] h i x y l = tt
   set-like (s ∷ ss) (r ∷ rs) h zero x y l = (l, h.1)
   set-like (s ∷ ss) (r ∷ rs) h (suc i) x y l = (h.0, set-like ss rs h.1 i x y l)
+  set-like [] (r ∷ rs) h i x y l = elim h [ ]
+  set-like (s ∷ ss) [] h i x y l = elim h [ ]
 
   -- one entry is given such a one
   pub set_own : (ss : List Entry) (i : ℕ) (x : Entry) → Like v t x (get_or ss i free) → Alike (set ss i x) ss
@@ -162,11 +172,15 @@ module _ (v t : ℕ) where
   unfolding winner
   winner-same u [] [] h = refl
   winner-same u (s ∷ ss) (r ∷ rs) h = rw (candidate-like u s r h.0, winner-same u ss rs h.1)
+  winner-same u [] (r ∷ rs) h = elim h [ ]
+  winner-same u (s ∷ ss) [] h = elim h [ ]
 
   pub earliest-same : (ss rs : List Entry) → Alike ss rs → earliest ss ≡ earliest rs
   unfolding earliest
   earliest-same [] [] h = refl
   earliest-same (s ∷ ss) (r ∷ rs) h = rw (ready-like s r h.0, earliest-same ss rs h.1)
+  earliest-same [] (r ∷ rs) h = elim h [ ]
+  earliest-same (s ∷ ss) [] h = elim h [ ]
 
   match-winner-same : (ss rs : List Entry) → Alike ss rs → (d p : ℕ) → winner_at ss d p ≡ winner_at rs d p
   unfolding winner_at

@@ -101,6 +101,8 @@ ci-as : (v : ℕ) (x : Option TurnedCell) (w : Waiting) → TurnedAs v x w → c
 unfolding waiting_ci turned_cell header fields_of
 ci-as v none Nothing none_waits = refl
 ci-as v (some x) (Cell p) (one_waits e k) = ap (λ (f : Fields). eqb f.ci 1) (rm-received (turned_cell (vpi_in v) (vci_in v) p) x.fields e).fields
+ci-as v none (Cell p) x3 = elim x3 [ ]
+ci-as v (some x) Nothing x5 = elim x5 [ ]
 
 -- A forward cell is turned.
 turned_as :
@@ -131,6 +133,8 @@ gone-as v r t c h = go r.turned c.destination.turned h.turned
         → ReceiverAs v (gone_from r.efci r.made x) (record { efci = c.destination.efci; turned = Nothing; made = made_left w c.destination.made })
     go none Nothing none_waits = record { efci = h.efci; turned = none_waits; made = refl }
     go (some x) (Cell p) (one_waits e k) = record { efci = h.efci; turned = none_waits; made = h.made }
+    go none (Cell p) x3 = elim x3 [ ]
+    go (some x) Nothing x5 = elim x5 [ ]
 
 module _ (v : ℕ) where
   -- of one name or of another

@@ -67,6 +67,8 @@ data Step (bit : Fields → ℕ) (Mark : Fields → Heard → Type 0) (Since : C
 is-cell : (bit : Fields → ℕ) (v : ℕ) (x : Option TurnedCell) (w : Waiting) → TurnedAs v x w → bit_waits bit x ≡ true → w ≡ Nothing → ⊥
 is-cell bit v none Nothing none_waits b z = false≢true b
 is-cell bit v (some x) (Cell p) (one_waits e k) b z = let y : ◌≡◌ {A = ℕ} 0 1 = cc in omega arith
+is-cell bit v none (Cell p) x7 b z = elim x7 [ ]
+is-cell bit v (some x) Nothing x7 b z = elim x7 [ ]
 
 waits-open : (x : Entry) → ((entry_destination x).turned ≡ Nothing → ⊥) → is_free x ≡ false
 unfolding entry_destination is_free

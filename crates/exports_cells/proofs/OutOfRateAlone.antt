@@ -625,6 +625,10 @@ module _ (v t : ℕ) where
       let j = sees y g in
       let h = same_step r s b c k.0 in
       (seen-behind r s b c o p i j h, later_same (step r c).state (step s c).state o.table p.table i.next j.next h.state cs os ps u w k.1)
+  later_same r s l m x y b [] [] (p ∷ ps) _ x14 k = elim x14 [ ]
+  later_same r s l m x y b [] (o ∷ os) qs x11 _ k = elim x11 [ ]
+  later_same r s l m x y b (c ∷ cs) [] qs x10 _ k = elim x10 [ ]
+  later_same r s l m x y b (c ∷ cs) (o ∷ os) [] _ x14 k = elim x14 [ ]
 
 -- the cell itself
 record Left (v t : ℕ) (s : State) (o : Outcome) : Type 0 where

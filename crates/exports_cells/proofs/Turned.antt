@@ -55,6 +55,8 @@ due-from :
 unfolding waits backward_cell made_fields
 due-from v p l e none Nothing level none_waits z = record { waits = λ _. ltb-true 0 level z; read = read-written 0 (made_fields v p level) (lit≤ tt) (made-fits v p level l); bits = tt }
 due-from v p l e (some x) (Cell q) level (one_waits h k) z = record { waits = λ n. let y : ◌≡◌ {A = ℕ} 0 1 = cc in absurd (omega arith); read = h; bits = k }
+due-from v p l e none (Cell q) level x5 z = elim x5 [ ]
+due-from v p l e (some x) Nothing level x6 z = elim x6 [ ]
 
 due : (v : ℕ) (p : Params) (r : Receiver) (d : Destination) → v < no_name → ReceiverAs v r d → backward_waits d ≡ true → Due v p r (backward_cell v p d.turned d.made.level)
 unfolding backward_waits

@@ -66,7 +66,9 @@ change-left v st e f [] [] ended h d k = ap (λ (r : AbrAllowed). r.change) (acr
 change-left v {s} st e f (c ∷ ds) (o ∷ ps) (then p t) h d k =
     let y = sees st p in
     let n = still_open s y.well_formed.unique c v e f (λ z. h.0.not_closed z.vpi z.vci z.is z.name) in
-    change-left v y.next n.holder n.found ds ps t h.1 d k ∙ ap difference (change-same v y e n.holder f n.found h.0.not_fed_back)
+    change-left v {s = (step s c).state} y.next n.holder n.found ds ps t h.1 d k ∙ ap difference (change-same v y e n.holder f n.found h.0.not_fed_back)
+change-left v {s = s} {l = l} st e f [] (o ∷ ps) x8 h d k = elim x8 [ ]
+change-left v {s = s} {l = l} st e f (c ∷ ds) [] x7 h d k = elim x7 [ ]
 
 pub exports-change-bounds : ExportsChangeBounds
 exports-change-bounds = record {

@@ -1,6 +1,7 @@
 -- The rate that abr_acr returns settles in a loop with a port.
 use Prim.Native.Nat.{ℕ, suc, ◌+◌, ◌*◌, min}
 use mathlib.Core.Path.{◌≡◌, refl, sym, ap, subst, ◌∙◌}
+use mathlib.Core.Bool.{false}
 use mathlib.Core.List.{List}
 use mathlib.Core.Option.{none, some}
 use Rattle.rate_params.specs.declared.params.Params.{Params}
@@ -11,7 +12,7 @@ use Rattle.connection.specs.declared.parts.Connection.{Connection}
 use Rattle.connection.specs.declared.kind.Kind.TheVariants.{Forward}
 use Rattle.model.specs.State.{State, Entry, taken, empty}
 use Rattle.model.specs.declared.answer.Answer.TheVariants.{Sent}
-use Rattle.model.specs.Call.{Call}
+use Rattle.model.specs.Call.{Call, receiving}
 use Rattle.model.specs.Step.{step}
 use Rattle.model.specs.Run.{final, allowed}
 use Rattle.model.proofs.Given.{params-given}
@@ -22,7 +23,7 @@ use Rattle.abr.specs.Exports.{Observation, Transcript, ended as ended_here, then
 use Rattle.promise_lists.specs.Demand3.{NotAbove}
 use Rattle.promise_service.specs.Restart.{increase}
 use Rattle.promise_cells.specs.Changes.{NotFedBack}
-use Rattle.promise_loop.specs.Share.{settled}
+use Rattle.promise_loop.specs.Share.{port_rate, settled}
 use Rattle.promise_loop.specs.Loop.{FromPort, Unmarked, Feedbacks, ended as ended_at, fed_back as fed_back_at, other_call as other_at, NotClosed, RateKept, Unmoved, NotLowered, Loop}
 use Rattle.promise_loop.proofs.Fed.{Stands as StandsAt, allowed-is, unmarked-step}
 use Rattle.promise_loop.proofs.Others.{other_step, not-closed, kept_step}
@@ -40,7 +41,7 @@ use Rattle.exports_rates.proofs.Held.{rate-seen, rate-is, open-under}
 open_in : (v : ℕ) (Cell : List ℕ → Type 0) {k : Watched} {l : List ℕ} {n : ℕ} {ds : List Call} {ps : List Observation} {s : State} → Stands s l → Transcript ds l ps
     → FeedbacksSeen v Cell (NotClosedSeen v) k l n ds ps → Feedbacks v Cell (NotClosed v) s n ds
 open_in v Cell st ended_here ended = ended_at
-open_in v Cell st (then p t) (fed_back c f) = fed_back_at c (open_in v Cell (sees st p).next t f)
+open_in v Cell {k = k} {s = s} st (then {cs = cs} {l = l} {o = o} {os = os} p t) (fed_back {n = n} {octets = octets} c f) = fed_back_at c (open_in v Cell {k = watch v (receiving octets) o k} (sees st p).next t f)
 open_in v Cell st (then p t) (other_call n h f) = other_at n (record { other_name = h.other_name }) (open_in v Cell (sees st p).next t f)
 
 -- the moves of a forward cell leave the rate, by what is kept and by what is so
@@ -92,8 +93,8 @@ left_in :
     → Watches v k s → Transcript ds l ps → FeedbacksSeen v (Unmarked v p share) (RateLeft v p) k l n ds ps → Feedbacks v (Unmarked v p share) (RateKept v) s n ds
 unfolding feedback
 left_in st z e m ended_here ended = ended_at
-left_in {v} {q = q} st z e m (then p t) (fed_back u f) =
-    let y = sees st p in fed_back_at u (left_in y.next (unmarked-step q u st.well_formed z e) e ((watches v).goes _ _ _ _ m y) t f)
+left_in {v = v} {share = share} {p = p'} {q = q} {s = s} {k = k} st z e m (then {cs = cs} {l = l} {o = o} {os = os} p t) (fed_back {n = n} {octets = octets} u f) =
+    let y = sees st p in fed_back_at u (left_in {q = feedback false false (port_rate p' share) q} y.next (unmarked-step q u st.well_formed z e) e ((watches v).goes _ _ _ _ m y) t f)
 left_in {v} st z e m (then {c = c} p t) (other_call n (read_same h) f) =
     let y = sees st p in
     let r = read_kept st y h in
@@ -108,8 +109,8 @@ run-kept :
     → Watches v k s → Transcript ds l ps → FeedbacksSeen v (Unmarked v p share) (NotLoweredSeen v p) k l n ds ps → FeedbacksSeen v (Unmarked v p share) (SameRate v) k l n ds ps
 unfolding feedback
 run-kept st z e m ended_here ended = ended
-run-kept {v} {q = q} st z e m (then p t) (fed_back u f) =
-    let y = sees st p in fed_back u (run-kept y.next (unmarked-step q u st.well_formed z e) e ((watches v).goes _ _ _ _ m y) t f)
+run-kept {v = v} {share = share} {p = p'} {q = q} {s = s} {k = k} st z e m (then {cs = cs} {l = l} {o = o} {os = os} p t) (fed_back {n = n} {octets = octets} u f) =
+    let y = sees st p in fed_back u (run-kept {q = feedback false false (port_rate p' share) q} y.next (unmarked-step q u st.well_formed z e) e ((watches v).goes _ _ _ _ m y) t f)
 run-kept {v} st z e m (then p t) (other_call n h f) =
     let y = sees st p in
     let x = not-lowered-step z e m y n h in

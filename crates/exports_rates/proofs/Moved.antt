@@ -137,29 +137,29 @@ sent-other v u t e ms Data a n room q d = refl
 effect-rate : (v : ℕ) {s : State} → NamesUnique s.entries → {c : Call} {o : Outcome} → Effect s c o → RateTo v c (reply_of o.answer) (find v s.entries) (find v o.state.entries)
 unfolding refuse accept replay discard send_from send_step idle_step send_out_of_rate with_time with_level with_members with_offer without_one with_served offered after_data_cell with_made after_out_of_rate
 effect-rate v {s} w (refuses c n h) = rests v c (reply_of (Refused n)) (refused v (sort_of c) n h) (find v s.entries)
-effect-rate v {s} w (opens a b t p g) = begun v s w (opening a b t p) _ (address_name a b) t p g (λ d. refl)
-effect-rate v {s} w (closes a b d f) = ended v s w (closing a b) _ (address_name a b) (λ d. refl)
-effect-rate v {s} w (offers a b n d f i h) = changes v s w (offering a b n) _ (address_name a b) d (offered n d) f refl (λ _. refl) (λ _ e. refl)
-effect-rate v {s} w (receives_data o a b e u d r i z f) =
-    changes v s w (receiving o) _ u d (after_data_cell e d) f refl (λ _. sym (ap (λ (x : Reading). rate_fed v x d.rate) r)) (λ _ g. sym (ap (λ (x : Reading). rate_fed v x g.rate) r))
-effect-rate v {s} w (receives_rm o q d r f) =
-    changes v s w (receiving o) _ (cell_name q) d (after_rm_cell s.level o q d) f (work-same s.level o q d).name
+effect-rate v {s} w {o = o'} (opens a b t p g) = begun v s w (opening a b t p) (reply_of o'.answer) (address_name a b) t p g (λ d. refl)
+effect-rate v {s} w {o = o'} (closes a b d f) = ended v s w (closing a b) (reply_of o'.answer) (address_name a b) (λ d. refl)
+effect-rate v {s} w {o = o'} (offers a b n d f i h) = changes v s w (offering a b n) (reply_of o'.answer) (address_name a b) d (offered n d) f refl (λ _. refl) (λ _ e. refl)
+effect-rate v {s} w {o = o'} (receives_data o a b e u d r i z f) =
+    changes v s w (receiving o) (reply_of o'.answer) u d (after_data_cell e d) f refl (λ _. sym (ap (λ (x : Reading). rate_fed v x d.rate) r)) (λ _ g. sym (ap (λ (x : Reading). rate_fed v x g.rate) r))
+effect-rate v {s} w {o = o'} (receives_rm o q d r f) =
+    changes v s w (receiving o) (reply_of o'.answer) (cell_name q) d (after_rm_cell s.level o q d) f (work-same s.level o q d).name
     (λ n. worked v s.level o q d n ∙ sym (ap (λ (x : Reading). rate_fed v x d.rate) r))
     (λ n g. worked-other v q g.rate n ∙ sym (ap (λ (x : Reading). rate_fed v x g.rate) r))
-effect-rate v {s} w (sets_level l h) = rests v (levelling l) _ (λ d. refl) (find v s.entries)
-effect-rate v {s} w (idles t room g b) = rests v (slot t room) _ (λ d. refl) (find v s.entries)
-effect-rate v {s} w (sends t room i u g b) =
+effect-rate v {s} w {o = o'} (sets_level l h) = rests v (levelling l) (reply_of o'.answer) (λ d. refl) (find v s.entries)
+effect-rate v {s} w {o = o'} (idles t room g b) = rests v (slot t room) (reply_of o'.answer) (λ d. refl) (find v s.entries)
+effect-rate v {s} w {o = o'} (sends t room i u g b) =
     let k = kind_at t b.holder in
-    changes v (with_time t s) w (slot t room) _ u b.holder (with_served (member_served k b.holder s.members) (after k t b.holder)) b.found (after_same k t b.holder).name
+    changes v (with_time t s) w (slot t room) (reply_of o'.answer) u b.holder (with_served (member_served k b.holder s.members) (after k t b.holder)) b.found (after_same k t b.holder).name
     (λ q. subst (λ (x : ℕ). (after k t b.holder).rate.acr ≡ rate_on v (slot t room) (reply_of (Sent x (name_answered x (member_served k b.holder s.members)) k 0 0)) b.holder) (sym q)
     (sent v t b.holder s.members k 0 0 room))
     (sent-other v u t b.holder s.members k 0 0 room)
-effect-rate v {s} w (makes a b t d f g h m) = changes v (with_time t s) w (making a b t) _ (address_name a b) d (with_made t s.level d) f refl (λ _. refl) (λ _ e. refl)
-effect-rate v {s} w (sends_out_of_rate a b t room d f g h) = changes v (with_time t s) w (out_of_rate a b t room) _ (address_name a b) d (after_out_of_rate t d) f refl (λ _. refl) (λ _ e. refl)
-effect-rate v {s} w (opens_path a t p g) = begun v s w (opening_path a t p) _ (address_name a path_vci) t p g (λ d. refl)
-effect-rate v {s} w (adds a b d f j) = rests v (adding a b) _ (λ d. refl) (find v s.entries)
-effect-rate v {s} w (offers_member a b n d f i h) = changes v s w (offering_member a b n) _ (path_of (address_name a b)) d (offered n d) f refl (λ _. refl) (λ _ e. refl)
-effect-rate v {s} w (removes a b d f i) = changes v s w (removing a b) _ (path_of (address_name a b)) d _ f refl (λ _. refl) (λ _ e. refl)
+effect-rate v {s} w {o = o'} (makes a b t d f g h m) = changes v (with_time t s) w (making a b t) (reply_of o'.answer) (address_name a b) d (with_made t s.level d) f refl (λ _. refl) (λ _ e. refl)
+effect-rate v {s} w {o = o'} (sends_out_of_rate a b t room d f g h) = changes v (with_time t s) w (out_of_rate a b t room) (reply_of o'.answer) (address_name a b) d (after_out_of_rate t d) f refl (λ _. refl) (λ _ e. refl)
+effect-rate v {s} w {o = o'} (opens_path a t p g) = begun v s w (opening_path a t p) (reply_of o'.answer) (address_name a path_vci) t p g (λ d. refl)
+effect-rate v {s} w {o = o'} (adds a b d f j) = rests v (adding a b) (reply_of o'.answer) (λ d. refl) (find v s.entries)
+effect-rate v {s} w {o = o'} (offers_member a b n d f i h) = changes v s w (offering_member a b n) (reply_of o'.answer) (path_of (address_name a b)) d (offered n d) f refl (λ _. refl) (λ _ e. refl)
+effect-rate v {s} w {o = o'} (removes a b d f i) = changes v s w (removing a b) (reply_of o'.answer) (path_of (address_name a b)) d _ f refl (λ _. refl) (λ _ e. refl)
 
 rate-at : (v : ℕ) (s : State) → NamesUnique s.entries → (c : Call) (d e : Connection) → find v s.entries ≡ taken d → find v (step s c).state.entries ≡ taken e
     → e.rate.acr ≡ rate_on v c (reply_of (step s c).answer) d
