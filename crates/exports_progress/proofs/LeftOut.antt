@@ -136,6 +136,10 @@ same_seen t n (c ∷ cs) {r} {s} st su e h (p ∷ ps) (q ∷ qs) (then x tx) (th
     let a = sees st x in
     let b = sees su y in
     (one_seen t n r s c p q e h.0 a b t (omega arith), same_seen t (max t (step s c).state.last) cs a.next b.next h.0.state h.1 ps qs tx ty)
+same_seen t n [] {r = r} {s = s} {l = l} {k = k} st su e h [] (q ∷ qs) _ x11 = elim x11 [ ]
+same_seen t n [] {r = r} {s = s} {l = l} {k = k} st su e h (p ∷ ps) qs x9 _ = elim x9 [ ]
+same_seen t n (c ∷ cs) {r = r} {s = s} {l = l} {k = k} st su e h [] qs x9 _ = elim x9 [ ]
+same_seen t n (c ∷ cs) {r = r} {s = s} {l = l} {k = k} st su e h (p ∷ ps) [] _ x13 = elim x13 [ ]
 
 -- a slot that returned 0 and no cell was idle
 kind-some : (k : Kind) → kind_number k ≡ 0 → ⊥
@@ -194,6 +198,8 @@ until-later x (c ∷ cs) (o ∷ os) {s} st (then p t) g = go (idle_seen c o.retu
         → x ≤ idle_until (cond b (time_of_slot c) x) cs os
     go true i h f = let k : time_of_slot c ≤ idle_until (time_of_slot c) cs os = f (time_of_slot c) h in omega (arith, k, (idle-seen z i).later x g.0)
     go false i h f = f x h
+until-later x [] (o ∷ os) {s = s} {l = l} st x8 g = elim x8 [ ]
+until-later x (c ∷ cs) [] {s = s} {l = l} st x7 g = elim x7 [ ]
 
 module _ (u : ℕ) where
   all_seen :
@@ -220,6 +226,10 @@ module _ (u : ℕ) where
       go false i g n f (q ∷ qs) (then p' t') =
           let z' = sees su p' in
           (one_seen x (max x r.last) s r c o q e h z z' u (omega (arith, n, until-later x cs os z.next t g)), f x (step r c).state q.table z'.next h.state g n qs t')
+      go false i g n f [] y = elim y [ ]
+  all_seen x [] [] {s = s} {r = r} {l = l} {k = k} st su e ended g n (_ ∷ _) y = elim y [ ]
+  all_seen x [] (o ∷ os) {s = s} {r = r} {l = l} {k = k} st su e x17 g n qs y = elim x17 [ ]
+  all_seen x (c ∷ cs) [] {s = s} {r = r} {l = l} {k = k} st su e x12 g n qs y = elim x12 [ ]
 
 pub exports-left-out : ExportsLeftOut
 exports-left-out = record {

@@ -142,6 +142,8 @@ found m v (c ∷ cs) (o ∷ os) {s} st k h (then p t) g =
       λ e. let r = g.0 (ap (slot_taken c) z.accepted ∙ e) in (r.0, ready_read m v k st h r.1),
       λ n. found m v cs os z.next (watch v c o k) ((watches v).goes s c o k h z) t (g.1 (λ q. n (sym went ∙ q))),
     )
+found m v [] (o ∷ os) {s = s} {l = l} st k h x8 g = elim x8 [ ]
+found m v (c ∷ cs) [] {s = s} {l = l} st k h x6 g = elim x6 [ ]
 
 -- the slot of v is the one that a caller sees as v's
 place : (v : ℕ) (x : Option ℕ) (p : Outcome) (xs : List (Option ℕ)) (ps : List Outcome) → (GoesTo v p → x ≡ some v) → (Somewhere (GoesTo v) ps → Somewhere (λ y. y ≡ some v) xs)
