@@ -85,6 +85,8 @@ module _ (v : ℕ) where
       ∙ ap (λ (x : List SentCell). cond (closes_connection v c (is_accepted (step s c).answer)) [] (x ++ slots_recorded v (member_seen c o f) cs os)) (one_cell z f k)
       ∙ ap (λ (x : List SentCell). cond (closes_connection v c (is_accepted (step s c).answer)) [] (sent_by v s c (step s c).answer ++ x))
       (slots-sent cs z.next (member_seen c o f) (knows_after z.well_formed c f k _ z.accepted) os t)
+  slots-sent [] {s = s} {l = l} st f k (o ∷ os) x4 = elim x4 [ ]
+  slots-sent (c ∷ cs) {s = s} {l = l} st f k [] x5 = elim x5 [ ]
 
 pub exports-traced : ExportsTraced
 exports-traced before after c v p os ps o r q x (then y t) e h =
