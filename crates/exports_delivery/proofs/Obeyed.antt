@@ -75,6 +75,8 @@ given-run v s h k e [] [] neither = e
 given-run v s h k e (c ∷ cs) (o ∷ os) (both m ms) =
     given-run v (step s c).state (reach h (c ∷ [])) (known_after v c o k)
     (ap (λ (b : Bool). params_after v c b k.given) (accepted-seen (well h) c m) ∙ (ap (params_after v c (is_accepted (step s c).answer)) e ∙ sym (step_given v h c))) cs os ms
+given-run v s h k e [] (o ∷ os) x4 = elim x4 [ ]
+given-run v s h k e (c ∷ cs) [] x5 = elim x5 [ ]
 
 pub cap-run :
     (v : ℕ) (s : State) → Reached s → (k : Known) → k.given ≡ params_in (find v s.entries) → (q : ℕ → ℕ) → k.cap ≡ q v → (cs : List Call) (os : List Observation) → AllMatch (run s cs) os
@@ -84,6 +86,8 @@ cap-run v s h k e q a (c ∷ cs) (o ∷ os) (both m ms) =
     cap-run v (step s c).state (reach h (c ∷ [])) (known_after v c o k)
     (ap (λ (b : Bool). params_after v c b k.given) (accepted-seen (well h) c m) ∙ (ap (params_after v c (is_accepted (step s c).answer)) e ∙ sym (step_given v h c)))
     (λ u. cap_by u (q u) (params_in (find u s.entries)) c) (ap (λ (n : ℕ). cap_by v n k.given c) a ∙ ap (λ (g : Option Params). cap_by v (q v) g c) e) cs os ms
+cap-run v s h k e q a [] (o ∷ os) x5 = elim x5 [ ]
+cap-run v s h k e q a (c ∷ cs) [] x6 = elim x6 [ ]
 
 -- from the empty table
 reached-first : Reached empty

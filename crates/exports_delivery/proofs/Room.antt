@@ -73,6 +73,8 @@ module _ (capacity : ℕ) (vs : List ℕ) (d : Distinct vs) where
         under = kept_under q y.reached y.under (c ∷ []);
       })
       ((rooms-kept capacity vs k d (low-caps y) f).fits c (eqb o.returned.refusal 0) h.0) cs os ms h.1
+  room-run k q s y f [] (o ∷ os) x6 h = elim x6 [ ]
+  room-run k q s y f (c ∷ cs) [] x6 h = elim x6 [ ]
 
   rounds-room :
       (S lag G : ℕ) → capacity * G ≤ 512_000_000_000 → (xs : List Round) (m last : ℕ) (s : State) (t : List ℕ) (f : ℕ → Bool) (k : ℕ → Known) → At s t last f k → RoundsRun S lag m last t xs

@@ -61,6 +61,8 @@ last-seen s w [] [] neither = refl
 last-seen s w (c ∷ cs) (o ∷ os) (both m ms) =
     ap (λ (l : ℕ). last_seen l cs os) (ap (λ (b : Bool). cond b (time_after c s.last) s.last) (accepted-seen w c m) ∙ sym (effect-time (effect s w.unique c)))
     ∙ last-seen (step s c).state (step-well-formed w c) cs os ms
+last-seen s w [] (o ∷ os) x3 = elim x3 [ ]
+last-seen s w (c ∷ cs) [] x4 = elim x4 [ ]
 
 either : {A : Type 0} (b : Bool) (x : A) → cond b x x ≡ x
 either true x = refl
