@@ -1,6 +1,6 @@
 // What reading a whole connection, a member and the link return.
 ghost use Rattle.std.specs.Prelude.{◌≡◌};
-ghost use Rattle.abr_answers.specs.Status.{kind_shown, not_open, member_shown, totals_shown};
+ghost use Rattle.abr_answers.specs.Status.{kind_shown, no_params, not_open, member_shown, totals_shown};
 
 use cell::name::VCIS;
 use connection_members::path::PATH_VCI;
@@ -49,6 +49,24 @@ pub fn kind_shown(name: u32, member: bool) -> u32
     if name % VCIS == PATH_VCI { 2 } else { 1 }
 }
 
+fn no_params() -> Params
+    ensures { result ≡ no_params }
+{
+    Params {
+        pcr: 0,
+        mcr: 0,
+        icr: 0,
+        n: 0,
+        r: 0,
+        d: 0,
+        c: 0,
+        tbe: 0,
+        frtt: 0,
+        adtf: 0,
+        trm: 0,
+    }
+}
+
 // A pair or a leaf that stands for nothing.
 pub fn not_open() -> AbrConnection
     ensures { result ≡ not_open }
@@ -60,19 +78,7 @@ pub fn not_open() -> AbrConnection
         vci: 0,
         leaf: 0,
         waiting: 0,
-        params: Params {
-            pcr: 0,
-            mcr: 0,
-            icr: 0,
-            n: 0,
-            r: 0,
-            d: 0,
-            c: 0,
-            tbe: 0,
-            frtt: 0,
-            adtf: 0,
-            trm: 0,
-        },
+        params: no_params(),
         crm: 0,
         icr_used: 0,
         acr: 0,
