@@ -3,3 +3,4 @@ pub mod All
 pub mod Blocks
 pub mod Rows
 pub mod Require
+pub mod Refusals
