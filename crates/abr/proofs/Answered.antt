@@ -12,9 +12,7 @@ use Rattle.model.specs.Queries.{entry_acr, acr_of}
 use Rattle.model.proofs.Entries.{find-each}
 use Rattle.model.proofs.Effects.{Effect, refuses, sets_level, sends_out_of_rate, effect}
 use Rattle.model.specs.State.{State, Entry, free, taken, find}
-use Rattle.model.specs.declared.acr.Acr.{Acr}
-use Rattle.model.specs.declared.acr.Acr.TheVariants.{Rate}
-use Rattle.model.specs.declared.answer.Answer.{Answer}
+use Rattle.model.specs.Answers.{Acr, Rate, Answer}
 use Rattle.engine.specs.Contract.{Meets, MeetsWriting, MeetsReading, whole_answer}
 use Rattle.abr_answers.specs.declared.calls.AbrAllowed.{AbrAllowed}
 use Rattle.abr_answers.specs.declared.calls.AbrAnswer.{AbrAnswer}

@@ -8,7 +8,7 @@ use Rattle.connection.specs.Invariant.{ValidAt}
 use Rattle.connection.specs.Ready.{ready_instant}
 use Rattle.model.specs.State.{State, Entry, free, taken, capacity}
 use Rattle.model.specs.Invariant.{WellFormed, OnEntry}
-use Rattle.model.specs.declared.status.Status.{Status}
+use Rattle.model.specs.Answers.{Status}
 use Rattle.model.proofs.Entries.{each-get}
 use Rattle.table.specs.Layout.{words, record_from}
 use Rattle.table.specs.Loading.{high_in, low_in, params_at}

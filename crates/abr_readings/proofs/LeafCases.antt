@@ -7,7 +7,7 @@ use Rattle.connection.specs.Invariant.{ValidAt}
 use Rattle.model.specs.State.{State, Entry, free, taken, capacity}
 use Rattle.model.specs.Invariant.{WellFormed}
 use Rattle.model.specs.Status.{entry_status, leaf_status, status_at}
-use Rattle.model.specs.declared.status.Status.TheVariants.{NotOpen}
+use Rattle.model.specs.Answers.{NothingOpen}
 use Rattle.table.specs.Layout.{words, record_from}
 use Rattle.table.specs.Loading.{name_of}
 use Rattle.table.proofs.Loaded.{name_back}
@@ -45,7 +45,7 @@ module _ (l : List ℕ) (i : ℕ) (h : i < capacity) where
   unfolding status_at leaf_status
   free-leaf z q = record { meets = λ s w e. none-points q (go s w e (get_or s.entries i free) refl) }
     where
-      go : (s : State) → WellFormed s → l ≡ words s → (x : Entry) → get_or s.entries i free ≡ x → NotOpen ≡ leaf_status i x
+      go : (s : State) → WellFormed s → l ≡ words s → (x : Entry) → get_or s.entries i free ≡ x → NothingOpen ≡ leaf_status i x
       go s w e free f = refl
       go s w e (taken c) f = absurd (named s.last c (valid-in-use s w i c f) (sym (name_in s w e c f) ∙ z))
 

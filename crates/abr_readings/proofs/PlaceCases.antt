@@ -7,8 +7,7 @@ use Rattle.connection.specs.declared.parts.Connection.{Connection}
 use Rattle.model.specs.State.{State, free, taken, capacity, is_free, find}
 use Rattle.model.specs.Invariant.{WellFormed}
 use Rattle.model.specs.Status.{entry_status, member_cells, status_of}
-use Rattle.model.specs.declared.status.Status.{Status}
-use Rattle.model.specs.declared.status.Status.TheVariants.{NotOpen}
+use Rattle.model.specs.Answers.{Status, NothingOpen}
 use Rattle.table.specs.Layout.{words, record_from}
 use Rattle.table.specs.Loading.{low_in}
 use Rattle.table.specs.declared.found.Found.{Found}
@@ -28,7 +27,7 @@ use Rattle.abr_readings.proofs.EntryCases.{waiting-at}
 
 -- ---- what the status of a name is
 
-status-free : (s : State) (x : ℕ) → find (owner x s.members) s.entries ≡ free → NotOpen ≡ status_of s x
+status-free : (s : State) (x : ℕ) → find (owner x s.members) s.entries ≡ free → NothingOpen ≡ status_of s x
 unfolding status_of entry_status
 status-free s x e = rw e
 
@@ -57,7 +56,7 @@ open-alone s w x c e = go (is_member x s.members) refl
 pub own_is : (l : List ℕ) (i x : ℕ) {k : ℕ} → k ≡ kind_shown x false → ◌≡◌ {A = Place} (record { name = x; entry = i; kind = k; waiting = low_in (get_or l (record_from i + 4) 0) }) (own_place l i x)
 own_is l i x e = ap (λ (n : ℕ). record { name = x; entry = i; kind = n; waiting = low_in (get_or l (record_from i + 4) 0) }) e
 
-pub none-points : {s : State} {r : Status} {p : Place} → p ≡ no_place → NotOpen ≡ r → Points s r p
+pub none-points : {s : State} {r : Status} {p : Place} → p ≡ no_place → NothingOpen ≡ r → Points s r p
 none-points {s} {r} e h = subst (Points s r) (sym e) (record { nowhere = λ _. h; holds = λ k. absurd (omega (arith, k)) })
 
 -- an entry in use by its connection's own name

@@ -4,8 +4,7 @@ use Rattle.connection.specs.declared.parts.Connection.{Connection}
 use Rattle.connection.specs.Ready.{ready_instant}
 use Rattle.model.specs.State.{State, free, taken, capacity}
 use Rattle.model.specs.Queries.{ready_word}
-use Rattle.model.specs.declared.status.Status.{Status}
-use Rattle.model.specs.declared.status.Status.TheVariants.{NotOpen}
+use Rattle.model.specs.Answers.{Status, NothingOpen}
 use Rattle.table.specs.Layout.{record_from}
 use Rattle.table.specs.Loading.{low_in}
 use Rattle.abr_answers.specs.declared.status.AbrConnection.{AbrConnection}
@@ -30,5 +29,5 @@ pub record Holds (s : State) (r : Status) (p : Place) : Type 0 where
   pub shows : shown_in p holder ≡ connection_shown r
 
 pub record Points (s : State) (r : Status) (p : Place) : Type 0 where
-  pub nowhere : capacity ≤ p.entry → NotOpen ≡ r
+  pub nowhere : capacity ≤ p.entry → NothingOpen ≡ r
   pub holds : p.entry < capacity → Holds s r p

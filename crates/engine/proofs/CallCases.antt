@@ -19,7 +19,7 @@ use Rattle.table.specs.declared.found.Found.{Found}
 use Rattle.table.specs.declared.found.Found.TheVariants.{At, Nothing}
 use Rattle.table_names.specs.Finding.{Located, FindsName}
 use Rattle.table_names.proofs.Found.{found_at}
-use Rattle.model.specs.declared.answer.Answer.TheVariants.{Refused, Accepted, Closed}
+use Rattle.model.specs.Answers.{Refused, Accepted, Closed}
 use Rattle.model.specs.Call.{offering}
 use Rattle.model.specs.Step.{refuse, accept, replay, discard, of_open, close_step, offer_step, level_step, step}
 use Rattle.table_store.specs.Updates.{Updates, QueueMoved, ClosesEntry}

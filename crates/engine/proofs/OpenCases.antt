@@ -34,14 +34,12 @@ use Rattle.table.specs.declared.found.Found.TheVariants.{At, Nothing}
 use Rattle.model.proofs.Entries.{lowest-free, each_set, unique-set, find_absent}
 use Rattle.model.specs.Step.{refuse, replay, open_address, open_step}
 use Rattle.model.specs.Tournament.{replayed}
-use Rattle.model.specs.declared.answer.Answer.TheVariants.{Accepted}
+use Rattle.model.specs.Answers.{Accepted, OpenAnswer, OpenRefused, Opened}
 use Rattle.table_store.specs.Updates.{with_entry, OpensEntry}
 use Rattle.table_tournament.specs.Replaying.{Playable}
 use Rattle.table_tournament.proofs.Orders.{ordered}
 use Rattle.model.specs.Call.{Outcome}
 use Rattle.model.specs.Details.{opened_with, open_answer}
-use Rattle.model.specs.declared.details.OpenAnswer.{OpenAnswer}
-use Rattle.model.specs.declared.details.OpenAnswer.TheVariants.{Refused as OpenRefused, Opened}
 use Rattle.engine.proofs.Outcomes.{refused-out, replayed-out, time-word}
 use Rattle.laws.specs.Require.{require}
 

@@ -37,8 +37,7 @@ use Rattle.table_tournament.specs.Replaying.{Playable, CountsWon}
 use Rattle.model.specs.Tournament.{replayed}
 use Rattle.table_names.specs.Finding.{Located}
 use Rattle.table_names.proofs.Found.{found_at}
-use Rattle.model.specs.declared.details.ReceiveAnswer.{ReceiveAnswer}
-use Rattle.model.specs.declared.details.ReceiveAnswer.TheVariants.{Refused as ReceiveRefused, Received}
+use Rattle.model.specs.Answers.{ReceiveAnswer, ReceiveRefused, Received}
 use Rattle.model.specs.Details.{rate_in, kind_received, name_received, connection_received, received_with, receive_answer}
 use Rattle.model.proofs.Frames.{put-read}
 use Rattle.model.specs.Call.{Outcome}

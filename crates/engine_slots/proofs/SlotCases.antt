@@ -16,10 +16,7 @@ use Rattle.table_tournament.specs.declared.slot.SlotWinner.{SlotWinner}
 use Rattle.table_tournament.specs.declared.slot.SlotWinner.TheVariants.{Entry, NoneReady}
 use Rattle.table_tournament.specs.SlotWinner.{Picks, FindsSlotWinner, SlotWinnerInRange}
 use Rattle.model.proofs.Preserved.{with_time-well-formed}
-use Rattle.model.specs.declared.answer.Answer.{Answer}
-use Rattle.model.specs.declared.answer.Answer.TheVariants.{Refused, Accepted, Closed, Idle, Sent}
-use Rattle.model.specs.declared.details.SlotAnswer.{SlotAnswer}
-use Rattle.model.specs.declared.details.SlotAnswer.TheVariants.{Refused as SlotRefused, Idle as IdleSlot}
+use Rattle.model.specs.Answers.{Answer, Refused, Accepted, Closed, Idle, Sent, SlotAnswer, SlotRefused, IdleSlot}
 use Rattle.model.specs.Details.{sent_with, slot_answer}
 use Rattle.model.specs.Call.{Outcome}
 use Rattle.model.specs.Step.{refuse, slot_step, serve, serve_entry, send_step, idle_step}

@@ -5,7 +5,7 @@ ghost use Rattle.connection.specs.Range.{InRange, CountHasRoom};
 ghost use Rattle.cell.specs.Name.{no_name};
 ghost use Rattle.engine_slots.specs.Slots.{SendsData};
 ghost use Rattle.connection.specs.declared.kind.Kind.TheVariants.{Data};
-ghost use Rattle.model.specs.declared.details.SlotAnswer.TheVariants.{Sent};
+ghost use Rattle.model.specs.Answers.{SentCell};
 ghost use Rattle.model.specs.State.{capacity};
 ghost use Rattle.model.specs.Tournament.{levels};
 
@@ -23,7 +23,7 @@ use table_store::winner::update_winner_paced;
 // What a slot answers of data that goes by this name: the allowed rate stays. All matches of its leaf are replayed
 // (document 02, L4).
 fn data_answer(name: u32, acr: u64, leaf: u32) -> SlotAnswer
-    ensures { result ≡ Sent name Data acr levels leaf acr false }
+    ensures { result ≡ SentCell name Data acr levels leaf acr false }
 {
     SlotAnswer::Sent {
         name,

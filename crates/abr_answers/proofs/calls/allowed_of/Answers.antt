@@ -1,5 +1,5 @@
 use mathlib.Core.Path.{sym, ap}
-use Rattle.model.specs.declared.acr.Acr.{Acr}
+use Rattle.model.specs.Answers.{Acr}
 use Rattle.abr_answers.specs.Calls.{allowed_of, of_rates}
 use Rattle.abr_answers.proofs.Signed.{low-in-range, acr-is}
 use Rattle.abr_answers.proofs.calls.allowed_of.Goals as goal

@@ -1,6 +1,6 @@
 use mathlib.Core.Path.{refl, sym, subst}
 use lib.Ieee.{of_bits}
-use Rattle.model.specs.declared.contract.Contract.{Contract}
+use Rattle.model.specs.Answers.{Contract}
 use Rattle.abr_answers.specs.Planning.{ExportedAs, three_zeros}
 use Rattle.abr_answers.proofs.planning.exported_of.Goals as goal
 

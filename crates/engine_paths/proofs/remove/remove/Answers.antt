@@ -8,7 +8,7 @@ use Rattle.connection.specs.Range.{InRange}
 use Rattle.model.specs.State.{State, capacity}
 use Rattle.model.specs.Invariant.{WellFormed}
 use Rattle.model.specs.Step.{remove_step}
-use Rattle.model.specs.declared.answer.Answer.TheVariants.{Closed}
+use Rattle.model.specs.Answers.{Closed}
 use Rattle.table.specs.Layout.{words}
 use Rattle.table.specs.declared.found.Found.TheVariants.{At}
 use Rattle.table_store.specs.Updates.{Updates, QueueMoved}
