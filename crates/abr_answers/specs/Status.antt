@@ -1,5 +1,5 @@
 -- What reading a whole connection, a member and the link return. (Beyond the documents' demands.)
-use Rattle.std.specs.Prelude.{ℕ, Bool, true, false, cond, pos}
+use Rattle.std.specs.Prelude.{ℕ, Bool, true, false, cond, pos, Some, None}
 use Rattle.rate_params.specs.declared.params.Params.{Params}
 use Rattle.rate_params.specs.Params.{initial_used, crm}
 use Rattle.cell.specs.Name.{vpi_in, vci_in}
@@ -8,10 +8,7 @@ use Rattle.connection.specs.Change.{difference, as_rates}
 use Rattle.connection.specs.declared.parts.Connection.{Connection}
 use Rattle.connection.specs.declared.parts.Pace.{Pace}
 use Rattle.connection.specs.declared.parts.Pace.TheVariants.{Unsent, Running}
-use Rattle.connection.specs.declared.parts.Waiting.{Waiting}
-use Rattle.connection.specs.declared.parts.Waiting.TheVariants.{Nothing, Cell}
-use Rattle.connection.specs.declared.ready.Instant.{Instant}
-use Rattle.connection.specs.declared.ready.Instant.TheVariants.{Never, At}
+use Rattle.connection.specs.Parts.{Waiting, Instant}
 use Rattle.model.specs.State.{capacity}
 use Rattle.model.specs.Queries.{never_word}
 use Rattle.model.specs.Answers.{Status, NothingOpen, Open, MemberStatus, NoMember, AMember}
@@ -25,8 +22,8 @@ abbrev pub never : ℕ
 never = never_word
 
 abbrev pub instant_shown : Instant → ℕ
-instant_shown Never = never
-instant_shown (At t) = t
+instant_shown None = never
+instant_shown (Some t) = t
 
 -- the cells from slots: the last, the last forward one, those since, and whether a turned or made one is among them
 abbrev pub sent_shown : Pace → ℕ
@@ -47,8 +44,8 @@ backward_shown (Running sent forward k turned) = cond turned 1 0
 
 -- 1 if a turned cell waits
 abbrev pub turned_shown : Waiting → ℕ
-turned_shown Nothing = 0
-turned_shown (Cell p) = 1
+turned_shown None = 0
+turned_shown (Some p) = 1
 
 -- 1 a channel, 2 a path, 3 a member
 abbrev pub kind_shown : (name : ℕ) → (member : Bool) → ℕ

@@ -1,5 +1,5 @@
 -- What is shown of a connection's parts, out of their words.
-use Rattle.std.proofs.Common.{◌≡◌, ℕ, ◌+◌, ◌-◌, ◌*◌, ◌/◌, ◌%◌, ◌^◌, ◌<◌, ◌≤◌, Bool, true, false, cond, List, ◌++◌, refl, ap, ◌∙◌, mod-eq_of_lt, arith, pow_mono, ne_eqb}
+use Rattle.std.proofs.Common.{◌≡◌, ℕ, ◌+◌, ◌-◌, ◌*◌, ◌/◌, ◌%◌, ◌^◌, ◌<◌, ◌≤◌, Bool, true, false, cond, List, ◌++◌, refl, ap, ◌∙◌, mod-eq_of_lt, arith, pow_mono, ne_eqb, Some, None}
 use Rattle.rate.specs.Units.{latest_time}
 use Rattle.rate_params.specs.Params.{nrm, initial_used, crm}
 use Rattle.rate_params.proofs.Ranges.{fits, setup-fits}
@@ -7,14 +7,11 @@ use Rattle.connection.specs.declared.parts.Connection.{Connection}
 use Rattle.connection.specs.declared.parts.Pace.{Pace}
 use Rattle.connection.specs.declared.parts.Pace.TheVariants.{Unsent, Running}
 use Rattle.connection.specs.declared.parts.Queue.{Queue}
-use Rattle.connection.specs.declared.parts.Waiting.{Waiting}
-use Rattle.connection.specs.declared.parts.Waiting.TheVariants.{Nothing, Cell}
-use Rattle.connection.specs.declared.ready.Instant.{Instant}
-use Rattle.connection.specs.declared.ready.Instant.TheVariants.{Never, At}
 use Rattle.connection.specs.Change.{difference, as_rates}
 use Rattle.connection.specs.Invariant.{ValidAt, PaceFits, QueueFits}
 use Rattle.connection.specs.Range.{InstantBelow}
 use Rattle.connection.specs.Ready.{ready_instant}
+use Rattle.connection.specs.Parts.{Waiting, Instant}
 use Rattle.connection.proofs.Reached.{in-range, ready-below}
 use Rattle.model.specs.Queries.{ready_word}
 use Rattle.table.specs.Layout.{halves, pace_tag, pace_sent, pace_forward, pace_k, pace_word, wait_tag, destination_tag, queue_word, instant_word, key, record_words}
@@ -67,27 +64,27 @@ backward-is (Running sent forward k true) = refl
 backward-is (Running sent forward k false) = refl
 
 instant-is : (i : Instant) → instant_in (instant_word i) ≡ instant_shown i
-instant-is Never = refl
-instant-is (At i) = let less : i + 1 - 1 ≡ i = omega arith in rw (ne_eqb (i + 1) 0 (λ e. omega (arith, e)), less)
+instant-is None = refl
+instant-is (Some i) = let less : i + 1 - 1 ≡ i = omega arith in rw (ne_eqb (i + 1) 0 (λ e. omega (arith, e)), less)
 
 -- what waits at the destination
 tag_small : (e : Bool) (w : Waiting) → wait_tag w + cond e 1 0 < 4
-tag_small true Nothing = omega arith
-tag_small false Nothing = omega arith
-tag_small true (Cell p) = omega arith
-tag_small false (Cell p) = omega arith
+tag_small true None = omega arith
+tag_small false None = omega arith
+tag_small true (Some p) = omega arith
+tag_small false (Some p) = omega arith
 
 efci-is : (m : ℕ) (e : Bool) (w : Waiting) → halves m (wait_tag w + cond e 1 0) % 2 ≡ cond e 1 0
-efci-is m true Nothing = omega arith
-efci-is m false Nothing = omega arith
-efci-is m true (Cell p) = omega arith
-efci-is m false (Cell p) = omega arith
+efci-is m true None = omega arith
+efci-is m false None = omega arith
+efci-is m true (Some p) = omega arith
+efci-is m false (Some p) = omega arith
 
 turned-is : (e : Bool) (w : Waiting) → (wait_tag w + cond e 1 0) / 2 ≡ turned_shown w
-turned-is true Nothing = refl
-turned-is false Nothing = refl
-turned-is true (Cell p) = refl
-turned-is false (Cell p) = refl
+turned-is true None = refl
+turned-is false None = refl
+turned-is true (Some p) = refl
+turned-is false (Some p) = refl
 
 pub waiting-is : (x : ℕ) (q : Queue) → QueueFits x q → low_in (queue_word q) ≡ q.cells
 waiting-is x q h = low q.served q.cells (omega (arith, h.path))
@@ -98,8 +95,8 @@ served-is x q h = high q.served q.cells (omega (arith, h.served)) (omega (arith,
 -- a ready instant out of its key
 ready-is : (i : Instant) → InstantBelow i → never - key i ≡ ready_word i
 unfolding ready_word
-ready-is Never h = refl
-ready-is (At i) h = omega (arith, h)
+ready-is None h = refl
+ready-is (Some i) h = omega (arith, h)
 
 -- everything of a connection, out of its own words
 pub words-shown :

@@ -1,4 +1,5 @@
 -- What the destination makes of a connection, put together from its steps; and the fields of a made cell.
+use Rattle.std.specs.Prelude.{Some, None}
 use mathlib.Core.Path.{◌≡◌, refl, ap, subst}
 use mathlib.Core.Bool.{Bool, true, false, cond, ◌||◌}
 use Prim.Native.Nat.{ℕ, ◌/◌, ◌%◌, ◌≤◌, ◌<◌}
@@ -13,7 +14,7 @@ use Rattle.cell_payload.specs.Payload.{octets_of, payload_of}
 use Rattle.cell.specs.Name.{vpi_in, vci_in, no_name}
 use Rattle.cell.specs.Fields.{fields_fit}
 use Rattle.cell.specs.Turning.{turned_payload}
-use Rattle.connection.specs.Parts.{Connection, Pace, Made, Destination, Waiting, Nothing, Cell, with_pace, with_destination}
+use Rattle.connection.specs.Parts.{Connection, Pace, Made, Destination, Waiting, with_pace, with_destination}
 use Rattle.connection.specs.Pace.{paced}
 use Rattle.connection.specs.Destination.{sent_turned, made_left, made_fields, after_forward_payload, waiting_ci, mark_kept}
 use Rattle.connection.proofs.FieldsFit.{own-fits, vpi-fits, vci-fits}
@@ -21,7 +22,7 @@ use Rattle.connection.proofs.FieldsFit.{own-fits, vpi-fits, vci-fits}
 module _ (x : ℕ) (c : Connection) {a r : Connection} where
   pub turned-is :
       {p : Pace} {m : Made} → p ≡ paced x true c.pace → a ≡ with_pace c p → m ≡ made_left c.destination.turned c.destination.made
-      → r ≡ with_destination a (record { efci = c.destination.efci; turned = Nothing; made = m }) → r ≡ sent_turned x c
+      → r ≡ with_destination a (record { efci = c.destination.efci; turned = None; made = m }) → r ≡ sent_turned x c
   unfolding sent_turned
   turned-is p a m r = rw (r, a, p, m)
 
@@ -45,16 +46,16 @@ made-fits v p level l =
 
 pub after-forward-cell-is :
     (level : ℕ) (p : Payload) (c : Connection) {w : Payload} {r : Connection} → w ≡ payload_of (turned_payload level (mark_kept c.destination) (octets_of p))
-    → r ≡ with_destination c (record { efci = false; turned = Cell w; made = c.destination.made }) → r ≡ after_forward_payload level p c
+    → r ≡ with_destination c (record { efci = false; turned = Some w; made = c.destination.made }) → r ≡ after_forward_payload level p c
 unfolding after_forward_payload
 after-forward-cell-is level p c e h = rw (h, e)
 
 -- the CI of a waiting cell, from its first word
-pub ci-none : {w : Waiting} → w ≡ Nothing → false ≡ waiting_ci w
+pub ci-none : {w : Waiting} → w ≡ None → false ≡ waiting_ci w
 unfolding waiting_ci
 ci-none e = rw e
 
-pub ci-cell : {w : Waiting} (p : Payload) → w ≡ Cell p → eqb (p.a / 0x20000000000000 % 2) 1 ≡ waiting_ci w
+pub ci-cell : {w : Waiting} (p : Payload) → w ≡ Some p → eqb (p.a / 0x20000000000000 % 2) 1 ≡ waiting_ci w
 unfolding waiting_ci
 ci-cell p e = rw e (ap (λ (n : ℕ). eqb n 1) (same p.a))
   where

@@ -1,4 +1,5 @@
 -- Each call keeps what the invariant says of a connection, and its name, opening time, Trm and parameters.
+use Rattle.std.specs.Prelude.{Some, None}
 use Prim.Native.Nat.{ℕ, ◌+◌, ◌-◌, ◌*◌, ◌≤◌, ◌<◌}
 use mathlib.Core.Path.{◌≡◌, refl, sym, ap, ◌∙◌}
 use mathlib.Core.Logic.{◌≢◌}
@@ -15,7 +16,7 @@ use Rattle.rate_params.specs.declared.params.Params.{Params}
 use Rattle.rate_moves.specs.declared.moves.Rate.{Rate}
 use Rattle.rate.specs.Code.{rate_of}
 use Rattle.rate_params.specs.Params.{nrm, params_fit, tbe_fits, frtt_fits}
-use Rattle.rate_moves.specs.Moves.{moved, opened, first_cell, idle, unanswered, feedback}
+use Rattle.rate_moves.specs.Moves.{moved, first_cell, idle, unanswered, feedback}
 use Rattle.rate_moves.specs.Bounds.{RateInBounds}
 use Rattle.rate_moves.proofs.FourMoves.{opened-in-bounds, first_cell-in-bounds, first_cell-mono, idle-in-bounds, idle-mono, unanswered-in-bounds, unanswered-mono, feedback-in-bounds}
 use Rattle.cell.specs.declared.fields.Fields.{Fields}
@@ -23,7 +24,7 @@ use Rattle.cell.specs.Name.{vci_in, no_name}
 use Rattle.connection_members.specs.Path.{is_path, first_vci}
 use Rattle.connection_members.specs.Members.{member_capacity}
 use Rattle.connection_members.specs.Turn.{last_after}
-use Rattle.connection.specs.Parts.{Connection, Pace, Unsent, Running, Queue, waiting, dequeued, with_queue, fresh, Instant, Never, At, Waiting, Nothing, Cell, Made}
+use Rattle.connection.specs.Parts.{Connection, Pace, Unsent, Running, Queue, waiting, dequeued, with_queue, fresh, Instant, Waiting, Made}
 use Rattle.connection.specs.Pace.{paced}
 use Rattle.connection.specs.Source.{offered, after_backward_cell, moved_by, sent_forward, sent_data, with_served, after_out_of_rate}
 use Rattle.connection.specs.Destination.{with_made, after_data_cell, after_forward_cell, sent_turned, made_left}
@@ -122,8 +123,8 @@ pace-later now later n Unsent h f = tt
 pace-later now later n (Running sent forward k turned) h f = (f.0, le_trans f.1 h, f.2)
 
 not-after-later : (now later : ℕ) → now ≤ later → (i : Instant) → NotAfter now i → NotAfter later i
-not-after-later now later h Never p = tt
-not-after-later now later h (At i) p = le_trans p h
+not-after-later now later h None p = tt
+not-after-later now later h (Some i) p = le_trans p h
 
 pub valid-later : (now later : ℕ) → now ≤ later → (c : Connection) → ValidAt now c → ValidAt later c
 valid-later now later h c p = (
@@ -296,8 +297,8 @@ after-pace Data t c e h = pace-next t c false c.pace h (not-forward Data t c e d
 
 left-made : {now : ℕ} (w : Waiting) (m : Made) → MadeValidAt now m → MadeValidAt now (made_left w m)
 unfolding made_left
-left-made Nothing m h = record { level = omega arith; past = h.past }
-left-made (Cell p) m h = h
+left-made None m h = record { level = omega arith; past = h.past }
+left-made (Some p) m h = h
 
 after-made : (k : Kind) (t : ℕ) (c : Connection) → MadeValidAt t c.destination.made → MadeValidAt t (after k t c).destination.made
 unfolding after sent_forward sent_turned sent_data

@@ -1,5 +1,6 @@
 -- A connection in range is in range again after an open, an offer, a received cell, a making,
 -- a slot and an out-of-rate cell.
+use Rattle.std.specs.Prelude.{Some, None}
 use mathlib.Core.Bool.{Bool}
 use Prim.Native.Nat.{ℕ, ◌^◌, ◌<◌}
 use native.Mathlib.Omega.{arith}
@@ -7,7 +8,7 @@ use Rattle.rate_params.specs.declared.params.Params.{Params}
 use Rattle.rate_params.proofs.Ranges.{trm-le}
 use Rattle.cell_payload.specs.declared.payload.Payload.{Payload}
 use Rattle.cell.specs.declared.fields.Fields.{Fields}
-use Rattle.connection.specs.Parts.{Connection, Pace, Unsent, Running, fresh, Waiting, Nothing, Cell, Made}
+use Rattle.connection.specs.Parts.{Connection, Pace, Unsent, Running, fresh, Waiting, Made}
 use Rattle.connection.specs.Pace.{paced}
 use Rattle.connection.specs.Source.{offered, after_backward_cell, sent_forward, sent_data, after_out_of_rate}
 use Rattle.connection.specs.Destination.{with_made, after_data_cell, after_forward_payload, sent_turned, made_left}
@@ -51,8 +52,8 @@ paced-ranged t b (Running sent forward k turned) l h r = (l, h.1, omega arith)
 
 left-ranged : (w : Waiting) (m : Made) → InstantInRange m.last → InstantInRange (made_left w m).last
 unfolding made_left
-left-ranged Nothing m h = h
-left-ranged (Cell p) m h = h
+left-ranged None m h = h
+left-ranged (Some p) m h = h
 
 -- a slot at t, with room for one more cell
 pub after-ranged : (kind : Kind) (t : ℕ) (c : Connection) → t < 2 ^ 63 → InRange c → CountHasRoom c.pace → InRange (after kind t c)

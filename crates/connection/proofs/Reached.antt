@@ -1,4 +1,5 @@
 -- A connection in a table that calls made lies in the ranges in which nothing wraps, and its allowed rate is a rate.
+use Rattle.std.specs.Prelude.{Some, None}
 use Prim.Native.Nat.{ℕ, ◌+◌, ◌^◌, ◌≤◌, max}
 use mathlib.Core.Bool.{Bool, true, false, cond, ◌||◌}
 use native.Mathlib.Nat.{le_trans}
@@ -12,7 +13,7 @@ use Rattle.rate.specs.Gap.{gap}
 use Rattle.rate.proofs.Codes.{rate-le}
 use Rattle.rate.proofs.Gaps.{gap-le}
 use Rattle.rate_params.proofs.Ranges.{fits, trm-le}
-use Rattle.connection.specs.Parts.{Connection, Pace, Unsent, Running, Instant, Never, At}
+use Rattle.connection.specs.Parts.{Connection, Pace, Unsent, Running, Instant}
 use Rattle.connection.specs.Invariant.{PaceFits, ValidAt, NotAfter}
 use Rattle.connection.specs.Range.{PaceInRange, InRange, InstantInRange, InstantBelow}
 use Rattle.connection.specs.Ready.{any_waits, last_before, ready_from, ready_instant}
@@ -22,8 +23,8 @@ pace-in-range now n Unsent l m h = tt
 pace-in-range now n (Running sent forward k turned) l m h = (omega arith, omega arith, omega arith)
 
 instant-in-range : (now : ℕ) (i : Instant) → now ≤ latest_time → NotAfter now i → InstantInRange i
-instant-in-range now Never l h = tt
-instant-in-range now (At i) l h = omega arith
+instant-in-range now None l h = tt
+instant-in-range now (Some i) l h = omega arith
 
 pub in-range : (now : ℕ) (c : Connection) → now ≤ latest_time → ValidAt now c → InRange c
 in-range now c l h = record {
@@ -42,12 +43,12 @@ from-below : (c : Connection) → InRange c → (p : Pace) → PaceInRange p →
 unfolding ready_from
 from-below c r Unsent h = go (any_waits c)
   where
-    go : (a : Bool) → InstantBelow (cond a (At c.opened) Never)
+    go : (a : Bool) → InstantBelow (cond a (Some c.opened) None)
     go true = omega (arith, r.opened)
     go false = tt
 from-below c r (Running sent forward k turned) h = go (any_waits c || last_before c k) (leb 2 k)
   where
-    go : (a b : Bool) → InstantBelow (cond a (At (sent + gap c.rate.acr)) (cond b (At (max (sent + gap c.rate.acr) (forward + c.trm))) Never))
+    go : (a b : Bool) → InstantBelow (cond a (Some (sent + gap c.rate.acr)) (cond b (Some (max (sent + gap c.rate.acr) (forward + c.trm))) None))
     go true b = omega (arith, h.0, gap-le c.rate.acr)
     go false true = omega (arith, h.0, h.1, r.trm, gap-le c.rate.acr)
     go false false = tt
@@ -56,6 +57,6 @@ pub ready-below : (c : Connection) → InRange c → InstantBelow (ready_instant
 unfolding ready_instant
 ready-below c r = go (eqb c.rate.acr 0)
   where
-    go : (a : Bool) → InstantBelow (cond a Never (ready_from c c.pace))
+    go : (a : Bool) → InstantBelow (cond a None (ready_from c c.pace))
     go true = tt
     go false = from-below c r c.pace r.pace

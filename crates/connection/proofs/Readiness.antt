@@ -1,5 +1,6 @@
 -- What a ready instant depends on. At an allowed rate of 0 a connection is never ready. At any other its
 -- pace decides. (Document 02, L5.)
+use Rattle.std.specs.Prelude.{Some, None}
 use Prim.Native.Nat.{ℕ, ◌<◌}
 use mathlib.Core.Path.{◌≡◌, refl, ap, ap₂, ◌∙◌}
 use mathlib.Core.Logic.{◌≢◌}
@@ -9,12 +10,12 @@ use native.Mathlib.Omega.{arith}
 use lib.Dec.{eqb}
 use borrow.Author.Tests.{eq-eqb, ne_eqb, eqb-false}
 use Rattle.rate_moves.specs.declared.moves.Rate.{Rate}
-use Rattle.connection.specs.Parts.{Connection, Pace, Unsent, Running, waiting}
+use Rattle.connection.specs.Parts.{Connection, Pace, Unsent, Running, waiting, Instant}
 use Rattle.connection.specs.Source.{with_served, after_out_of_rate}
-use Rattle.connection.specs.Ready.{Instant, Never, At, backward_waits, any_waits, last_before, ready_from, ready_instant}
+use Rattle.connection.specs.Ready.{backward_waits, any_waits, last_before, ready_from, ready_instant}
 
 module _ (c : Connection) where
-  pub ready-zero : c.rate.acr ≡ 0 → ready_instant c ≡ Never
+  pub ready-zero : c.rate.acr ≡ 0 → ready_instant c ≡ None
   unfolding ready_instant
   ready-zero e = rw (eq-eqb c.rate.acr 0 e)
 
@@ -23,11 +24,11 @@ module _ (c : Connection) where
   ready-moving n = rw (ne_eqb c.rate.acr 0 n)
 
   -- a connection that is ready at some instant has an allowed rate above 0
-  pub ready-some : (i : ℕ) → ready_instant c ≡ At i → (0 < c.rate.acr) × (ready_from c c.pace ≡ At i)
+  pub ready-some : (i : ℕ) → ready_instant c ≡ Some i → (0 < c.rate.acr) × (ready_from c c.pace ≡ Some i)
   unfolding ready_instant
   ready-some i e = go (eqb c.rate.acr 0) refl e
     where
-      go : (b : Bool) → eqb c.rate.acr 0 ≡ b → cond b Never (ready_from c c.pace) ≡ At i → (0 < c.rate.acr) × (ready_from c c.pace ≡ At i)
+      go : (b : Bool) → eqb c.rate.acr 0 ≡ b → cond b None (ready_from c c.pace) ≡ Some i → (0 < c.rate.acr) × (ready_from c c.pace ≡ Some i)
       go true q e = let z : ◌≡◌ {A = ℕ} 0 1 = cc in absurd (omega arith)
       go false q e = (omega (arith, eqb-false c.rate.acr 0 q), e)
 
@@ -47,7 +48,7 @@ pub ready-same :
     → d.destination.made ≡ c.destination.made → ready_instant d ≡ ready_instant c
 unfolding ready_instant
 ready-same c d o t q p l u m =
-    ap₂ (λ (b : Bool) (i : Instant). cond b Never i) (ap (λ (x : Rate). eqb x.acr 0) q)
+    ap₂ (λ (b : Bool) (i : Instant). cond b None i) (ap (λ (x : Rate). eqb x.acr 0) q)
     (from-same c d o t q (waits-same c d l u m) d.pace ∙ ap (ready_from c) p)
 
 -- an out-of-rate cell moves none of these

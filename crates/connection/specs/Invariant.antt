@@ -1,6 +1,6 @@
 -- What holds of each open connection in every table that the calls make from an empty one.
 -- It is said of the parts, so that it goes over by itself to a connection with the same parts.
-use Rattle.std.specs.Prelude.{ℕ, ◌*◌, ◌≤◌, ◌<◌, ◌≡◌, true, false}
+use Rattle.std.specs.Prelude.{ℕ, ◌*◌, ◌≤◌, ◌<◌, ◌≡◌, true, false, Some, None}
 use Rattle.rate_params.specs.declared.params.Params.{Params}
 use Rattle.rate_moves.specs.declared.moves.Rate.{Rate}
 use Rattle.rate_params.specs.Params.{nrm, params_fit, tbe_fits, frtt_fits, trm_time}
@@ -8,7 +8,7 @@ use Rattle.rate_moves.specs.Bounds.{Between, RateInBounds}
 use Rattle.cell.specs.Name.{vci_in, no_name}
 use Rattle.connection_members.specs.Path.{is_path, first_vci}
 use Rattle.connection_members.specs.Members.{member_capacity}
-use Rattle.connection.specs.Parts.{Connection, Pace, Unsent, Running, Queue, Change, Made, Instant, Never, At, waiting, waiting_most, unanswered_most}
+use Rattle.connection.specs.Parts.{Connection, Pace, Unsent, Running, Queue, Change, Made, Instant, waiting, waiting_most, unanswered_most}
 
 -- At any time the rate, and the rates before and after the last backward cell, are between
 -- its bounds. Y is within its own.
@@ -46,8 +46,8 @@ pub record PartsValidAt (now name opened trm : ℕ) (p : Params) (pace : Pace) :
 
 -- not after now, if there is such an instant
 abbrev pub NotAfter : (now : ℕ) → Instant → Type 0
-NotAfter now Never = Unit
-NotAfter now (At i) = i ≤ now
+NotAfter now None = Unit
+NotAfter now (Some i) = i ≤ now
 
 -- the made cell that waits has a level of the engine, and none was made after now
 pub record MadeValidAt (now : ℕ) (m : Made) : Type 0 where

@@ -1,21 +1,26 @@
 -- A connection, its parts, and the same connection with one part changed.
 -- (Document 01, "Opening"; document 02, L9 and L13.)
-use Rattle.std.specs.Prelude.{ℕ, ◌+◌, ◌-◌, false}
+use Rattle.std.specs.Prelude.{ℕ, ◌+◌, ◌-◌, false, Option, None}
 use Rattle.rate_params.specs.declared.params.Params.{Params}
 use Rattle.rate_moves.specs.declared.moves.Rate.{Rate}
 use Rattle.rate_params.specs.Params.{initial_used, trm_time}
 use Rattle.rate_moves.specs.Moves.{opened}
+use Rattle.cell_payload.specs.declared.payload.Payload.{Payload}
 pub use Rattle.connection.specs.declared.parts.Pace.{Pace}
 pub use Rattle.connection.specs.declared.parts.Pace.TheVariants.{Unsent, Running}
 pub use Rattle.connection.specs.declared.parts.Queue.{Queue}
 pub use Rattle.connection.specs.declared.parts.Change.{Change}
-pub use Rattle.connection.specs.declared.parts.Waiting.{Waiting}
-pub use Rattle.connection.specs.declared.parts.Waiting.TheVariants.{Nothing, Cell}
 pub use Rattle.connection.specs.declared.parts.Made.{Made}
 pub use Rattle.connection.specs.declared.parts.Destination.{Destination}
-pub use Rattle.connection.specs.declared.ready.Instant.{Instant}
-pub use Rattle.connection.specs.declared.ready.Instant.TheVariants.{Never, At}
 pub use Rattle.connection.specs.declared.parts.Connection.{Connection}
+
+-- an instant in nanoseconds, or none: a ready instant, or that of the last making or of the last out-of-rate cell
+abbrev pub Instant : Type 0
+Instant = Option ℕ
+
+-- the one turned cell that waits, if any
+abbrev pub Waiting : Type 0
+Waiting = Option Payload
 
 -- All that the calls do to a connection is made of these seven.
 abbrev pub with_rate : Connection → Rate → Connection
@@ -58,7 +63,7 @@ dequeued n l = record { cells = l.cells - n; served = l.served }
 
 -- no cell waits, none was made, and no EFCI is saved
 abbrev pub fresh_destination : Destination
-fresh_destination = record { efci = false; turned = Nothing; made = record { level = 0; last = Never } }
+fresh_destination = record { efci = false; turned = None; made = record { level = 0; last = None } }
 
 -- the allowed rate before a backward cell and after it
 abbrev pub changed : (before after : ℕ) → Change
@@ -77,5 +82,5 @@ fresh v t p = record {
   queue = record { cells = 0; served = 0 };
   change = changed (initial_used p) (initial_used p);
   destination = fresh_destination;
-  out_of_rate = Never;
+  out_of_rate = None;
 }

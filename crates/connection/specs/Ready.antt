@@ -1,14 +1,12 @@
 -- When a connection may send: its ready instant. (Document 01, "Slots".)
-use Rattle.std.specs.Prelude.{ℕ, ◌+◌, ◌-◌, max, Bool, true, false, cond, ◌||◌, leb, ltb, eqb}
+use Rattle.std.specs.Prelude.{ℕ, ◌+◌, ◌-◌, max, Bool, true, false, cond, ◌||◌, leb, ltb, eqb, Some, None}
 use Rattle.rate_params.specs.Params.{nrm}
 use Rattle.rate.specs.Gap.{gap}
-use Rattle.connection.specs.Parts.{Connection, Pace, Unsent, Running, Waiting, Nothing, Cell, Destination, waiting}
-pub use Rattle.connection.specs.declared.ready.Instant.{Instant}
-pub use Rattle.connection.specs.declared.ready.Instant.TheVariants.{Never, At}
+use Rattle.connection.specs.Parts.{Connection, Pace, Unsent, Running, Waiting, Destination, waiting, Instant}
 
 unfoldable pub waits : Waiting → Bool
-waits Nothing = false
-waits (Cell p) = true
+waits None = false
+waits (Some p) = true
 
 -- a turned or a made cell waits (document 02, L1)
 unfoldable pub backward_waits : Destination → Bool
@@ -26,11 +24,11 @@ last_before c k = eqb k (nrm c.rate.params - 1)
 -- the gap, if anything waits or k = Nrm − 1. Else, from k = 2 on: due, but not before Trm after the
 -- last forward cell. Else never.
 unfoldable pub ready_from : Connection → Pace → Instant
-ready_from c Unsent = cond (any_waits c) (At c.opened) Never
+ready_from c Unsent = cond (any_waits c) (Some c.opened) None
 ready_from c (Running sent forward k turned) =
-    cond (any_waits c || last_before c k) (At (sent + gap c.rate.acr))
-    (cond (leb 2 k) (At (max (sent + gap c.rate.acr) (forward + c.trm))) Never)
+    cond (any_waits c || last_before c k) (Some (sent + gap c.rate.acr))
+    (cond (leb 2 k) (Some (max (sent + gap c.rate.acr) (forward + c.trm))) None)
 
 -- an allowed rate of 0 is never ready (document 02, L5)
 unfoldable pub ready_instant : Connection → Instant
-ready_instant c = cond (eqb c.rate.acr 0) Never (ready_from c c.pace)
+ready_instant c = cond (eqb c.rate.acr 0) None (ready_from c c.pace)

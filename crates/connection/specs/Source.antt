@@ -1,7 +1,7 @@
 -- The source of a connection: the data that waits, the forward cells that it sends, in rate and out of rate, and what a
 -- backward cell makes of it. (Document 01, "Opening", "Slots" and "Four moves of the allowed rate"; document 02, L5, L9
 -- and L13.)
-use Rattle.std.specs.Prelude.{ℕ, ◌+◌, ◌-◌, min, false, cond, List, eqb}
+use Rattle.std.specs.Prelude.{ℕ, ◌+◌, ◌-◌, min, false, cond, List, eqb, Some}
 use Rattle.std.proofs.Math.Option.{Option}
 use Rattle.rate_moves.specs.declared.moves.Rate.{Rate}
 use Rattle.rate.specs.Code.{rate_of, code_of}
@@ -11,7 +11,7 @@ use Rattle.cell.specs.declared.fields.Fields.{Fields}
 use Rattle.cell.specs.Name.{vpi_in, vci_in}
 use Rattle.cell.specs.Fields.{rm_cell}
 use Rattle.connection_members.specs.Turn.{last_after}
-use Rattle.connection.specs.Parts.{Connection, Pace, Unsent, Running, At, with_rate, with_pace, with_unanswered, with_queue, with_change, with_out_of_rate, enqueued, dequeued, changed, unanswered_most}
+use Rattle.connection.specs.Parts.{Connection, Pace, Unsent, Running, with_rate, with_pace, with_unanswered, with_queue, with_change, with_out_of_rate, enqueued, dequeued, changed, unanswered_most}
 use Rattle.connection.specs.Pace.{paced}
 
 -- an offer adds to the waiting data
@@ -56,7 +56,7 @@ forward_fields v q = record {
 
 -- an out-of-rate cell at t (document 02, L5; source rule 11) changes nothing but its own instant
 unfoldable pub after_out_of_rate : ℕ → Connection → Connection
-after_out_of_rate t c = with_out_of_rate c (At t)
+after_out_of_rate t c = with_out_of_rate c (Some t)
 
 -- its octets: CLP 1, and the fields of a slot's forward cell with the allowed rate as it stands
 unfoldable pub out_of_rate_cell : Connection → List ℕ

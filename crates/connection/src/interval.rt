@@ -4,18 +4,16 @@ ghost use Rattle.std.specs.Prelude.{◌≡◌};
 ghost use Rattle.connection.specs.Interval.{rested};
 ghost use Rattle.connection.specs.Range.{InstantInRange};
 
-use crate::ready::Instant;
-
 // In nanoseconds.
 const INTERVAL: u64 = 100000000;
 
 // Whether enough time has passed at t since the last one.
-pub fn rested(t: u64, last: Instant) -> bool
+pub fn rested(t: u64, last: Option<u64>) -> bool
     requires { InstantInRange last }
     ensures { result ≡ rested t last }
 {
     match last {
-        Instant::Never => true,
-        Instant::At(m) => m + INTERVAL <= t,
+        None => true,
+        Some(m) => m + INTERVAL <= t,
     }
 }

@@ -7,4 +7,3 @@ pub mod interval;
 pub mod kind;
 pub mod pace;
 pub mod parts;
-pub mod ready;

@@ -2,7 +2,6 @@
 ghost use Rattle.std.specs.Prelude.{◌≡◌};
 ghost use Rattle.connection.specs.Parts.{fresh, with_rate, with_pace, with_unanswered, with_queue, with_change, with_destination, with_out_of_rate};
 
-use crate::ready::Instant;
 use cell_payload::payload::Payload;
 use rate_moves::moves::Rate;
 use rate_params::params::{Params, trm_time};
@@ -42,31 +41,24 @@ pub struct Change {
     pub after: u64,
 }
 
-// The one turned cell that waits, if any.
-#[derive(Clone, Copy)]
-pub enum Waiting {
-    Nothing,
-    Cell(Payload),
-}
-
 // The backward cells that the connection makes itself (document 02, L1): the level at which the one that waits was
-// made, 0 if none waits, and the instant of the last making.
+// made, 0 if none waits, and the instant of the last making, if there was one.
 #[derive(Clone, Copy)]
 pub struct Made {
     pub level: u32,
-    pub last: Instant,
+    pub last: Option<u64>,
 }
 
-// What the destination keeps: the saved EFCI, the waiting turned cell, and the cells made.
+// What the destination keeps: the saved EFCI, the one turned cell that waits, if any, and the cells made.
 #[derive(Clone, Copy)]
 pub struct Destination {
     pub efci: bool,
-    pub turned: Waiting,
+    pub turned: Option<Payload>,
     pub made: Made,
 }
 
 // trm is Trm in nanoseconds, looked up once, at the open; unanswered is the count Y; out_of_rate is the instant of the
-// last out-of-rate forward cell (document 02, L5).
+// last out-of-rate forward cell, if there was one (document 02, L5).
 #[derive(Clone, Copy)]
 pub struct Connection {
     pub name: u32,
@@ -78,7 +70,7 @@ pub struct Connection {
     pub queue: Queue,
     pub change: Change,
     pub destination: Destination,
-    pub out_of_rate: Instant,
+    pub out_of_rate: Option<u64>,
 }
 
 impl Connection {
@@ -104,13 +96,13 @@ impl Connection {
             },
             destination: Destination {
                 efci: false,
-                turned: Waiting::Nothing,
+                turned: None,
                 made: Made {
                     level: 0,
-                    last: Instant::Never,
+                    last: None,
                 },
             },
-            out_of_rate: Instant::Never,
+            out_of_rate: None,
         }
     }
 
@@ -172,7 +164,7 @@ impl Connection {
         self
     }
 
-    pub fn with_out_of_rate(self, last: Instant) -> Connection
+    pub fn with_out_of_rate(self, last: Option<u64>) -> Connection
         ensures { result ≡ with_out_of_rate self last }
     {
         let rate = self.rate;

@@ -7,7 +7,6 @@ ghost use Rattle.connection.specs.Destination.{with_made, made_fields};
 use cell::fields::Fields;
 use cell::name::VCIS;
 use connection::parts::{Connection, Destination, Made};
-use connection::ready::Instant;
 use laws::arithmetic::bit_u32;
 use rate::canonical::canonical;
 use rate_params::params::Params;
@@ -20,7 +19,7 @@ pub fn with_made(t: u64, level: u32, c: Connection) -> Connection
     let turned = destination.turned;
     let made = Made {
         level,
-        last: Instant::At(t),
+        last: Some(t),
     };
     c.with_destination(Destination {
         efci: destination.efci,

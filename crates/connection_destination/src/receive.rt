@@ -5,7 +5,7 @@ ghost use Rattle.connection.specs.Destination.{after_data_cell, waiting_ci, afte
 
 use cell_payload::payload::Payload;
 use cell_turn::turn::turn;
-use connection::parts::{Connection, Destination, Waiting};
+use connection::parts::{Connection, Destination};
 
 // The latest data cell decides the saved EFCI.
 pub fn after_data_cell(efci: bool, c: Connection) -> Connection
@@ -18,12 +18,12 @@ pub fn after_data_cell(efci: bool, c: Connection) -> Connection
 }
 
 // The CI of a turned cell that waits: octet 7 is the second of its first word.
-fn waiting_ci(w: Waiting) -> bool
+fn waiting_ci(w: Option<Payload>) -> bool
     ensures { result ≡ waiting_ci w }
 {
     match w {
-        Waiting::Nothing => false,
-        Waiting::Cell(p) => p.a / 0x20000000000000 % 2 == 1,
+        None => false,
+        Some(p) => p.a / 0x20000000000000 % 2 == 1,
     }
 }
 
@@ -37,7 +37,7 @@ pub fn after_forward_payload(level: u32, p: Payload, c: Connection) -> Connectio
     let replaced = destination.turned;
     let made = destination.made;
     let kept = destination.efci | waiting_ci(replaced);
-    let turned = Waiting::Cell(turn(p, level, kept));
+    let turned = Some(turn(p, level, kept));
     c.with_destination(Destination {
         efci: false,
         turned,

@@ -3,17 +3,18 @@ ghost use Rattle.std.specs.Prelude.{◌≡◌};
 ghost use Rattle.connection.specs.Destination.{made_left, sent_turned};
 ghost use Rattle.connection.specs.Range.{InRange};
 
+use cell_payload::payload::Payload;
 use connection::pace::paced;
-use connection::parts::{Connection, Destination, Made, Waiting};
+use connection::parts::{Connection, Destination, Made};
 
 // The turned cell goes before the made one.
-fn made_left(w: Waiting, m: Made) -> Made
+fn made_left(w: Option<Payload>, m: Made) -> Made
     ensures { result ≡ made_left w m }
 {
     let last = m.last;
     match w {
-        Waiting::Nothing => Made { level: 0, last },
-        Waiting::Cell(_) => m,
+        None => Made { level: 0, last },
+        Some(_) => m,
     }
 }
 
@@ -27,7 +28,7 @@ pub fn sent_turned(t: u64, c: Connection) -> Connection
     let made = destination.made;
     let left = Destination {
         efci: destination.efci,
-        turned: Waiting::Nothing,
+        turned: None,
         made: made_left(turned, made),
     };
     c.with_pace(paced(t, true, pace)).with_destination(left)

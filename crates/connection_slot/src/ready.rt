@@ -1,28 +1,17 @@
 // When a connection may send (document 01, "Slots").
 ghost use Rattle.std.specs.Prelude.{◌≡◌};
-ghost use Rattle.connection.specs.Ready.{waits, backward_waits, any_waits, last_before, ready_from, ready_instant};
+ghost use Rattle.connection.specs.Ready.{backward_waits, any_waits, last_before, ready_from, ready_instant};
 ghost use Rattle.connection.specs.Range.{InRange, InstantBelow};
 
-use connection::parts::{Connection, Destination, Pace, Waiting};
-use connection::ready::Instant;
+use connection::parts::{Connection, Destination, Pace};
 use laws::arithmetic::higher;
 use rate::gap::gap;
-
-pub fn waits(w: Waiting) -> bool
-    ensures { result ≡ waits w }
-{
-    match w {
-        Waiting::Nothing => false,
-        Waiting::Cell(_) => true,
-    }
-}
 
 // A turned or a made cell waits.
 pub fn backward_waits(d: Destination) -> bool
     ensures { result ≡ backward_waits d }
 {
-    let turned = d.turned;
-    waits(turned) | (0 < d.made.level)
+    d.turned.is_some() | (0 < d.made.level)
 }
 
 // Data, a turned or a made cell waits.
@@ -49,7 +38,7 @@ pub fn last_before(c: Connection, k: u32) -> bool
 }
 
 // Of a connection whose allowed rate is not 0.
-fn ready_from(c: Connection) -> Instant
+fn ready_from(c: Connection) -> Option<u64>
     requires { InRange c }
     ensures equal { result ≡ ready_from c c.pace }
     ensures below { InstantBelow result }
@@ -58,9 +47,9 @@ fn ready_from(c: Connection) -> Instant
     match pace {
         Pace::Unsent => {
             if any_waits(c) {
-                return Instant::At(c.opened);
+                return Some(c.opened);
             }
-            Instant::Never
+            None
         }
         Pace::Running {
             sent,
@@ -70,27 +59,27 @@ fn ready_from(c: Connection) -> Instant
         } => {
             let due = sent + gap(c.rate.acr);
             if any_waits(c) {
-                return Instant::At(due);
+                return Some(due);
             }
             if last_before(c, k) {
-                return Instant::At(due);
+                return Some(due);
             }
             if k < 2 {
-                return Instant::Never;
+                return None;
             }
-            Instant::At(higher(due, forward + c.trm))
+            Some(higher(due, forward + c.trm))
         }
     }
 }
 
 // At an allowed rate of 0 it is never ready (document 02, L5).
-pub fn ready_instant(c: Connection) -> Instant
+pub fn ready_instant(c: Connection) -> Option<u64>
     requires { InRange c }
     ensures equal { result ≡ ready_instant c }
     ensures below { InstantBelow result }
 {
     if c.rate.acr == 0 {
-        return Instant::Never;
+        return None;
     }
     ready_from(c)
 }

@@ -3,11 +3,10 @@ ghost use Rattle.std.specs.Prelude.{◌≡◌};
 ghost use Rattle.connection.specs.Source.{after_out_of_rate};
 
 use connection::parts::Connection;
-use connection::ready::Instant;
 
 // One at t changes nothing but its own instant.
 pub fn after_out_of_rate(t: u64, c: Connection) -> Connection
     ensures { result ≡ after_out_of_rate t c }
 {
-    c.with_out_of_rate(Instant::At(t))
+    c.with_out_of_rate(Some(t))
 }

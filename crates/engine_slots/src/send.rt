@@ -10,10 +10,10 @@ ghost use Rattle.model.specs.State.{capacity};
 
 use crate::data::send_data;
 use cell::name::VCIS;
+use cell_payload::payload::Payload;
 use cell_write::turned::put_turned;
 use cell_write::write::put_rm;
 use connection::kind::Kind;
-use connection::parts::Waiting;
 use connection_destination::make::made_fields;
 use connection_destination::turned::sent_turned;
 use connection_slot::kind::kind_at;
@@ -27,13 +27,13 @@ use table_store::winner::{update_winner, update_winner_source};
 use table_tournament::winner::leads_neighbour;
 
 // The backward cell that goes: the turned one that waits, else the made one.
-fn put_backward(cell: &mut [u8], name: u32, params: Params, w: Waiting, level: u32)
+fn put_backward(cell: &mut [u8], name: u32, params: Params, w: Option<Payload>, level: u32)
     requires { (length cell.old ≡ 53) × (name < no_name) }
     ensures { cell.new ≡ backward_cell name params w level }
 {
     match w {
-        Waiting::Nothing => put_rm(cell, 0, made_fields(name, params, level)),
-        Waiting::Cell(p) => put_turned(cell, name / VCIS, name % VCIS, p),
+        None => put_rm(cell, 0, made_fields(name, params, level)),
+        Some(p) => put_turned(cell, name / VCIS, name % VCIS, p),
     }
 }
 
@@ -46,12 +46,12 @@ pub fn put_forward(cell: &mut [u8], clp: u32, name: u32, rate: Rate)
 }
 
 // Whether no turned cell waits: then a backward cell that goes is a made one (document 02, L1).
-fn none_turned(w: Waiting) -> bool
+fn none_turned(w: Option<Payload>) -> bool
     ensures { result ≡ none_turned w }
 {
     match w {
-        Waiting::Nothing => true,
-        Waiting::Cell(_) => false,
+        None => true,
+        Some(_) => false,
     }
 }
 

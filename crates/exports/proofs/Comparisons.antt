@@ -1,4 +1,5 @@
 -- The comparisons of every call are bounded, and the winner is that of the scan.
+use Rattle.std.specs.Prelude.{None}
 use Prim.Native.Nat.{ℕ, ◌+◌, ◌<◌}
 use mathlib.Core.Path.{◌≡◌, refl, sym, ap, subst, ◌∙◌}
 use mathlib.Core.Bool.{Bool, true, false, cond, not}
@@ -13,7 +14,6 @@ use Rattle.connection_members.specs.Path.{path_vci}
 use Rattle.connection.specs.declared.parts.Connection.{Connection}
 use Rattle.connection.specs.declared.kind.Kind.TheVariants.{Forward, Turned, Data}
 use Rattle.connection.specs.Parts.{fresh}
-use Rattle.connection.specs.declared.ready.Instant.TheVariants.{Never}
 use Rattle.connection.specs.Ready.{waits, backward_waits, any_waits, ready_from, ready_instant}
 use Rattle.model.specs.State.{State, Entry, taken, empty, position, is_free, holds, find, with_opened, room_left, with_time}
 use Rattle.model.specs.Invariant.{WellFormed, NamesUnique}
@@ -107,11 +107,11 @@ cell-counted c h k n e = record {
 }
 
 -- a fresh connection enters a free entry, and is never ready
-fresh-never : (u t : ℕ) (p : Params) → ready_instant (fresh u t p) ≡ Never
+fresh-never : (u t : ℕ) (p : Params) → ready_instant (fresh u t p) ≡ None
 unfolding fresh ready_instant ready_from any_waits backward_waits waits
 fresh-never u t p = go (eqb (fresh u t p).rate.acr 0)
   where
-    go : (b : Bool) → cond b Never Never ≡ Never
+    go : (b : Bool) → cond b None None ≡ None
     go true = refl
     go false = refl
 

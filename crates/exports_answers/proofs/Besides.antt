@@ -19,8 +19,8 @@ use Rattle.model.specs.Aspects.{Sort, opener, closer, arrival, slot_at, another,
 use Rattle.cell.specs.Reading.{reading}
 use Rattle.connection.specs.declared.kind.Kind.{Kind}
 use Rattle.connection.specs.declared.kind.Kind.TheVariants.{Forward, Turned, Data}
-use Rattle.connection.specs.declared.parts.Waiting.{Waiting}
 use Rattle.connection.specs.Kind.{kind_number}
+use Rattle.connection.specs.Parts.{Waiting}
 use Rattle.model.specs.State.{State, Entry, free, taken, empty, is_free, find, leaf_of}
 use Rattle.model.specs.Invariant.{WellFormed}
 use Rattle.model.specs.Answers.{Answer, Refused, Accepted, Closed, Idle, Sent}

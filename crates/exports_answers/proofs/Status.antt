@@ -1,4 +1,5 @@
 -- What the readings of a whole connection, of a member and of the link return is so.
+use Rattle.std.specs.Prelude.{Some, None}
 use Prim.Native.Nat.{ℕ, zero, suc, ◌+◌, min, ◌≤◌, ◌<◌}
 use mathlib.Core.Path.{◌≡◌, refl, sym, ap, subst, ◌∙◌}
 use mathlib.Core.Bool.{Bool, true, false, cond, ◌||◌, true≢false}
@@ -20,12 +21,8 @@ use Rattle.connection_members.specs.Invariant.{Rising, ValidMember}
 use Rattle.connection.specs.declared.parts.Pace.{Pace}
 use Rattle.connection.specs.declared.parts.Pace.TheVariants.{Unsent, Running}
 use Rattle.connection.specs.declared.parts.Connection.{Connection}
-use Rattle.connection.specs.declared.parts.Waiting.{Waiting}
-use Rattle.connection.specs.declared.parts.Waiting.TheVariants.{Nothing, Cell}
-use Rattle.connection.specs.declared.ready.Instant.{Instant}
-use Rattle.connection.specs.declared.ready.Instant.TheVariants.{Never, At}
 use Rattle.connection.specs.Invariant.{ValidAt}
-use Rattle.connection.specs.Parts.{waiting}
+use Rattle.connection.specs.Parts.{waiting, Waiting, Instant}
 use Rattle.connection.specs.Range.{InstantBelow}
 use Rattle.connection.specs.Ready.{waits, ready_instant}
 use Rattle.connection.specs.Change.{difference}
@@ -110,12 +107,12 @@ is-taken (taken c) e = record { holder = c; is = refl }
 
 turned-waits : (w : Waiting) → turned_shown w ≡ cond (waits w) 1 0
 unfolding waits
-turned-waits Nothing = refl
-turned-waits (Cell p) = refl
+turned-waits None = refl
+turned-waits (Some p) = refl
 
 shown-instant : (t : Instant) → ShownInstant t (instant_shown t)
-shown-instant Never = refl
-shown-instant (At t) = refl
+shown-instant None = refl
+shown-instant (Some t) = refl
 
 shown-pace : (p : Pace) (r : AbrConnection) → r.last_sent ≡ sent_shown p → r.last_forward ≡ forward_shown p → r.k ≡ k_shown p → r.backward_sent ≡ backward_shown p → ShownPace p r
 shown-pace Unsent r a b c d = (a, b, c, d)
@@ -159,21 +156,21 @@ module _ (v : ℕ) (c : Connection) (n l i : ℕ) (r : AbrConnection) (e : r ≡
 
 ready-most : (i : Instant) → InstantBelow i → ready_word i ≤ never_word
 unfolding ready_word
-ready-most Never h = omega arith
-ready-most (At i) h = omega (arith, h)
+ready-most None h = omega arith
+ready-most (Some i) h = omega (arith, h)
 
 earlier_word : (a b : Instant) → InstantBelow a → InstantBelow b → ready_word (earlier a b) ≡ min (ready_word a) (ready_word b)
 unfolding ready_word earlier
-earlier_word Never Never g h = omega arith
-earlier_word Never (At j) g h = omega (arith, h)
-earlier_word (At i) Never g h = omega (arith, g)
-earlier_word (At i) (At j) g h = refl
+earlier_word None None g h = omega arith
+earlier_word None (Some j) g h = omega (arith, h)
+earlier_word (Some i) None g h = omega (arith, g)
+earlier_word (Some i) (Some j) g h = refl
 
 earlier-below : (a b : Instant) → InstantBelow a → InstantBelow b → InstantBelow (earlier a b)
 unfolding earlier
-earlier-below Never b g h = h
-earlier-below (At i) Never g h = g
-earlier-below (At i) (At j) g h = omega (arith, g, h)
+earlier-below None b g h = h
+earlier-below (Some i) None g h = g
+earlier-below (Some i) (Some j) g h = omega (arith, g, h)
 
 abbrev Below : Connection → Type 0
 Below c = InstantBelow (ready_instant c)

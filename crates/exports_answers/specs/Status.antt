@@ -1,6 +1,6 @@
 -- What abr_status, abr_at, abr_member_at and abr_link return, held to what a caller keeps of the calls and what they
 -- returned, and to the other readings. (Beyond the documents' demands.)
-use Rattle.std.specs.Prelude.{ℕ, ◌≤◌, ◌<◌, ◌≡◌, false, cond, List, length, get_or}
+use Rattle.std.specs.Prelude.{ℕ, ◌≤◌, ◌<◌, ◌≡◌, false, cond, List, length, get_or, Some, None}
 use Rattle.std.proofs.Math.Option.{none, some}
 use Rattle.rate_params.specs.declared.params.Params.{Params}
 use Rattle.rate_params.specs.Params.{initial_used, crm}
@@ -9,8 +9,7 @@ use Rattle.connection_members.specs.Path.{is_path, path_of}
 use Rattle.model.specs.Call.{Call}
 use Rattle.connection.specs.declared.parts.Pace.{Pace}
 use Rattle.connection.specs.declared.parts.Pace.TheVariants.{Unsent, Running}
-use Rattle.connection.specs.declared.ready.Instant.{Instant}
-use Rattle.connection.specs.declared.ready.Instant.TheVariants.{Never, At}
+use Rattle.connection.specs.Parts.{Instant}
 use Rattle.model.specs.State.{capacity}
 use Rattle.model.specs.Answers.{NoMember}
 use Rattle.model.specs.Queries.{never_word, ready_word}
@@ -40,8 +39,8 @@ ShownPace Unsent r = (r.last_sent ≡ never_word) × (r.last_forward ≡ never_w
 ShownPace (Running sent forward n turned) r = (r.last_sent ≡ sent) × (r.last_forward ≡ forward) × (r.k ≡ n) × (r.backward_sent ≡ cond turned 1 0)
 
 abbrev pub ShownInstant : Instant → (shown : ℕ) → Type 0
-ShownInstant Never n = n ≡ never_word
-ShownInstant (At t) n = n ≡ t
+ShownInstant None n = n ≡ never_word
+ShownInstant (Some t) n = n ≡ t
 
 -- what is its own: its contract, what was seen of its cells and of what was asked of it, what its destination heard,
 -- what abr_acr returns, and its ready instant

@@ -1,4 +1,5 @@
 -- Two tables that are equal except for the instant of one connection's last out-of-rate cell.
+use Rattle.std.specs.Prelude.{Some, None}
 use Prim.Native.Nat.{ℕ, zero, suc, ◌+◌, ◌*◌, ◌/◌, ◌≤◌}
 use mathlib.Core.Path.{◌≡◌, refl, ap}
 use mathlib.Core.Logic.{◌≢◌}
@@ -9,9 +10,7 @@ use lib.ListN.{length, get_or, set}
 use Rattle.connection.specs.declared.parts.Connection.{Connection}
 use Rattle.connection.specs.declared.kind.Kind.{Kind}
 use Rattle.connection.specs.declared.kind.Kind.TheVariants.{Forward, Turned, Data}
-use Rattle.connection.specs.declared.ready.Instant.{Instant}
-use Rattle.connection.specs.declared.ready.Instant.TheVariants.{Never, At}
-use Rattle.connection.specs.Parts.{waiting, with_out_of_rate}
+use Rattle.connection.specs.Parts.{waiting, with_out_of_rate, Instant}
 use Rattle.connection.specs.Ready.{ready_instant}
 use Rattle.connection.proofs.Readiness.{ready-same}
 use Rattle.model.specs.State.{Entry, free, taken, position, is_free, holds, find}
@@ -28,8 +27,8 @@ use Rattle.exports_cells.specs.OutOfRateAlone.{with_last_out_of_rate}
 
 -- such an instant, if there is one, is not after t
 abbrev pub UpTo : ℕ → Instant → Type 0
-UpTo t Never = Unit
-UpTo t (At m) = m ≤ t
+UpTo t None = Unit
+UpTo t (Some m) = m ≤ t
 
 pub data Like (v t : ℕ) : Entry → Entry → Type 0 where
   alike : {x : Entry} → Like v t x x

@@ -1,4 +1,5 @@
 -- The level, the saved EFCI and the cells that wait are what a caller keeps of them.
+use Rattle.std.specs.Prelude.{Some, None}
 use Prim.Native.Nat.{ℕ, ◌<◌}
 use mathlib.Core.Path.{◌≡◌, refl, sym, ap, subst, ◌∙◌}
 use mathlib.Core.Bool.{Bool, true, false, cond, ◌&&◌, ◌||◌}
@@ -26,11 +27,9 @@ use Rattle.connection_members.specs.Path.{path_vci, path_of}
 use Rattle.connection_members.specs.Members.{cells_of, owner}
 use Rattle.connection.specs.declared.parts.Connection.{Connection}
 use Rattle.connection.specs.declared.parts.Destination.{Destination}
-use Rattle.connection.specs.declared.parts.Waiting.{Waiting}
-use Rattle.connection.specs.declared.parts.Waiting.TheVariants.{Nothing, Cell}
 use Rattle.connection.specs.declared.kind.Kind.{Kind}
 use Rattle.connection.specs.declared.kind.Kind.TheVariants.{Forward, Turned, Data}
-use Rattle.connection.specs.Parts.{fresh, fresh_destination, with_queue, dequeued}
+use Rattle.connection.specs.Parts.{fresh, fresh_destination, with_queue, dequeued, Waiting}
 use Rattle.connection.specs.Source.{offered, after_backward_cell, with_served, sent_forward, sent_data, after_out_of_rate}
 use Rattle.connection.specs.Destination.{with_made, after_data_cell, waiting_ci, mark_kept, after_forward_cell, sent_turned, made_left}
 use Rattle.connection.specs.Received.{after_rm_cell}
@@ -83,10 +82,10 @@ destination_at v s = entry_destination (find v s.entries)
 -- The turned cell that waits will be read with these fields, on the VPI and VCI of v. It
 -- keeps the bits that were received.
 pub data TurnedAs (v : ℕ) : Option TurnedCell → Waiting → Type 0 where
-  none_waits : TurnedAs v none Nothing
+  none_waits : TurnedAs v none None
   one_waits :
       {x : TurnedCell} {p : Payload} → reading (turned_cell (vpi_in v) (vci_in v) p) ≡ RmCell x.fields → Kept x.received (turned_cell (vpi_in v) (vci_in v) p)
-      → TurnedAs v (some x) (Cell p)
+      → TurnedAs v (some x) (Some p)
 
 pub record ReceiverAs (v : ℕ) (r : Receiver) (d : Destination) : Type 0 where
   pub efci : r.efci ≡ d.efci
@@ -99,10 +98,10 @@ fresh-as v = record { efci = refl; turned = none_waits; made = refl }
 -- the CI of the one that waits
 ci-as : (v : ℕ) (x : Option TurnedCell) (w : Waiting) → TurnedAs v x w → ci_waits x ≡ waiting_ci w
 unfolding waiting_ci turned_cell header fields_of
-ci-as v none Nothing none_waits = refl
-ci-as v (some x) (Cell p) (one_waits e k) = ap (λ (f : Fields). eqb f.ci 1) (rm-received (turned_cell (vpi_in v) (vci_in v) p) x.fields e).fields
-ci-as v none (Cell p) x3 = elim x3 [ ]
-ci-as v (some x) Nothing x5 = elim x5 [ ]
+ci-as v none None none_waits = refl
+ci-as v (some x) (Some p) (one_waits e k) = ap (λ (f : Fields). eqb f.ci 1) (rm-received (turned_cell (vpi_in v) (vci_in v) p) x.fields e).fields
+ci-as v none (Some p) x3 = elim x3 [ ]
+ci-as v (some x) None x5 = elim x5 [ ]
 
 -- A forward cell is turned.
 turned_as :
@@ -130,11 +129,11 @@ unfolding sent_turned made_left
 gone-as v r t c h = go r.turned c.destination.turned h.turned
   where
     go : (x : Option TurnedCell) (w : Waiting) → TurnedAs v x w
-        → ReceiverAs v (gone_from r.efci r.made x) (record { efci = c.destination.efci; turned = Nothing; made = made_left w c.destination.made })
-    go none Nothing none_waits = record { efci = h.efci; turned = none_waits; made = refl }
-    go (some x) (Cell p) (one_waits e k) = record { efci = h.efci; turned = none_waits; made = h.made }
-    go none (Cell p) x3 = elim x3 [ ]
-    go (some x) Nothing x5 = elim x5 [ ]
+        → ReceiverAs v (gone_from r.efci r.made x) (record { efci = c.destination.efci; turned = None; made = made_left w c.destination.made })
+    go none None none_waits = record { efci = h.efci; turned = none_waits; made = refl }
+    go (some x) (Some p) (one_waits e k) = record { efci = h.efci; turned = none_waits; made = h.made }
+    go none (Some p) x3 = elim x3 [ ]
+    go (some x) None x5 = elim x5 [ ]
 
 module _ (v : ℕ) where
   -- of one name or of another

@@ -1,4 +1,5 @@
 -- No mark is invented, of exported calls.
+use Rattle.std.specs.Prelude.{Some, None}
 use Prim.Native.Nat.{ℕ, ◌/◌, ◌%◌}
 use mathlib.Core.Path.{◌≡◌, refl, sym, ap, ◌∙◌, subst}
 use mathlib.Core.Logic.{◌≢◌}
@@ -18,9 +19,8 @@ use Rattle.cell.specs.declared.fields.Fields.{Fields}
 use Rattle.cell.specs.declared.read.Reading.{Reading}
 use Rattle.cell.specs.declared.read.Reading.TheVariants.{Refused, DataCell, RmCell}
 use Rattle.cell.proofs.Admits.{rm-received}
+use Rattle.connection.specs.Parts.{Waiting}
 use Rattle.connection_members.specs.Path.{path_vci}
-use Rattle.connection.specs.declared.parts.Waiting.{Waiting}
-use Rattle.connection.specs.declared.parts.Waiting.TheVariants.{Nothing, Cell}
 use Rattle.model.specs.State.{State, Entry, free, taken, is_free, empty, find}
 use Rattle.model.specs.Answers.{Answer, Refused as Unaccepted, Accepted, Closed, Idle, Sent}
 use Rattle.model.specs.Call.{Call, closing, receiving, slot}
@@ -63,18 +63,18 @@ data Step (bit : Fields → ℕ) (Mark : Fields → Heard → Type 0) (Since : C
       → Step bit Mark Since v k c o
 
 -- a turned cell waits on an open connection alone, and closing one is accepted
-is-cell : (bit : Fields → ℕ) (v : ℕ) (x : Option TurnedCell) (w : Waiting) → TurnedAs v x w → bit_waits bit x ≡ true → w ≡ Nothing → ⊥
-is-cell bit v none Nothing none_waits b z = false≢true b
-is-cell bit v (some x) (Cell p) (one_waits e k) b z = let y : ◌≡◌ {A = ℕ} 0 1 = cc in omega arith
-is-cell bit v none (Cell p) x7 b z = elim x7 [ ]
-is-cell bit v (some x) Nothing x7 b z = elim x7 [ ]
+is-cell : (bit : Fields → ℕ) (v : ℕ) (x : Option TurnedCell) (w : Waiting) → TurnedAs v x w → bit_waits bit x ≡ true → w ≡ None → ⊥
+is-cell bit v none None none_waits b z = false≢true b
+is-cell bit v (some x) (Some p) (one_waits e k) b z = let y : ◌≡◌ {A = ℕ} 0 1 = cc in omega arith
+is-cell bit v none (Some p) x7 b z = elim x7 [ ]
+is-cell bit v (some x) None x7 b z = elim x7 [ ]
 
-waits-open : (x : Entry) → ((entry_destination x).turned ≡ Nothing → ⊥) → is_free x ≡ false
+waits-open : (x : Entry) → ((entry_destination x).turned ≡ None → ⊥) → is_free x ≡ false
 unfolding entry_destination is_free
 waits-open free n = absurd (n refl)
 waits-open (taken c) n = refl
 
-closes-open : (v : ℕ) (s : State) (vpi vci : ℕ) → ((destination_at v s).turned ≡ Nothing → ⊥) → address_name vpi vci ≡ v → is_accepted (step s (closing vpi vci)).answer ≡ true
+closes-open : (v : ℕ) (s : State) (vpi vci : ℕ) → ((destination_at v s).turned ≡ None → ⊥) → address_name vpi vci ≡ v → is_accepted (step s (closing vpi vci)).answer ≡ true
 closes-open v s vpi vci n e =
     close-accepted s vpi vci (waits-open (find (address_name vpi vci) s.entries) (λ z. n (ap (λ (x : ℕ). (destination_at x s).turned) (sym e) ∙ z)))
 

@@ -1,5 +1,6 @@
 -- An out-of-rate cell can be left out. Each call does the same on two tables that are equal except for the cell's
 -- instant and the last accepted time.
+use Rattle.std.specs.Prelude.{Some, None}
 use Prim.Native.Nat.{ℕ, ◌+◌, ◌-◌, ◌≤◌, min, max}
 use mathlib.Core.Path.{◌≡◌, refl, sym, ap, subst, ◌∙◌}
 use mathlib.Core.Logic.{◌≢◌}
@@ -27,9 +28,7 @@ use Rattle.connection.specs.declared.parts.Pace.{Pace}
 use Rattle.connection.specs.declared.parts.Pace.TheVariants.{Unsent, Running}
 use Rattle.connection.specs.declared.kind.Kind.{Kind}
 use Rattle.connection.specs.declared.kind.Kind.TheVariants.{Forward, Turned, Data}
-use Rattle.connection.specs.declared.ready.Instant.{Instant}
-use Rattle.connection.specs.declared.ready.Instant.TheVariants.{Never, At}
-use Rattle.connection.specs.Parts.{fresh, waiting, with_out_of_rate, with_queue, dequeued}
+use Rattle.connection.specs.Parts.{fresh, waiting, with_out_of_rate, with_queue, dequeued, Instant}
 use Rattle.connection.specs.Interval.{rested}
 use Rattle.connection.specs.Source.{offered, after_backward_cell, with_served, sent_forward, sent_data, after_out_of_rate, out_of_rate_cell}
 use Rattle.connection.specs.Destination.{with_made, after_data_cell, after_forward_cell, sent_turned}
@@ -121,13 +120,13 @@ work-kept l o f c = go (eqb f.dir 1)
 
 rested-up : (t u : ℕ) (i : Instant) → UpTo t i → t + 100_000_000 ≤ u → rested u i ≡ true
 unfolding rested
-rested-up t u Never h l = refl
-rested-up t u (At m) h l = le-leb (m + 100_000_000) u (omega (arith, h, l))
+rested-up t u None h l = refl
+rested-up t u (Some m) h l = le-leb (m + 100_000_000) u (omega (arith, h, l))
 
 up-rested : (t : ℕ) (i : Instant) → rested t i ≡ true → UpTo t i
 unfolding rested
-up-rested t Never h = tt
-up-rested t (At m) h = omega (arith, leb-true (m + 100_000_000) t h)
+up-rested t None h = tt
+up-rested t (Some m) h = omega (arith, leb-true (m + 100_000_000) t h)
 
 module _ (v t : ℕ) where
   -- two such connections
@@ -641,8 +640,8 @@ left {s} vpi vci t room (refuses _ n h) = record {
 }
 left {s} vpi vci t room (sends_out_of_rate _ _ _ _ d f g h) =
     let v = address_name vpi vci in
-    let k = set_own v t s.entries (position (holds v) s.entries) (taken (with_out_of_rate d (At t)))
-    (subst (Like v t (taken (with_out_of_rate d (At t)))) (sym f) (last_differs d (At t) (name_of v s d f) (le_refl t) (up-rested t d.out_of_rate h))) in
+    let k = set_own v t s.entries (position (holds v) s.entries) (taken (with_out_of_rate d (Some t)))
+    (subst (Like v t (taken (with_out_of_rate d (Some t)))) (sym f) (last_differs d (Some t) (name_of v s d f) (le_refl t) (up-rested t d.out_of_rate h))) in
     let l : t ≡ max t s.last = omega (arith, g.since) in
     record { reads = record { level = refl; last = λ n q. omega (arith, q, g.since); entries = k; members = refl }; behind = λ _. record { level = refl; last = l; entries = k; members = refl } }
 

@@ -1,4 +1,5 @@
 -- The turned and made cells that slots send are those that wait.
+use Rattle.std.specs.Prelude.{Some, None}
 use Prim.Native.Nat.{ℕ, ◌<◌}
 use mathlib.Core.Path.{◌≡◌, refl, sym, ap, subst, ◌∙◌}
 use mathlib.Core.Bool.{Bool, true, ◌||◌}
@@ -14,14 +15,13 @@ use Rattle.cell.specs.declared.read.Reading.TheVariants.{RmCell}
 use Rattle.cell.proofs.Written.{read-written}
 use Rattle.connection.specs.declared.parts.Connection.{Connection}
 use Rattle.connection.specs.declared.parts.Destination.{Destination}
-use Rattle.connection.specs.declared.parts.Waiting.{Waiting}
-use Rattle.connection.specs.declared.parts.Waiting.TheVariants.{Nothing, Cell}
 use Rattle.connection.specs.declared.kind.Kind.{Kind}
 use Rattle.connection.specs.declared.kind.Kind.TheVariants.{Forward, Turned, Data}
 use Rattle.connection.specs.Kind.{kind_at}
 use Rattle.connection.specs.Destination.{made_fields, backward_cell}
 use Rattle.connection.specs.Slot.{Buffer, written, after, buffer_sent}
 use Rattle.connection.specs.Ready.{waits, backward_waits}
+use Rattle.connection.specs.Parts.{Waiting}
 use Rattle.connection.proofs.Waited.{turned-waits}
 use Rattle.connection.proofs.DestinationCases.{made-fits}
 use Rattle.model.specs.State.{State, taken, empty, find}
@@ -53,10 +53,10 @@ due-from :
     (v : ℕ) (p : Params) → v < no_name → (e : Bool) (x : Option TurnedCell) (w : Waiting) (level : ℕ) → TurnedAs v x w → (waits w || ltb 0 level) ≡ true
     → Due v p (record { efci = e; turned = x; made = level }) (backward_cell v p w level)
 unfolding waits backward_cell made_fields
-due-from v p l e none Nothing level none_waits z = record { waits = λ _. ltb-true 0 level z; read = read-written 0 (made_fields v p level) (lit≤ tt) (made-fits v p level l); bits = tt }
-due-from v p l e (some x) (Cell q) level (one_waits h k) z = record { waits = λ n. let y : ◌≡◌ {A = ℕ} 0 1 = cc in absurd (omega arith); read = h; bits = k }
-due-from v p l e none (Cell q) level x5 z = elim x5 [ ]
-due-from v p l e (some x) Nothing level x6 z = elim x6 [ ]
+due-from v p l e none None level none_waits z = record { waits = λ _. ltb-true 0 level z; read = read-written 0 (made_fields v p level) (lit≤ tt) (made-fits v p level l); bits = tt }
+due-from v p l e (some x) (Some q) level (one_waits h k) z = record { waits = λ n. let y : ◌≡◌ {A = ℕ} 0 1 = cc in absurd (omega arith); read = h; bits = k }
+due-from v p l e none (Some q) level x5 z = elim x5 [ ]
+due-from v p l e (some x) None level x6 z = elim x6 [ ]
 
 due : (v : ℕ) (p : Params) (r : Receiver) (d : Destination) → v < no_name → ReceiverAs v r d → backward_waits d ≡ true → Due v p r (backward_cell v p d.turned d.made.level)
 unfolding backward_waits

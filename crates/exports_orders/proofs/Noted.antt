@@ -1,4 +1,5 @@
 -- What a caller keeps of the level, the members and the instants of a connection is so.
+use Rattle.std.specs.Prelude.{Some, None}
 use Prim.Native.Nat.{ℕ, suc}
 use mathlib.Core.Path.{◌≡◌, refl, sym, ap, ◌∙◌}
 use mathlib.Core.Bool.{Bool, true, false, cond}
@@ -16,12 +17,9 @@ use Rattle.connection_members.specs.Members.{Member, cells_of, without, with_mem
 use Rattle.connection_members.specs.Turn.{after_serving}
 use Rattle.connection.specs.declared.parts.Connection.{Connection}
 use Rattle.connection.specs.declared.parts.Made.{Made}
-use Rattle.connection.specs.declared.parts.Waiting.{Waiting}
-use Rattle.connection.specs.declared.parts.Waiting.TheVariants.{Nothing, Cell}
 use Rattle.connection.specs.declared.kind.Kind.{Kind}
 use Rattle.connection.specs.declared.kind.Kind.TheVariants.{Forward, Turned, Data}
-use Rattle.connection.specs.declared.ready.Instant.TheVariants.{At}
-use Rattle.connection.specs.Parts.{fresh, with_queue, dequeued}
+use Rattle.connection.specs.Parts.{fresh, with_queue, dequeued, Waiting}
 use Rattle.connection.specs.Source.{offered, after_backward_cell, with_served, sent_forward, sent_data, after_out_of_rate}
 use Rattle.connection.specs.Destination.{with_made, after_data_cell, after_forward_cell, sent_turned, made_left}
 use Rattle.connection.specs.Received.{after_rm_cell}
@@ -136,8 +134,8 @@ instants_in x = record { made = last_made x; out_of_rate = last_out_of_rate x }
 
 left-last : (w : Waiting) (m : Made) → (made_left w m).last ≡ m.last
 unfolding made_left
-left-last Nothing m = refl
-left-last (Cell p) m = refl
+left-last None m = refl
+left-last (Some p) m = refl
 
 work-instants : (level : ℕ) (o : List ℕ) (f : Fields) (d : Connection) → instants_in (taken (after_rm_cell level o f d)) ≡ instants_in (taken d)
 unfolding after_rm_cell after_backward_cell after_forward_cell
@@ -182,10 +180,10 @@ module _ (v : ℕ) where
       (sent-instants k t (member_served k b.holder s.members) b.holder)
   effect-instants {s} w (makes a b t d f g h m) =
       put-read instants_in v (address_name a b) (with_time t s) w d (with_made t s.level d) f refl
-      ∙ changed (eqb (address_name a b) v) _ _ (at s) (λ e. λ i. record { made = At t; out_of_rate = (own (address_name a b) s d f e i).out_of_rate })
+      ∙ changed (eqb (address_name a b) v) _ _ (at s) (λ e. λ i. record { made = Some t; out_of_rate = (own (address_name a b) s d f e i).out_of_rate })
   effect-instants {s} w (sends_out_of_rate a b t room d f g h) =
       put-read instants_in v (address_name a b) (with_time t s) w d (after_out_of_rate t d) f refl
-      ∙ changed (eqb (address_name a b) v) _ _ (at s) (λ e. λ i. record { made = (own (address_name a b) s d f e i).made; out_of_rate = At t })
+      ∙ changed (eqb (address_name a b) v) _ _ (at s) (λ e. λ i. record { made = (own (address_name a b) s d f e i).made; out_of_rate = Some t })
   effect-instants {s} w (opens_path a t p g) = with-opened-read instants_in v s (fresh (address_name a path_vci) t p) g.new g.room
   effect-instants w (adds a b d f j) = refl
   effect-instants {s} w (offers_member a b n d f i h) = put-kept instants_in v (path_of (address_name a b)) s w d (offered n d) f refl refl

@@ -1,10 +1,9 @@
 -- What a caller keeps for the refusals that look at the table, from the calls and the numbers that they returned.
 -- It keeps the congestion level and the names of the members. For one connection it keeps the instants of its last
 -- made cell and of its last out-of-rate cell. (Document 01, "Turning cells round"; document 02, L1, L5 and L13.)
-use Rattle.std.specs.Prelude.{ℕ, Bool, cond, List, [], ◌∷◌, ltb, eqb}
+use Rattle.std.specs.Prelude.{ℕ, Bool, cond, List, [], ◌∷◌, ltb, eqb, Some, None}
+use Rattle.connection.specs.Parts.{Instant}
 use Rattle.connection_members.specs.Members.{named, on_path}
-use Rattle.connection.specs.declared.ready.Instant.{Instant}
-use Rattle.connection.specs.declared.ready.Instant.TheVariants.{Never, At}
 use Rattle.model.specs.Call.{Call}
 use Rattle.model.specs.Aspects.{Sort, opener, closer, arrival, slot_at, another, sort_of, Asked, asks_made, asks_out_of_rate, asks_none, asked_of, OnMembers, of_closed, of_added, of_offered, of_removed, of_slot, of_none, members_of}
 use Rattle.abr.specs.Exports.{Observation}
@@ -48,7 +47,7 @@ pub record Instants : Type 0 where
   pub out_of_rate : Instant
 
 abbrev pub no_instants : Instants
-no_instants = record { made = Never; out_of_rate = Never }
+no_instants = record { made = None; out_of_rate = None }
 
 abbrev pub instants_by : (v : ℕ) → Instants → Sort → Instants
 instants_by v i (opener u t p) = cond (eqb u v) no_instants i
@@ -58,8 +57,8 @@ instants_by v i (slot_at t) = i
 instants_by v i another = i
 
 abbrev pub instants_asked : (v : ℕ) → Instants → Asked → Instants
-instants_asked v i (asks_made u t) = cond (eqb u v) (record { made = At t; out_of_rate = i.out_of_rate }) i
-instants_asked v i (asks_out_of_rate u t) = cond (eqb u v) (record { made = i.made; out_of_rate = At t }) i
+instants_asked v i (asks_made u t) = cond (eqb u v) (record { made = Some t; out_of_rate = i.out_of_rate }) i
+instants_asked v i (asks_out_of_rate u t) = cond (eqb u v) (record { made = i.made; out_of_rate = Some t }) i
 instants_asked v i asks_none = i
 
 abbrev pub instants_after : (v : ℕ) → Call → Instants → Instants

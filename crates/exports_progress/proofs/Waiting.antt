@@ -1,4 +1,5 @@
 -- What waits on a connection is what a caller keeps of it: data cells, a turned and a made cell.
+use Rattle.std.specs.Prelude.{Some, None}
 use Prim.Native.Nat.{ℕ, ◌+◌}
 use mathlib.Core.Path.{◌≡◌, refl, sym, ap, subst, ◌∙◌}
 use mathlib.Core.Bool.{Bool, true, false, cond, ◌&&◌}
@@ -17,12 +18,10 @@ use Rattle.cell.specs.declared.read.Reading.{Reading}
 use Rattle.connection_members.specs.Path.{path_vci, path_of}
 use Rattle.connection_members.specs.Members.{cells_of}
 use Rattle.connection.specs.declared.parts.Connection.{Connection}
-use Rattle.connection.specs.declared.parts.Waiting.TheVariants.{Nothing, Cell}
 use Rattle.connection.specs.declared.kind.Kind.{Kind}
 use Rattle.connection.specs.declared.kind.Kind.TheVariants.{Forward, Turned, Data}
-use Rattle.connection.specs.declared.parts.Waiting.{Waiting as Slot}
 use Rattle.connection.specs.declared.parts.Made.{Made}
-use Rattle.connection.specs.Parts.{fresh, with_queue, dequeued}
+use Rattle.connection.specs.Parts.{fresh, with_queue, dequeued, Waiting as Slot}
 use Rattle.connection.specs.Ready.{waits as is_there}
 use Rattle.connection.specs.Kind.{kind_at}
 use Rattle.connection.specs.Source.{offered, after_backward_cell, with_served, sent_forward, sent_data, after_out_of_rate}
@@ -91,8 +90,8 @@ worked level o g d = go (eqb g.dir 1)
 -- a slot's turned cell goes before a made one
 left : (x : Slot) (m : Made) → ltb 0 (made_left x m).level ≡ (is_there x && ltb 0 m.level)
 unfolding made_left is_there
-left Nothing m = refl
-left (Cell p) m = refl
+left None m = refl
+left (Some p) m = refl
 
 sent-answers :
     (v : ℕ) (s : State) → NamesUnique s.entries → (f : ℕ → Bool) (u t x a n : ℕ) (d : Connection) (m : Option ℕ) → find u s.entries ≡ taken d → (k : Kind) → NamesConnection f (Sent u x k a n)

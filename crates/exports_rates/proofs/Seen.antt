@@ -1,4 +1,5 @@
 -- What a caller keeps of a connection is so.
+use Rattle.std.specs.Prelude.{Some, None}
 use Prim.Native.Nat.{ℕ, ◌+◌, ◌-◌, ◌<◌}
 use mathlib.Core.Path.{◌≡◌, refl, sym, ap, ◌∙◌}
 use mathlib.Core.Bool.{Bool, true, false, cond, ◌&&◌, ◌||◌, not}
@@ -20,12 +21,10 @@ use Rattle.connection_members.proofs.Turns.{turn-picks}
 use Rattle.connection.specs.declared.parts.Connection.{Connection}
 use Rattle.connection.specs.declared.parts.Pace.{Pace}
 use Rattle.connection.specs.declared.parts.Pace.TheVariants.{Unsent, Running}
-use Rattle.connection.specs.declared.parts.Waiting.{Waiting}
-use Rattle.connection.specs.declared.parts.Waiting.TheVariants.{Nothing, Cell}
 use Rattle.connection.specs.declared.parts.Made.{Made}
 use Rattle.connection.specs.declared.kind.Kind.{Kind}
 use Rattle.connection.specs.declared.kind.Kind.TheVariants.{Forward, Turned, Data}
-use Rattle.connection.specs.Parts.{fresh, waiting, with_queue, dequeued}
+use Rattle.connection.specs.Parts.{fresh, waiting, with_queue, dequeued, Waiting}
 use Rattle.connection.specs.Ready.{waits}
 use Rattle.connection.specs.Pace.{paced}
 use Rattle.connection.specs.Source.{offered, after_backward_cell, with_served, sent_forward, sent_data, after_out_of_rate}
@@ -106,8 +105,8 @@ paced-further t b (Running sent forward n turned) = refl
 
 made-left : (w : Waiting) (m : Made) → ltb 0 (made_left w m).level ≡ (waits w && ltb 0 m.level)
 unfolding made_left waits
-made-left Nothing m = refl
-made-left (Cell p) m = refl
+made-left None m = refl
+made-left (Some p) m = refl
 
 member-last : (f : ℕ → Bool) (s : State) → WellFormed s → Knows f s → (v : ℕ) (d : Connection) → find v s.entries ≡ taken d → (m : Option ℕ) → turn d.name d.queue.served s.members ≡ m → (x : ℕ)
     → last_after m x ≡ cond (f (name_from (vpi_in (name_answered v m)) (vci_in (name_answered v m)))) (vci_in (name_answered v m)) x

@@ -1,8 +1,8 @@
 -- abr_next_ready returns the earliest of the ready instants that a caller computes.
+use Rattle.std.specs.Prelude.{None}
 use Prim.Native.Nat.{ℕ, ◌≤◌}
 use mathlib.Core.Path.{◌≡◌, refl, sym, subst, ◌∙◌}
 use mathlib.Core.List.{List}
-use Rattle.connection.specs.declared.ready.Instant.TheVariants.{Never}
 use Rattle.connection.specs.Ready.{ready_instant}
 use Rattle.model.specs.State.{Entry, free, taken, empty, find}
 use Rattle.model.specs.Invariant.{Each}
@@ -15,13 +15,13 @@ use Rattle.exports_service.specs.Next.{ExportsNext}
 use Rattle.exports_service.proofs.Ready.{ready_held}
 use Rattle.exports_service.proofs.Slots.{ready-each}
 
-never-each : (ss : List Entry) → Each (λ c. ready_instant c ≡ Never) ss → (u : ℕ) → entry_ready (find u ss) ≡ Never
+never-each : (ss : List Entry) → Each (λ c. ready_instant c ≡ None) ss → (u : ℕ) → entry_ready (find u ss) ≡ None
 unfolding entry_ready
 never-each ss h u = go (find u ss) refl
   where
-    go : (x : Entry) → find u ss ≡ x → entry_ready x ≡ Never
+    go : (x : Entry) → find u ss ≡ x → entry_ready x ≡ None
     go free f = refl
-    go (taken d) f = each_at (λ c. ready_instant c ≡ Never) u ss d f h
+    go (taken d) f = each_at (λ c. ready_instant c ≡ None) u ss d f h
 
 pub exports-next : ExportsNext
 exports-next cs os x a h next n =

@@ -1,4 +1,5 @@
 -- A connection on which something waits is ready in time, and slots reach it, of exported calls.
+use Rattle.std.specs.Prelude.{Some}
 use Prim.Native.Nat.{ℕ, ◌≤◌, ◌<◌}
 use mathlib.Core.Path.{◌≡◌, refl, sym, ap, subst, ◌∙◌}
 use mathlib.Core.Bool.{true}
@@ -11,9 +12,8 @@ use Rattle.rate_params.specs.Params.{least}
 use Rattle.connection.specs.declared.parts.Connection.{Connection}
 use Rattle.connection.specs.declared.parts.Pace.{Pace}
 use Rattle.connection.specs.declared.parts.Pace.TheVariants.{Unsent, Running}
-use Rattle.connection.specs.declared.ready.Instant.{Instant}
-use Rattle.connection.specs.declared.ready.Instant.TheVariants.{At}
 use Rattle.connection.specs.Ready.{any_waits, ready_instant}
+use Rattle.connection.specs.Parts.{Instant}
 use Rattle.model.specs.State.{State, capacity, empty}
 use Rattle.model.specs.Call.{Call, Outcome}
 use Rattle.model.specs.Step.{step}
@@ -95,7 +95,7 @@ module _ (cs : List Call) (os : List Observation) (x : Transcript cs zeros os) (
   by-seen rate r h = subst (λ (k : Seen). ReadyNotAfter r (latest_seen rate k)) (sym seen-is) h
 
   reaches :
-      (i : ℕ) → ready_instant c ≡ At i → (ts : List ℕ) → length ts ≡ capacity → All (λ t. i ≤ t) ts → (ps : List Observation) → Transcript (slots ts) (final_words zeros os) ps
+      (i : ℕ) → ready_instant c ≡ Some i → (ts : List ℕ) → length ts ≡ capacity → All (λ t. i ≤ t) ts → (ps : List Observation) → Transcript (slots ts) (final_words zeros os) ps
       → All (λ o. o.returned.refusal ≡ 0) ps → Reaches cs os v ts ps
   reaches i r ts n late ps y unrefused =
       let f = members_seen no_member cs os in

@@ -1,4 +1,5 @@
 -- A slot goes where the scan says, and sends what the slot rules say.
+use Rattle.std.specs.Prelude.{Some}
 use Prim.Native.Nat.{ℕ, ◌≤◌, ◌<◌}
 use mathlib.Core.Path.{◌≡◌, refl, sym, ap, subst, ◌∙◌}
 use mathlib.Core.Bool.{true, cond}
@@ -14,7 +15,6 @@ use Rattle.connection.specs.declared.parts.Pace.{Pace}
 use Rattle.connection.specs.declared.parts.Pace.TheVariants.{Unsent, Running}
 use Rattle.connection.specs.declared.kind.Kind.{Kind}
 use Rattle.connection.specs.declared.kind.Kind.TheVariants.{Forward, Turned, Data}
-use Rattle.connection.specs.declared.ready.Instant.TheVariants.{At}
 use Rattle.connection.specs.Ready.{ready_instant}
 use Rattle.connection.specs.Kind.{kind_number, kind_at}
 use Rattle.connection.specs.Source.{with_served}
@@ -107,13 +107,13 @@ slot-unwritten {t = t} (sends _ _ i u g c) a b = go (kind_at t c.holder) a b
     go Data a b = refl
 
 -- what holds of every entry holds of the one that is read under a name
-pub ready-each : (P : ℕ → ℕ → Type 0) (ss : List Entry) → Each (λ d. (j : ℕ) → ready_instant d ≡ At j → P j d.name) ss → (u j : ℕ) → entry_ready (find u ss) ≡ At j → (s : State) → s.entries ≡ ss → P j u
+pub ready-each : (P : ℕ → ℕ → Type 0) (ss : List Entry) → Each (λ d. (j : ℕ) → ready_instant d ≡ Some j → P j d.name) ss → (u j : ℕ) → entry_ready (find u ss) ≡ Some j → (s : State) → s.entries ≡ ss → P j u
 unfolding entry_ready
 ready-each P ss h u j e s q = go (find u ss) refl e
   where
-    go : (x : Entry) → find u ss ≡ x → entry_ready x ≡ At j → P j u
+    go : (x : Entry) → find u ss ≡ x → entry_ready x ≡ Some j → P j u
     go free f r = let z : ◌≡◌ {A = ℕ} 0 1 = cc in absurd (omega arith)
-    go (taken d) f r = subst (P j) (name_of u s d (rw q f)) (each_at (λ d. (j : ℕ) → ready_instant d ≡ At j → P j d.name) u ss d f h j r)
+    go (taken d) f r = subst (P j) (name_of u s d (rw q f)) (each_at (λ d. (j : ℕ) → ready_instant d ≡ Some j → P j d.name) u ss d f h j r)
 
 not-early : (t : ℕ) (c : Connection) (p : Pace) → NotEarly t c p → NotEarlySeen t c.rate.acr (connection_seen c) p
 not-early t c Unsent h = h
@@ -136,7 +136,7 @@ module _ (cs : List Call) (os : List Observation) (x : Transcript cs zeros os) (
     ready-is : (u : ℕ) → ready_of cs os a u ≡ entry_ready (find u s.entries)
     ready-is u = ready_held cs os x u (a u) (h u)
 
-    idle-seen : o.returned.refusal ≡ 0 → o.returned.kind ≡ 0 → (u i : ℕ) → ready_of cs os a u ≡ At i → t < i
+    idle-seen : o.returned.refusal ≡ 0 → o.returned.kind ≡ 0 → (u i : ℕ) → ready_of cs os a u ≡ Some i → t < i
     idle-seen e k u i r =
         ready-each (λ j v. t < j) s.entries
         (idle-none (effect s z.well_formed.unique (slot t room)) (was-accepted z e) (sym (ap (λ (r : Reply). r.kind) z.matches.returned) ∙ k)) u i (sym (ready-is u) ∙ r) s refl

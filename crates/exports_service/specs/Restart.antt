@@ -1,6 +1,6 @@
 -- A rate of 0 rises again, and the connection is ready again, in exported calls. A backward cell without marks
 -- raises what abr_acr returns. (Document 02, L5.)
-use Rattle.std.specs.Prelude.{ℕ, ◌-◌, ◌≤◌, ◌<◌, min, ◌≡◌, Bool, true, ◌||◌, List, leb, eqb}
+use Rattle.std.specs.Prelude.{ℕ, ◌-◌, ◌≤◌, ◌<◌, min, ◌≡◌, Bool, true, ◌||◌, List, leb, eqb, Some}
 use Rattle.std.proofs.Math.Option.{none, some}
 use Rattle.rate.specs.Code.{rate_of}
 use Rattle.rate_params.specs.declared.params.Params.{Params}
@@ -9,7 +9,6 @@ use Rattle.cell.specs.declared.fields.Fields.{Fields}
 use Rattle.cell.specs.Fields.{cell_name}
 use Rattle.connection.specs.declared.parts.Pace.{Pace}
 use Rattle.connection.specs.declared.parts.Pace.TheVariants.{Unsent, Running}
-use Rattle.connection.specs.declared.ready.Instant.TheVariants.{At}
 use Rattle.model.specs.Call.{Call, receiving}
 use Rattle.abr_answers.specs.declared.calls.AbrAllowed.{AbrAllowed}
 use Rattle.abr.specs.Contract.{ReturnsAllowed}
@@ -27,7 +26,7 @@ has_next_from p k (Running sent forward n turned) = (waits_seen k || eqb n (nrm 
 
 pub record ReadySometime (p : Params) (acr : ℕ) (k : Seen) : Type 0 where
   pub instant : ℕ
-  pub ready_at : ready_seen p acr k ≡ At instant
+  pub ready_at : ready_seen p acr k ≡ Some instant
 
 -- abr_acr after the cell, with what is kept of the connection before the cell and after it
 pub record RestartedSeen (p : Params) (f : Fields) (before after : Seen) (b : AbrAllowed) : Type 0 where

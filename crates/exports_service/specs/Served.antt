@@ -1,15 +1,14 @@
 -- A connection on which something waits is ready in time, and slots reach it. This is stated by what a
 -- caller knows from the calls and what they returned. (Beyond document 01's demands; "Slots" says who is
 -- ready when. Document 02, L5.)
-use Rattle.std.specs.Prelude.{ℕ, ◌+◌, ◌≤◌, ◌<◌, ◌≡◌, true, List, length}
+use Rattle.std.specs.Prelude.{ℕ, ◌+◌, ◌≤◌, ◌<◌, ◌≡◌, true, List, length, Some}
 use Rattle.std.proofs.Math.Option.{none, some}
 use Rattle.rate.specs.Gap.{gap}
 use Rattle.rate_params.specs.declared.params.Params.{Params}
 use Rattle.rate_params.specs.Params.{least}
 use Rattle.connection.specs.declared.parts.Pace.{Pace}
 use Rattle.connection.specs.declared.parts.Pace.TheVariants.{Unsent, Running}
-use Rattle.connection.specs.declared.ready.Instant.{Instant}
-use Rattle.connection.specs.declared.ready.Instant.TheVariants.{At}
+use Rattle.connection.specs.Parts.{Instant}
 use Rattle.model.specs.State.{capacity}
 use Rattle.model.specs.Call.{Call}
 use Rattle.abr_answers.specs.declared.calls.AbrAllowed.{AbrAllowed}
@@ -32,7 +31,7 @@ latest_seen a k = latest_from a k k.pace
 
 pub record ReadyNotAfter (r : Instant) (latest : ℕ) : Type 0 where
   pub instant : ℕ
-  pub ready_at : r ≡ At instant
+  pub ready_at : r ≡ Some instant
   pub soon : instant ≤ latest
 
 -- one of these slots is v's
@@ -51,7 +50,7 @@ pub record ServedSeen (cs : List Call) (os : List Observation) (v : ℕ) (p : Pa
       → ReadyNotAfter (ready_seen p a.acr (seen_of v cs os)) (latest_seen a.acr (seen_of v cs os))
   -- of as many slots in a row as connections can be open, none refused, all from its ready instant on, one is its own
   pub served :
-      (a : AbrAllowed) → ReturnsAllowed v (final_words zeros os) a → (i : ℕ) → ready_seen p a.acr (seen_of v cs os) ≡ At i
+      (a : AbrAllowed) → ReturnsAllowed v (final_words zeros os) a → (i : ℕ) → ready_seen p a.acr (seen_of v cs os) ≡ Some i
       → (ts : List ℕ) → length ts ≡ capacity → All (λ t. i ≤ t) ts → (ps : List Observation) → Transcript (slots ts) (final_words zeros os) ps → All (λ o. o.returned.refusal ≡ 0) ps
       → Reaches cs os v ts ps
   -- so, where anything waits and there is a minimum, of as many from a gap at the minimum after its last cell on

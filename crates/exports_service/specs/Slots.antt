@@ -2,15 +2,14 @@
 -- instants. The slot rules give the kind of cell. A slot sends only what waits, and nothing early. All this
 -- is stated by the calls, what they returned, and the rates that abr_acr returns. (Document 01, "Slots";
 -- document 02, L4, L5 and L6.)
-use Rattle.std.specs.Prelude.{ℕ, ◌+◌, ◌≤◌, ◌<◌, ◌≡◌, ◌≢◌, true, List}
+use Rattle.std.specs.Prelude.{ℕ, ◌+◌, ◌≤◌, ◌<◌, ◌≡◌, ◌≢◌, true, List, Some}
 use Rattle.std.proofs.Math.Option.{none, some}
 use Rattle.rate.specs.Gap.{gap}
 use Rattle.rate_params.specs.declared.params.Params.{Params}
 use Rattle.cell.specs.Name.{no_name}
 use Rattle.connection.specs.declared.parts.Pace.{Pace}
 use Rattle.connection.specs.declared.parts.Pace.TheVariants.{Unsent, Running}
-use Rattle.connection.specs.declared.ready.Instant.{Instant}
-use Rattle.connection.specs.declared.ready.Instant.TheVariants.{At}
+use Rattle.connection.specs.Parts.{Instant}
 use Rattle.model.specs.Winner.{Ahead}
 use Rattle.model.specs.Call.{Call, slot}
 use Rattle.abr_answers.specs.declared.calls.AbrAllowed.{AbrAllowed}
@@ -31,9 +30,9 @@ ready_of cs os a u = ready_under (params_observed u none cs os) (a u).acr (seen_
 -- v is ready, not after t, and comes before every other that is ever ready: earlier, or in a tie with the lower name
 pub record Picked (ready : ℕ → Instant) (t v : ℕ) : Type 0 where
   pub instant : ℕ
-  pub ready_at : ready v ≡ At instant
+  pub ready_at : ready v ≡ Some instant
   pub due : instant ≤ t
-  pub first : (u j : ℕ) → ready u ≡ At j → Ahead instant v j u
+  pub first : (u j : ℕ) → ready u ≡ Some j → Ahead instant v j u
 
 -- before the first cell not before the open, afterwards not before a gap at this rate after the last
 abbrev pub NotEarlySeen : (t acr : ℕ) → Seen → Pace → Type 0
@@ -48,7 +47,7 @@ pub record WaitedSeen (kind : ℕ) (k : Seen) : Type 0 where
 -- a slot at t that returned no refusal
 pub record SlotOf (cs : List Call) (os : List Observation) (a : ℕ → AbrAllowed) (t : ℕ) (o : Observation) : Type 0 where
   -- kind 0, idle: no connection is ready by then
-  pub idle : o.returned.kind ≡ 0 → (u i : ℕ) → ready_of cs os a u ≡ At i → t < i
+  pub idle : o.returned.kind ≡ 0 → (u i : ℕ) → ready_of cs os a u ≡ Some i → t < i
   -- else it goes to the one that a scan of all names picks
   pub picks : (v : ℕ) → went_to (members_seen no_member cs os) o.returned ≡ some v → Picked (ready_of cs os a) t v
   -- whose rate is not 0, and whose last cell went a gap or more before

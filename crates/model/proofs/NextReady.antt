@@ -1,5 +1,6 @@
 -- The earliest ready instant. Where a slot finds none ready, it is later. Where one wins, it is the winner's. The
 -- winner of all matches has it.
+use Rattle.std.specs.Prelude.{Some, None}
 use Prim.Native.Nat.{ℕ, suc, ◌≤◌}
 use mathlib.Core.Path.{◌≡◌, refl, ap, subst, ◌∙◌}
 use mathlib.Core.Bool.{Bool, true, false}
@@ -9,9 +10,8 @@ use native.Mathlib.Omega.{arith}
 use lib.Dec.{leb}
 use lib.ListN.{length}
 use borrow.Author.Tests.{leb-true, leb-false, le-leb}
-use Rattle.connection.specs.declared.ready.Instant.{Instant}
-use Rattle.connection.specs.declared.ready.Instant.TheVariants.{Never, At}
 use Rattle.connection.specs.Ready.{ready_instant}
+use Rattle.connection.specs.Parts.{Instant}
 use Rattle.model.specs.State.{Entry, free, taken, capacity}
 use Rattle.model.specs.Invariant.{Each, NamesUnique}
 use Rattle.model.specs.Winner.{none_ready, wins, winner, candidate_from, Ahead, Chosen, Best}
@@ -23,53 +23,53 @@ use Rattle.model.proofs.Scanned.{root-winner}
 
 -- an instant at n or later, never too; and one at n or earlier
 abbrev pub NotBefore : ℕ → Instant → Type 0
-NotBefore n Never = Unit
-NotBefore n (At i) = n ≤ i
+NotBefore n None = Unit
+NotBefore n (Some i) = n ≤ i
 
 abbrev pub NotAfter : ℕ → Instant → Type 0
-NotAfter n Never = ⊥
-NotAfter n (At i) = i ≤ n
+NotAfter n None = ⊥
+NotAfter n (Some i) = i ≤ n
 
 both-not-before : (n : ℕ) (a b : Instant) → NotBefore n a → NotBefore n b → NotBefore n (earlier a b)
 unfolding earlier
-both-not-before n Never b p q = q
-both-not-before n (At i) Never p q = p
-both-not-before n (At i) (At j) p q = omega arith
+both-not-before n None b p q = q
+both-not-before n (Some i) None p q = p
+both-not-before n (Some i) (Some j) p q = omega arith
 
 first-not-after : (n : ℕ) (a b : Instant) → NotAfter n a → NotAfter n (earlier a b)
 unfolding earlier
-first-not-after n Never b p = absurd p
-first-not-after n (At i) Never p = p
-first-not-after n (At i) (At j) p = omega arith
+first-not-after n None b p = absurd p
+first-not-after n (Some i) None p = p
+first-not-after n (Some i) (Some j) p = omega arith
 
 second-not-after : (n : ℕ) (a b : Instant) → NotAfter n b → NotAfter n (earlier a b)
 unfolding earlier
-second-not-after n Never b p = p
-second-not-after n (At i) Never p = absurd p
-second-not-after n (At i) (At j) p = omega arith
+second-not-after n None b p = p
+second-not-after n (Some i) None p = absurd p
+second-not-after n (Some i) (Some j) p = omega arith
 
 -- it is one of the entries', or never
-earliest-from : (n : ℕ) (ss : List Entry) → Each (λ d. (j : ℕ) → ready_instant d ≡ At j → n ≤ j) ss → NotBefore n (earliest ss)
+earliest-from : (n : ℕ) (ss : List Entry) → Each (λ d. (j : ℕ) → ready_instant d ≡ Some j → n ≤ j) ss → NotBefore n (earliest ss)
 unfolding earliest entry_ready
 earliest-from n [] h = tt
-earliest-from n (free ∷ ss) h = both-not-before n Never (earliest ss) tt (earliest-from n ss h.1)
+earliest-from n (free ∷ ss) h = both-not-before n None (earliest ss) tt (earliest-from n ss h.1)
 earliest-from n (taken c ∷ ss) h = both-not-before n (ready_instant c) (earliest ss) (own (ready_instant c) h.0) (earliest-from n ss h.1)
   where
-    own : (r : Instant) → ((j : ℕ) → r ≡ At j → n ≤ j) → NotBefore n r
-    own Never k = tt
-    own (At i) k = k i refl
+    own : (r : Instant) → ((j : ℕ) → r ≡ Some j → n ≤ j) → NotBefore n r
+    own None k = tt
+    own (Some i) k = k i refl
 
 -- and none is earlier
-pub earliest-each : (ss : List Entry) → Each (λ d. (j : ℕ) → ready_instant d ≡ At j → NotAfter j (earliest ss)) ss
+pub earliest-each : (ss : List Entry) → Each (λ d. (j : ℕ) → ready_instant d ≡ Some j → NotAfter j (earliest ss)) ss
 unfolding earliest entry_ready
 earliest-each [] = tt
-earliest-each (free ∷ ss) = (tt, each_map _ _ (λ d h j e. second-not-after j Never (earliest ss) (h j e)) ss (earliest-each ss))
+earliest-each (free ∷ ss) = (tt, each_map _ _ (λ d h j e. second-not-after j None (earliest ss) (h j e)) ss (earliest-each ss))
 earliest-each (taken c ∷ ss) = (
   λ j e. first-not-after j (ready_instant c) (earliest ss) (own j (ready_instant c) e),
   each_map _ _ (λ d h j e. second-not-after j (ready_instant c) (earliest ss) (h j e)) ss (earliest-each ss),
 )
   where
-    own : (j : ℕ) (r : Instant) → r ≡ At j → NotAfter j r
+    own : (j : ℕ) (r : Instant) → r ≡ Some j → NotAfter j r
     own j r e = rw e (le_refl j)
 
 -- none is ready by t
@@ -77,7 +77,7 @@ pub later-earliest : (t : ℕ) (ss : List Entry) → Best t ss none_ready → No
 later-earliest t ss b = earliest-from (suc t) ss (each_map _ _ (λ d h j e. omega (arith, h j e)) ss b)
 
 -- one is, and wins
-pub chosen-earliest : (t i v : ℕ) (ss : List Entry) → Chosen t i v ss → earliest ss ≡ At i
+pub chosen-earliest : (t i v : ℕ) (ss : List Entry) → Chosen t i v ss → earliest ss ≡ Some i
 chosen-earliest t i v ss b =
     exactly (earliest ss) (earliest-from i ss (each_map _ _ (λ d h j e. from d.name j (h j e) (leb j t) refl) ss b.first))
     (each_at _ v ss b.holder b.found (earliest-each ss) i b.ready_at)
@@ -86,17 +86,17 @@ chosen-earliest t i v ss b =
     from w j h true e = ahead-instant (h (leb-true j t e))
     from w j h false e = omega (arith, b.due, leb-false j t e)
 
-    exactly : (r : Instant) → NotBefore i r → NotAfter i r → r ≡ At i
-    exactly Never p q = absurd q
-    exactly (At j) p q = let z : j ≡ i = omega arith in ap At z
+    exactly : (r : Instant) → NotBefore i r → NotAfter i r → r ≡ Some i
+    exactly None p q = absurd q
+    exactly (Some j) p q = let z : j ≡ i = omega arith in ap Some z
 
 pub root-earliest : (ss : List Entry) → length ss ≡ capacity → NamesUnique ss → earliest ss ≡ winner_instant (winner_at ss levels 1)
 unfolding in_time candidate_from winner_instant
 root-earliest ss l u = go (winner_at ss levels 1) (λ t. root-winner t ss l)
   where
-    never : (r : Instant) → ((t : ℕ) → NotBefore (suc t) r) → r ≡ Never
-    never Never h = refl
-    never (At i) h = absurd (omega (arith, h i))
+    never : (r : Instant) → ((t : ℕ) → NotBefore (suc t) r) → r ≡ None
+    never None h = refl
+    never (Some i) h = absurd (omega (arith, h i))
 
     go : (a : MatchWinner) → ((t : ℕ) → winner t ss ≡ in_time t a) → earliest ss ≡ winner_instant a
     go no_winner h = never (earliest ss) (λ t. later-earliest t ss (subst (Best t ss) (h t) (winner-best t ss u)))

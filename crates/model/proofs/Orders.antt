@@ -1,5 +1,6 @@
 -- Each call is refused in the order that the documents give. There is one law for each combinator of the steps.
 -- Each proof repeats its step line by line.
+use Rattle.std.specs.Prelude.{Some, None}
 use Prim.Native.Nat.{ℕ, suc, ◌+◌, ◌≤◌, ◌<◌}
 use mathlib.Core.Path.{◌≡◌, refl, sym, ap, ◌∙◌}
 use mathlib.Core.Logic.{◌≢◌}
@@ -19,9 +20,7 @@ use Rattle.cell.specs.Reading.{reading}
 use Rattle.connection_members.specs.Path.{is_path}
 use Rattle.connection_members.specs.Members.{is_member, cells_of}
 use Rattle.connection.specs.declared.parts.Connection.{Connection}
-use Rattle.connection.specs.declared.ready.Instant.{Instant}
-use Rattle.connection.specs.declared.ready.Instant.TheVariants.{Never, At}
-use Rattle.connection.specs.Parts.{waiting}
+use Rattle.connection.specs.Parts.{waiting, Instant}
 use Rattle.connection.specs.Interval.{rested}
 use Rattle.laws.specs.Require.{require}
 use Rattle.laws.proofs.Tests.{both}
@@ -86,8 +85,8 @@ above_zero n = record { yes = λ e h. omega (arith, ltb-true 0 n e, h); no = λ 
 
 in-time : (t : ℕ) (i : Instant) → Decides (rested t i) (Rested t i)
 unfolding rested
-in-time t Never = record { yes = λ e. tt; no = λ e h. true≢false e }
-in-time t (At m) = at_most (m + 100_000_000) t
+in-time t None = record { yes = λ e. tt; no = λ e h. true≢false e }
+in-time t (Some m) = at_most (m + 100_000_000) t
 
 and : {a b : Bool} {P Q : Type 0} → Decides a P → Decides b Q → Decides (a && b) (P × Q)
 and {a = true} {b = b} d e = record { yes = λ q. (d.yes refl, e.yes q); no = λ q h. e.no q h.1 }

@@ -1,5 +1,6 @@
 -- The places of the tournament: where they stand, which entry leads at a place, and what
 -- stays when one leaf changes.
+use Rattle.std.specs.Prelude.{Some, None}
 use Prim.Native.Nat.{ℕ, zero, suc, ◌+◌, ◌-◌, ◌*◌, ◌/◌, ◌%◌, ◌^◌, ◌≤◌, ◌<◌}
 use mathlib.Core.Path.{◌≡◌, refl, sym, ap, ap₂, subst, ◌∙◌}
 use mathlib.Core.Logic.{◌≢◌}
@@ -13,9 +14,8 @@ use lib.ListN.{length, get_or, set}
 use lib.Seq.{get_or-set_same, get_or-set_other}
 use borrow.Author.Tests.{eqb-true, eqb-false}
 use Rattle.connection.specs.declared.parts.Connection.{Connection}
-use Rattle.connection.specs.declared.ready.Instant.{Instant}
-use Rattle.connection.specs.declared.ready.Instant.TheVariants.{Never, At}
 use Rattle.connection.specs.Ready.{ready_instant}
+use Rattle.connection.specs.Parts.{Instant}
 use Rattle.model.specs.State.{Entry, free, taken, position, holds, capacity}
 use Rattle.model.specs.Invariant.{NamesUnique}
 use Rattle.model.specs.Winner.{is_ahead}
@@ -93,7 +93,7 @@ on-map P Q f (won_by i v x) h = f i v x h
 pub record Comes (ss : List Entry) (d p i v x : ℕ) : Type 0 where
   pub holder : Connection
   pub here : get_or ss x free ≡ taken holder
-  pub ready_at : ready_instant holder ≡ At i
+  pub ready_at : ready_instant holder ≡ Some i
   pub named : holder.name ≡ v
   pub below : above d (capacity + x) ≡ p
   pub inside : x < capacity
@@ -104,8 +104,8 @@ leaf-entry ss p x q l free e = tt
 leaf-entry ss p x q l (taken c) e = go (ready_instant c) refl
   where
     go : (r : Instant) → ready_instant c ≡ r → OnMatchWinner (Comes ss 0 p) (instant_winner c.name x r)
-    go Never z = tt
-    go (At i) z = record { holder = c; here = e; ready_at = z; named = refl; below = q; inside = l }
+    go None z = tt
+    go (Some i) z = record { holder = c; here = e; ready_at = z; named = refl; below = q; inside = l }
 
 comes-up : (ss : List Entry) (d q p : ℕ) → q / 2 ≡ p → (i v x : ℕ) → Comes ss d q i v x → Comes ss (suc d) p i v x
 unfolding above
@@ -227,7 +227,7 @@ module _ (ss : List Entry) (x : ℕ) (y : Entry) where
   one-winner d p (won_by i v u) no_winner s t e n = absurd (omega (arith, e))
   one-winner d p (won_by i v u) (won_by j w z) s t e n = whole (at_same j i (sym t.ready_at ∙ ap ready_instant one ∙ s.ready_at)) (sym t.named ∙ ap (λ (c : Connection). c.name) one ∙ s.named) (omega (arith, e))
     where
-      at_same : (i j : ℕ) → At i ≡ At j → i ≡ j
+      at_same : (i j : ℕ) → Some i ≡ Some j → i ≡ j
       at_same i j e = cc
 
       whole : {i j v w x y : ℕ} → i ≡ j → v ≡ w → x ≡ y → won_by i v x ≡ won_by j w y

@@ -1,4 +1,5 @@
 -- The winner of all matches is the winner of the scan.
+use Rattle.std.specs.Prelude.{Some, None}
 use Prim.Native.Nat.{ℕ, zero, suc, ◌+◌, ◌-◌, ◌*◌, ◌^◌}
 use mathlib.Core.Path.{◌≡◌, refl, sym, ap, ap₂, ◌∙◌}
 use mathlib.Core.Bool.{Bool, true, false, cond}
@@ -8,9 +9,8 @@ use native.Mathlib.Omega.{arith}
 use lib.Dec.{leb}
 use lib.ListN.{length, get_or}
 use borrow.Author.Tests.{leb-true, leb-false}
-use Rattle.connection.specs.declared.ready.Instant.{Instant}
-use Rattle.connection.specs.declared.ready.Instant.TheVariants.{Never, At}
 use Rattle.connection.specs.Ready.{ready_instant}
+use Rattle.connection.specs.Parts.{Instant}
 use Rattle.model.specs.State.{Entry, free, taken, capacity}
 use Rattle.model.specs.Winner.{Winner, none_ready, wins, candidate_from, candidate, is_ahead, better, winner, Ahead}
 use Rattle.model.specs.Tournament.{levels, MatchWinner, no_winner, won_by, instant_winner, leaf_winner, first, winner_at, in_time}
@@ -63,8 +63,8 @@ time-leaf t x free = refl
 time-leaf t x (taken c) = go (ready_instant c)
   where
     go : (r : Instant) → in_time t (instant_winner c.name x r) ≡ candidate_from t c.name r
-    go Never = refl
-    go (At i) = refl
+    go None = refl
+    go (Some i) = refl
 
 -- the winner of n entries from k on
 unfoldable scan : (t : ℕ) → List Entry → (k n : ℕ) → Winner

@@ -1,4 +1,5 @@
 -- The winner of a slot is the connection that document 01 chooses ("Slots").
+use Rattle.std.specs.Prelude.{Some, None}
 use Prim.Native.Nat.{ℕ, ◌≤◌, ◌<◌}
 use mathlib.Core.Path.{◌≡◌, refl, sym, subst, ◌∙◌}
 use mathlib.Core.Logic.{◌≢◌}
@@ -9,9 +10,8 @@ use native.Mathlib.Omega.{arith}
 use lib.Dec.{leb, ltb, eqb}
 use borrow.Author.Tests.{leb-true, leb-false, ltb-true, ltb-false, eqb-true, eqb-false}
 use Rattle.connection.specs.declared.parts.Connection.{Connection}
-use Rattle.connection.specs.declared.ready.Instant.{Instant}
-use Rattle.connection.specs.declared.ready.Instant.TheVariants.{Never, At}
 use Rattle.connection.specs.Ready.{ready_instant}
+use Rattle.connection.specs.Parts.{Instant}
 use Rattle.model.specs.State.{Entry, free, taken, find}
 use Rattle.model.specs.Invariant.{Absent, NamesUnique}
 use Rattle.model.specs.Winner.{Winner, none_ready, wins, candidate_from, candidate, better, winner, Ahead, sooner, tied, Best}
@@ -36,10 +36,10 @@ ahead-instant (tied a d) = omega arith
 no : ◌≡◌ {A = Bool} false true → ⊥
 no e = let z : ◌≡◌ {A = ℕ} 0 1 = cc in omega arith
 
-never≢At : {i : ℕ} → Never ≡ At i → ⊥
+never≢At : {i : ℕ} → None ≡ Some i → ⊥
 never≢At e = let z : ◌≡◌ {A = ℕ} 0 1 = cc in omega arith
 
-at_same : (i j : ℕ) → At i ≡ At j → i ≡ j
+at_same : (i j : ℕ) → Some i ≡ Some j → i ≡ j
 at_same i j e = cc
 
 late : (t j : ℕ) → t < j → j ≤ t → ⊥
@@ -82,7 +82,7 @@ pass-free t ss (wins i v) h = record {
   first = (tt, h.first);
 }
 
-pass-late : (t : ℕ) (d : Connection) (ss : List Entry) (w : Winner) → Absent d.name ss → ((j : ℕ) → ready_instant d ≡ At j → t < j) → Best t ss w → Best t (taken d ∷ ss) w
+pass-late : (t : ℕ) (d : Connection) (ss : List Entry) (w : Winner) → Absent d.name ss → ((j : ℕ) → ready_instant d ≡ Some j → t < j) → Best t ss w → Best t (taken d ∷ ss) w
 pass-late t d ss none_ready a l h = (l, h)
 pass-late t d ss (wins i v) a l h = record {
   holder = h.holder;
@@ -93,7 +93,7 @@ pass-late t d ss (wins i v) a l h = record {
 }
 
 -- an entry that is ready at i by t, against the best of the others
-meet : (t : ℕ) (d : Connection) (ss : List Entry) (i : ℕ) → Absent d.name ss → ready_instant d ≡ At i → i ≤ t → (w : Winner) → Best t ss w
+meet : (t : ℕ) (d : Connection) (ss : List Entry) (i : ℕ) → Absent d.name ss → ready_instant d ≡ Some i → i ≤ t → (w : Winner) → Best t ss w
     → Best t (taken d ∷ ss) (better (wins i d.name) w)
 unfolding better
 meet t d ss i a e l none_ready h = record {
@@ -124,8 +124,8 @@ meet t d ss i a e l (wins j w) h = go (ahead? i d.name j w) refl
 enter : (t : ℕ) (d : Connection) (ss : List Entry) (w : Winner) → Absent d.name ss → Best t ss w → (r : Instant) → ready_instant d ≡ r
     → Best t (taken d ∷ ss) (better (candidate_from t d.name r) w)
 unfolding candidate_from better
-enter t d ss w a h Never e = pass-late t d ss w a (λ j f. absurd (never≢At (sym e ∙ f))) h
-enter t d ss w a h (At i) e = go (leb i t) refl
+enter t d ss w a h None e = pass-late t d ss w a (λ j f. absurd (never≢At (sym e ∙ f))) h
+enter t d ss w a h (Some i) e = go (leb i t) refl
   where
     go : (b : Bool) → leb i t ≡ b → Best t (taken d ∷ ss) (better (cond b (wins i d.name) none_ready) w)
     go true p = meet t d ss i a e (leb-true i t p) w h

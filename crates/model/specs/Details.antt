@@ -1,7 +1,7 @@
 -- The whole answers of an open, a received cell and a slot: what the documents ask for, and besides it the leaf, what
 -- was received and what was sent. They follow from the table before the call and its outcome. (Beyond the documents'
 -- demands; document 02, L1 and L4, for made cells and leaves.)
-use Rattle.std.specs.Prelude.{ℕ, Bool, true, false, cond, eqb}
+use Rattle.std.specs.Prelude.{ℕ, Bool, true, false, cond, eqb, Some, None}
 use Rattle.cell.specs.declared.read.Reading.{Reading}
 use Rattle.cell.specs.declared.read.Reading.TheVariants.{Refused as Unread, DataCell, RmCell}
 use Rattle.cell.specs.Name.{address_name}
@@ -9,8 +9,7 @@ use Rattle.cell.specs.Fields.{cell_name}
 use Rattle.connection_members.specs.Members.{owner}
 use Rattle.connection.specs.declared.kind.Kind.{Kind}
 use Rattle.connection.specs.declared.kind.Kind.TheVariants.{Forward, Turned, Data}
-use Rattle.connection.specs.declared.parts.Waiting.{Waiting}
-use Rattle.connection.specs.declared.parts.Waiting.TheVariants.{Nothing, Cell}
+use Rattle.connection.specs.Parts.{Waiting}
 use Rattle.model.specs.State.{State, Entry, free, taken, position, is_free, find, leaf_of}
 use Rattle.model.specs.Call.{Outcome, Answer, Refused, Accepted, Closed, Idle, Sent}
 use Rattle.model.specs.Answers.{OpenAnswer, OpenRefused, Opened, ReceiveAnswer, ReceiveRefused, Received, SlotAnswer, SlotRefused, IdleSlot, SentCell}
@@ -62,8 +61,8 @@ receive_answer r s o =
 
 -- whether the turned cell that goes is one that the connection made: the turned one goes first (document 02, L1)
 abbrev pub none_turned : Waiting → Bool
-none_turned Nothing = true
-none_turned (Cell p) = false
+none_turned None = true
+none_turned (Some p) = false
 
 abbrev pub is_made : Kind → Entry → Bool
 is_made Forward x = false

@@ -2,7 +2,7 @@
 -- condition does not hold, and accepted if all hold. The documents' numbers stand here a second time, beside
 -- conditions instead of tests. (Document 01, "Refused because of the input", "Refused because of the state" and
 -- the orders behind them; document 02, each request.)
-use Rattle.std.specs.Prelude.{ℕ, suc, ◌+◌, ◌≤◌, ◌<◌, ◌≡◌, ◌≢◌, true, false, List, [], ◌∷◌, length}
+use Rattle.std.specs.Prelude.{ℕ, suc, ◌+◌, ◌≤◌, ◌<◌, ◌≡◌, ◌≢◌, true, false, List, [], ◌∷◌, length, Some, None}
 use Rattle.std.proofs.Math.Option.{Option, none, some}
 use Rattle.rate_params.specs.declared.params.Params.{Params}
 use Rattle.rate.specs.Code.{codes_clear}
@@ -12,10 +12,9 @@ use Rattle.cell.specs.Fields.{cell_name}
 use Rattle.cell.specs.Reading.{reading}
 use Rattle.cell.specs.declared.read.Reading.{Reading}
 use Rattle.cell.specs.declared.read.Reading.TheVariants.{Refused as Unread, DataCell, RmCell}
+use Rattle.connection.specs.Parts.{Instant}
 use Rattle.connection_members.specs.Path.{is_path, path_of}
 use Rattle.connection_members.specs.Members.{is_member, cells_of, owner}
-use Rattle.connection.specs.declared.ready.Instant.{Instant}
-use Rattle.connection.specs.declared.ready.Instant.TheVariants.{Never, At}
 use Rattle.model.specs.State.{State, Entry, free, taken, capacity, empty, find, entry_cells}
 use Rattle.model.specs.Call.{Call, opening, closing, receiving, offering, levelling, slot, making, out_of_rate, opening_path, adding, offering_member, removing, refusal}
 use Rattle.model.specs.Run.{final}
@@ -38,17 +37,17 @@ open_count (taken c ∷ ss) = suc (open_count ss)
 
 -- the last made cell and the last out-of-rate cell of the connection in an entry
 abbrev pub last_made : Entry → Instant
-last_made free = Never
+last_made free = None
 last_made (taken c) = c.destination.made.last
 
 abbrev pub last_out_of_rate : Entry → Instant
-last_out_of_rate free = Never
+last_out_of_rate free = None
 last_out_of_rate (taken c) = c.out_of_rate
 
 -- 100 ms or more have passed at t, if there was one
 abbrev pub Rested : ℕ → Instant → Type 0
-Rested t Never = Unit
-Rested t (At m) = m + 100_000_000 ≤ t
+Rested t None = Unit
+Rested t (Some m) = m + 100_000_000 ≤ t
 
 -- every open, of a channel or of the path of a VPI
 abbrev pub OpenAddressOrder : State → (vpi vci time : ℕ) → Params → Option ℕ → Type 0

@@ -1,10 +1,9 @@
 -- What calls read that leave the table as it is. For one connection: its allowed rate, with those before and after
 -- its last backward cell, or the rate codes of its contract; refusal 11. (Document 01, "Slots"; document 02, L8
 -- and L9.) For all connections: the next ready instant, and the time to pass to a slot; no refusal.
-use Rattle.std.specs.Prelude.{ℕ, ◌-◌, ◌^◌, min, max, List, [], ◌∷◌}
-use Rattle.connection.specs.declared.ready.Instant.{Instant}
-use Rattle.connection.specs.declared.ready.Instant.TheVariants.{Never, At}
+use Rattle.std.specs.Prelude.{ℕ, ◌-◌, ◌^◌, min, max, List, [], ◌∷◌, Some, None}
 use Rattle.connection.specs.Ready.{ready_instant}
+use Rattle.connection.specs.Parts.{Instant}
 use Rattle.model.specs.State.{State, Entry, free, taken, find}
 use Rattle.model.specs.Answers.{Acr, NotOpen, Rate, Contract, NoContract, Codes}
 
@@ -25,17 +24,17 @@ contract_of s v = entry_contract (find v s.entries)
 
 -- when the connection in an entry is ready
 unfoldable pub entry_ready : Entry → Instant
-entry_ready free = Never
+entry_ready free = None
 entry_ready (taken c) = ready_instant c
 
 unfoldable pub earlier : Instant → Instant → Instant
-earlier Never b = b
-earlier (At i) Never = At i
-earlier (At i) (At j) = At (min i j)
+earlier None b = b
+earlier (Some i) None = Some i
+earlier (Some i) (Some j) = Some (min i j)
 
 -- the earliest ready instant of all entries; never, if no connection is ever ready as things stand
 unfoldable pub earliest : List Entry → Instant
-earliest [] = Never
+earliest [] = None
 earliest (s ∷ ss) = earlier (entry_ready s) (earliest ss)
 
 -- a ready instant in a word of 64 bits: for never the greatest, which is after every instant
@@ -43,8 +42,8 @@ abbrev pub never_word : ℕ
 never_word = 2 ^ 64 - 1
 
 unfoldable pub ready_word : Instant → ℕ
-ready_word Never = never_word
-ready_word (At i) = i
+ready_word None = never_word
+ready_word (Some i) = i
 
 unfoldable pub next_ready : State → ℕ
 next_ready s = ready_word (earliest s.entries)

@@ -1,10 +1,9 @@
 -- The tournament of the ready instants: a leaf for each entry, neighbours paired at each level, and what a replay
 -- of one leaf's matches counts. (Document 02, L4.) Leaf x has the place capacity + x. The places 2p and 2p + 1
 -- play the match p. Place 1 has the winner of all.
-use Rattle.std.specs.Prelude.{ℕ, zero, suc, ◌+◌, ◌-◌, ◌*◌, ◌/◌, ◌%◌, Bool, cond, not, ◌&&◌, List, eqb, get_or}
-use Rattle.connection.specs.declared.ready.Instant.{Instant}
-use Rattle.connection.specs.declared.ready.Instant.TheVariants.{Never, At}
+use Rattle.std.specs.Prelude.{ℕ, zero, suc, ◌+◌, ◌-◌, ◌*◌, ◌/◌, ◌%◌, Bool, cond, not, ◌&&◌, List, eqb, get_or, Some, None}
 use Rattle.connection.specs.Ready.{ready_instant}
+use Rattle.connection.specs.Parts.{Instant}
 use Rattle.model.specs.State.{Entry, free, taken, capacity}
 use Rattle.model.specs.Winner.{Winner, none_ready, candidate_from, is_ahead}
 
@@ -19,8 +18,8 @@ pub data MatchWinner : Type 0 where
 
 -- a leaf that is empty or never ready wins no match
 unfoldable pub instant_winner : (name leaf : ℕ) → Instant → MatchWinner
-instant_winner v x Never = no_winner
-instant_winner v x (At i) = won_by i v x
+instant_winner v x None = no_winner
+instant_winner v x (Some i) = won_by i v x
 
 unfoldable pub leaf_winner : (leaf : ℕ) → Entry → MatchWinner
 leaf_winner x free = no_winner
@@ -40,12 +39,12 @@ winner_at ss (suc d) p = first (winner_at ss d (2 * p)) (winner_at ss d (2 * p +
 -- that winner as the winner of a slot at t
 unfoldable pub in_time : (t : ℕ) → MatchWinner → Winner
 in_time t no_winner = none_ready
-in_time t (won_by i v x) = candidate_from t v (At i)
+in_time t (won_by i v x) = candidate_from t v (Some i)
 
 -- its ready instant
 unfoldable pub winner_instant : MatchWinner → Instant
-winner_instant no_winner = Never
-winner_instant (won_by i v x) = At i
+winner_instant no_winner = None
+winner_instant (won_by i v x) = Some i
 
 -- the other place of a place's match
 abbrev pub neighbour : (place : ℕ) → ℕ

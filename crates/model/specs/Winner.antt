@@ -1,10 +1,9 @@
 -- The connection that a slot at t goes to: of those ready by then, the one that was ready first; of several, the
 -- lowest name. (Document 01, "Slots".)
-use Rattle.std.specs.Prelude.{ℕ, ◌≤◌, ◌<◌, ◌≡◌, Bool, cond, ◌&&◌, ◌||◌, List, [], ◌∷◌, leb, ltb, eqb}
+use Rattle.std.specs.Prelude.{ℕ, ◌≤◌, ◌<◌, ◌≡◌, Bool, cond, ◌&&◌, ◌||◌, List, [], ◌∷◌, leb, ltb, eqb, Some, None}
 use Rattle.connection.specs.declared.parts.Connection.{Connection}
-use Rattle.connection.specs.declared.ready.Instant.{Instant}
-use Rattle.connection.specs.declared.ready.Instant.TheVariants.{Never, At}
 use Rattle.connection.specs.Ready.{ready_instant}
+use Rattle.connection.specs.Parts.{Instant}
 use Rattle.model.specs.State.{Entry, free, taken, find}
 use Rattle.model.specs.Invariant.{Each}
 
@@ -14,8 +13,8 @@ pub data Winner : Type 0 where
   wins : (instant name : ℕ) → Winner
 
 unfoldable pub candidate_from : (t name : ℕ) → Instant → Winner
-candidate_from t v Never = none_ready
-candidate_from t v (At i) = cond (leb i t) (wins i v) none_ready
+candidate_from t v None = none_ready
+candidate_from t v (Some i) = cond (leb i t) (wins i v) none_ready
 
 unfoldable pub candidate : ℕ → Entry → Winner
 candidate t free = none_ready
@@ -44,11 +43,11 @@ pub data Ahead (i v j w : ℕ) : Type 0 where
 pub record Chosen (t i v : ℕ) (ss : List Entry) : Type 0 where
   pub holder : Connection
   pub found : find v ss ≡ taken holder
-  pub ready_at : ready_instant holder ≡ At i
+  pub ready_at : ready_instant holder ≡ Some i
   pub due : i ≤ t
-  pub first : Each (λ d. (j : ℕ) → ready_instant d ≡ At j → j ≤ t → Ahead i v j d.name) ss
+  pub first : Each (λ d. (j : ℕ) → ready_instant d ≡ Some j → j ≤ t → Ahead i v j d.name) ss
 
 -- no winner: no connection is ready by t
 abbrev pub Best : ℕ → List Entry → Winner → Type 0
-Best t ss none_ready = Each (λ d. (j : ℕ) → ready_instant d ≡ At j → t < j) ss
+Best t ss none_ready = Each (λ d. (j : ℕ) → ready_instant d ≡ Some j → t < j) ss
 Best t ss (wins i v) = Chosen t i v ss

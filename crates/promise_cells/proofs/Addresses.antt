@@ -1,4 +1,5 @@
 -- Pairs out of their ranges are unknown, and every cell that is written carries its connection's VPI and VCI.
+use Rattle.std.specs.Prelude.{Some, None}
 use Prim.Native.Nat.{ℕ, ◌≤◌, ◌<◌}
 use mathlib.Core.Path.{◌≡◌, refl, ap, subst, sym}
 use mathlib.Core.Bool.{true, false, cond, ◌&&◌}
@@ -16,14 +17,13 @@ use Rattle.cell.proofs.Names.{address-lt, names_apart, address-back}
 use Rattle.connection_members.specs.Path.{path_vci, path_of}
 use Rattle.connection_members.specs.Members.{Member, is_member}
 use Rattle.connection.specs.declared.parts.Connection.{Connection}
-use Rattle.connection.specs.declared.parts.Waiting.{Waiting}
-use Rattle.connection.specs.declared.parts.Waiting.TheVariants.{Nothing, Cell}
 use Rattle.connection.specs.declared.kind.Kind.{Kind}
 use Rattle.connection.specs.declared.kind.Kind.TheVariants.{Forward, Turned, Data}
 use Rattle.connection.specs.Kind.{kind_at}
 use Rattle.connection.specs.Source.{out_of_rate_cell, forward_fields}
 use Rattle.connection.specs.Destination.{made_fields, backward_cell}
 use Rattle.connection.specs.Slot.{after, member_served, buffer_sent, untouched, written}
+use Rattle.connection.specs.Parts.{Waiting}
 use Rattle.connection.proofs.Keeps.{after_same}
 use Rattle.model.specs.State.{State, Entry, free, taken, empty, is_free, find, with_time}
 use Rattle.model.specs.Invariant.{WellFormed}
@@ -120,8 +120,8 @@ header-name clp v l k h = rw (header-vpi clp v l h, header-vci clp v l k) (addre
 
 backward-name : (v : ℕ) (p : Params) (w : Waiting) (level : ℕ) → v < no_name → Carries v (written (backward_cell v p w level))
 unfolding backward_cell rm_cell made_fields turned_cell
-backward-name v p Nothing level h = header-name 0 v _ (lit≤ tt) h
-backward-name v p (Cell w) level h = header-name 0 v _ (lit≤ tt) h
+backward-name v p None level h = header-name 0 v _ (lit≤ tt) h
+backward-name v p (Some w) level h = header-name 0 v _ (lit≤ tt) h
 
 sent-name :
     (k : Kind) (c d : Connection) (ms : List Member) → d.name ≡ c.name → c.name < no_name

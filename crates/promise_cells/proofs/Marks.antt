@@ -1,4 +1,5 @@
 -- No CI is lost between a received forward cell and the next turned cell that is sent.
+use Rattle.std.specs.Prelude.{Some}
 use Prim.Native.Nat.{ℕ, ◌<◌}
 use mathlib.Core.Path.{◌≡◌, refl, sym, ap, subst, ◌∙◌}
 use mathlib.Core.Bool.{Bool, true, false, cond, ◌||◌}
@@ -22,8 +23,6 @@ use Rattle.cell.proofs.Names.{address-back}
 use Rattle.cell.proofs.Admits.{rm-received}
 use Rattle.cell.proofs.Turned.{turned-read, turned-words}
 use Rattle.connection.specs.declared.parts.Connection.{Connection}
-use Rattle.connection.specs.declared.parts.Waiting.{Waiting}
-use Rattle.connection.specs.declared.parts.Waiting.TheVariants.{Cell}
 use Rattle.connection.specs.declared.kind.Kind.{Kind}
 use Rattle.connection.specs.declared.kind.Kind.TheVariants.{Forward, Turned, Data}
 use Rattle.connection.specs.Source.{offered, after_backward_cell, after_out_of_rate, sent_forward, sent_data, with_served}
@@ -31,6 +30,7 @@ use Rattle.connection.specs.Destination.{with_made, after_data_cell, waiting_ci,
 use Rattle.connection.specs.Received.{after_rm_cell}
 use Rattle.connection.specs.Slot.{after, buffer_sent, written}
 use Rattle.connection.specs.Kind.{kind_at}
+use Rattle.connection.specs.Parts.{Waiting}
 use Rattle.connection.proofs.Keeps.{work-same}
 use Rattle.model.specs.State.{State, Entry, taken, empty, find}
 use Rattle.model.specs.Invariant.{WellFormed}
@@ -51,7 +51,7 @@ use Rattle.promise_cells.proofs.Kept.{Has, KeptBy, effect-kept, Stable}
 -- the turned cell that waits, as it will be written, is read as a turned cell of v with CI 1
 record Marked (v : ℕ) (w : Waiting) : Type 0 where
   payload : Payload
-  waits : w ≡ Cell payload
+  waits : w ≡ Some payload
   fields : Fields
   read : reading (turned_cell (vpi_in v) (vci_in v) payload) ≡ RmCell fields
   name : cell_name fields ≡ v
@@ -73,7 +73,7 @@ marked-ci v w m =
 -- a forward cell that is turned with a mark
 turned-marked :
     (level : ℕ) (b : Bool) (o : List ℕ) (f : Fields) (v : ℕ) → AreOctets o → reading o ≡ RmCell f → v < no_name → cond (b || eqb level 2) 1 f.ci ≡ 1
-    → Marked v (Cell (payload_of (turned_payload level b (payload o))))
+    → Marked v (Some (payload_of (turned_payload level b (payload o))))
 unfolding returned
 turned-marked level b o f v a e l m = record {
   payload = payload_of (turned_payload level b (payload o));
@@ -163,7 +163,7 @@ received-mark s w o f c a e d q m =
     (turned-marked s.level (mark_kept c.destination) o f (cell_name f) a e (rw (← name_of (cell_name f) s c q) (valid-at w (cell_name f) c q).0.coded) (came-marks f c s.level m))
 
 -- The slot that sends it.
-backward-octets : (n : ℕ) (p : Params) (w : Waiting) (level v : ℕ) (x : Payload) → w ≡ Cell x → n ≡ v → backward_cell n p w level ≡ turned_cell (vpi_in v) (vci_in v) x
+backward-octets : (n : ℕ) (p : Params) (w : Waiting) (level v : ℕ) (x : Payload) → w ≡ Some x → n ≡ v → backward_cell n p w level ≡ turned_cell (vpi_in v) (vci_in v) x
 unfolding backward_cell
 backward-octets n p w level v x e q = rw (e, q)
 

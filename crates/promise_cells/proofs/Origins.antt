@@ -1,4 +1,5 @@
 -- No mark is invented.
+use Rattle.std.specs.Prelude.{Some, None}
 use Prim.Native.Nat.{ℕ, ◌/◌, ◌%◌, ◌<◌}
 use mathlib.Core.Path.{◌≡◌, refl, sym, ap, subst, ◌∙◌}
 use mathlib.Core.Logic.{◌≢◌}
@@ -26,11 +27,9 @@ use Rattle.cell.proofs.Written.{read-written}
 use Rattle.connection_members.specs.Members.{owner}
 use Rattle.connection_members.specs.Path.{path_vci, path_of}
 use Rattle.connection.specs.declared.parts.Connection.{Connection}
-use Rattle.connection.specs.declared.parts.Waiting.{Waiting}
-use Rattle.connection.specs.declared.parts.Waiting.TheVariants.{Nothing, Cell}
 use Rattle.connection.specs.declared.kind.Kind.{Kind}
 use Rattle.connection.specs.declared.kind.Kind.TheVariants.{Forward, Turned, Data}
-use Rattle.connection.specs.Parts.{fresh, with_queue, dequeued}
+use Rattle.connection.specs.Parts.{fresh, with_queue, dequeued, Waiting}
 use Rattle.connection.specs.Source.{offered, after_backward_cell, after_out_of_rate, sent_forward, sent_data, with_served}
 use Rattle.connection.specs.Destination.{with_made, made_fields, after_data_cell, waiting_ci, mark_kept, after_forward_cell, sent_turned, backward_cell}
 use Rattle.connection.specs.Received.{after_rm_cell}
@@ -88,15 +87,15 @@ abbrev bit : ℕ → Payload → ℕ
 bit n p = get_or (octets_of p) 1 0 / n % 2
 
 record Explained (v : ℕ) (cs : List Call) (w : Waiting) (e : Bool) : Type 0 where
-  for_ci : (p : Payload) → w ≡ Cell p → bit 32 p ≡ 1 → CiCame v cs
-  for_ni : (p : Payload) → w ≡ Cell p → bit 16 p ≡ 1 → NiCame v cs
+  for_ci : (p : Payload) → w ≡ Some p → bit 32 p ≡ 1 → CiCame v cs
+  for_ni : (p : Payload) → w ≡ Some p → bit 16 p ≡ 1 → NiCame v cs
   for_efci : e ≡ true → EfciCame v cs
 
 abbrev ExplainedOn : ℕ → List Call → Connection → Type 0
 ExplainedOn v cs d = Explained v cs d.destination.turned d.destination.efci
 
 -- nothing waits and nothing is saved
-none-to-explain : (v : ℕ) (cs : List Call) → Explained v cs Nothing false
+none-to-explain : (v : ℕ) (cs : List Call) → Explained v cs None false
 none-to-explain v cs = record {
   for_ci = λ p e b. let z : ◌≡◌ {A = ℕ} 0 1 = cc in absurd (omega arith);
   for_ni = λ p e b. let z : ◌≡◌ {A = ℕ} 0 1 = cc in absurd (omega arith);
@@ -137,10 +136,10 @@ turned-bits level b o f a e =
     let g = (rm-received (turned_cell 0 0 p) (returned level b 0 0 f) r).fields in
     (ap (λ (x : Fields). x.ci) (sym g), ap (λ (x : Fields). x.ni) (sym g))
 
-waiting-ci : (w : Waiting) → waiting_ci w ≡ true → (A : Type 0) → ((p : Payload) → w ≡ Cell p → bit 32 p ≡ 1 → A) → A
+waiting-ci : (w : Waiting) → waiting_ci w ≡ true → (A : Type 0) → ((p : Payload) → w ≡ Some p → bit 32 p ≡ 1 → A) → A
 unfolding waiting_ci
-waiting-ci Nothing e A f = absurd (false≢true e)
-waiting-ci (Cell p) e A f = f p refl (eqb-true _ 1 e)
+waiting-ci None e A f = absurd (false≢true e)
+waiting-ci (Some p) e A f = f p refl (eqb-true _ 1 e)
 
 turned_round : (v : ℕ) (cs : List Call) (o : List ℕ) (f : Fields) (d : Connection) → AreOctets o → reading o ≡ RmCell f → f.dir ≡ 0 → cell_name f ≡ v
     → is_accepted (step (final empty cs) (receiving o)).answer ≡ true → ExplainedOn v cs d → ExplainedOn v (cs ++ (receiving o ∷ [])) (after_forward_cell (final empty cs).level o d)
@@ -163,7 +162,7 @@ turned_round v cs o f d octets e dir n a h = record {
     bits : (bit 32 new ≡ cond (kept || eqb level 2) 1 f.ci) × (bit 16 new ≡ cond (eqb level 1) 1 f.ni)
     bits = turned-bits level kept o f octets e
 
-    held : (p : Payload) → Cell new ≡ Cell p → new ≡ p
+    held : (p : Payload) → Some new ≡ Some p → new ≡ p
     held p q = cc
 
     by-ci : SetsCi v cs f → CiCame v (cs ++ (receiving o ∷ []))
@@ -374,8 +373,8 @@ backward-explained :
     (v : ℕ) (cs : List Call) (p : Params) (w : Waiting) (e : Bool) (level : ℕ) (f : Fields) → v < no_name → Explained v cs w e → reading (backward_cell v p w level) ≡ RmCell f → f.bn ≡ 0
     → (f.ci ≡ 1 → CiCame v cs) × (f.ni ≡ 1 → NiCame v cs)
 unfolding backward_cell
-backward-explained v cs p Nothing e level f l h r b = absurd (omega (arith, b, made-bn v p level f l r))
-backward-explained v cs p (Cell x) e level f l h r b = let k = turned-marks v x f r in (λ q. h.for_ci x refl (k.0 ∙ q), λ q. h.for_ni x refl (k.1 ∙ q))
+backward-explained v cs p None e level f l h r b = absurd (omega (arith, b, made-bn v p level f l r))
+backward-explained v cs p (Some x) e level f l h r b = let k = turned-marks v x f r in (λ q. h.for_ci x refl (k.0 ∙ q), λ q. h.for_ni x refl (k.1 ∙ q))
 
 slot-explained :
     (v : ℕ) (cs : List Call) {t room x acr n : ℕ} {p : Outcome} (o : List ℕ) (f : Fields) → WellFormed (final empty cs) → ((d : Connection) → find v (final empty cs).entries ≡ taken d → ExplainedOn v cs d)

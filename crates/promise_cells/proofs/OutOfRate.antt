@@ -1,4 +1,5 @@
 -- An out-of-rate cell changes nothing but its own instant and the time.
+use Rattle.std.specs.Prelude.{Some}
 use Prim.Native.Nat.{ℕ, zero, suc, ◌≤◌, ◌<◌}
 use mathlib.Core.Path.{◌≡◌, refl, sym, ap, subst, ◌∙◌}
 use mathlib.Core.Bool.{true}
@@ -15,7 +16,6 @@ use Rattle.cell.specs.Name.{no_name, address_name}
 use Rattle.cell.specs.Fields.{rm_cell}
 use Rattle.cell.proofs.Written.{read-written}
 use Rattle.connection.specs.declared.parts.Connection.{Connection}
-use Rattle.connection.specs.declared.ready.Instant.TheVariants.{At}
 use Rattle.connection.specs.Parts.{with_out_of_rate}
 use Rattle.connection.specs.Interval.{rested}
 use Rattle.connection.specs.Source.{forward_fields, after_out_of_rate, out_of_rate_cell}
@@ -102,7 +102,7 @@ effect-counts :
     → Counts out_of_rate_sent (address_name vpi vci) t s o
 effect-counts w vpi vci t room x a =
     let z = effect-alone w vpi vci t room x a in
-    let now : Since out_of_rate_sent t (with_out_of_rate z.holder (At t)) = record { instant = t; at = refl; since = le_refl t } in
+    let now : Since out_of_rate_sent t (with_out_of_rate z.holder (Some t)) = record { instant = t; at = refl; since = le_refl t } in
     record { holder = z.holder; found = z.found; rested = z.rested; after = subst (Has (Since out_of_rate_sent t)) (sym z.own) now }
 
 pub out-of-rate-spaced : OutOfRateSpaced

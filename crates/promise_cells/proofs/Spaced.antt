@@ -1,5 +1,6 @@
 -- Two made cells of a connection lie 100 ms or more apart, and so do two of its out-of-rate cells. One law serves
 -- both instants that a connection keeps.
+use Rattle.std.specs.Prelude.{Some, None}
 use Prim.Native.Nat.{ℕ, ◌+◌, ◌≤◌, ◌<◌}
 use mathlib.Core.Path.{◌≡◌, refl, sym, ap, subst, ◌∙◌}
 use mathlib.Core.Logic.{◌≢◌}
@@ -13,14 +14,10 @@ use Rattle.cell.specs.Name.{no_name, address_name}
 use Rattle.cell.specs.declared.fields.Fields.{Fields}
 use Rattle.cell.proofs.Names.{names_apart}
 use Rattle.connection.specs.declared.parts.Connection.{Connection}
-use Rattle.connection.specs.declared.parts.Waiting.{Waiting}
-use Rattle.connection.specs.declared.parts.Waiting.TheVariants.{Nothing, Cell}
 use Rattle.connection.specs.declared.parts.Made.{Made}
-use Rattle.connection.specs.declared.ready.Instant.{Instant}
-use Rattle.connection.specs.declared.ready.Instant.TheVariants.{At}
 use Rattle.connection.specs.declared.kind.Kind.{Kind}
 use Rattle.connection.specs.declared.kind.Kind.TheVariants.{Forward, Turned, Data}
-use Rattle.connection.specs.Parts.{with_queue, dequeued}
+use Rattle.connection.specs.Parts.{with_queue, dequeued, Waiting, Instant}
 use Rattle.connection.specs.Invariant.{NotAfter, ValidAt}
 use Rattle.connection.specs.Interval.{rested}
 use Rattle.connection.specs.Source.{offered, after_backward_cell, sent_forward, sent_data, with_served, after_out_of_rate}
@@ -63,7 +60,7 @@ last_of k c = chosen k (instants c)
 -- the last one of this sort, as it is kept, is not before t
 pub record Since (k : Spacing) (t : ℕ) (c : Connection) : Type 0 where
   pub instant : ℕ
-  pub at : last_of k c ≡ At instant
+  pub at : last_of k c ≡ Some instant
   pub since : t ≤ instant
 
 kept-since : (k : Spacing) (t : ℕ) (c d : Connection) → instants d ≡ instants c → Since k t c → Since k t d
@@ -80,8 +77,8 @@ work-instants level o f c = go (eqb f.dir 1)
 
 left-last : (w : Waiting) (m : Made) → (made_left w m).last ≡ m.last
 unfolding made_left
-left-last Nothing m = refl
-left-last (Cell p) m = refl
+left-last None m = refl
+left-last (Some p) m = refl
 
 after-instants : (k : Kind) (t : ℕ) (c : Connection) → instants (after k t c) ≡ instants c
 unfolding after sent_forward sent_turned sent_data
@@ -90,7 +87,7 @@ after-instants Turned t c = ap (λ (i : Instant). (i, c.out_of_rate)) (left-last
 after-instants Data t c = refl
 
 -- a new one is not before the last one kept, since none is after the time of the table
-not_after : (k : Spacing) {now : ℕ} (c : Connection) (m : ℕ) → last_of k c ≡ At m → ValidAt now c → m ≤ now
+not_after : (k : Spacing) {now : ℕ} (c : Connection) (m : ℕ) → last_of k c ≡ Some m → ValidAt now c → m ≤ now
 not_after cell_made {now} c m e h = subst (NotAfter now) e h.2.past
 not_after out_of_rate_sent {now} c m e h = subst (NotAfter now) e h.3
 
@@ -141,14 +138,14 @@ all-since k vpi vci l t {s} w (c ∷ cs) q m =
 pub record Counts (k : Spacing) (v t : ℕ) (s : State) (o : Outcome) : Type 0 where
   pub holder : Connection
   pub found : find v s.entries ≡ taken holder
-  pub rested : (m : ℕ) → last_of k holder ≡ At m → m + 100_000_000 ≤ t
+  pub rested : (m : ℕ) → last_of k holder ≡ Some m → m + 100_000_000 ≤ t
   pub after : Has (Since k t) (find v o.state.entries)
 
 -- the name of an open connection has 24 bits
 pub named-below : {s : State} → WellFormed s → (v : ℕ) (d : Connection) → find v s.entries ≡ taken d → v < no_name
 named-below {s} w v d f = subst (λ (u : ℕ). u < no_name) (name_of v s d f) (valid-at w v d f).0.coded
 
-pub rested-since : (t : ℕ) (i : Instant) → rested t i ≡ true → (m : ℕ) → i ≡ At m → m + 100_000_000 ≤ t
+pub rested-since : (t : ℕ) (i : Instant) → rested t i ≡ true → (m : ℕ) → i ≡ Some m → m + 100_000_000 ≤ t
 unfolding rested
 rested-since t i h m e = leb-true _ _ (subst (λ (j : Instant). rested t j ≡ true) e h)
 

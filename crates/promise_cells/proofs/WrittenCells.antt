@@ -1,5 +1,6 @@
 -- What holds of every cell written from fields, and of every received cell turned round, holds of
 -- each cell that a call writes.
+use Rattle.std.specs.Prelude.{Some, None}
 use Prim.Native.Nat.{ℕ, ◌<◌, ◌≤◌}
 use mathlib.Core.Path.{◌≡◌, refl}
 use mathlib.Core.Bool.{Bool, true, false, cond}
@@ -17,11 +18,9 @@ use Rattle.cell.specs.declared.fields.Fields.{Fields}
 use Rattle.cell.specs.declared.read.Reading.TheVariants.{RmCell}
 use Rattle.connection_members.specs.Path.{path_vci, path_of}
 use Rattle.connection.specs.declared.parts.Connection.{Connection}
-use Rattle.connection.specs.declared.parts.Waiting.{Waiting}
-use Rattle.connection.specs.declared.parts.Waiting.TheVariants.{Nothing, Cell}
 use Rattle.connection.specs.declared.kind.Kind.{Kind}
 use Rattle.connection.specs.declared.kind.Kind.TheVariants.{Forward, Turned, Data}
-use Rattle.connection.specs.Parts.{fresh}
+use Rattle.connection.specs.Parts.{fresh, Waiting}
 use Rattle.connection.specs.Invariant.{ValidAt}
 use Rattle.connection.specs.Kind.{kind_at}
 use Rattle.connection.specs.Source.{offered, after_backward_cell, after_out_of_rate, out_of_rate_cell, with_served, sent_forward, sent_data}
@@ -51,8 +50,8 @@ module _ (W : (clp : ℕ) → List ℕ → Type 0) (fields : (clp : ℕ) (f : Fi
     (turns : (level : ℕ) (b : Bool) (o : List ℕ) (f : Fields) → AreOctets o → reading o ≡ RmCell f → (vpi vci : ℕ) → vpi ≤ 255 → vci ≤ 65535 → W 0 (turned_cell vpi vci (payload_of (turned_payload level b (payload o))))) where
   -- the turned cell that waits, if one does, on whatever VPI and VCI it is sent
   abbrev WaitsAs : Waiting → Type 0
-  WaitsAs Nothing = Unit
-  WaitsAs (Cell p) = (vpi vci : ℕ) → vpi ≤ 255 → vci ≤ 65535 → W 0 (turned_cell vpi vci p)
+  WaitsAs None = Unit
+  WaitsAs (Some p) = (vpi vci : ℕ) → vpi ≤ 255 → vci ≤ 65535 → W 0 (turned_cell vpi vci p)
 
   abbrev Waits : Connection → Type 0
   Waits d = WaitsAs d.destination.turned
@@ -112,8 +111,8 @@ module _ (W : (clp : ℕ) → List ℕ → Type 0) (fields : (clp : ℕ) (f : Fi
   -- What a call then writes.
   backward-has : (v : ℕ) (p : Params) (w : Waiting) (level : ℕ) → v < no_name → WaitsAs w → W 0 (backward_cell v p w level)
   unfolding backward_cell
-  backward-has v p Nothing level h m = fields 0 _ (lit≤ tt) (made-fits v p level h)
-  backward-has v p (Cell x) level h m = m (vpi_in v) (vci_in v) (omega (arith, h)) (omega arith)
+  backward-has v p None level h m = fields 0 _ (lit≤ tt) (made-fits v p level h)
+  backward-has v p (Some x) level h m = m (vpi_in v) (vci_in v) (omega (arith, h)) (omega arith)
 
   buffer-has : (last : ℕ) (k : Kind) (c d : Connection) → ValidAt last c → ValidAt last d → Waits c → WrittenAs (W 0) (buffer_sent k c d)
   unfolding buffer_sent

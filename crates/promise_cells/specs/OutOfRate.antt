@@ -1,6 +1,6 @@
 -- An out-of-rate cell changes only its own instant and the time of the table. It carries what a slot's forward
 -- cell would. (Document 02, L5 and L6; source rule 11.)
-use Rattle.std.specs.Prelude.{ℕ, ◌+◌, ◌≤◌, ◌≡◌, ◌≢◌, true, List}
+use Rattle.std.specs.Prelude.{ℕ, ◌+◌, ◌≤◌, ◌≡◌, ◌≢◌, true, List, Some, None}
 use Rattle.rate_moves.specs.declared.moves.Rate.{Rate}
 use Rattle.rate_params.specs.Params.{least}
 use Rattle.cell.specs.Name.{address_name}
@@ -8,9 +8,7 @@ use Rattle.cell.specs.Fields.{rm_cell}
 use Rattle.cell.specs.Reading.{reading}
 use Rattle.cell.specs.declared.read.Reading.TheVariants.{RmCell}
 use Rattle.connection.specs.declared.parts.Connection.{Connection}
-use Rattle.connection.specs.declared.ready.Instant.{Instant}
-use Rattle.connection.specs.declared.ready.Instant.TheVariants.{Never, At}
-use Rattle.connection.specs.Parts.{with_out_of_rate}
+use Rattle.connection.specs.Parts.{with_out_of_rate, Instant}
 use Rattle.connection.specs.Ready.{ready_instant}
 use Rattle.connection.specs.Source.{forward_fields}
 use Rattle.connection.specs.Slot.{Buffer, written}
@@ -23,7 +21,7 @@ use Rattle.promise_cells.specs.Spaced.{Apart}
 
 -- the ready instant of the connection in an entry
 abbrev pub ready_in : Entry → Instant
-ready_in free = Never
+ready_in free = None
 ready_in (taken c) = ready_instant c
 
 -- an RM cell of v with CLP 1 and the fields of a slot's forward cell at this rate, which reading it gives back
@@ -38,10 +36,10 @@ pub record OutOfRateChange (s : State) (v t : ℕ) (o : Outcome) : Type 0 where
   pub holder : Connection
   pub found : find v s.entries ≡ taken holder
   -- 100 ms or more after the one before it
-  pub rested : (m : ℕ) → holder.out_of_rate ≡ At m → m + 100_000_000 ≤ t
+  pub rested : (m : ℕ) → holder.out_of_rate ≡ Some m → m + 100_000_000 ≤ t
   pub cell : ForwardWritten v holder.rate o.buffer
   -- its connection keeps all but the instant of this cell: ACR, k, the last forward and send instants, Y, what waits
-  pub own : find v o.state.entries ≡ taken (with_out_of_rate holder (At t))
+  pub own : find v o.state.entries ≡ taken (with_out_of_rate holder (Some t))
   pub others : (u : ℕ) → u ≢ v → find u o.state.entries ≡ find u s.entries
   pub level : o.state.level ≡ s.level
   pub members : o.state.members ≡ s.members

@@ -1,4 +1,5 @@
 -- Cells of one connection are gaps at its peak apart, and each the gap of its own rate after the one before.
+use Rattle.std.specs.Prelude.{Some}
 use Prim.Native.Nat.{ℕ, suc, ◌+◌, ◌*◌, ◌≤◌, max}
 use mathlib.Core.Path.{◌≡◌, refl, subst}
 use mathlib.Core.Bool.{Bool, true, false}
@@ -16,7 +17,6 @@ use Rattle.connection.specs.declared.parts.Pace.{Pace}
 use Rattle.connection.specs.declared.parts.Pace.TheVariants.{Unsent, Running}
 use Rattle.connection.specs.declared.kind.Kind.{Kind}
 use Rattle.connection.specs.declared.kind.Kind.TheVariants.{Forward, Turned, Data}
-use Rattle.connection.specs.declared.ready.Instant.TheVariants.{At}
 use Rattle.connection.specs.Ready.{ready_instant}
 use Rattle.connection.specs.Kind.{is_forward, kind_at}
 use Rattle.connection.specs.Pace.{paced}
@@ -42,7 +42,7 @@ open_from g n Unsent = n
 open_from g n (Running sent forward k turned) = sent + g
 
 -- it is not before it
-pub not-before : (c : Connection) (i r : ℕ) → ready_instant c ≡ At i → c.rate.acr ≤ r → open_from (gap r) 0 c.pace ≤ i
+pub not-before : (c : Connection) (i r : ℕ) → ready_instant c ≡ Some i → c.rate.acr ≤ r → open_from (gap r) 0 c.pace ≤ i
 unfolding due_from open_from
 not-before c i r e l = go c.pace (ready-due c i e)
   where

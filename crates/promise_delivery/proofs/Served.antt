@@ -1,4 +1,5 @@
 -- A slot passes no time after the ready instant of a connection that waits, until it has gone to it.
+use Rattle.std.specs.Prelude.{Some}
 use Prim.Native.Nat.{ℕ, ◌+◌, ◌*◌, ◌≤◌}
 use mathlib.Core.Path.{◌≡◌, refl, sym, ap, subst, ◌∙◌}
 use mathlib.Core.Logic.{◌≢◌}
@@ -21,7 +22,6 @@ use Rattle.connection.specs.declared.parts.Pace.{Pace}
 use Rattle.connection.specs.declared.parts.Pace.TheVariants.{Unsent, Running}
 use Rattle.connection.specs.declared.kind.Kind.{Kind}
 use Rattle.connection.specs.declared.kind.Kind.TheVariants.{Forward, Turned, Data}
-use Rattle.connection.specs.declared.ready.Instant.TheVariants.{At}
 use Rattle.connection.specs.Ready.{ready_instant}
 use Rattle.connection.specs.Kind.{is_forward, kind_number, kind_at}
 use Rattle.connection.specs.Pace.{paced}
@@ -165,7 +165,7 @@ moved_other v g t i (some u) n = rw (ne_eqb u v (λ (e : u ≡ v). n (ap some e)
 
 -- v, which is e before a slot at t
 data SlotFor (v t : ℕ) (e : Connection) (ss : List Entry) (w : Option ℕ) : Type 0 where
-  own : (i : ℕ) → w ≡ some v → ready_instant e ≡ At i → i ≤ t → StillOpen v ss (after (kind_at t e) t e) → SlotFor v t e ss w
+  own : (i : ℕ) → w ≡ some v → ready_instant e ≡ Some i → i ≤ t → StillOpen v ss (after (kind_at t e) t e) → SlotFor v t e ss w
   foreign : w ≢ some v → StillOpen v ss e → SlotFor v t e ss w
 
 slot-for :

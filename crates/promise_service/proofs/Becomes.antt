@@ -1,5 +1,6 @@
 -- What each call does to the entry of one name, and what is known of it. One walk serves every theorem about
 -- one connection along a list.
+use Rattle.std.specs.Prelude.{Some}
 use Prim.Native.Nat.{ℕ, ◌≤◌, ◌<◌}
 use mathlib.Core.Path.{◌≡◌, refl, sym, ap, subst, ◌∙◌}
 use mathlib.Core.Logic.{◌≢◌}
@@ -18,7 +19,6 @@ use Rattle.cell.specs.Fields.{cell_name}
 use Rattle.cell.specs.Reading.{reading}
 use Rattle.connection_members.specs.Path.{path_vci, path_of}
 use Rattle.connection.specs.declared.parts.Connection.{Connection}
-use Rattle.connection.specs.declared.ready.Instant.TheVariants.{At}
 use Rattle.connection.specs.Parts.{fresh, with_queue, dequeued}
 use Rattle.connection.specs.Source.{offered, after_out_of_rate, with_served}
 use Rattle.connection.specs.Destination.{with_made, after_data_cell}
@@ -54,7 +54,7 @@ pub data Becomes (v : ℕ) : Entry → Call → Answer → Entry → Type 0 wher
   made_waits : {d : Connection} {c : Call} (t level k : ℕ) → 0 < level → Becomes v (taken d) c (Accepted k) (taken (with_made t level d))
   out_of_rate_gone : {d : Connection} {c : Call} (t k : ℕ) → Becomes v (taken d) c (Accepted k) (taken (after_out_of_rate t d))
   cell_sent :
-      {d : Connection} {t room x acr n : ℕ} (i : ℕ) (m : Option ℕ) → ready_instant d ≡ At i → i ≤ t
+      {d : Connection} {t room x acr n : ℕ} (i : ℕ) (m : Option ℕ) → ready_instant d ≡ Some i → i ≤ t
       → Becomes v (taken d) (slot t room) (Sent v x (kind_at t d) acr n) (taken (with_served m (after (kind_at t d) t d)))
 
 self : Entry → Entry

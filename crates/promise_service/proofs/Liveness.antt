@@ -1,4 +1,5 @@
 -- What a connection that waits can count on.
+use Rattle.std.specs.Prelude.{Some, None}
 use Prim.Native.Nat.{ℕ, suc, ◌≤◌, ◌<◌}
 use mathlib.Core.Path.{◌≡◌, refl, sym, ap, subst, ◌∙◌}
 use mathlib.Core.Bool.{Bool, true, false}
@@ -14,12 +15,11 @@ use Rattle.rate.proofs.Gaps.{gap_is, gap-antitone}
 use Rattle.connection.specs.declared.parts.Connection.{Connection}
 use Rattle.connection.specs.declared.parts.Pace.{Pace}
 use Rattle.connection.specs.declared.parts.Pace.TheVariants.{Unsent, Running}
-use Rattle.connection.specs.declared.ready.Instant.{Instant}
-use Rattle.connection.specs.declared.ready.Instant.TheVariants.{Never, At}
 use Rattle.connection.specs.Ready.{any_waits, ready_instant}
 use Rattle.connection.specs.Kind.{kind_at}
 use Rattle.connection.specs.Source.{with_served}
 use Rattle.connection.specs.Slot.{after, member_served}
+use Rattle.connection.specs.Parts.{Instant}
 use Rattle.connection.proofs.Keeps.{after_same, served-same}
 use Rattle.connection.proofs.Readiness.{ready-zero, ready-moving, ready-some, ready-served}
 use Rattle.connection.proofs.Spaced.{due_from, waits-ready, sent-spaced}
@@ -60,7 +60,7 @@ pub data Goes (s : State) (t i v : ℕ) : Outcome → Type 0 where
   goes : (j u : ℕ) (b : Chosen t j u s.entries) → Ahead j u i v → Goes s t i v (send_step (with_time t s) t u b.holder (kind_at t b.holder))
 
 pub slot-goes :
-    {s : State} (v : ℕ) (c : Connection) (i t room : ℕ) → find v s.entries ≡ taken c → ready_instant c ≡ At i → i ≤ t → {o : Outcome}
+    {s : State} (v : ℕ) (c : Connection) (i t room : ℕ) → find v s.entries ≡ taken c → ready_instant c ≡ Some i → i ≤ t → {o : Outcome}
     → Effect s (slot t room) o → IsAccepted o → Goes s t i v o
 unfolding refuse is_accepted
 slot-goes v c i t room f r l (refuses _ n h) a = let z : ◌≡◌ {A = ℕ} 0 1 = cc in absurd (omega arith)
@@ -73,31 +73,31 @@ unfolding send_from send_step goes_to
 precedes (goes j u b h) = record { instant = j; name = u; holder = b.holder; found = b.found; ready_at = b.ready_at; ahead = h; goes = refl }
 
 goes_first :
-    {s : State} {i v : ℕ} {o : Outcome} → Precedes s i v o → Each (λ d. (j : ℕ) → ready_instant d ≡ At j → Ahead i v j d.name) s.entries → GoesTo v o
+    {s : State} {i v : ℕ} {o : Outcome} → Precedes s i v o → Each (λ d. (j : ℕ) → ready_instant d ≡ Some j → Ahead i v j d.name) s.entries → GoesTo v o
 goes_first {s} {i} {v} p h =
     let b = each_at _ p.name s.entries p.holder p.found h p.instant p.ready_at in
     p.goes ∙ ap some (ahead-anti p.ahead (subst (λ (w : ℕ). Ahead i v p.instant w) (name_of p.name s p.holder p.found) b))
 
 -- Each slot that goes to another leaves one fewer connection that is ready by i.
 ready_by : ℕ → Instant → Bool
-ready_by i Never = false
-ready_by i (At j) = leb j i
+ready_by i None = false
+ready_by i (Some j) = leb j i
 
 entry_by : ℕ → Entry → Bool
 entry_by i free = false
 entry_by i (taken d) = ready_by i (ready_instant d)
 
-by-now : (i j : ℕ) (d : Connection) → ready_instant d ≡ At j → j ≤ i → entry_by i (taken d) ≡ true
+by-now : (i j : ℕ) (d : Connection) → ready_instant d ≡ Some j → j ≤ i → entry_by i (taken d) ≡ true
 unfolding ready_by entry_by
 by-now i j d e l = rw e (le-leb j i l)
 
-by-later : (i : ℕ) (d : Connection) → ((j : ℕ) → ready_instant d ≡ At j → i < j) → entry_by i (taken d) ≡ false
+by-later : (i : ℕ) (d : Connection) → ((j : ℕ) → ready_instant d ≡ Some j → i < j) → entry_by i (taken d) ≡ false
 unfolding ready_by entry_by
 by-later i d h = go (ready_instant d) h
   where
-    go : (r : Instant) → ((j : ℕ) → r ≡ At j → i < j) → ready_by i r ≡ false
-    go Never h = refl
-    go (At j) h = lt-leb j i (h j refl)
+    go : (r : Instant) → ((j : ℕ) → r ≡ Some j → i < j) → ready_by i r ≡ false
+    go None h = refl
+    go (Some j) h = lt-leb j i (h j refl)
 
 none_free : (i : ℕ) → entry_by i free ≡ false
 unfolding entry_by
@@ -108,10 +108,10 @@ ahead-by (sooner h) = omega arith
 ahead-by (tied e h) = omega arith
 
 -- a connection that has sent at t is not ready by t
-sent-later : (t : ℕ) (d : Connection) (x : Option ℕ) (j : ℕ) → ready_instant (with_served x (after (kind_at t d) t d)) ≡ At j → t < j
+sent-later : (t : ℕ) (d : Connection) (x : Option ℕ) (j : ℕ) → ready_instant (with_served x (after (kind_at t d) t d)) ≡ Some j → t < j
 sent-later t d x j e =
     let d' = after (kind_at t d) t d in
-    let r : ready_instant d' ≡ At j = sym (ready-served x d') ∙ e in
+    let r : ready_instant d' ≡ Some j = sym (ready-served x d') ∙ e in
     omega (arith, sent-spaced t d j r, gap_is d'.rate.acr (ready-some d' j r).0)
 
 -- either the slot is v's, or v waits on and one fewer is ready by i
@@ -129,7 +129,7 @@ slot_next {s} w v c f i t l (goes j u b h) = go (case u v)
     d : Connection
     d = with_served x (after (kind_at t b.holder) t b.holder)
 
-    late : (n : ℕ) → ready_instant d ≡ At n → i < n
+    late : (n : ℕ) → ready_instant d ≡ Some n → i < n
     late n q = omega (arith, sent-later t b.holder x n q)
 
     name : d.name ≡ b.holder.name
@@ -142,7 +142,7 @@ slot_next {s} w v c f i t l (goes j u b h) = go (case u v)
         (count-put (entry_by i) (none_free i) (taken d) (by-later i d late) u (with_time t s) (ap (entry_by i) b.found ∙ by-now i j b.holder b.ready_at (ahead-by h)))
 
 served :
-    {s : State} → WellFormed s → (v : ℕ) (c : Connection) → find v s.entries ≡ taken c → (i : ℕ) → ready_instant c ≡ At i → (ts : List ℕ)
+    {s : State} → WellFormed s → (v : ℕ) (c : Connection) → find v s.entries ≡ taken c → (i : ℕ) → ready_instant c ≡ Some i → (ts : List ℕ)
     → count (entry_by i) s.entries ≤ length ts → All (λ t. i ≤ t) ts → All IsAccepted (run s (slots ts)) → Somewhere (GoesTo v) (run s (slots ts))
 served {s} w v c f i r [] n l a =
     absurd (omega (arith, count-put (entry_by i) (none_free i) free (none_free i) v s (ap (entry_by i) f ∙ by-now i i c r (le_refl i))))
@@ -162,7 +162,7 @@ pub liveness : Liveness
 liveness cs v c f =
     let s = final empty cs in
     let w = reached-well-formed cs in
-    let slotted : (i t room : ℕ) → ready_instant c ≡ At i → i ≤ t → IsAccepted (step s (slot t room)) → Precedes s i v (step s (slot t room)) =
+    let slotted : (i t room : ℕ) → ready_instant c ≡ Some i → i ≤ t → IsAccepted (step s (slot t room)) → Precedes s i v (step s (slot t room)) =
     λ i t room r l a. precedes (slot-goes v c i t room f r l (effect s w.unique (slot t room)) a) in
     record {
       guaranteed = λ e h. ready-soon (least c.rate.params) c h (valid-at w v c f).1.rates.above e;

@@ -1,4 +1,5 @@
 -- A transmitter that sleeps until the next ready instant loses no cell.
+use Rattle.std.specs.Prelude.{Some, None}
 use Prim.Native.Nat.{ℕ, suc, ◌≤◌, ◌<◌}
 use mathlib.Core.Path.{◌≡◌, refl, sym, ap, subst, ◌∙◌}
 use mathlib.Core.Bool.{Bool, true, false}
@@ -9,11 +10,10 @@ use borrow.Author.Tests.{leb-true, le-leb}
 use Rattle.laws.specs.Require.{require}
 use Rattle.rate.specs.Units.{latest_time}
 use Rattle.connection.specs.declared.parts.Connection.{Connection}
-use Rattle.connection.specs.declared.ready.Instant.{Instant}
-use Rattle.connection.specs.declared.ready.Instant.TheVariants.{Never, At}
 use Rattle.connection.specs.Invariant.{ValidAt}
 use Rattle.connection.specs.Range.{InstantBelow}
 use Rattle.connection.specs.Ready.{ready_instant}
+use Rattle.connection.specs.Parts.{Instant}
 use Rattle.connection.proofs.Reached.{in-range, ready-below}
 use Rattle.model.specs.State.{State, Entry, free, taken, empty, with_time}
 use Rattle.model.specs.Invariant.{Each, WellFormed}
@@ -34,30 +34,30 @@ use Rattle.promise_service.specs.NextReady.{GoesToNext, NextReady}
 -- the instant in a word
 word_after : (n : ℕ) (r : Instant) → n ≤ never_word → NotBefore n r → n ≤ ready_word r
 unfolding ready_word
-word_after n Never l h = l
-word_after n (At i) l h = h
+word_after n None l h = l
+word_after n (Some i) l h = h
 
 word-by : (n : ℕ) (r : Instant) → NotAfter n r → ready_word r ≤ n
 unfolding ready_word
-word-by n Never h = absurd h
-word-by n (At i) h = h
+word-by n None h = absurd h
+word-by n (Some i) h = h
 
-first : (s : State) → Each (λ c. (i : ℕ) → ready_instant c ≡ At i → next_ready s ≤ i) s.entries
+first : (s : State) → Each (λ c. (i : ℕ) → ready_instant c ≡ Some i → next_ready s ≤ i) s.entries
 unfolding next_ready
 first s = each_map _ _ (λ c h i e. word-by i (earliest s.entries) (h i e)) s.entries (earliest-each s.entries)
 
 -- no ready instant is as late as the word for never
-only-never : (c : Connection) (s : State) → s.last ≤ latest_time → ValidAt s.last c → ((i : ℕ) → ready_instant c ≡ At i → never_word ≤ i) → ready_instant c ≡ Never
+only-never : (c : Connection) (s : State) → s.last ≤ latest_time → ValidAt s.last c → ((i : ℕ) → ready_instant c ≡ Some i → never_word ≤ i) → ready_instant c ≡ None
 only-never c s l v h = go (ready_instant c) (ready-below c (in-range s.last c l v)) h
   where
-    go : (r : Instant) → InstantBelow r → ((i : ℕ) → r ≡ At i → never_word ≤ i) → r ≡ Never
-    go Never b k = refl
-    go (At i) b k = absurd (omega (arith, k i refl))
+    go : (r : Instant) → InstantBelow r → ((i : ℕ) → r ≡ Some i → never_word ≤ i) → r ≡ None
+    go None b k = refl
+    go (Some i) b k = absurd (omega (arith, k i refl))
 
-each-never : (s : State) → WellFormed s → next_ready s ≡ never_word → Each (λ c. ready_instant c ≡ Never) s.entries
+each-never : (s : State) → WellFormed s → next_ready s ≡ never_word → Each (λ c. ready_instant c ≡ None) s.entries
 each-never s w e = go s.entries w.each (first s)
   where
-    go : (ss : List Entry) → Each (ValidAt s.last) ss → Each (λ c. (i : ℕ) → ready_instant c ≡ At i → next_ready s ≤ i) ss → Each (λ c. ready_instant c ≡ Never) ss
+    go : (ss : List Entry) → Each (ValidAt s.last) ss → Each (λ c. (i : ℕ) → ready_instant c ≡ Some i → next_ready s ≤ i) ss → Each (λ c. ready_instant c ≡ None) ss
     go [] v h = tt
     go (free ∷ ss) v h = (tt, go ss v.1 h.1)
     go (taken c ∷ ss) v h = (only-never c s w.timely v.0 (λ i q. omega (arith, h.0 i q)), go ss v.1 h.1)
@@ -75,7 +75,7 @@ slotted {s} t room (idles _ _ g b) = idled g.since (word_after (suc t) (earliest
 slotted {s} t room (sends _ _ i v g b) =
     let e = chosen-earliest t i v s.entries b in
     let n : next_ready s ≡ i = ap ready_word e in
-    sent (omega (arith, b.due)) (record { name = v; holder = b.holder; found = b.found; ready_at = b.ready_at ∙ ap At (sym n); goes = refl })
+    sent (omega (arith, b.due)) (record { name = v; holder = b.holder; found = b.found; ready_at = b.ready_at ∙ ap Some (sym n); goes = refl })
 
 zero-not-one : {A : Type 0} → ◌≡◌ {A = ℕ} 0 1 → A
 zero-not-one z = absurd (omega arith)

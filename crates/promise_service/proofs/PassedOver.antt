@@ -1,5 +1,6 @@
 -- A connection that is ready is not passed over for long. Each slot that goes to another leaves one fewer
 -- that can be ready before it.
+use Rattle.std.specs.Prelude.{Some}
 use Prim.Native.Nat.{ℕ, suc, ◌+◌, ◌≤◌, ◌<◌}
 use mathlib.Core.Path.{◌≡◌, refl, sym, ap, subst, ◌∙◌}
 use mathlib.Core.Logic.{◌≢◌}
@@ -18,7 +19,6 @@ use Rattle.connection.specs.declared.parts.Pace.{Pace}
 use Rattle.connection.specs.declared.parts.Pace.TheVariants.{Unsent, Running}
 use Rattle.connection.specs.declared.kind.Kind.{Kind}
 use Rattle.connection.specs.declared.kind.Kind.TheVariants.{Forward, Turned, Data}
-use Rattle.connection.specs.declared.ready.Instant.TheVariants.{At}
 use Rattle.connection.specs.Parts.{waiting}
 use Rattle.connection.specs.Pace.{paced}
 use Rattle.connection.specs.Source.{offered, after_backward_cell, after_out_of_rate, sent_forward, sent_data, with_served}
@@ -57,7 +57,7 @@ abbrev could_be : (m : ℕ) → ℕ → Pace → Bool
 could_be m i Unsent = leb i m
 could_be m i (Running sent forward k turned) = ltb sent m
 
-ready-could : (m : ℕ) (d : Connection) (j : ℕ) → ready_instant d ≡ At j → j ≤ m → could_be m d.opened d.pace ≡ true
+ready-could : (m : ℕ) (d : Connection) (j : ℕ) → ready_instant d ≡ Some j → j ≤ m → could_be m d.opened d.pace ≡ true
 unfolding due_from
 ready-could m d j e l = go d.pace (ready-due d j e)
   where
@@ -107,14 +107,14 @@ taken-slot : (t room : ℕ) (a : Bool) → a ≡ true → slot_taken (slot t roo
 unfolding slot_call
 taken-slot t room a e = rw e refl
 
-still-rival : (m v : ℕ) (s : State) (c : Connection) (i : ℕ) → find v s.entries ≡ taken c → ready_instant c ≡ At i → i ≤ m → 0 < rivals m s
+still-rival : (m v : ℕ) (s : State) (c : Connection) (i : ℕ) → find v s.entries ≡ taken c → ready_instant c ≡ Some i → i ≤ m → 0 < rivals m s
 unfolding passes
 still-rival m v s c i f r l =
     let h : one (passes (could_be m) (find v s.entries)) ≡ 1 = ap (λ (x : Entry). one (passes (could_be m) x)) f ∙ ap one (ready-could m c i r l) in
     omega (arith, freed-count (could_be m) v s, h)
 
 goes-turn :
-    (m v : ℕ) {s : State} → WellFormed s → (t room : ℕ) (c : Connection) (i : ℕ) → find v s.entries ≡ taken c → ready_instant c ≡ At i → i ≤ m → m ≤ t → {o : Outcome}
+    (m v : ℕ) {s : State} → WellFormed s → (t room : ℕ) (c : Connection) (i : ℕ) → find v s.entries ≡ taken c → ready_instant c ≡ Some i → i ≤ m → m ≤ t → {o : Outcome}
     → is_accepted o.answer ≡ true → Goes s t i v o → Turn m v s (slot t room) o
 unfolding send_from send_step goes_to with_time with_members with_served
 goes-turn m v {s} w t room c i f r l k a (goes j u b h) = go (case u v)

@@ -1,4 +1,5 @@
 -- An allowed rate of 0 rises again, and the connection is ready again.
+use Rattle.std.specs.Prelude.{Some, None}
 use Prim.Native.Nat.{ℕ, ◌+◌, ◌-◌, ◌^◌, ◌≤◌, ◌<◌, min, max}
 use mathlib.Core.Path.{◌≡◌, refl, ap, ◌∙◌}
 use mathlib.Core.Bool.{Bool, true, false, cond, ◌||◌, ◌&&◌, not}
@@ -15,10 +16,9 @@ use Rattle.cell.specs.declared.fields.Fields.{Fields}
 use Rattle.connection.specs.declared.parts.Connection.{Connection}
 use Rattle.connection.specs.declared.parts.Pace.{Pace}
 use Rattle.connection.specs.declared.parts.Pace.TheVariants.{Unsent, Running}
-use Rattle.connection.specs.declared.ready.Instant.{Instant}
-use Rattle.connection.specs.declared.ready.Instant.TheVariants.{Never, At}
 use Rattle.connection.specs.Source.{after_backward_cell}
 use Rattle.connection.specs.Ready.{any_waits, last_before, ready_from}
+use Rattle.connection.specs.Parts.{Instant}
 use Rattle.connection.proofs.Readiness.{ready-moving}
 use Rattle.model.specs.State.{empty}
 use Rattle.model.specs.Answers.{Answer}
@@ -44,7 +44,7 @@ fed-raised f c p q = rw (p, q) (raised (rate_of f.er) c.rate)
 -- With a rate above 0 the pace decides.
 record Sometime (r : Instant) : Type 0 where
   instant : ℕ
-  at : r ≡ At instant
+  at : r ≡ Some instant
 
 paced-ready : (c : Connection) (p : Pace) → has_next c p ≡ true → Sometime (ready_from c p)
 unfolding ready_from
@@ -54,7 +54,7 @@ paced-ready c (Running sent forward k turned) h = go (any_waits c || last_before
     due : ℕ
     due = sent + gap c.rate.acr
 
-    go : (x y : Bool) → (x || y) ≡ true → Sometime (cond x (At due) (cond y (At (max due (forward + c.trm))) Never))
+    go : (x y : Bool) → (x || y) ≡ true → Sometime (cond x (Some due) (cond y (Some (max due (forward + c.trm))) None))
     go true y h = record { instant = due; at = refl }
     go false true h = record { instant = max due (forward + c.trm); at = refl }
     go false false h = let z : ◌≡◌ {A = ℕ} 0 1 = cc in absurd (omega arith)

@@ -1,4 +1,5 @@
 -- A slot sends only what there is, and no cell comes early.
+use Rattle.std.specs.Prelude.{Some}
 use Prim.Native.Nat.{ℕ, ◌≤◌}
 use mathlib.Core.Path.{◌≡◌, refl, sym, ap, ◌∙◌}
 use mathlib.Core.Option.{some}
@@ -8,7 +9,6 @@ use Rattle.connection.specs.declared.parts.Pace.{Pace}
 use Rattle.connection.specs.declared.parts.Pace.TheVariants.{Unsent, Running}
 use Rattle.connection.specs.declared.kind.Kind.{Kind}
 use Rattle.connection.specs.declared.kind.Kind.TheVariants.{Forward, Turned, Data}
-use Rattle.connection.specs.declared.ready.Instant.TheVariants.{At}
 use Rattle.connection.specs.Ready.{ready_instant}
 use Rattle.connection.specs.Kind.{kind_at}
 use Rattle.connection.proofs.Spaced.{due_from, ready-due}
@@ -27,7 +27,7 @@ use Rattle.promise_lists.proofs.Pairs.{none≢some, sent-same}
 -- what is known of a connection that a slot at t goes to
 pub record Serves (t : ℕ) (c : Connection) (a : Answer) (v : ℕ) : Type 0 where
   pub instant : ℕ
-  pub ready_at : ready_instant c ≡ At instant
+  pub ready_at : ready_instant c ≡ Some instant
   pub due : instant ≤ t
   pub told : ℕ
   pub acr : ℕ
@@ -56,7 +56,7 @@ spacing cs t room v c f e =
     let h = serves t room v c f (effect (final empty cs) (reached-well-formed cs).unique (slot t room)) e in
     not-early t c c.pace (le_trans (ready-due c h.instant h.ready_at) h.due)
 
-waited : (t : ℕ) (c : Connection) (i : ℕ) → ready_instant c ≡ At i → i ≤ t → (k : Kind) → kind_at t c ≡ k → Waited k c
+waited : (t : ℕ) (c : Connection) (i : ℕ) → ready_instant c ≡ Some i → i ≤ t → (k : Kind) → kind_at t c ≡ k → Waited k c
 waited t c i r l Forward e = tt
 waited t c i r l Turned e = turned-waits t c e
 waited t c i r l Data e = data-waits t c i r l e

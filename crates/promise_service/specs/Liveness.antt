@@ -1,13 +1,12 @@
 -- What a connection that waits can count on: it is ready in time, and slots reach it. (Beyond document 01's
 -- demands; "Slots" says who is ready when.)
-use Rattle.std.specs.Prelude.{ℕ, ◌+◌, ◌≤◌, ◌<◌, ◌≡◌, ◌≢◌, true, List, [], ◌∷◌, length}
+use Rattle.std.specs.Prelude.{ℕ, ◌+◌, ◌≤◌, ◌<◌, ◌≡◌, ◌≢◌, true, List, [], ◌∷◌, length, Some, None}
 use Rattle.std.proofs.Math.Option.{some}
 use Rattle.rate_params.specs.Params.{least}
 use Rattle.rate.specs.Gap.{gap}
 use Rattle.connection.specs.declared.parts.Connection.{Connection}
 use Rattle.connection.specs.declared.parts.Pace.{Pace}
 use Rattle.connection.specs.declared.parts.Pace.TheVariants.{Unsent, Running}
-use Rattle.connection.specs.declared.ready.Instant.TheVariants.{Never, At}
 use Rattle.connection.specs.Ready.{any_waits, ready_instant}
 use Rattle.model.specs.State.{State, taken, capacity, empty, find}
 use Rattle.model.specs.Invariant.{Each}
@@ -24,7 +23,7 @@ latest_ready a c (Running sent forward k turned) = sent + gap a
 
 pub record ReadySoon (rate : ℕ) (c : Connection) : Type 0 where
   pub instant : ℕ
-  pub ready_at : ready_instant c ≡ At instant
+  pub ready_at : ready_instant c ≡ Some instant
   pub soon : instant ≤ latest_ready rate c c.pace
 
 -- the outcome is a cell of a connection of s that comes before instant i of name v, or is the same
@@ -33,7 +32,7 @@ pub record Precedes (s : State) (i v : ℕ) (o : Outcome) : Type 0 where
   pub name : ℕ
   pub holder : Connection
   pub found : find name s.entries ≡ taken holder
-  pub ready_at : ready_instant holder ≡ At instant
+  pub ready_at : ready_instant holder ≡ Some instant
   pub ahead : Ahead instant name i v
   pub goes : goes_to o.answer ≡ some name
 
@@ -60,17 +59,17 @@ pub record Live (s : State) (v : ℕ) (c : Connection) : Type 0 where
   -- with a minimum or without, no later than a gap at the allowed rate, if that is above 0 (document 02, L5)
   pub ready : any_waits c ≡ true → 0 < c.rate.acr → ReadySoon c.rate.acr c
   -- at an allowed rate of 0 it is never ready, whatever waits, and no slot goes to it
-  pub never : c.rate.acr ≡ 0 → ready_instant c ≡ Never
+  pub never : c.rate.acr ≡ 0 → ready_instant c ≡ None
   pub passed_over : (t room : ℕ) → c.rate.acr ≡ 0 → goes_to (step s (slot t room)).answer ≢ some v
   -- from its ready instant on, an accepted slot is not idle: it goes to one that does not come after it
-  pub ahead : (i t room : ℕ) → ready_instant c ≡ At i → i ≤ t → IsAccepted (step s (slot t room)) → Precedes s i v (step s (slot t room))
+  pub ahead : (i t room : ℕ) → ready_instant c ≡ Some i → i ≤ t → IsAccepted (step s (slot t room)) → Precedes s i v (step s (slot t room))
   -- and to itself, if no connection comes before it
   pub first :
-      (i t room : ℕ) → ready_instant c ≡ At i → i ≤ t → IsAccepted (step s (slot t room))
-      → Each (λ d. (j : ℕ) → ready_instant d ≡ At j → Ahead i v j d.name) s.entries → GoesTo v (step s (slot t room))
+      (i t room : ℕ) → ready_instant c ≡ Some i → i ≤ t → IsAccepted (step s (slot t room))
+      → Each (λ d. (j : ℕ) → ready_instant d ≡ Some j → Ahead i v j d.name) s.entries → GoesTo v (step s (slot t room))
   -- of as many slots in a row as connections can be open, one is its own
   pub served :
-      (i : ℕ) (ts : List ℕ) → ready_instant c ≡ At i → length ts ≡ capacity → All (λ t. i ≤ t) ts → All IsAccepted (run s (slots ts))
+      (i : ℕ) (ts : List ℕ) → ready_instant c ≡ Some i → length ts ≡ capacity → All (λ t. i ≤ t) ts → All IsAccepted (run s (slots ts))
       → Somewhere (GoesTo v) (run s (slots ts))
 
 abbrev pub Liveness : Type 0

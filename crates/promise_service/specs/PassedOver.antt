@@ -1,10 +1,9 @@
 -- A connection that is ready is not passed over for long, whatever else is called. Each other connection goes
 -- before it at most once. (Beyond document 01's demands; "Slots" says who is ready when.)
-use Rattle.std.specs.Prelude.{ℕ, ◌+◌, ◌≤◌, ◌<◌, ◌≡◌, ◌≢◌, Bool, true, cond, List, [], ◌∷◌, leb}
+use Rattle.std.specs.Prelude.{ℕ, ◌+◌, ◌≤◌, ◌<◌, ◌≡◌, ◌≢◌, Bool, true, cond, List, [], ◌∷◌, leb, Some}
 use Rattle.std.proofs.Math.Option.{some, Option, none}
 use Rattle.rate_params.specs.Params.{least}
 use Rattle.connection.specs.declared.parts.Connection.{Connection}
-use Rattle.connection.specs.declared.ready.Instant.TheVariants.{At}
 use Rattle.connection.specs.Ready.{any_waits, ready_instant}
 use Rattle.model.specs.State.{State, taken, empty, find}
 use Rattle.model.specs.Call.{Call, goes_to}
@@ -59,7 +58,7 @@ pub record ReadyBy (m v : ℕ) (s : State) : Type 0 where
   pub holder : Connection
   pub found : find v s.entries ≡ taken holder
   pub instant : ℕ
-  pub ready_at : ready_instant holder ≡ At instant
+  pub ready_at : ready_instant holder ≡ Some instant
   pub by : instant ≤ m
 
 -- an accepted slot of this time comes at m or later; no other call is asked for anything

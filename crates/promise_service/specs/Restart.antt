@@ -1,6 +1,6 @@
 -- What a subscriber without a minimum can count on: an allowed rate of 0 rises again, and the connection is
 -- ready again. (Document 02, L5.)
-use Rattle.std.specs.Prelude.{ℕ, ◌/◌, ◌^◌, ◌≤◌, ◌<◌, min, ◌≡◌, Bool, true, ◌||◌, List, leb}
+use Rattle.std.specs.Prelude.{ℕ, ◌/◌, ◌^◌, ◌≤◌, ◌<◌, min, ◌≡◌, Bool, true, ◌||◌, List, leb, Some}
 use Rattle.rate_params.specs.declared.params.Params.{Params}
 use Rattle.rate.specs.Code.{rate_of}
 use Rattle.rate_params.specs.Params.{peak, least}
@@ -11,7 +11,6 @@ use Rattle.cell.specs.Reading.{reading}
 use Rattle.connection.specs.declared.parts.Connection.{Connection}
 use Rattle.connection.specs.declared.parts.Pace.{Pace}
 use Rattle.connection.specs.declared.parts.Pace.TheVariants.{Unsent, Running}
-use Rattle.connection.specs.declared.ready.Instant.TheVariants.{At}
 use Rattle.connection.specs.Ready.{any_waits, last_before, ready_instant}
 use Rattle.model.specs.State.{State, taken, empty, find}
 use Rattle.model.specs.Call.{Call, receiving}
@@ -39,7 +38,7 @@ has_next c (Running sent forward k turned) = (any_waits c || last_before c k) ||
 
 pub record Ready (c : Connection) : Type 0 where
   pub instant : ℕ
-  pub ready_at : ready_instant c ≡ At instant
+  pub ready_at : ready_instant c ≡ Some instant
 
 -- the connection of a received cell in the table after it, c being what it was before
 pub record Restarted (f : Fields) (c : Connection) (s : State) : Type 0 where

@@ -1,5 +1,6 @@
 -- What each call does to one open connection, as far as its trace goes. It closes it; or it sends nothing on it,
 -- and its pace, Trm and parameters stay; or it sends a cell on it that is due.
+use Rattle.std.specs.Prelude.{Some}
 use Prim.Native.Nat.{ℕ, ◌≤◌}
 use mathlib.Core.Path.{◌≡◌, refl, sym, ap, subst, ◌∙◌}
 use mathlib.Core.Logic.{◌≢◌}
@@ -16,7 +17,6 @@ use Rattle.cell.specs.Fields.{cell_name}
 use Rattle.connection_members.specs.Path.{path_vci, path_of}
 use Rattle.connection_members.specs.Members.{Member, cells_of}
 use Rattle.connection.specs.declared.parts.Connection.{Connection}
-use Rattle.connection.specs.declared.ready.Instant.TheVariants.{At}
 use Rattle.connection.specs.Parts.{fresh, with_queue, dequeued}
 use Rattle.connection.specs.Source.{offered, after_backward_cell, with_served, after_out_of_rate}
 use Rattle.connection.specs.Destination.{with_made, after_data_cell, after_forward_cell}
@@ -58,7 +58,7 @@ pub data Next (v : ℕ) (s : State) (d : Connection) (c : Call) (o : Outcome) : 
   quiet : closes_connection v c (is_accepted o.answer) ≡ false → sent_by v s c o.answer ≡ [] → s.last ≤ o.state.last → StillOpen v o.state.entries d → Next v s d c o
   goes :
       (t i : ℕ) → closes_connection v c (is_accepted o.answer) ≡ false → sent_by v s c o.answer ≡ cell_at t d ∷ [] → Timely s t → o.state.last ≡ t
-      → ready_instant d ≡ At i → i ≤ t → StillOpen v o.state.entries (after (kind_at t d) t d) → Next v s d c o
+      → ready_instant d ≡ Some i → i ≤ t → StillOpen v o.state.entries (after (kind_at t d) t d) → Next v s d c o
 
 unchanged : (d : Connection) → Stays d d
 unchanged d = record { kept = record { name = refl; opened = refl; trm = refl; params = refl }; pace = refl }
@@ -173,7 +173,7 @@ module _ (v : ℕ) (s : State) (d : Connection) (e : find v s.entries ≡ taken 
       go (other q) = quiet (ne_eqb (address_name a b) v q) refl (le_refl s.last) (ended (address_name a b) u q)
 
   sends-next :
-      (t room i u : ℕ) → NamesUnique s.entries → Timely s t → (x : Connection) → find u s.entries ≡ taken x → ready_instant x ≡ At i → i ≤ t
+      (t room i u : ℕ) → NamesUnique s.entries → Timely s t → (x : Connection) → find u s.entries ≡ taken x → ready_instant x ≡ Some i → i ≤ t
       → Next v s d (slot t room) (send_step (with_time t s) t u x (kind_at t x))
   unfolding send_step send_from closes_connection sent_by at_slot cell_in with_time with_members with_entry_of is_accepted
   sends-next t room i u a g x f r l = go (case u v)

@@ -1,5 +1,6 @@
 -- The cells of one connection break no rule. By the slot rules each goes a gap or more after the one before, and
 -- is a forward one exactly when that is due.
+use Rattle.std.specs.Prelude.{Some}
 use Prim.Native.Nat.{ℕ, ◌-◌, ◌≤◌, ◌<◌}
 use mathlib.Core.Path.{◌≡◌, refl, subst, ◌∙◌}
 use mathlib.Core.Bool.{Bool, true, false, cond, ◌||◌}
@@ -18,7 +19,6 @@ use Rattle.trace_judge.specs.Rules.{judged_cells}
 use Rattle.connection.specs.declared.parts.Connection.{Connection}
 use Rattle.connection.specs.declared.parts.Pace.{Pace}
 use Rattle.connection.specs.declared.parts.Pace.TheVariants.{Unsent, Running}
-use Rattle.connection.specs.declared.ready.Instant.TheVariants.{At}
 use Rattle.connection.specs.declared.kind.Kind.{Kind}
 use Rattle.connection.specs.declared.kind.Kind.TheVariants.{Forward, Turned, Data}
 use Rattle.connection.specs.Parts.{fresh}
@@ -91,7 +91,7 @@ same-passes d e s p xs q =
     subst (λ (z : ℕ). Passing (nrm d.rate.params) z p xs) s.trm (subst (λ (z : Params). Passing (nrm z) e.trm p xs) s.params q)
 
 sent-passes :
-    (t now i : ℕ) (d : Connection) (xs : List SentCell) → PaceFits now (nrm d.rate.params) d.pace → now ≤ t → ready_instant d ≡ At i → i ≤ t
+    (t now i : ℕ) (d : Connection) (xs : List SentCell) → PaceFits now (nrm d.rate.params) d.pace → now ≤ t → ready_instant d ≡ Some i → i ≤ t
     → PassingOf (after (kind_at t d) t d) xs → PassingOf d (cell_at t d ∷ xs)
 unfolding kind_at
 sent-passes t now i d xs f l r due q =

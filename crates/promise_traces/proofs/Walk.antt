@@ -1,4 +1,5 @@
 -- What is to be shown of the cells that calls send on one open connection, shown cell by cell.
+use Rattle.std.specs.Prelude.{Some}
 use Prim.Native.Nat.{ℕ, ◌≤◌}
 use mathlib.Core.Path.{◌≡◌, refl, sym, subst}
 use mathlib.Core.Bool.{Bool, true, false, cond}
@@ -6,7 +7,6 @@ use mathlib.Core.List.{List, [], ◌∷◌, ◌++◌}
 use native.Mathlib.Nat.{le_refl}
 use Rattle.rate.specs.Units.{latest_time}
 use Rattle.connection.specs.declared.parts.Connection.{Connection}
-use Rattle.connection.specs.declared.ready.Instant.TheVariants.{At}
 use Rattle.connection.specs.Ready.{ready_instant}
 use Rattle.connection.specs.Kind.{kind_at}
 use Rattle.connection.specs.Slot.{after}
@@ -36,7 +36,7 @@ pub record CellByCell (Q : ℕ → Connection → List SentCell → Type 0) : Ty
   pub none : (now : ℕ) (d : Connection) → Q now d []
   pub waits : (now later : ℕ) (d e : Connection) (xs : List SentCell) → now ≤ later → Stays d e → Q later e xs → Q now d xs
   pub sends :
-      (now t i : ℕ) (d : Connection) (xs : List SentCell) → ValidAt now d → now ≤ t → t ≤ latest_time → ready_instant d ≡ At i → i ≤ t
+      (now t i : ℕ) (d : Connection) (xs : List SentCell) → ValidAt now d → now ≤ t → t ≤ latest_time → ready_instant d ≡ Some i → i ≤ t
       → Q t (after (kind_at t d) t d) xs → Q now d (cell_at t d ∷ xs)
 
 module _ {Q : ℕ → Connection → List SentCell → Type 0} (q : CellByCell Q) (v : ℕ) where

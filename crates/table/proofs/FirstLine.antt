@@ -1,5 +1,6 @@
 -- What the first line of a record shows is enough for the kind of the next cell, and for all that a data cell makes of
 -- a connection.
+use Rattle.std.specs.Prelude.{Some, None}
 use Prim.Native.Nat.{ℕ}
 use mathlib.Core.Path.{◌≡◌, refl, sym, ap, ap₂, ◌∙◌}
 use mathlib.Core.Bool.{Bool, false, cond}
@@ -8,10 +9,8 @@ use Rattle.connection.specs.declared.parts.Connection.{Connection}
 use Rattle.connection.specs.declared.parts.Pace.{Pace}
 use Rattle.connection.specs.declared.parts.Pace.TheVariants.{Unsent, Running}
 use Rattle.connection.specs.declared.parts.Queue.{Queue}
-use Rattle.connection.specs.declared.parts.Waiting.{Waiting}
-use Rattle.connection.specs.declared.parts.Waiting.TheVariants.{Nothing, Cell}
 use Rattle.connection.specs.declared.kind.Kind.TheVariants.{Forward, Turned, Data}
-use Rattle.connection.specs.Parts.{with_pace, with_queue}
+use Rattle.connection.specs.Parts.{with_pace, with_queue, Waiting}
 use Rattle.connection.specs.Pace.{paced}
 use Rattle.connection.specs.Range.{InRange}
 use Rattle.connection.specs.Ready.{waits, backward_waits, any_waits, last_before, ready_from, ready_instant}
@@ -22,8 +21,8 @@ use Rattle.table.specs.Loading.{emptied, first_line}
 -- whether a cell waits, not which
 waits-emptied : (w : Waiting) → waits (emptied w) ≡ waits w
 unfolding waits
-waits-emptied Nothing = refl
-waits-emptied (Cell p) = refl
+waits-emptied None = refl
+waits-emptied (Some p) = refl
 
 turned-line : (c : Connection) (p : Pace) → is_turned (first_line c) p ≡ is_turned c p
 unfolding is_turned backward_waits

@@ -1,5 +1,6 @@
 -- Loading gives back the connection that stands in the entry. No number of a connection that calls made lies
 -- outside the range that loading brings it into.
+use Rattle.std.specs.Prelude.{Some, None}
 use Prim.Native.Nat.{ℕ, ◌+◌, ◌*◌, ◌/◌, ◌%◌, ◌^◌, ◌≤◌, ◌<◌, ◌-◌}
 use mathlib.Core.Path.{◌≡◌, refl, ap, ◌∙◌}
 use mathlib.Core.Bool.{Bool, true, false, cond}
@@ -19,13 +20,10 @@ use Rattle.cell.specs.Name.{no_name}
 use Rattle.connection.specs.declared.parts.Pace.{Pace}
 use Rattle.connection.specs.declared.parts.Pace.TheVariants.{Unsent, Running}
 use Rattle.connection.specs.declared.parts.Queue.{Queue}
-use Rattle.connection.specs.declared.parts.Waiting.{Waiting}
-use Rattle.connection.specs.declared.parts.Waiting.TheVariants.{Nothing, Cell}
 use Rattle.connection.specs.declared.parts.Connection.{Connection}
-use Rattle.connection.specs.declared.ready.Instant.{Instant}
-use Rattle.connection.specs.declared.ready.Instant.TheVariants.{Never, At}
 use Rattle.connection.specs.Invariant.{ValidAt, PaceFits, NotAfter, QueueFits}
 use Rattle.connection.specs.Range.{InRange, PaceInRange, CountHasRoom, InstantInRange}
+use Rattle.connection.specs.Parts.{Waiting, Instant}
 use Rattle.connection.proofs.Reached.{in-range}
 use Rattle.table.specs.Layout.{halves, pace_sent, pace_forward, pace_word, wait_tag, waiting_payload, queue_word, record_words, record_from, instant_word}
 use Rattle.table.specs.Loading.{high_in, low_in, name_of, n_of, pace_of, waiting_of, queue_of, params_at, connection_from, connection_at, instant_of}
@@ -104,10 +102,10 @@ params-back c t v h g =
 
 -- what waits at the destination, and the level at which the made cell that waits was made
 tag_small : (e : Bool) (w : Waiting) → wait_tag w + cond e 1 0 < 4
-tag_small true Nothing = omega arith
-tag_small false Nothing = omega arith
-tag_small true (Cell p) = omega arith
-tag_small false (Cell p) = omega arith
+tag_small true None = omega arith
+tag_small false None = omega arith
+tag_small true (Some p) = omega arith
+tag_small false (Some p) = omega arith
 
 efci-back : (m : ℕ) (e : Bool) (w : Waiting) → eqb (halves m (wait_tag w + cond e 1 0) % 2) 1 ≡ e
 efci-back m e w = ap (λ (n : ℕ). eqb n 1) last_bit ∙ go e w
@@ -116,26 +114,26 @@ efci-back m e w = ap (λ (n : ℕ). eqb n 1) last_bit ∙ go e w
     last_bit = omega arith
 
     go : (e : Bool) (w : Waiting) → eqb ((wait_tag w + cond e 1 0) % 2) 1 ≡ e
-    go true Nothing = refl
-    go false Nothing = refl
-    go true (Cell p) = refl
-    go false (Cell p) = refl
+    go true None = refl
+    go false None = refl
+    go true (Some p) = refl
+    go false (Some p) = refl
 
 turned-back : (m : ℕ) (e : Bool) (w : Waiting) → waiting_of (halves m (wait_tag w + cond e 1 0)) (waiting_payload w) ≡ w
-turned-back m e w = ap (λ (n : ℕ). cond (ltb n 2) Nothing (Cell (waiting_payload w))) low_bits ∙ go e w
+turned-back m e w = ap (λ (n : ℕ). cond (ltb n 2) None (Some (waiting_payload w))) low_bits ∙ go e w
   where
     low_bits : halves m (wait_tag w + cond e 1 0) % 4 ≡ wait_tag w + cond e 1 0
     low_bits = omega (arith, tag_small e w)
 
-    go : (e : Bool) (w : Waiting) → cond (ltb (wait_tag w + cond e 1 0) 2) Nothing (Cell (waiting_payload w)) ≡ w
-    go true Nothing = refl
-    go false Nothing = refl
-    go true (Cell p) = refl
-    go false (Cell p) = refl
+    go : (e : Bool) (w : Waiting) → cond (ltb (wait_tag w + cond e 1 0) 2) None (Some (waiting_payload w)) ≡ w
+    go true None = refl
+    go false None = refl
+    go true (Some p) = refl
+    go false (Some p) = refl
 
 instant-back : (now : ℕ) (i : Instant) → now ≤ latest_time → NotAfter now i → instant_of (instant_word i) ≡ i
-instant-back now Never l h = refl
-instant-back now (At i) l h =
+instant-back now None l h = refl
+instant-back now (Some i) l h =
     let less : i + 1 - 1 ≡ i = omega arith in
     let small : i % 2 ^ 63 ≡ i = mod-eq_of_lt (omega arith) in
     rw (ne_eqb (i + 1) 0 (λ e. omega (arith, e)), less, small)
@@ -190,7 +188,7 @@ pace-ranged sent forward w = go (eqb (high_in w) 0)
 instant-ranged : (w : ℕ) → InstantInRange (instant_of w)
 instant-ranged w = go (eqb w 0)
   where
-    go : (b : Bool) → InstantInRange (cond b Never (At ((w - 1) % 2 ^ 63)))
+    go : (b : Bool) → InstantInRange (cond b None (Some ((w - 1) % 2 ^ 63)))
     go true = tt
     go false = omega arith
 

@@ -13,10 +13,9 @@ use Rattle.rate.specs.Units.{latest_time}
 use Rattle.connection.specs.declared.parts.Destination.{Destination}
 use Rattle.connection.specs.declared.parts.Connection.{Connection}
 use Rattle.connection.specs.declared.parts.Made.{Made}
-use Rattle.connection.specs.declared.ready.Instant.{Instant}
-use Rattle.connection.specs.declared.parts.Waiting.{Waiting}
 use Rattle.connection.specs.Ready.{ready_instant}
 use Rattle.connection.specs.Invariant.{ValidAt}
+use Rattle.connection.specs.Parts.{Instant, Waiting}
 use Rattle.connection_members.specs.Members.{member_capacity}
 use Rattle.model.specs.State.{State, Entry, free, taken, empty, capacity}
 use Rattle.model.specs.Tournament.{instant_winner, leaf_winner}

@@ -2,7 +2,7 @@
 -- a header: the level, the last time, the bits of the taken entries, the directory of the names with samples of it,
 -- by which a search reads four lines of memory at most, and the winners of the tournament with their keys. Then comes a
 -- record for each entry, whose first line of eight words is all that a data cell needs. Then come the members of paths.
-use Rattle.std.specs.Prelude.{ℕ, zero, suc, ◌+◌, ◌-◌, ◌*◌, ◌%◌, ◌^◌, Bool, true, false, cond, List, [], ◌∷◌, ◌++◌, leb, ltb, length, get_or, take, drop, replicate}
+use Rattle.std.specs.Prelude.{ℕ, zero, suc, ◌+◌, ◌-◌, ◌*◌, ◌%◌, ◌^◌, Bool, true, false, cond, List, [], ◌∷◌, ◌++◌, leb, ltb, length, get_or, take, drop, replicate, Some, None}
 use Rattle.rate_params.specs.declared.params.Params.{Params}
 use Rattle.laws.specs.Blocks.{flat}
 use Rattle.laws.specs.Rows.{row}
@@ -10,15 +10,12 @@ use Rattle.cell_payload.specs.declared.payload.Payload.{Payload}
 use Rattle.connection.specs.declared.parts.Pace.{Pace}
 use Rattle.connection.specs.declared.parts.Pace.TheVariants.{Unsent, Running}
 use Rattle.connection.specs.declared.parts.Queue.{Queue}
-use Rattle.connection.specs.declared.parts.Waiting.{Waiting}
-use Rattle.connection.specs.declared.parts.Waiting.TheVariants.{Nothing, Cell}
 use Rattle.connection.specs.declared.parts.Made.{Made}
 use Rattle.connection.specs.declared.parts.Destination.{Destination}
 use Rattle.connection.specs.declared.parts.Connection.{Connection}
-use Rattle.connection.specs.declared.ready.Instant.{Instant}
-use Rattle.connection.specs.declared.ready.Instant.TheVariants.{Never, At}
 use Rattle.connection.specs.Ready.{ready_instant}
 use Rattle.cell.specs.Name.{no_name}
+use Rattle.connection.specs.Parts.{Waiting, Instant}
 use Rattle.connection_members.specs.Members.{Member, member_capacity}
 use Rattle.model.specs.State.{State, Entry, free, taken, capacity}
 use Rattle.model.specs.Tournament.{MatchWinner, no_winner, won_by, levels, winner_at}
@@ -98,8 +95,8 @@ pace_word p = halves (pace_tag p) (pace_k p)
 
 -- the saved EFCI and whether a turned cell waits, in one word; the waiting payload, zero if there is none
 abbrev pub wait_tag : Waiting → ℕ
-wait_tag Nothing = 0
-wait_tag (Cell p) = 2
+wait_tag None = 0
+wait_tag (Some p) = 2
 
 abbrev pub destination_tag : Destination → ℕ
 destination_tag b = wait_tag b.turned + cond b.efci 1 0
@@ -112,8 +109,8 @@ abbrev pub no_payload : Payload
 no_payload = record { a = 0; b = 0; c = 0; d = 0; e = 0; f = 0 }
 
 abbrev pub waiting_payload : Waiting → Payload
-waiting_payload Nothing = no_payload
-waiting_payload (Cell p) = p
+waiting_payload None = no_payload
+waiting_payload (Some p) = p
 
 abbrev pub payload_words : Payload → List ℕ
 payload_words p = p.a ∷ p.b ∷ p.c ∷ p.d ∷ p.e ∷ p.f ∷ []
@@ -124,8 +121,8 @@ queue_word l = halves l.served l.cells
 
 -- the last making, or the last out-of-rate cell: 0 if there was none, else its instant plus 1
 abbrev pub instant_word : Instant → ℕ
-instant_word Never = 0
-instant_word (At i) = i + 1
+instant_word None = 0
+instant_word (Some i) = i + 1
 
 -- The words of a connection's record. The first line has what a data cell needs: the ready key; Trm, n and the
 -- name; what waits at the destination; the allowed rate, the queue and the pace.
@@ -164,8 +161,8 @@ rest_words c =
 
 -- a ready instant in one word: 0 if never, else the greater the earlier
 abbrev pub key : Instant → ℕ
-key Never = 0
-key (At i) = 2 ^ 64 - 1 - i
+key None = 0
+key (Some i) = 2 ^ 64 - 1 - i
 
 abbrev pub record_words : Connection → List ℕ
 record_words c = key (ready_instant c) ∷ rest_words c
@@ -258,7 +255,7 @@ winner_number (won_by i v x) = halves v (2 * (x + 1))
 
 unfoldable pub winner_key : MatchWinner → ℕ
 winner_key no_winner = 0
-winner_key (won_by i v x) = key (At i)
+winner_key (won_by i v x) = key (Some i)
 
 -- two words for each place from p on
 unfoldable pub winner_words : (ℕ → MatchWinner) → (p n : ℕ) → List ℕ

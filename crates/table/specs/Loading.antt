@@ -1,19 +1,15 @@
 -- The connection that an entry's words stand for, whatever they are. Each number is brought into the range in
 -- which the engine adds without wrapping. That changes no number of a table that calls made.
-use Rattle.std.specs.Prelude.{ℕ, ◌+◌, ◌-◌, ◌/◌, ◌%◌, ◌^◌, cond, List, ltb, eqb, get_or}
+use Rattle.std.specs.Prelude.{ℕ, ◌+◌, ◌-◌, ◌/◌, ◌%◌, ◌^◌, cond, List, ltb, eqb, get_or, Some, None}
 use Rattle.rate_params.specs.declared.params.Params.{Params}
 use Rattle.cell_payload.specs.declared.payload.Payload.{Payload}
 use Rattle.cell.specs.Name.{no_name}
 use Rattle.connection.specs.declared.parts.Pace.{Pace}
 use Rattle.connection.specs.declared.parts.Pace.TheVariants.{Unsent, Running}
 use Rattle.connection.specs.declared.parts.Queue.{Queue}
-use Rattle.connection.specs.declared.parts.Waiting.TheVariants.{Nothing, Cell}
-use Rattle.connection.specs.declared.parts.Waiting.{Waiting}
 use Rattle.connection.specs.declared.parts.Destination.{Destination}
 use Rattle.connection.specs.declared.parts.Connection.{Connection}
-use Rattle.connection.specs.Parts.{changed}
-use Rattle.connection.specs.declared.ready.Instant.{Instant}
-use Rattle.connection.specs.declared.ready.Instant.TheVariants.{Never, At}
+use Rattle.connection.specs.Parts.{changed, Waiting, Instant}
 use Rattle.table.specs.Layout.{no_payload, record_from}
 
 -- the two numbers of a word
@@ -28,13 +24,13 @@ pace_of sent forward w = cond (eqb (high_in w) 0) Unsent (Running (sent % 2 ^ 63
 
 -- bit 0 is the saved EFCI, bit 1 says that a turned cell waits
 abbrev pub waiting_of : (word : ℕ) → Payload → Waiting
-waiting_of w p = cond (ltb (w % 4) 2) Nothing (Cell p)
+waiting_of w p = cond (ltb (w % 4) 2) None (Some p)
 
 abbrev pub payload_at : List ℕ → ℕ → Payload
 payload_at l b = record { a = get_or l b 0; b = get_or l (b + 1) 0; c = get_or l (b + 2) 0; d = get_or l (b + 3) 0; e = get_or l (b + 4) 0; f = get_or l (b + 5) 0 }
 
 abbrev pub instant_of : (word : ℕ) → Instant
-instant_of w = cond (eqb w 0) Never (At ((w - 1) % 2 ^ 63))
+instant_of w = cond (eqb w 0) None (Some ((w - 1) % 2 ^ 63))
 
 abbrev pub destination_of : (word : ℕ) → Payload → (last : Instant) → Destination
 destination_of w p i = record { efci = eqb (w % 2) 1; turned = waiting_of w p; made = record { level = high_in w; last = i } }
@@ -90,8 +86,8 @@ abbrev pub only_n : (n : ℕ) → Params
 only_n n = record { pcr = 0; mcr = 0; icr = 0; n = n; r = 0; d = 0; c = 0; tbe = 0; frtt = 0; adtf = 0; trm = 0 }
 
 abbrev pub emptied : Waiting → Waiting
-emptied Nothing = Nothing
-emptied (Cell p) = Cell no_payload
+emptied None = None
+emptied (Some p) = Some no_payload
 
 abbrev pub first_line : Connection → Connection
 first_line c = record {
@@ -103,6 +99,6 @@ first_line c = record {
   unanswered = 0;
   queue = c.queue;
   change = changed 0 0;
-  destination = record { efci = c.destination.efci; turned = emptied c.destination.turned; made = record { level = c.destination.made.level; last = Never } };
-  out_of_rate = Never;
+  destination = record { efci = c.destination.efci; turned = emptied c.destination.turned; made = record { level = c.destination.made.level; last = None } };
+  out_of_rate = None;
 }

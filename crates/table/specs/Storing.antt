@@ -5,8 +5,8 @@ use Rattle.laws.specs.Blocks.{put_from, put}
 use Rattle.cell.specs.Name.{no_name}
 use Rattle.connection.specs.declared.parts.Destination.{Destination}
 use Rattle.connection.specs.declared.parts.Connection.{Connection}
-use Rattle.connection.specs.declared.ready.Instant.{Instant}
 use Rattle.connection.specs.Ready.{ready_instant}
+use Rattle.connection.specs.Parts.{Instant}
 use Rattle.model.specs.State.{Entry}
 use Rattle.table.specs.Layout.{key, instant_word, destination_word, queue_word, paced_words, source_words, turned_words, record_of, used_from, record_from}
 

@@ -1,4 +1,5 @@
 -- A connection from the parts that were loaded one by one.
+use Rattle.std.specs.Prelude.{Some, None}
 use Prim.Native.Nat.{ℕ, ◌+◌, ◌%◌, ◌^◌}
 use mathlib.Core.Path.{◌≡◌, refl, ◌∙◌}
 use mathlib.Core.Bool.{Bool, true, false, cond}
@@ -10,11 +11,7 @@ use Rattle.cell_payload.specs.declared.payload.Payload.{Payload}
 use Rattle.connection.specs.declared.parts.Connection.{Connection}
 use Rattle.connection.specs.declared.parts.Pace.{Pace}
 use Rattle.connection.specs.declared.parts.Queue.{Queue}
-use Rattle.connection.specs.declared.parts.Waiting.{Waiting}
-use Rattle.connection.specs.declared.parts.Waiting.TheVariants.{Nothing, Cell}
-use Rattle.connection.specs.declared.ready.Instant.{Instant}
-use Rattle.connection.specs.declared.ready.Instant.TheVariants.{Never}
-use Rattle.connection.specs.Parts.{changed}
+use Rattle.connection.specs.Parts.{changed, Waiting, Instant}
 use Rattle.table.specs.Layout.{no_payload, record_from}
 use Rattle.table.specs.Loading.{high_in, low_in, name_of, n_of, only_n, emptied, params_at, pace_of, payload_at, waiting_of, instant_of, queue_of, connection_at, first_line}
 
@@ -22,7 +19,7 @@ use Rattle.table.specs.Loading.{high_in, low_in, name_of, n_of, only_n, emptied,
 emptied-is : (w : ℕ) (p : Payload) → waiting_of w no_payload ≡ emptied (waiting_of w p)
 emptied-is w p = go (ltb (w % 4) 2)
   where
-    go : (b : Bool) → cond b Nothing (Cell no_payload) ≡ emptied (cond b Nothing (Cell p))
+    go : (b : Bool) → cond b None (Some no_payload) ≡ emptied (cond b None (Some p))
     go true = refl
     go false = refl
 
@@ -74,8 +71,8 @@ module _ (l : List ℕ) (i : ℕ) where
         unanswered = 0;
         queue = x;
         change = changed 0 0;
-        destination = record { efci = eqb (word 2 % 2) 1; turned = w; made = record { level = high_in (word 2); last = Never } };
-        out_of_rate = Never;
+        destination = record { efci = eqb (word 2 % 2) 1; turned = w; made = record { level = high_in (word 2); last = None } };
+        out_of_rate = None;
       })
       (first_line (connection_at l i))
   first-line-is {p} {q} {y} {w} {x} hp hq hy hw hx =
@@ -89,6 +86,6 @@ module _ (l : List ℕ) (i : ℕ) where
         unanswered = 0;
         queue = hx j;
         change = changed 0 0;
-        destination = record { efci = eqb (word 2 % 2) 1; turned = hv j; made = record { level = high_in (word 2); last = Never } };
-        out_of_rate = Never;
+        destination = record { efci = eqb (word 2 % 2) 1; turned = hv j; made = record { level = high_in (word 2); last = None } };
+        out_of_rate = None;
       }

@@ -5,25 +5,24 @@ ghost use Rattle.table.specs.Layout.{wait_tag, destination_tag, destination_word
 ghost use Rattle.connection.specs.Range.{InstantInRange};
 
 use cell_payload::payload::Payload;
-use connection::parts::{Destination, Waiting};
-use connection::ready::Instant;
+use connection::parts::Destination;
 use laws::arithmetic::bit;
 use table::layout::{HALF, WORDS};
 
-fn wait_tag(w: Waiting) -> u64
+fn wait_tag(w: Option<Payload>) -> u64
     ensures { (result ≡ wait_tag w) × (result ≤ 2) }
 {
     match w {
-        Waiting::Nothing => 0,
-        Waiting::Cell(_) => 2,
+        None => 0,
+        Some(_) => 2,
     }
 }
 
-fn waiting_payload(w: Waiting) -> Payload
+fn waiting_payload(w: Option<Payload>) -> Payload
     ensures { result ≡ waiting_payload w }
 {
     match w {
-        Waiting::Nothing => Payload {
+        None => Payload {
             a: 0,
             b: 0,
             c: 0,
@@ -31,7 +30,7 @@ fn waiting_payload(w: Waiting) -> Payload
             e: 0,
             f: 0,
         },
-        Waiting::Cell(p) => p,
+        Some(p) => p,
     }
 }
 
@@ -50,13 +49,13 @@ pub fn destination_word(destination: Destination) -> u64
     destination.made.level as u64 * HALF + destination_tag(destination)
 }
 
-pub fn instant_word(i: Instant) -> u64
+pub fn instant_word(i: Option<u64>) -> u64
     requires { InstantInRange i }
     ensures { result ≡ instant_word i }
 {
     match i {
-        Instant::Never => 0,
-        Instant::At(t) => t + 1,
+        None => 0,
+        Some(t) => t + 1,
     }
 }
 

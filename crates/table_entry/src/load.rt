@@ -5,8 +5,7 @@ ghost use Rattle.table.specs.Layout.{no_payload, size};
 ghost use Rattle.model.specs.State.{capacity};
 
 use cell_payload::payload::Payload;
-use connection::parts::{Change, Connection, Destination, Made, Pace, Queue, Waiting};
-use connection::ready::Instant;
+use connection::parts::{Change, Connection, Destination, Made, Pace, Queue};
 use rate_moves::moves::Rate;
 use rate_params::params::Params;
 use table::layout::{
@@ -29,13 +28,13 @@ fn pace_of(sent: u64, forward: u64, word: u64) -> Pace
     }
 }
 
-fn waiting_of(word: u64, p: Payload) -> Waiting
+fn waiting_of(word: u64, p: Payload) -> Option<Payload>
     ensures { result ≡ waiting_of word p }
 {
     if word % 4 < 2 {
-        Waiting::Nothing
+        None
     } else {
-        Waiting::Cell(p)
+        Some(p)
     }
 }
 
@@ -53,13 +52,13 @@ fn payload_at(t: &[u64; WORDS], b: usize) -> Payload
     }
 }
 
-fn instant_of(word: u64) -> Instant
+fn instant_of(word: u64) -> Option<u64>
     ensures { result ≡ instant_of word }
 {
     if word == 0 {
-        return Instant::Never;
+        return None;
     }
-    Instant::At((word - 1) % INSTANT_LIMIT)
+    Some((word - 1) % INSTANT_LIMIT)
 }
 
 // The data that waits, and the VCI served last.
@@ -193,9 +192,9 @@ pub fn load_first_line(t: &[u64; WORDS], i: usize) -> Connection
             turned,
             made: Made {
                 level: (t[b + 2] / HALF % HALF) as u32,
-                last: Instant::Never,
+                last: None,
             },
         },
-        out_of_rate: Instant::Never,
+        out_of_rate: None,
     }
 }

@@ -5,7 +5,6 @@ ghost use Rattle.connection.specs.Ready.{ready_instant};
 ghost use Rattle.table.specs.Layout.{key};
 
 use connection::parts::Connection;
-use connection::ready::Instant;
 use connection_slot::ready::ready_instant;
 
 pub fn key_of(c: Connection) -> u64
@@ -13,7 +12,7 @@ pub fn key_of(c: Connection) -> u64
     ensures { result ≡ key (ready_instant c) }
 {
     match ready_instant(c) {
-        Instant::Never => 0,
-        Instant::At(i) => 18446744073709551615 - i,
+        None => 0,
+        Some(i) => 18446744073709551615 - i,
     }
 }

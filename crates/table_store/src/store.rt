@@ -9,7 +9,6 @@ ghost use Rattle.model.specs.State.{capacity};
 
 use crate::key::key_of;
 use connection::parts::{Connection, Destination};
-use connection::ready::Instant;
 use table::layout::{DESTINATION, OUT_OF_RATE, PACED, RECORD_WIDTH, RECORDS, WORDS};
 use table_entry::destination::{destination_word, instant_word, put_turned};
 use table_entry::record::{clear_record, put_rest};
@@ -75,7 +74,7 @@ pub fn update_efci(t: &mut [u64; WORDS], i: usize, destination: Destination)
 }
 
 // An entry where only the last out-of-rate cell has moved. That moves no ready instant either.
-pub fn update_out_of_rate(t: &mut [u64; WORDS], i: usize, last: Instant)
+pub fn update_out_of_rate(t: &mut [u64; WORDS], i: usize, last: Option<u64>)
     requires { (i < capacity) × InstantInRange last }
     ensures { t.new ≡ out_of_rate_updated t.old i last }
 {

@@ -1,4 +1,5 @@
 -- A match over the words of a table is the match of the leads that they stand for.
+use Rattle.std.specs.Prelude.{Some, None}
 use Prim.Native.Nat.{ℕ, ◌+◌, ◌-◌, ◌*◌, ◌^◌, ◌≤◌, ◌<◌}
 use mathlib.Core.Path.{◌≡◌, refl, sym, ap, ap₂, subst, ◌∙◌}
 use mathlib.Core.Bool.{Bool, true, false, cond}
@@ -9,10 +10,9 @@ use lib.ListN.{length, get_or}
 use borrow.Author.Tests.{leb-true, leb-false, ltb-true, ltb-false, eqb-true, eqb-false, eq-eqb, ne_eqb, lt-ltb, le-ltb}
 use Rattle.cell.specs.Name.{no_name}
 use Rattle.connection.specs.declared.parts.Connection.{Connection}
-use Rattle.connection.specs.declared.ready.Instant.{Instant}
-use Rattle.connection.specs.declared.ready.Instant.TheVariants.{Never, At}
 use Rattle.connection.specs.Range.{InstantBelow}
 use Rattle.connection.specs.Ready.{ready_instant}
+use Rattle.connection.specs.Parts.{Instant}
 use Rattle.model.specs.State.{Entry, free, taken, position, holds, capacity}
 use Rattle.model.specs.Winner.{is_ahead}
 use Rattle.model.specs.Invariant.{OnEntry}
@@ -100,7 +100,7 @@ matched-first ss mark k r (won_by i v x) (won_by j w y) p q = go (ltb i j) (eqb 
 -- ---- what stands in the words
 
 module _ (ss : List Entry) (o : Playable ss) where
-  early : (x : ℕ) (c : Connection) (i : ℕ) → get_or ss x free ≡ taken c → ready_instant c ≡ At i → i < 2 ^ 63 + 2 ^ 40
+  early : (x : ℕ) (c : Connection) (i : ℕ) → get_or ss x free ≡ taken c → ready_instant c ≡ Some i → i < 2 ^ 63 + 2 ^ 40
   early x c i g f = subst InstantBelow f (subst (OnEntry (λ c. InstantBelow (ready_instant c))) g (each-get (λ c. InstantBelow (ready_instant c)) ss o.below x))
 
   known : (d p i v x : ℕ) → Comes ss d p i v x → Known ss i v x
@@ -131,8 +131,8 @@ module _ (ss : List Entry) (o : Playable ss) where
             ∙ name_back c.trm c.rate.params.n c.name (subst (OnEntry (λ c. c.name < no_name)) g (each-get (λ c. c.name < no_name) ss o.named x)))
 
         ready : (c : Connection) → get_or ss x free ≡ taken c → (r : Instant) → ready_instant c ≡ r → keyed_leaf (with_nodes h ns ss t) x m ≡ marked_winner mark k (instant_winner c.name x r)
-        ready c g Never f = nobody (keyed ∙ ap key_number g ∙ ap key f)
-        ready c g (At i) f =
+        ready c g None f = nobody (keyed ∙ ap key_number g ∙ ap key f)
+        ready c g (Some i) f =
             let q : get_or (with_nodes h ns ss t) (record_from x) 0 ≡ 2 ^ 64 - 1 - i = keyed ∙ ap key_number g ∙ ap key f in
             let b = early x c i g f in
             sym (leaf-some (with_nodes h ns ss t) x m (ap (λ (v : ℕ). halves v (2 * (x + 1))) (named c g)) (λ z. omega arith))

@@ -1,5 +1,6 @@
 -- What the winner of the tournament in the words of a state says: the connection that a slot goes to, and the next
 -- ready instant.
+use Rattle.std.specs.Prelude.{Some, None}
 use Prim.Native.Nat.{ℕ, ◌+◌, ◌-◌, ◌/◌, ◌^◌, ◌≤◌, ◌<◌}
 use mathlib.Core.Path.{◌≡◌, refl, sym, ap, subst, ◌∙◌}
 use mathlib.Core.Bool.{true}
@@ -9,9 +10,8 @@ use lib.Dec.{leb}
 use lib.ListN.{get_or}
 use borrow.Author.Tests.{le-leb, lt-leb}
 use Rattle.rate.specs.Units.{latest_time}
-use Rattle.connection.specs.declared.ready.Instant.{Instant}
-use Rattle.connection.specs.declared.ready.Instant.TheVariants.{Never, At}
 use Rattle.connection.specs.Ready.{ready_instant}
+use Rattle.connection.specs.Parts.{Instant}
 use Rattle.model.specs.State.{State, Entry, free, taken, capacity}
 use Rattle.model.specs.Invariant.{OnEntry, WellFormed}
 use Rattle.model.specs.Winner.{none_ready, wins, candidate_from}
@@ -107,13 +107,13 @@ module _ (l : List ℕ) (root : KeyedWinner) (e : root ≡ keyed_node l 1) where
 
 -- ---- no key is greater than the winner's
 
-key-most : (i : ℕ) (e : Entry) → OnEntry (λ d. (j : ℕ) → ready_instant d ≡ At j → i ≤ j) e → key_number e ≤ 2 ^ 64 - 1 - i
+key-most : (i : ℕ) (e : Entry) → OnEntry (λ d. (j : ℕ) → ready_instant d ≡ Some j → i ≤ j) e → key_number e ≤ 2 ^ 64 - 1 - i
 key-most i free h = omega arith
 key-most i (taken d) h = go (ready_instant d) refl
   where
     go : (r : Instant) → ready_instant d ≡ r → key_number (taken d) ≤ 2 ^ 64 - 1 - i
-    go Never e = omega (arith, ap key e)
-    go (At j) e = omega (arith, ap key e, h j e)
+    go None e = omega (arith, ap key e)
+    go (Some j) e = omega (arith, ap key e, h j e)
 
 pub winner-key : (l : List ℕ) (s : State) → WellFormed s → l ≡ words s → (x y : ℕ) → x < capacity → y < capacity → winner_word (winner_at s.entries levels 1) ≡ x + 1
     → leb (get_or l (record_from y) 0) (get_or l (record_from x) 0) ≡ true
@@ -123,7 +123,7 @@ winner-key l s w q x y b c f = le-leb _ _ (go (winner_at ss levels 1) refl (winn
     ss : List Entry
     ss = s.entries
 
-    none_before : (i : ℕ) → earliest ss ≡ At i → OnEntry (λ d. (j : ℕ) → ready_instant d ≡ At j → i ≤ j) (get_or ss y free)
+    none_before : (i : ℕ) → earliest ss ≡ Some i → OnEntry (λ d. (j : ℕ) → ready_instant d ≡ Some j → i ≤ j) (get_or ss y free)
     none_before i e = each-get _ ss (each_map _ _ (λ d h j g. subst (NotAfter j) e (h j g)) ss (earliest-each ss)) y
 
     go : (a : MatchWinner) → winner_at ss levels 1 ≡ a → OnMatchWinner (Comes ss levels 1) a → winner_word a ≡ x + 1 → get_or l (record_from y) 0 ≤ get_or l (record_from x) 0

@@ -1,7 +1,6 @@
 -- What the choice for a slot says of a table's words. (Document 01, "Slots".)
-use Rattle.std.specs.Prelude.{ℕ, ◌+◌, ◌≤◌, ◌<◌, ◌≡◌, List, get_or}
+use Rattle.std.specs.Prelude.{ℕ, ◌+◌, ◌≤◌, ◌<◌, ◌≡◌, List, get_or, Some}
 use Rattle.connection.specs.declared.parts.Connection.{Connection}
-use Rattle.connection.specs.declared.ready.Instant.TheVariants.{At}
 use Rattle.connection.specs.Ready.{ready_instant}
 use Rattle.table_tournament.specs.declared.slot.SlotWinner.{SlotWinner}
 use Rattle.table_tournament.specs.declared.slot.SlotWinner.TheVariants.{Entry as InEntry, NoneReady}
@@ -22,7 +21,7 @@ pub record Won (t : ℕ) (ss : List Entry) (i : ℕ) : Type 0 where
   pub holder : Connection
   pub here : get_or ss i free ≡ taken holder
   pub place : position (holds holder.name) ss ≡ i
-  pub ready_at : ready_instant holder ≡ At instant
+  pub ready_at : ready_instant holder ≡ Some instant
   pub due : instant ≤ t
   pub won : winner t ss ≡ wins instant holder.name
   pub leads : winner_word (winner_at ss levels 1) ≡ i + 1

@@ -5,12 +5,12 @@ use Rattle.connection.specs.Range.{InstantInRange}
 use Rattle.connection.proofs.interval.rested.Goals as goal
 
 pub overflow_add-result : goal.overflow_add-result
-overflow_add-result c = omega (arith, subst InstantInRange c.in-At.is c.requires)
+overflow_add-result c = omega (arith, subst InstantInRange c.in-Some.is c.requires)
 
-pub returns-in-Never : goal.returns-in-Never
+pub returns-in-None : goal.returns-in-None
 unfolding rested
-returns-in-Never c = ap (rested c.args.t) (sym c.in-Never.is)
+returns-in-None c = ap (rested c.args.t) (sym c.in-None.is)
 
-pub returns-in-At : goal.returns-in-At
+pub returns-in-Some : goal.returns-in-Some
 unfolding rested
-returns-in-At c = ap (rested c.args.t) (sym c.in-At.is)
+returns-in-Some c = ap (rested c.args.t) (sym c.in-Some.is)
