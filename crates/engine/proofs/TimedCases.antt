@@ -14,8 +14,7 @@ use Rattle.model.specs.Call.{Outcome}
 use Rattle.model.specs.Step.{refuse, of_open}
 use Rattle.table.specs.Layout.{words, last_at}
 use Rattle.table.proofs.Words.{last-at}
-use Rattle.table.specs.declared.found.Found.{Found}
-use Rattle.table.specs.declared.found.Found.TheVariants.{At, Nothing}
+use Rattle.std.specs.Prelude.{Option, Some, None}
 use Rattle.table_names.specs.Finding.{FindsName}
 use Rattle.table_names.proofs.Found.{found_at}
 use Rattle.engine.specs.Timed.{of_timed, FindsTimed}
@@ -51,11 +50,11 @@ module _ (l : List ℕ) (v t : ℕ) where
   pub timed-late : latest_time < t → FindsTimed l v t (capacity + 8)
   timed-late h = refusing 8 (omega arith) (λ s w e f. late s v t f h)
 
-  module _ (u : t ≤ latest_time) {r : Found} (n : FindsName l v r) where
-    pub timed-missing : r ≡ Nothing → FindsTimed l v t (capacity + 11)
+  module _ (u : t ≤ latest_time) {r : Option ℕ} (n : FindsName l v r) where
+    pub timed-missing : r ≡ None → FindsTimed l v t (capacity + 11)
     timed-missing q = refusing 11 (omega arith) (λ s w e f. absent s v t f u (missing s w e v n q))
 
-    module _ {i : ℕ} (q : r ≡ At i) where
+    module _ {i : ℕ} (q : r ≡ Some i) where
       pub timed-early : t < get_or l last_at 0 → FindsTimed l v t (capacity + 14)
       timed-early h =
           refusing 14 (omega arith) λ s w e f.

@@ -5,7 +5,6 @@ ghost use Rattle.model.specs.Queries.{acr_of};
 ghost use Rattle.engine.specs.Contract.{MeetsReading};
 
 use model::acr::Acr;
-use table::found::Found;
 use table::layout::WORDS;
 use table_entry::load::load;
 use table_names::find::find;
@@ -14,7 +13,7 @@ use table_names::find::find;
 pub fn read_acr(t: &[u64; WORDS], name: u32) -> Acr
     ensures { MeetsReading (λ s. result ≡ acr_of s name) t.now }
 {
-    let Found::At(i) = find(t, name) else {
+    let Some(i) = find(t, name) else {
         return Acr::NotOpen;
     };
     let c = load(t, i);

@@ -5,7 +5,6 @@ ghost use Rattle.engine.specs.Contract.{Meets, whole_answer};
 
 use laws::refusals::REFUSED_NOT_OPEN;
 use model::answer::Answer;
-use table::found::Found;
 use table::layout::WORDS;
 use table_entry::load::load;
 use table_members::change::remove_path;
@@ -16,7 +15,7 @@ use table_store::store::clear;
 pub fn close(t: &mut [u64; WORDS], name: u32) -> Answer
     ensures { Meets whole_answer (λ s. close_step s name) t.old t.new result }
 {
-    let Found::At(i) = find(t, name) else {
+    let Some(i) = find(t, name) else {
         return Answer::Refused(REFUSED_NOT_OPEN);
     };
     let c = load(t, i);

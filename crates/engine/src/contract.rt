@@ -4,7 +4,6 @@ ghost use Rattle.model.specs.Queries.{contract_of};
 ghost use Rattle.engine.specs.Contract.{MeetsReading};
 
 use model::contract::Contract;
-use table::found::Found;
 use table::layout::WORDS;
 use table_entry::load::load;
 use table_names::find::find;
@@ -13,7 +12,7 @@ use table_names::find::find;
 pub fn read_contract(t: &[u64; WORDS], name: u32) -> Contract
     ensures { MeetsReading (λ s. result ≡ contract_of s name) t.now }
 {
-    let Found::At(i) = find(t, name) else {
+    let Some(i) = find(t, name) else {
         return Contract::NotOpen;
     };
     let c = load(t, i);

@@ -8,7 +8,6 @@ use connection_members::path::PATH_VCI;
 use connection_source::queue::offered;
 use laws::refusals::{REFUSED_NOT_A_MEMBER, REFUSED_NOT_OPEN, REFUSED_TOO_MUCH_DATA};
 use model::answer::Answer;
-use table::found::Found;
 use table::layout::WORDS;
 use table_entry::load::load;
 use table_names::find::find;
@@ -21,7 +20,7 @@ const MOST: u64 = WAITING_MOST as u64;
 pub fn offer(t: &mut [u64; WORDS], name: u32, cells: u64) -> Answer
     ensures { Meets whole_answer (λ s. offer_step s name cells) t.old t.new result }
 {
-    let Found::At(i) = find(t, name) else {
+    let Some(i) = find(t, name) else {
         return Answer::Refused(REFUSED_NOT_OPEN);
     };
     if name % VCIS == PATH_VCI {

@@ -4,7 +4,6 @@ ghost use Rattle.engine.specs.Timed.{FindsTimed};
 
 use laws::refusals::{REFUSED_NOT_OPEN, REFUSED_TIME, REFUSED_TIME_BACKWARD};
 use rate::units::LATEST_TIME;
-use table::found::Found;
 use table::layout::{CAPACITY, LAST, WORDS};
 use table_names::find::find;
 
@@ -15,7 +14,7 @@ pub fn timed_entry(t: &[u64; WORDS], name: u32, time: u64) -> usize
     if LATEST_TIME < time {
         return CAPACITY + REFUSED_TIME as usize;
     }
-    let Found::At(i) = find(t, name) else {
+    let Some(i) = find(t, name) else {
         return CAPACITY + REFUSED_NOT_OPEN as usize;
     };
     if time < t[LAST] {

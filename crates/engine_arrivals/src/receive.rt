@@ -22,7 +22,6 @@ use connection_members::path::PATH_VCI;
 use connection_source::backward::after_backward_cell;
 use laws::refusals::REFUSED_NOT_OPEN;
 use model::details::ReceiveAnswer;
-use table::found::Found;
 use table::layout::{HALF, LEVEL, WORDS};
 use table_entry::load::load;
 use table_names::find::find;
@@ -37,7 +36,7 @@ fn receive_data(t: &mut [u64; WORDS], vpi: u32, vci: u32, efci: bool) -> Receive
     if name % VCIS == PATH_VCI {
         return ReceiveAnswer::Refused(REFUSED_NOT_OPEN);
     }
-    let Found::At(i) = find_owner(t, name) else {
+    let Some(i) = find_owner(t, name) else {
         return ReceiveAnswer::Refused(REFUSED_NOT_OPEN);
     };
     let c = load(t, i);
@@ -61,7 +60,7 @@ fn receive_rm(t: &mut [u64; WORDS], cell: &[u8], f: Fields) -> ReceiveAnswer
     ensures { Meets (receive_answer (RmCell f)) (λ s. read_step s cell.now (RmCell f)) t.old t.new result }
 {
     let name = address_name(f.vpi, f.vci);
-    let Found::At(i) = find(t, name) else {
+    let Some(i) = find(t, name) else {
         return ReceiveAnswer::Refused(REFUSED_NOT_OPEN);
     };
     let leaf = i as u32;

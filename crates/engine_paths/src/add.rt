@@ -9,7 +9,6 @@ use laws::refusals::{
     REFUSED_NOT_OPEN,
 };
 use model::answer::Answer;
-use table::found::Found;
 use table::layout::WORDS;
 use table_members::change;
 use table_members::find::{find as find_member, has_room};
@@ -23,16 +22,16 @@ pub fn add(t: &mut [u64; WORDS], vpi: u32, vci: u32) -> Answer
         return Answer::Refused(REFUSED_LOW_VCI);
     }
     let name = address_name(vpi, vci);
-    let Found::At(_) = find(t, path_of(name)) else {
+    let Some(_) = find(t, path_of(name)) else {
         return Answer::Refused(REFUSED_NOT_OPEN);
     };
     if NO_NAME <= name {
         return Answer::Refused(REFUSED_NOT_OPEN);
     }
-    let Found::Nothing = find(t, name) else {
+    let None = find(t, name) else {
         return Answer::Refused(REFUSED_ALREADY_OPEN);
     };
-    let Found::Nothing = find_member(t, name) else {
+    let None = find_member(t, name) else {
         return Answer::Refused(REFUSED_ALREADY_MEMBER);
     };
     if !has_room(t) {

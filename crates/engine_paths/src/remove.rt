@@ -8,7 +8,6 @@ use connection_members::path::PATH_VCI;
 use connection_source::queue::dequeued;
 use laws::refusals::{REFUSED_NOT_A_MEMBER, REFUSED_NOT_OPEN};
 use model::answer::Answer;
-use table::found::Found;
 use table::layout::WORDS;
 use table_entry::load::load;
 use table_members::change;
@@ -20,10 +19,10 @@ use table_store::store::update_queue;
 pub fn remove(t: &mut [u64; WORDS], vpi: u32, vci: u32) -> Answer
     ensures { Meets whole_answer (λ s. remove_step s vpi vci) t.old t.new result }
 {
-    let Found::At(i) = find(t, address_name(vpi, PATH_VCI)) else {
+    let Some(i) = find(t, address_name(vpi, PATH_VCI)) else {
         return Answer::Refused(REFUSED_NOT_OPEN);
     };
-    let Found::At(j) = member_at(t, vpi, vci) else {
+    let Some(j) = member_at(t, vpi, vci) else {
         return Answer::Refused(REFUSED_NOT_A_MEMBER);
     };
     let waiting = cells_at(t, j);

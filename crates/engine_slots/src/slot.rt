@@ -10,7 +10,7 @@ use laws::refusals::{REFUSED_LENGTH, REFUSED_TIME, REFUSED_TIME_BACKWARD};
 use model::details::SlotAnswer;
 use rate::units::LATEST_TIME;
 use table::layout::{LAST, WORDS};
-use table_tournament::slot::{SlotWinner, slot_winner};
+use table_tournament::slot::slot_winner;
 
 // Refusals 1, 8, 14. An idle slot's time counts too.
 pub fn slot(t: &mut [u64; WORDS], time: u64, cell: &mut [u8]) -> SlotAnswer
@@ -28,7 +28,7 @@ pub fn slot(t: &mut [u64; WORDS], time: u64, cell: &mut [u8]) -> SlotAnswer
     let found = slot_winner(t, time);
     t[LAST] = time;
     match found {
-        SlotWinner::NoneReady => SlotAnswer::Idle,
-        SlotWinner::Entry(i) => send(t, time, i, cell),
+        None => SlotAnswer::Idle,
+        Some(i) => send(t, time, i, cell),
     }
 }
