@@ -12,13 +12,13 @@ pub gap_is : (a : ℕ) → 1 ≤ a → gap a ≡ 511_999_999_999 / a + 1
 unfolding gap
 gap_is a h = ap (λ (n : ℕ). n / a) (omega arith) ∙ add-div_right 511_999_999_999 h
 
-pub gap-none : (a : ℕ) → a ≡ 0 → 0 ≡ gap a
+pub gap_none : (a : ℕ) → a ≡ 0 → 0 ≡ gap a
 unfolding gap
-gap-none a q = rw q
+gap_none a q = rw q
 
 pub gap-le : (a : ℕ) → gap a ≤ 512_000_000_000
 gap-le a =
-    by_cases (dec_lt 0 a) (λ h. omega (arith, gap_is a h, div-le_self 511_999_999_999 a)) (λ h. omega (arith, gap-none a (omega arith)))
+    by_cases (dec_lt 0 a) (λ h. omega (arith, gap_is a h, div-le_self 511_999_999_999 a)) (λ h. omega (arith, gap_none a (omega arith)))
 
 pub gap-antitone : {a b : ℕ} → 1 ≤ a → a ≤ b → gap b ≤ gap a
 gap-antitone {a} {b} h l = omega (arith, gap_is a h, gap_is b (omega arith), fewer)

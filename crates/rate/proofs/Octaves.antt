@@ -75,12 +75,12 @@ leading x l u = go (leading_top 64 x (omega arith) (omega arith))
         }
 
 -- up to the largest rate, `code_or_zero` is the code
-pub or-zero-code : (x : ℕ) → x ≤ largest_rate → code_or_zero x ≡ code_of x
+pub or_zero_code : (x : ℕ) → x ≤ largest_rate → code_or_zero x ≡ code_of x
 unfolding code_or_zero
-or-zero-code x h = rw (le-leb x largest_rate h)
+or_zero_code x h = rw (le-leb x largest_rate h)
 
-pub or-zero-none : (x : ℕ) → x < 512 → 0 ≡ code_or_zero x
-or-zero-none x h = sym (or-zero-code x (omega arith) ∙ code-none x h)
+pub or_zero_none : (x : ℕ) → x < 512 → 0 ≡ code_or_zero x
+or_zero_none x h = sym (or_zero_code x (omega arith) ∙ code-none x h)
 
-pub or-zero-octave : (x z : ℕ) → x ≤ largest_rate → Leading x z → code_in (54 - z) x ≡ code_or_zero x
-or-zero-octave x z h o = sym (or-zero-code x h ∙ code-octave (54 - z) x (omega (arith, o.small)) o.within)
+pub or_zero_octave : (x z : ℕ) → x ≤ largest_rate → Leading x z → code_in (54 - z) x ≡ code_or_zero x
+or_zero_octave x z h o = sym (or_zero_code x h ∙ code-octave (54 - z) x (omega (arith, o.small)) o.within)

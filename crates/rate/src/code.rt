@@ -3,7 +3,7 @@ ghost use Rattle.std.specs.Prelude.{◌≡◌};
 ghost use Rattle.rate.specs.Code.{reserved_clear, codes_clear, rate_of, code_or_zero, coded};
 
 use crate::units::LARGEST_RATE;
-use laws::refusals::REFUSED_TOO_LARGE;
+use laws::refusals::Refusal;
 
 // Of the 16 bits of a code, bit 14 is nz and bit 15 is reserved.
 pub const NZ: u32 = 16384;
@@ -15,14 +15,8 @@ pub const SIXTEEN_BITS_MOST: u32 = 65535;
 
 pub const CODE_MOST: u32 = 32767;
 
-// A rate's code, or the number of the refusal.
-#[derive(Clone, Copy)]
-pub enum Coded {
-    Code(u32),
-    Refused(u32),
-}
-
 // Whether bit 15 of a code is 0; a number over 16 bits is no code.
+#[tactic(auto, unfolding(crate::specs::Code::reserved_clear))]
 pub fn reserved_clear(code: u32) -> bool
     ensures { result ≡ reserved_clear code }
 {
@@ -30,6 +24,7 @@ pub fn reserved_clear(code: u32) -> bool
 }
 
 // The same of three codes.
+#[tactic(auto, unfolding(crate::specs::Code::codes_clear))]
 pub fn codes_clear(a: u32, b: u32, c: u32) -> bool
     ensures { result ≡ codes_clear a b c }
 {
@@ -37,6 +32,7 @@ pub fn codes_clear(a: u32, b: u32, c: u32) -> bool
 }
 
 // The rate that a code stands for, by its low 15 bits.
+#[tactic(auto, unfolding(crate::specs::Code::rate_of))]
 pub fn rate_of(code: u32) -> u64
     ensures { result ≡ rate_of code }
 {
@@ -63,11 +59,12 @@ pub fn code_or_zero(rate: u64) -> u32
 }
 
 // Coding a rate, with refusal 9 above the largest.
-pub fn code_of(rate: u64) -> Coded
+#[tactic(auto, using(crate::proofs::Octaves::or_zero_code), unfolding(crate::specs::Code::coded))]
+pub fn code_of(rate: u64) -> Result<u32, Refusal>
     ensures { result ≡ coded rate }
 {
     if LARGEST_RATE < rate {
-        return Coded::Refused(REFUSED_TOO_LARGE);
+        return Err(Refusal::TooLarge);
     }
-    Coded::Code(code_or_zero(rate))
+    Ok(code_or_zero(rate))
 }

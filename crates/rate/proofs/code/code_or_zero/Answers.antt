@@ -2,7 +2,7 @@
 use native.Mathlib.Omega.{arith}
 use borrow.Author.Tests.{lt-leb}
 use Rattle.rate.specs.Code.{code_or_zero}
-use Rattle.rate.proofs.Octaves.{leading, or-zero-none, or-zero-octave}
+use Rattle.rate.proofs.Octaves.{leading, or_zero_none, or_zero_octave}
 use Rattle.rate.proofs.code.code_or_zero.Goals as goal
 
 pub returns-then-rate-gt-LARGEST_RATE : goal.returns-then-rate-gt-LARGEST_RATE
@@ -10,7 +10,7 @@ unfolding code_or_zero
 returns-then-rate-gt-LARGEST_RATE c = simp (lt-leb _ _ c.if-rate-gt-LARGEST_RATE.true)
 
 pub returns-then-rate-lt512 : goal.returns-then-rate-lt512
-returns-then-rate-lt512 c = or-zero-none _ c.if-rate-lt512.true
+returns-then-rate-lt512 c = or_zero_none _ c.if-rate-lt512.true
 
 pub overflow_sub-e : goal.overflow_sub-e
 overflow_sub-e c = (leading _ c.if-rate-lt512.false c.if-rate-gt-LARGEST_RATE.false).room
@@ -25,4 +25,4 @@ pub overflow_add-result-2 : goal.overflow_add-result-2
 overflow_add-result-2 c = let o = leading _ c.if-rate-lt512.false c.if-rate-gt-LARGEST_RATE.false in omega (arith, o.small, o.within.high)
 
 pub returns : goal.returns
-returns c = or-zero-octave _ _ c.if-rate-gt-LARGEST_RATE.false (leading _ c.if-rate-lt512.false c.if-rate-gt-LARGEST_RATE.false)
+returns c = or_zero_octave _ _ c.if-rate-gt-LARGEST_RATE.false (leading _ c.if-rate-lt512.false c.if-rate-gt-LARGEST_RATE.false)
