@@ -43,8 +43,9 @@ pub fn rate_of(code: u32) -> u64
     }
 }
 
-// The code of a rate up to the largest, and 0 for what is no rate. The exponent is read off the leading zeros:
-// a rate with ten binary digits has exponent 0, and each digit more adds 1.
+// The code of a rate up to the largest, and 0 for what is no rate. The exponent is read off the highest binary
+// digit: a rate with ten of them has exponent 0, and each digit more adds 1.
+#[tactic(auto, using(crate::proofs::Octaves::code_steps), unfolding(crate::specs::Code::code_or_zero))]
 pub fn code_or_zero(rate: u64) -> u32
     ensures { result ≡ code_or_zero rate }
 {
@@ -54,7 +55,7 @@ pub fn code_or_zero(rate: u64) -> u32
     if rate < 512 {
         return 0;
     }
-    let e = 54 - u64::leading_zeros(rate);
+    let e = rate.ilog2() - 9;
     NZ + e * 512 + ((rate >> e) - 512) as u32
 }
 
