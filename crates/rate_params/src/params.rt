@@ -24,13 +24,6 @@ fn rounded_up(x: u32, n: u32) -> u32
     if n < 32 { x.div_ceil(1 << n) } else { x.min(1) }
 }
 
-#[tactic(auto, unfolding(crate::specs::Params::within))]
-fn within(low: u32, high: u32, x: u32) -> bool
-    ensures { result ≡ within low high x }
-{
-    (low..=high).contains(&x)
-}
-
 #[repr(C)]
 #[derive(Clone, Copy)]
 pub struct Params {
@@ -163,17 +156,18 @@ impl Params {
     }
 
     // ADTF and the Trm number.
+    #[tactic(auto, unfolding(crate::specs::Params::within))]
     fn limits_fit(self) -> bool
         ensures { result ≡ within 1 adtf_most self.adtf && leb self.trm trm_most }
     {
-        within(1, Params::ADTF_MOST, self.adtf) && self.trm <= Params::TRM_MOST
+        (1..=Params::ADTF_MOST).contains(&self.adtf) && self.trm <= Params::TRM_MOST
     }
 
-    #[tactic(auto, unfolding(crate::specs::Params::numbers_fit))]
+    #[tactic(auto, unfolding(crate::specs::Params::numbers_fit, crate::specs::Params::within))]
     fn numbers_fit(self) -> bool
         ensures { result ≡ numbers_fit self }
     {
-        within(1, Params::N_MOST, self.n)
+        (1..=Params::N_MOST).contains(&self.n)
             && self.r <= Params::R_MOST
             && self.d <= Params::D_MOST
             && self.c <= Params::C_MOST
@@ -189,11 +183,11 @@ impl Params {
     }
 
     // TBE and FRTT, each with a refusal of its own.
-    #[tactic(auto, unfolding(crate::specs::Params::tbe_fits))]
+    #[tactic(auto, unfolding(crate::specs::Params::tbe_fits, crate::specs::Params::within))]
     pub fn tbe_fits(self) -> bool
         ensures { result ≡ tbe_fits self }
     {
-        within(1, Params::TBE_MOST, self.tbe)
+        (1..=Params::TBE_MOST).contains(&self.tbe)
     }
 
     #[tactic(auto, unfolding(crate::specs::Params::frtt_fits))]
