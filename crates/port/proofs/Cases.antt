@@ -12,7 +12,7 @@ use borrow.Author.Tests.{eq-eqb, ne_eqb}
 use Rattle.rate.specs.Units.{largest_rate}
 use Rattle.rate.specs.Code.{rate_of, code_or_zero}
 use Rattle.rate.proofs.Codes.{rate-le, code-greatest}
-use Rattle.rate.proofs.Octaves.{or-zero-code}
+use Rattle.rate.proofs.Octaves.{or_zero_code}
 use Rattle.cell.specs.Octets.{payload}
 use Rattle.cell.specs.Header.{type_of}
 use Rattle.cell.specs.Reading.{reading}
@@ -66,7 +66,7 @@ module _ (rate er : ℕ) where
 
   -- from what stands between the two functions
   pub er-is : {r m code : ℕ} → r ≡ rate_of er → m ≡ min r rate → code ≡ code_or_zero m → code ≡ held_er rate er
-  er-is e k c = c ∙ ap code_or_zero (k ∙ ap (λ (x : ℕ). min x rate) e) ∙ or-zero-code (min (rate_of er) rate) er-le
+  er-is e k c = c ∙ ap code_or_zero (k ∙ ap (λ (x : ℕ). min x rate) e) ∙ or_zero_code (min (rate_of er) rate) er-le
 
   pub er-fifteen : held_er rate er < 32768
   er-fifteen = (code-greatest (min (rate_of er) rate) er-le).fifteen
