@@ -1,6 +1,6 @@
 -- What is read as a number was written in its shortest form.
 use mathlib.Core.Path.{◌≡◌, refl, sym, ap, subst, ◌∙◌}
-use mathlib.Core.Bool.{Bool, true, false, cond, ◌&&◌}
+use mathlib.Core.Bool.{Bool, true, false, cond}
 use mathlib.Core.List.{List, [], ◌∷◌}
 use Prim.Native.Nat.{ℕ, zero, suc, ◌+◌, ◌-◌, ◌*◌, ◌/◌, ◌%◌, ◌^◌, ◌≤◌, ◌<◌}
 use native.Mathlib.Nat.{mul-one, zero-add, add-mul, mul_assoc, mul_comm}
@@ -8,9 +8,12 @@ use native.Mathlib.Omega.{arith}
 use lib.ListN.{length, get_or}
 use lib.Dec.{ltb, eqb, lit<}
 use lib.Pow.{pow_pos}
-use borrow.Author.Tests.{ltb-true, ltb-false, eqb-true, eqb-false, lt-ltb, le-ltb}
-use Rattle.trace.specs.Numbers.{Number, Value, Refused, read_on, written, Stands}
+use borrow.Author.Tests.{ltb-true, ltb-false, eqb-true, lt-ltb, le-ltb}
+use Rattle.std.specs.Prelude.{Ok, Err}
+use Rattle.trace.specs.Numbers.{Number, not_shortest, read_on, written, Stands}
 use Rattle.trace.specs.Shortest.{Octets, ShortestOnly}
+use Rattle.trace.proofs.Groups.{value, no_number, no_end}
+use Rattle.trace.proofs.LastGroup.{some_last}
 use Rattle.trace.proofs.Written.{more_room}
 
 -- the rest of a number, whose lowest group has the weight p: its value x is not 0 unless it is the whole number
@@ -23,15 +26,15 @@ record RestAt (n : ℕ) (s : List ℕ) (k v p y j : ℕ) : Type 0 where
   end : j ≡ k + length (written n x)
 
 abbrev Rest : (n : ℕ) (s : List ℕ) (k v p : ℕ) → Number → Type 0
-Rest n s k v p (Value y j) = RestAt n s k v p y j
-Rest n s k v p (Refused r) = Unit {0}
+Rest n s k v p (Ok (y, j)) = RestAt n s k v p y j
+Rest n s k v p (Err r) = Unit {0}
 
 -- the tenth octet
 tenth-rest : (s : List ℕ) (k v p : ℕ) → Rest 0 s k v p (read_on 0 s k v p)
 unfolding read_on written
 tenth-rest s k v p = go (ltb k (length s)) (eqb (get_or s k 0) 1) refl refl
   where
-    go : (a b : Bool) → ltb k (length s) ≡ a → eqb (get_or s k 0) 1 ≡ b → Rest 0 s k v p (cond a (cond b (Value (v + p) (k + 1)) (Refused 23)) (Refused 24))
+    go : (a b : Bool) → ltb k (length s) ≡ a → eqb (get_or s k 0) 1 ≡ b → Rest 0 s k v p (cond a (cond b (value (v + p) (k + 1)) no_number) no_end)
     go true true e f = record {
       x = 1;
       value = omega arith;
@@ -43,24 +46,20 @@ tenth-rest s k v p = go (ltb k (length s)) (eqb (get_or s k 0) 1) refl refl
     go true false e f = tt
     go false b e f = tt
 
--- an octet below 128 is the last, and not 0 unless it is the only one
-last_rest : (n : ℕ) (s : List ℕ) (k v p : ℕ) → k < length s → get_or s k 0 < 128 → (eqb (get_or s k 0) 0 && ltb 1 p) ≡ false → RestAt (suc n) s k v p (v + get_or s k 0 * p) (k + 1)
+-- an octet below 128 is the last
+last_rest : (n : ℕ) (s : List ℕ) (k v p : ℕ) → k < length s → get_or s k 0 < 128 → (1 < p → 0 < get_or s k 0) → RestAt (suc n) s k v p (v + get_or s k 0 * p) (k + 1)
 unfolding written
-last_rest n s k v p h l e = record {
+last_rest n s k v p h l some = record {
   x = get_or s k 0;
   value = refl;
   small = below n (get_or s k 0) l;
-  some = λ g. nonzero (eqb (get_or s k 0) 0) refl g;
+  some = some;
   stands = subst (Stands s k) (sym one) (h, refl, tt);
   end = ap (λ (z : List ℕ). k + length z) (sym one);
 }
   where
     one : written (suc n) (get_or s k 0) ≡ get_or s k 0 ∷ []
     one = rw (lt-ltb (get_or s k 0) 128 l)
-
-    nonzero : (b : Bool) → eqb (get_or s k 0) 0 ≡ b → 1 < p → 0 < get_or s k 0
-    nonzero true q g = let z : true ≡ false = sym (ap (λ (t : Bool). t && ltb 1 p) q ∙ lt-ltb 1 p g) ∙ e in let y : ◌≡◌ {A = ℕ} 0 1 = cc in absurd (omega arith)
-    nonzero false q g = let z = eqb-false (get_or s k 0) 0 q in omega (arith, z)
 
     below : (n b : ℕ) → b < 128 → b < 2 * 2 ^ (7 * suc n)
     below n b h = omega (arith, more_room n, pow_pos (7 * n))
@@ -100,18 +99,18 @@ rest : (n : ℕ) (s : List ℕ) → Octets s → (k v p : ℕ) → 0 < p → Res
 unfolding read_on
 rest zero s o k v p pp = tenth-rest s k v p
 rest (suc n) s o k v p pp =
-    go (ltb k (length s)) (ltb (get_or s k 0) 128) (eqb (get_or s k 0) 0 && ltb 1 p) refl refl refl (read_on n s (k + 1) (v + (get_or s k 0 - 128) * p) (p * 128))
+    go (ltb k (length s)) (ltb (get_or s k 0) 128) (not_shortest (get_or s k 0) p) refl refl refl (read_on n s (k + 1) (v + (get_or s k 0 - 128) * p) (p * 128))
     (rest n s o (k + 1) (v + (get_or s k 0 - 128) * p) (p * 128) (omega (arith, pp)))
   where
     further : (m : Number) → k < length s → 128 ≤ get_or s k 0 → Rest n s (k + 1) (v + (get_or s k 0 - 128) * p) (p * 128) m → Rest (suc n) s k v p m
-    further (Value y j) h l r = more-rest n s k v p y j pp h l (o k) r
-    further (Refused i) h l r = tt
+    further (Ok (y, j)) h l r = more-rest n s k v p y j pp h l (o k) r
+    further (Err i) h l r = tt
 
-    go : (a b c : Bool) → ltb k (length s) ≡ a → ltb (get_or s k 0) 128 ≡ b → (eqb (get_or s k 0) 0 && ltb 1 p) ≡ c → (m : Number)
+    go : (a b c : Bool) → ltb k (length s) ≡ a → ltb (get_or s k 0) 128 ≡ b → not_shortest (get_or s k 0) p ≡ c → (m : Number)
         → Rest n s (k + 1) (v + (get_or s k 0 - 128) * p) (p * 128) m
-        → Rest (suc n) s k v p (cond a (cond b (cond c (Refused 23) (Value (v + get_or s k 0 * p) (k + 1))) m) (Refused 24))
+        → Rest (suc n) s k v p (cond a (cond b (cond c no_number (value (v + get_or s k 0 * p) (k + 1))) m) no_end)
     go true true true e f g m r = tt
-    go true true false e f g m r = last_rest n s k v p (ltb-true k (length s) e) (ltb-true (get_or s k 0) 128 f) g
+    go true true false e f g m r = last_rest n s k v p (ltb-true k (length s) e) (ltb-true (get_or s k 0) 128 f) (some_last (get_or s k 0) p g)
     go true false c e f g m r = further m (ltb-true k (length s) e) (ltb-false (get_or s k 0) 128 f) r
     go false b c e f g m r = tt
 

@@ -1,27 +1,15 @@
 -- A number that is written in its shortest form is read back.
-use mathlib.Core.Path.{◌≡◌, refl, sym, ap, subst, ◌∙◌}
-use mathlib.Core.Bool.{Bool, true, false, not, ◌&&◌, cond}
+use mathlib.Core.Path.{◌≡◌, sym, ap, subst, ◌∙◌}
+use mathlib.Core.Bool.{Bool, true, false, not, cond}
 use mathlib.Core.List.{List, [], ◌∷◌}
 use Prim.Native.Nat.{ℕ, zero, suc, ◌+◌, ◌-◌, ◌*◌, ◌/◌, ◌%◌, ◌^◌, ◌≤◌, ◌<◌}
 use native.Mathlib.Nat.{mul_assoc, mul-one, mul_comm, add-mul, div-add-mod', div-lt_iff_lt-mul, le_refl, lt_irrefl, lt_of_not-le, one-mul, zero-add}
 use native.Mathlib.Omega.{arith}
 use lib.ListN.{length, get_or}
-use borrow.Author.Tests.{ltb-true, ltb-false}
-use lib.Dec.{T, ltb, eqb, lit<, ltb→lt, nltb→le}
+use lib.Dec.{T, ltb, lit<, ltb→lt, nltb→le}
 use lib.Pow.{pow-add}
-use Rattle.trace.specs.Numbers.{Value, read_on, written, Stands, ReadBack}
-use Rattle.trace.proofs.Groups.{last-group, more-groups, tenth-one, not-zero, only_one}
-
--- a last group of 0 is the only one
-short : (x p : ℕ) → (1 < p → 0 < x) → (eqb x 0 && ltb 1 p) ≡ false
-short x p h = go (ltb 1 p) refl
-  where
-    some : 0 < x → x ≡ 0 → ⊥
-    some q z = omega arith
-
-    go : (b : Bool) → ltb 1 p ≡ b → (eqb x 0 && ltb 1 p) ≡ false
-    go true e = not-zero x p (some (h (ltb-true 1 p e)))
-    go false e = only_one x p (ltb-false 1 p e)
+use Rattle.trace.specs.Numbers.{not_shortest, read_on, written, Stands, ReadBack}
+use Rattle.trace.proofs.Groups.{value, last-group, more-groups, tenth-one, shortest}
 
 -- the low group and the rest
 value-is : (v x p : ℕ) → v + (128 + x % 128 - 128) * p + x / 128 * (p * 128) ≡ v + x * p
@@ -48,11 +36,11 @@ smaller n x h = (div-lt_iff_lt-mul (lit< tt)).1 (subst (λ (z : ℕ). x < z) (mo
 -- x is what is left of the number, p the weight of its lowest group
 reads :
     (n : ℕ) (s : List ℕ) (k v p x : ℕ) → 0 < p → x < 2 * 2 ^ (7 * n) → (1 < p → 0 < x) → (p ≤ 1 → 0 < n) → Stands s k (written n x)
-    → read_on n s k v p ≡ Value (v + x * p) (k + length (written n x))
+    → read_on n s k v p ≡ value (v + x * p) (k + length (written n x))
 unfolding written
 reads zero s k v p x pp small first room st =
     let one : x ≡ 1 = only small (first (over room)) in
-    sym (tenth-one 0 s k v p (le_refl 0) st.0 (st.1 ∙ one)) ∙ ap (λ (z : ℕ). Value (v + z) (k + 1)) (sym (ap (λ (z : ℕ). z * p) one ∙ one-mul p))
+    sym (tenth-one 0 s k v p (le_refl 0) st.0 (st.1 ∙ one)) ∙ ap (λ (z : ℕ). value (v + z) (k + 1)) (sym (ap (λ (z : ℕ). z * p) one ∙ one-mul p))
   where
     over : (p ≤ 1 → 0 < 0) → 1 < p
     over f = lt_of_not-le (λ (g : p ≤ 1). lt_irrefl 0 (f g))
@@ -63,21 +51,24 @@ reads (suc n) s k v p x pp small first room st = go (ltb x 128) (ltb→lt x 128)
   where
     go : (b : Bool) → (T b → x < 128) → (T (not b) → 128 ≤ x) → Stands s k (cond b (x ∷ []) ((128 + x % 128) ∷ written n (x / 128)))
         → ((v p x : ℕ) → 0 < p → x < 2 * 2 ^ (7 * n) → (1 < p → 0 < x) → (p ≤ 1 → 0 < n) → Stands s (k + 1) (written n x)
-        → read_on n s (k + 1) v p ≡ Value (v + x * p) (k + 1 + length (written n x)))
-        → read_on (suc n) s k v p ≡ Value (v + x * p) (k + length (cond b (x ∷ []) ((128 + x % 128) ∷ written n (x / 128))))
+        → read_on n s (k + 1) v p ≡ value (v + x * p) (k + 1 + length (written n x)))
+        → read_on (suc n) s k v p ≡ value (v + x * p) (k + length (cond b (x ∷ []) ((128 + x % 128) ∷ written n (x / 128))))
     go true lo hi st ih =
-        sym (last-group (suc n) s k v p (omega arith) st.0 (last st.1 (lo tt)) (ap (λ (z : ℕ). eqb z 0 && ltb 1 p) st.1 ∙ short x p first))
-        ∙ ap (λ (z : ℕ). Value (v + z * p) (k + 1)) st.1
+        sym (last-group (suc n) s k v p (omega arith) st.0 (last st.1 (lo tt)) (ap (λ (z : ℕ). not_shortest z p) st.1 ∙ shortest (only first)))
+        ∙ ap (λ (z : ℕ). value (v + z * p) (k + 1)) st.1
       where
         last : get_or s k 0 ≡ x → x < 128 → get_or s k 0 < 128
         last e h = omega arith
+
+        only : (1 < p → 0 < x) → x ≡ 0 → p ≤ 1
+        only f z = let l = lt_of_not-le (λ (g : 2 ≤ p). let h = f g in omega arith) in omega (arith, l)
     go false lo hi st ih =
         sym (more-groups (suc n) s k v p (omega arith) st.0 (more st.1))
         ∙ ap (λ (m : ℕ). read_on m s (k + 1) (v + (get_or s k 0 - 128) * p) (p * 128)) (less n)
         ∙ ap (λ (b : ℕ). read_on n s (k + 1) (v + (b - 128) * p) (p * 128)) st.1
         ∙ ih (v + (128 + x % 128 - 128) * p) (p * 128) (x / 128) (heavy pp) (smaller n x small) (λ _. some (hi tt)) (λ (g : p * 128 ≤ 1). absurd (clash pp g)) st.2
-        ∙ ap (λ (z : ℕ). Value z (k + 1 + length (written n (x / 128)))) (value-is v x p)
-        ∙ ap (Value (v + x * p)) (end (length (written n (x / 128))))
+        ∙ ap (λ (z : ℕ). value z (k + 1 + length (written n (x / 128)))) (value-is v x p)
+        ∙ ap (value (v + x * p)) (end (length (written n (x / 128))))
       where
         more : get_or s k 0 ≡ 128 + x % 128 → 128 ≤ get_or s k 0
         more e = omega arith
@@ -100,4 +91,4 @@ reads (suc n) s k v p x pp small first room st = go (ltb x 128) (ltb→lt x 128)
 pub read_back : ReadBack
 read_back s k x small st =
     reads 9 s k 0 1 x (lit< tt) small (λ (g : 1 < 1). absurd (lt_irrefl 1 g)) (λ _. lit< tt) st
-    ∙ ap (λ (z : ℕ). Value z (k + length (written 9 x))) (zero-add (x * 1) ∙ mul-one x)
+    ∙ ap (λ (z : ℕ). value z (k + length (written 9 x))) (zero-add (x * 1) ∙ mul-one x)

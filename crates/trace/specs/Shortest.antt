@@ -1,6 +1,6 @@
 -- Shortest form only: what is read as a number was written in its shortest form. (Document 02, L11.)
-use Rattle.std.specs.Prelude.{ℕ, ◌+◌, ◌^◌, ◌<◌, ◌≡◌, List, length, get_or}
-use Rattle.trace.specs.Numbers.{Value, number_at, written, Stands}
+use Rattle.std.specs.Prelude.{ℕ, ◌+◌, ◌^◌, ◌<◌, ◌≡◌, List, length, get_or, Ok}
+use Rattle.trace.specs.Numbers.{number_at, written, Stands}
 
 -- each number of the list is an octet's
 abbrev pub Octets : List ℕ → Type 0
@@ -13,4 +13,4 @@ pub record WrittenAt (s : List ℕ) (k x j : ℕ) : Type 0 where
   pub end : j ≡ k + length (written 9 x)
 
 abbrev pub ShortestOnly : Type 0
-ShortestOnly = (s : List ℕ) → Octets s → (k x j : ℕ) → number_at s k ≡ Value x j → WrittenAt s k x j
+ShortestOnly = (s : List ℕ) → Octets s → (k x j : ℕ) → number_at s k ≡ Ok (x, j) → WrittenAt s k x j
