@@ -10,8 +10,7 @@ use Rattle.model.specs.Status.{entry_status, member_cells, status_of}
 use Rattle.model.specs.Answers.{Status, NothingOpen}
 use Rattle.table.specs.Layout.{words, record_from}
 use Rattle.table.specs.Loading.{low_in}
-use Rattle.table.specs.declared.found.Found.{Found}
-use Rattle.table.specs.declared.found.Found.TheVariants.{At, Nothing}
+use Rattle.std.specs.Prelude.{Option as CodeOption, Some, None}
 use Rattle.table_names.specs.Finding.{Located, Names, FindsName}
 use Rattle.table_names.proofs.Found.{found_at}
 use Rattle.table_members.specs.Words.{FindsMember, CellsAt}
@@ -91,11 +90,11 @@ member-points s i x n h c f {r} e {k} q =
 
 module _ (l : List ℕ) (x : ℕ) where
   -- nothing was found
-  pub no-status : FindsPath l x Nothing → {p : Place} → p ≡ no_place → MeetsReading (λ s. find x s.entries ≡ free → Points s (status_of s x) p) l
+  pub no-status : FindsPath l x None → {p : Place} → p ≡ no_place → MeetsReading (λ s. find x s.entries ≡ free → Points s (status_of s x) p) l
   no-status h q = record { meets = λ s w e f. none-points q (status-free s x (h.is s w e f)) }
 
   -- a channel, or a path by its own name
-  pub own-status : {k : Found} {i : ℕ} → i < capacity → FindsName l x k → k ≡ At i → {p : Place} → p ≡ own_place l i x → MeetsReading (λ s. Points s (status_of s x) p) l
+  pub own-status : {k : CodeOption ℕ} {i : ℕ} → i < capacity → FindsName l x k → k ≡ Some i → {p : Place} → p ≡ own_place l i x → MeetsReading (λ s. Points s (status_of s x) p) l
   own-status {i = i} h f q g = record {
     meets = λ s w e.
         let p = (found-channel l x f q).is s w e in
@@ -105,12 +104,12 @@ module _ (l : List ℕ) (x : ℕ) where
 
   -- no channel and no path: what is found among the members
   pub other-status :
-      {k : Found} {p : Place} → FindsName l x k → k ≡ Nothing → MeetsReading (λ s. find x s.entries ≡ free → Points s (status_of s x) p) l → MeetsReading (λ s. Points s (status_of s x) p) l
+      {k : CodeOption ℕ} {p : Place} → FindsName l x k → k ≡ None → MeetsReading (λ s. find x s.entries ≡ free → Points s (status_of s x) p) l → MeetsReading (λ s. Points s (status_of s x) p) l
   other-status f q g = record { meets = λ s w e. g.meets s w e (missing s w e x f q) }
 
   -- a member with its path
   pub member-status :
-      {k m : Found} {i j n d : ℕ} → i < capacity → FindsMember l x m → m ≡ At j → CellsAt l j n → FindsName l (path_of x) k → k ≡ At i → d ≡ kind_shown x true
+      {k m : CodeOption ℕ} {i j n d : ℕ} → i < capacity → FindsMember l x m → m ≡ Some j → CellsAt l j n → FindsName l (path_of x) k → k ≡ Some i → d ≡ kind_shown x true
       → MeetsReading (λ s. find x s.entries ≡ free → Points s (status_of s x) (record { name = x; entry = i; kind = d; waiting = n })) l
   member-status {k} {i = i} {n = n} b m o h f q g = record {
     meets = λ s w e z.

@@ -9,7 +9,6 @@ ghost use Rattle.abr_readings.specs.Place.{own_place, no_place, Points};
 use abr_answers::status::kind_shown;
 use cell::name::NO_NAME;
 use connection_members::path::path_of;
-use table::found::Found;
 use table::layout::{CAPACITY, HALF, IDENTITY, NAME_LIMIT, RECORD_WIDTH, RECORDS, WORDS};
 use table_members::find::{cells_at, find as find_member};
 use table_names::find::find;
@@ -55,10 +54,10 @@ fn member_place(t: &[u64; WORDS], name: u32) -> Place
     if NO_NAME <= name {
         return no_place();
     }
-    let Found::At(j) = find_member(t, name) else {
+    let Some(j) = find_member(t, name) else {
         return no_place();
     };
-    let Found::At(i) = find(t, path_of(name)) else {
+    let Some(i) = find(t, path_of(name)) else {
         return no_place();
     };
     Place {
@@ -74,8 +73,8 @@ pub fn place_of(t: &[u64; WORDS], name: u32) -> Place
     ensures { MeetsReading (λ s. Points s (status_of s name) result) t.now }
 {
     match find(t, name) {
-        Found::At(i) => own_place(t, i, name),
-        Found::Nothing => member_place(t, name),
+        Some(i) => own_place(t, i, name),
+        None => member_place(t, name),
     }
 }
 

@@ -17,8 +17,7 @@ use Rattle.table.specs.Layout.{record_of, record_width, member_words, members_fr
 use Rattle.table.proofs.Records.{record-wide}
 use Rattle.table.proofs.Splits.{header, length-header, header-split}
 use Rattle.table_store.specs.Updates.{Sized}
-use Rattle.table.specs.declared.found.Found.{Found}
-use Rattle.table.specs.declared.found.Found.TheVariants.{At, Nothing}
+use Rattle.std.specs.Prelude.{Option, Some, None}
 use Rattle.table_members.specs.Place.{MemberAt}
 use Rattle.table_members.specs.Words.{WithMembers, MemberInRange, Named, FindsMember}
 
@@ -50,15 +49,15 @@ unfolding is_path
 no-path v h = ne_eqb (v % 65536) 6 h
 
 -- What was found.
-pub member_below : {l : List ℕ} {x : ℕ} {r : Found} {i : ℕ} → FindsMember l x r → r ≡ At i → i < member_capacity
+pub member_below : {l : List ℕ} {x : ℕ} {r : Option ℕ} {i : ℕ} → FindsMember l x r → r ≡ Some i → i < member_capacity
 member_below h q = subst MemberInRange q h.inside
 
-module _ (s : State) (w : WellFormed s) {l : List ℕ} (e : l ≡ words s) {x : ℕ} {r : Found} (h : FindsMember l x r) where
+module _ (s : State) (w : WellFormed s) {l : List ℕ} (e : l ≡ words s) {x : ℕ} {r : Option ℕ} (h : FindsMember l x r) where
   named : Named x s.members r
   named = h.is (front s) s.members (with-members s w.size w.members.valid e)
 
-  pub no_member : r ≡ Nothing → is_member x s.members ≡ false
+  pub no_member : r ≡ None → is_member x s.members ≡ false
   no_member q = subst (Named x s.members) q named
 
-  pub member-at : {i : ℕ} → r ≡ At i → MemberAt s.members x i
+  pub member-at : {i : ℕ} → r ≡ Some i → MemberAt s.members x i
   member-at q = subst (Named x s.members) q named

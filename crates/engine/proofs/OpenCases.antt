@@ -29,8 +29,7 @@ use Rattle.model.specs.Invariant.{WellFormed}
 use Rattle.table.specs.Layout.{words, last_at}
 use Rattle.table.specs.Storing.{FixedFits}
 use Rattle.table_names.specs.Finding.{FoundInRange, Vacant, FindsFree}
-use Rattle.table.specs.declared.found.Found.{Found}
-use Rattle.table.specs.declared.found.Found.TheVariants.{At, Nothing}
+use Rattle.std.specs.Prelude.{Option, Some, None}
 use Rattle.model.proofs.Entries.{lowest-free, each_set, unique-set, find_absent}
 use Rattle.model.specs.Step.{refuse, replay, open_address, open_step}
 use Rattle.model.specs.Tournament.{replayed}
@@ -117,15 +116,15 @@ module _ (s : State) {a b t : ℕ} {p : Params} (i : InputPassed a b t p) where
     open_done e h = rest ∙ rw (new, apart, e, le-leb s.last t h)
 
 -- the lowest free entry, as it was found
-module _ {l : List ℕ} {r : Found} (h : FindsFree l r) where
-  pub entry-below : {i : ℕ} → r ≡ At i → i < capacity
+module _ {l : List ℕ} {r : Option ℕ} (h : FindsFree l r) where
+  pub entry-below : {i : ℕ} → r ≡ Some i → i < capacity
   entry-below q = subst FoundInRange q h.inside
 
   module _ (s : State) (w : WellFormed s) (e : l ≡ words s) where
-    pub lowest : {i : ℕ} → r ≡ At i → position is_free s.entries ≡ i
+    pub lowest : {i : ℕ} → r ≡ Some i → position is_free s.entries ≡ i
     lowest q = subst (Vacant s) q (h.is s w e)
 
-    pub no_room : r ≡ Nothing → room_left s ≡ false
+    pub no_room : r ≡ None → room_left s ≡ false
     no_room q = subst (Vacant s) q (h.is s w e)
 
 with-opened-at : (s : State) (c : Connection) {i : ℕ} → position is_free s.entries ≡ i → with_opened c s ≡ with_entry s i (taken c)

@@ -14,8 +14,7 @@ use Rattle.connection.specs.Invariant.{ValidAt}
 use Rattle.connection.specs.Range.{InRange, CountHasRoom}
 use Rattle.connection.specs.Ready.{ready_instant}
 use Rattle.connection.proofs.Keeps.{KeepsIdentity}
-use Rattle.table.specs.declared.found.Found.{Found}
-use Rattle.table.specs.declared.found.Found.TheVariants.{At, Nothing}
+use Rattle.std.specs.Prelude.{Option, Some, None}
 use Rattle.model.specs.State.{State, Entry, free, taken, find, leaf_of, with_entry_of, position, holds, with_time, with_level, capacity}
 use Rattle.model.specs.Invariant.{WellFormed, OnEntry}
 use Rattle.table.specs.Layout.{words, paced_words, source_words, fixed_words, level_at, last_at}
@@ -105,14 +104,14 @@ pub level-of : (s : State) → WellFormed s → {l : List ℕ} → l ≡ words s
 level-of s w e = ap (λ (x : List ℕ). get_or x level_at 0 % 4294967296) e ∙ ap (λ (x : ℕ). x % 4294967296) (level-at s) ∙ omega (arith, w.levels)
 
 -- What was found.
-pub below : (l : List ℕ) (v : ℕ) {r : Found} {i : ℕ} → FindsName l v r → r ≡ At i → i < capacity
+pub below : (l : List ℕ) (v : ℕ) {r : Option ℕ} {i : ℕ} → FindsName l v r → r ≡ Some i → i < capacity
 below l v h q = subst FoundInRange q h.inside
 
-module _ (s : State) (w : WellFormed s) {l : List ℕ} (e : l ≡ words s) (v : ℕ) {r : Found} (h : FindsName l v r) where
-  pub missing : r ≡ Nothing → find v s.entries ≡ free
+module _ (s : State) (w : WellFormed s) {l : List ℕ} (e : l ≡ words s) (v : ℕ) {r : Option ℕ} (h : FindsName l v r) where
+  pub missing : r ≡ None → find v s.entries ≡ free
   missing q = subst (Names v s.entries) q (h.is s w e)
 
-  pub entry-located : {i : ℕ} → r ≡ At i → Located s.entries v i
+  pub entry-located : {i : ℕ} → r ≡ Some i → Located s.entries v i
   entry-located q = subst (Names v s.entries) q (h.is s w e)
 
 -- The connection that was loaded is the one that stands in the entry; whatever the words, it lies in range.

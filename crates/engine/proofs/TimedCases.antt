@@ -4,7 +4,7 @@ use mathlib.Core.Path.{◌≡◌, ap, subst, ◌∙◌}
 use mathlib.Core.List.{List}
 use native.Mathlib.Omega.{arith}
 use lib.ListN.{get_or}
-use Rattle.std.specs.Prelude.{Ok, Err}
+use Rattle.std.specs.Prelude.{Option, Some, None, Ok, Err}
 use borrow.Author.Tests.{le-leb, lt-leb}
 use Rattle.laws.specs.declared.refusals.Refusal.TheVariants.{Time, NotOpen, TimeBackward}
 use Rattle.laws.specs.Require.{require}
@@ -16,8 +16,6 @@ use Rattle.model.specs.Call.{Outcome}
 use Rattle.model.specs.Step.{refuse, of_open}
 use Rattle.table.specs.Layout.{words, last_at}
 use Rattle.table.proofs.Words.{last-at}
-use Rattle.table.specs.declared.found.Found.{Found}
-use Rattle.table.specs.declared.found.Found.TheVariants.{At, Nothing}
 use Rattle.table_names.specs.Finding.{FindsName}
 use Rattle.table_names.proofs.Found.{found_at}
 use Rattle.engine.specs.Timed.{of_timed, FindsTimed}
@@ -45,11 +43,11 @@ module _ (l : List ℕ) (v t : ℕ) where
   pub timed-late : latest_time < t → FindsTimed l v t (Err Time)
   timed-late h = λ s w e f. late s v t f h
 
-  module _ (u : t ≤ latest_time) {r : Found} (n : FindsName l v r) where
-    pub timed-missing : r ≡ Nothing → FindsTimed l v t (Err NotOpen)
+  module _ (u : t ≤ latest_time) {r : Option ℕ} (n : FindsName l v r) where
+    pub timed-missing : r ≡ None → FindsTimed l v t (Err NotOpen)
     timed-missing q = λ s w e f. absent s v t f u (missing s w e v n q)
 
-    module _ {i : ℕ} (q : r ≡ At i) where
+    module _ {i : ℕ} (q : r ≡ Some i) where
       pub timed-early : t < get_or l last_at 0 → FindsTimed l v t (Err TimeBackward)
       timed-early h = λ s w e f.
           let p = entry-located s w e v n q in

@@ -6,7 +6,6 @@ ghost use Rattle.model.specs.Returned.{allowed_as};
 ghost use Rattle.engine.specs.Contract.{MeetsReading};
 
 use model::readings::Allowed;
-use table::found::Found;
 use table::layout::WORDS;
 use table_entry::load::load;
 use table_names::find::find;
@@ -15,7 +14,7 @@ use table_names::find::find;
 pub fn read_acr(t: &[u64; WORDS], name: u32) -> Option<Allowed>
     ensures { MeetsReading (λ s. allowed_as result ≡ acr_of s name) t.now }
 {
-    let Found::At(i) = find(t, name) else {
+    let Some(i) = find(t, name) else {
         return None;
     };
     let c = load(t, i);

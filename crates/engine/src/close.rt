@@ -6,7 +6,6 @@ ghost use Rattle.engine.specs.Contract.{Meets, whole_answer};
 
 use laws::refusals::Refusal;
 use model::answers::Closed;
-use table::found::Found;
 use table::layout::WORDS;
 use table_entry::load::load;
 use table_members::change::remove_path;
@@ -17,7 +16,7 @@ use table_store::store::clear;
 pub fn close(t: &mut [u64; WORDS], name: u32) -> Result<Closed, Refusal>
     ensures { Meets whole_answer (λ s. close_step s name) t.old t.new (closed_as result) }
 {
-    let Found::At(i) = find(t, name) else {
+    let Some(i) = find(t, name) else {
         return Err(Refusal::NotOpen);
     };
     let c = load(t, i);

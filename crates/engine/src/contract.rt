@@ -5,7 +5,6 @@ ghost use Rattle.model.specs.Returned.{codes_as};
 ghost use Rattle.engine.specs.Contract.{MeetsReading};
 
 use model::readings::Codes;
-use table::found::Found;
 use table::layout::WORDS;
 use table_entry::load::load;
 use table_names::find::find;
@@ -14,7 +13,7 @@ use table_names::find::find;
 pub fn read_contract(t: &[u64; WORDS], name: u32) -> Option<Codes>
     ensures { MeetsReading (λ s. codes_as result ≡ contract_of s name) t.now }
 {
-    let Found::At(i) = find(t, name) else {
+    let Some(i) = find(t, name) else {
         return None;
     };
     let c = load(t, i);

@@ -8,7 +8,6 @@ use connection::parts::WAITING_MOST;
 use connection_members::path::PATH_VCI;
 use connection_source::queue::offered;
 use laws::refusals::Refusal;
-use table::found::Found;
 use table::layout::WORDS;
 use table_entry::load::load;
 use table_names::find::find;
@@ -21,7 +20,7 @@ const MOST: u64 = WAITING_MOST as u64;
 pub fn offer(t: &mut [u64; WORDS], name: u32, cells: u64) -> Result<u32, Refusal>
     ensures { Meets whole_answer (λ s. offer_step s name cells) t.old t.new (accepted_as result) }
 {
-    let Found::At(i) = find(t, name) else {
+    let Some(i) = find(t, name) else {
         return Err(Refusal::NotOpen);
     };
     if name % VCIS == PATH_VCI {

@@ -15,7 +15,6 @@ use model::answers::Opened;
 use rate::code::codes_clear;
 use rate::units::LATEST_TIME;
 use rate_params::params::Params;
-use table::found::Found;
 use table::layout::{LAST, WORDS};
 use table_members::find::find as find_member;
 use table_names::find::find;
@@ -49,13 +48,13 @@ fn open_address(t: &mut [u64; WORDS], vpi: u32, vci: u32, time: u64, params: Par
         return Err(Refusal::Time);
     }
     let name = address_name(vpi, vci);
-    let Found::Nothing = find(t, name) else {
+    let None = find(t, name) else {
         return Err(Refusal::AlreadyOpen);
     };
-    let Found::Nothing = find_member(t, name) else {
+    let None = find_member(t, name) else {
         return Err(Refusal::AlreadyMember);
     };
-    let Found::At(i) = find_free(t) else {
+    let Some(i) = find_free(t) else {
         return Err(Refusal::Full);
     };
     if time < t[LAST] {

@@ -4,7 +4,6 @@ ghost use Rattle.engine.specs.Timed.{FindsTimed};
 
 use laws::refusals::Refusal;
 use rate::units::LATEST_TIME;
-use table::found::Found;
 use table::layout::{LAST, WORDS};
 use table_names::find::find;
 
@@ -15,7 +14,7 @@ pub fn timed_entry(t: &[u64; WORDS], name: u32, time: u64) -> Result<usize, Refu
     if LATEST_TIME < time {
         return Err(Refusal::Time);
     }
-    let Found::At(i) = find(t, name) else {
+    let Some(i) = find(t, name) else {
         return Err(Refusal::NotOpen);
     };
     if time < t[LAST] {

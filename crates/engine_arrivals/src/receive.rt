@@ -23,7 +23,6 @@ use connection_members::path::PATH_VCI;
 use connection_source::backward::after_backward_cell;
 use laws::refusals::Refusal;
 use model::answers::Received;
-use table::found::Found;
 use table::layout::{HALF, LEVEL, WORDS};
 use table_entry::load::load;
 use table_names::find::find;
@@ -38,7 +37,7 @@ fn receive_data(t: &mut [u64; WORDS], vpi: u32, vci: u32, efci: bool) -> Result<
     if name % VCIS == PATH_VCI {
         return Err(Refusal::NotOpen);
     }
-    let Found::At(i) = find_owner(t, name) else {
+    let Some(i) = find_owner(t, name) else {
         return Err(Refusal::NotOpen);
     };
     let c = load(t, i);
@@ -62,7 +61,7 @@ fn receive_rm(t: &mut [u64; WORDS], cell: &[u8], f: Fields) -> Result<Received, 
     ensures { Meets (receive_answer (RmCell f)) (λ s. read_step s cell.now (RmCell f)) t.old t.new (received_as result) }
 {
     let name = address_name(f.vpi, f.vci);
-    let Found::At(i) = find(t, name) else {
+    let Some(i) = find(t, name) else {
         return Err(Refusal::NotOpen);
     };
     let leaf = i as u32;

@@ -6,7 +6,6 @@ ghost use Rattle.model.specs.Step.{add_step};
 use cell::name::{NO_NAME, address_name};
 use connection_members::path::{FIRST_VCI, path_of};
 use laws::refusals::Refusal;
-use table::found::Found;
 use table::layout::WORDS;
 use table_members::change;
 use table_members::find::{find as find_member, has_room};
@@ -20,16 +19,16 @@ pub fn add(t: &mut [u64; WORDS], vpi: u32, vci: u32) -> Result<(), Refusal>
         return Err(Refusal::LowVci);
     }
     let name = address_name(vpi, vci);
-    let Found::At(_) = find(t, path_of(name)) else {
+    let Some(_) = find(t, path_of(name)) else {
         return Err(Refusal::NotOpen);
     };
     if NO_NAME <= name {
         return Err(Refusal::NotOpen);
     }
-    let Found::Nothing = find(t, name) else {
+    let None = find(t, name) else {
         return Err(Refusal::AlreadyOpen);
     };
-    let Found::Nothing = find_member(t, name) else {
+    let None = find_member(t, name) else {
         return Err(Refusal::AlreadyMember);
     };
     if !has_room(t) {

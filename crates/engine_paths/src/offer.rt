@@ -9,7 +9,6 @@ use connection::parts::WAITING_MOST;
 use connection_members::path::PATH_VCI;
 use connection_source::queue::offered;
 use laws::refusals::Refusal;
-use table::found::Found;
 use table::layout::WORDS;
 use table_entry::load::load;
 use table_members::change::set_cells;
@@ -22,10 +21,10 @@ use table_store::store::update_queue;
 pub fn offer_member(t: &mut [u64; WORDS], vpi: u32, vci: u32, cells: u64) -> Result<u32, Refusal>
     ensures { Meets whole_answer (λ s. offer_member_step s vpi vci cells) t.old t.new (accepted_as result) }
 {
-    let Found::At(i) = find(t, address_name(vpi, PATH_VCI)) else {
+    let Some(i) = find(t, address_name(vpi, PATH_VCI)) else {
         return Err(Refusal::NotOpen);
     };
-    let Found::At(j) = member_at(t, vpi, vci) else {
+    let Some(j) = member_at(t, vpi, vci) else {
         return Err(Refusal::NotAMember);
     };
     let waiting = cells_at(t, j);

@@ -9,7 +9,6 @@ use connection_members::path::PATH_VCI;
 use connection_source::queue::dequeued;
 use laws::refusals::Refusal;
 use model::answers::Closed;
-use table::found::Found;
 use table::layout::WORDS;
 use table_entry::load::load;
 use table_members::change;
@@ -21,10 +20,10 @@ use table_store::store::update_queue;
 pub fn remove(t: &mut [u64; WORDS], vpi: u32, vci: u32) -> Result<Closed, Refusal>
     ensures { Meets whole_answer (λ s. remove_step s vpi vci) t.old t.new (closed_as result) }
 {
-    let Found::At(i) = find(t, address_name(vpi, PATH_VCI)) else {
+    let Some(i) = find(t, address_name(vpi, PATH_VCI)) else {
         return Err(Refusal::NotOpen);
     };
-    let Found::At(j) = member_at(t, vpi, vci) else {
+    let Some(j) = member_at(t, vpi, vci) else {
         return Err(Refusal::NotAMember);
     };
     let waiting = cells_at(t, j);

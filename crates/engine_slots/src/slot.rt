@@ -11,7 +11,7 @@ use laws::refusals::Refusal;
 use model::answers::Sent;
 use rate::units::LATEST_TIME;
 use table::layout::{LAST, WORDS};
-use table_tournament::slot::{SlotWinner, slot_winner};
+use table_tournament::slot::slot_winner;
 
 // Refusals 1, 8, 14. None is an idle slot. An idle slot's time counts too.
 pub fn slot(t: &mut [u64; WORDS], time: u64, cell: &mut [u8]) -> Result<Option<Sent>, Refusal>
@@ -29,7 +29,7 @@ pub fn slot(t: &mut [u64; WORDS], time: u64, cell: &mut [u8]) -> Result<Option<S
     let found = slot_winner(t, time);
     t[LAST] = time;
     match found {
-        SlotWinner::NoneReady => Ok(None),
-        SlotWinner::Entry(i) => Ok(send(t, time, i, cell)),
+        None => Ok(None),
+        Some(i) => Ok(send(t, time, i, cell)),
     }
 }

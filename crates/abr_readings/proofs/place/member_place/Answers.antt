@@ -26,11 +26,11 @@ returns-in_default-find c =
     let j = f in
     let a = f.args in
     no-status a.t.now a.name
-    (subst (FindsPath a.t.now a.name) d.in_default-find.is (its-path a.t.now a.name j.find.ensures j.in-At.is (path-search)))
+    (subst (FindsPath a.t.now a.name) d.in_default-find.is (its-path a.t.now a.name j.find.ensures j.in-Some.is (path-search)))
     c.no_place-in_default-find.ensures
 
 pub cells_at-requires : goal.cells_at-requires
-cells_at-requires c = let j = c in member_below j.find.ensures j.in-At.is
+cells_at-requires c = let j = c in member_below j.find.ensures j.in-Some.is
 
 pub returns : goal.returns
 returns c =
@@ -40,4 +40,4 @@ returns c =
     let f = i in
     let j = f in
     let a = f.args in
-    member-status a.t.now a.name (below a.t.now (path_of a.name) (path-search) i.in-At-find.is) j.find.ensures j.in-At.is c.cells_at.ensures (path-search) i.in-At-find.is k.kind_shown.ensures
+    member-status a.t.now a.name (below a.t.now (path_of a.name) (path-search) i.in-Some-find.is) j.find.ensures j.in-Some.is c.cells_at.ensures (path-search) i.in-Some-find.is k.kind_shown.ensures

@@ -8,7 +8,7 @@ unfolding acr_of entry_acr
 returns-in_default c = let f = c in reads-missing entry_acr f.args.t.now f.args.name f.find.ensures c.in_default.is
 
 pub load-c-requires : goal.load-c-requires
-load-c-requires c = let f = c in below f.args.t.now f.args.name f.find.ensures c.in-At.is
+load-c-requires c = let f = c in below f.args.t.now f.args.name f.find.ensures c.in-Some.is
 
 pub returns : goal.returns
 unfolding acr_of entry_acr
@@ -16,4 +16,4 @@ returns c =
     let d = c in
     let i = d in
     let f = i in
-    reads-found entry_acr f.args.t.now f.args.name f.find.ensures i.in-At.is d.load-c.ensures
+    reads-found entry_acr f.args.t.now f.args.name f.find.ensures i.in-Some.is d.load-c.ensures

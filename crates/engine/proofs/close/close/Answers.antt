@@ -12,23 +12,23 @@ returns-in_default c =
 
 pub load-c-requires : goal.load-c-requires
 load-c-requires c =
-    let entry : c.in-At.i < capacity = let f = c in below f.args.t.now f.args.name f.find.ensures c.in-At.is in
+    let entry : c.in-Some.i < capacity = let f = c in below f.args.t.now f.args.name f.find.ensures c.in-Some.is in
     entry
 
 pub clear-comparisons-requires : goal.clear-comparisons-requires
 clear-comparisons-requires c =
-    let entry : c.in-At.i < capacity = let f = c in below f.args.t.now f.args.name f.find.ensures c.in-At.is in
+    let entry : c.in-Some.i < capacity = let f = c in below f.args.t.now f.args.name f.find.ensures c.in-Some.is in
     entry
 
 pub returns : goal.returns
 returns c =
-    let entry : c.in-At.i < capacity = let f = c in below f.args.t.now f.args.name f.find.ensures c.in-At.is in
+    let entry : c.in-Some.i < capacity = let f = c in below f.args.t.now f.args.name f.find.ensures c.in-Some.is in
     let cl = c in
     let ld = cl in
     let i = ld in
     let f = i in
     record {
       meets = λ s w e.
-          let p = entry-located s w e f.args.name f.find.ensures i.in-At.is in
+          let p = entry-located s w e f.args.name f.find.ensures i.in-Some.is in
           close-out s w e (entry) p ld.load-c.ensures cl.clear-comparisons.ensures c.remove_path.ensures;
     }

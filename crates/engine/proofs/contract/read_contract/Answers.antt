@@ -8,11 +8,11 @@ unfolding contract_of entry_contract
 returns-in_default c = let f = c in reads-missing entry_contract f.args.t.now f.args.name f.find.ensures c.in_default.is
 
 pub load-c-requires : goal.load-c-requires
-load-c-requires c = let f = c in below f.args.t.now f.args.name f.find.ensures c.in-At.is
+load-c-requires c = let f = c in below f.args.t.now f.args.name f.find.ensures c.in-Some.is
 
 pub returns : goal.returns
 unfolding contract_of entry_contract
 returns c =
     let i = c in
     let f = i in
-    reads-found entry_contract f.args.t.now f.args.name f.find.ensures i.in-At.is c.load-c.ensures
+    reads-found entry_contract f.args.t.now f.args.name f.find.ensures i.in-Some.is c.load-c.ensures

@@ -110,7 +110,7 @@ returns-in_default-find_member c =
     let frtt-fitted : frtt_fits c.args.params ≡ true = sym c.frtt_fits.ensures ∙ c.if-not-frtt_fits.false in
     let passed : let a = c.args in InputPassed a.vpi a.vci a.time a.params = let e3 = c in let e2 = e3 in record { clear = clear; fits = fitted; tbe = tbe-fitted; frtt = frtt-fitted; timely = c.if-time-gt-LATEST_TIME.false } in
     let finds : let a = c.args in FindsName a.t.now (address_name a.vpi a.vci) c.find.result = subst (λ (n : ℕ). FindsName c.args.t.now n c.find.result) c.address_name-name.ensures c.find.ensures in
-    let closed : (s : State) → WellFormed s → let a = c.args in a.t.now ≡ words s → find (address_name a.vpi a.vci) s.entries ≡ free = λ s w e. missing s w e _ (finds) c.in-Nothing.is in
+    let closed : (s : State) → WellFormed s → let a = c.args in a.t.now ≡ words s → find (address_name a.vpi a.vci) s.entries ≡ free = λ s w e. missing s w e _ (finds) c.in-None.is in
     let finds-member : let a = c.args in FindsMember a.t.now (address_name a.vpi a.vci) c.find-2.result = let f = c in subst (λ (n : ℕ). FindsMember f.args.t.now n c.find-2.result) f.address_name-name.ensures c.find-2.ensures in
     let m = c in
     record { meets = λ s w e. open-refused s 27 e (open-member s (passed) (closed s w e) (member-at s w e (finds-member) c.in_default-find_member.is).member) }
@@ -123,9 +123,9 @@ returns-in_default-find_free c =
     let frtt-fitted : frtt_fits c.args.params ≡ true = sym c.frtt_fits.ensures ∙ c.if-not-frtt_fits.false in
     let passed : let a = c.args in InputPassed a.vpi a.vci a.time a.params = let e3 = c in let e2 = e3 in record { clear = clear; fits = fitted; tbe = tbe-fitted; frtt = frtt-fitted; timely = c.if-time-gt-LATEST_TIME.false } in
     let finds : let a = c.args in FindsName a.t.now (address_name a.vpi a.vci) c.find.result = subst (λ (n : ℕ). FindsName c.args.t.now n c.find.result) c.address_name-name.ensures c.find.ensures in
-    let closed : (s : State) → WellFormed s → let a = c.args in a.t.now ≡ words s → find (address_name a.vpi a.vci) s.entries ≡ free = λ s w e. missing s w e _ (finds) c.in-Nothing.is in
+    let closed : (s : State) → WellFormed s → let a = c.args in a.t.now ≡ words s → find (address_name a.vpi a.vci) s.entries ≡ free = λ s w e. missing s w e _ (finds) c.in-None.is in
     let finds-member : let a = c.args in FindsMember a.t.now (address_name a.vpi a.vci) c.find-2.result = let f = c in subst (λ (n : ℕ). FindsMember f.args.t.now n c.find-2.result) f.address_name-name.ensures c.find-2.ensures in
-    let apart : (s : State) → WellFormed s → let a = c.args in a.t.now ≡ words s → is_member (address_name a.vpi a.vci) s.members ≡ false = λ s w e. no_member s w e (finds-member) c.in-Nothing-find_member.is in
+    let apart : (s : State) → WellFormed s → let a = c.args in a.t.now ≡ words s → is_member (address_name a.vpi a.vci) s.members ≡ false = λ s w e. no_member s w e (finds-member) c.in-None-find_member.is in
     let f = c in
     let m = f in
     record {
@@ -141,23 +141,23 @@ returns-then-time-t c =
     let frtt-fitted : frtt_fits c.args.params ≡ true = sym c.frtt_fits.ensures ∙ c.if-not-frtt_fits.false in
     let passed : let a = c.args in InputPassed a.vpi a.vci a.time a.params = let e3 = c in let e2 = e3 in record { clear = clear; fits = fitted; tbe = tbe-fitted; frtt = frtt-fitted; timely = c.if-time-gt-LATEST_TIME.false } in
     let finds : let a = c.args in FindsName a.t.now (address_name a.vpi a.vci) c.find.result = subst (λ (n : ℕ). FindsName c.args.t.now n c.find.result) c.address_name-name.ensures c.find.ensures in
-    let closed : (s : State) → WellFormed s → let a = c.args in a.t.now ≡ words s → find (address_name a.vpi a.vci) s.entries ≡ free = λ s w e. missing s w e _ (finds) c.in-Nothing.is in
+    let closed : (s : State) → WellFormed s → let a = c.args in a.t.now ≡ words s → find (address_name a.vpi a.vci) s.entries ≡ free = λ s w e. missing s w e _ (finds) c.in-None.is in
     let finds-member : let a = c.args in FindsMember a.t.now (address_name a.vpi a.vci) c.find-2.result = let f = c in subst (λ (n : ℕ). FindsMember f.args.t.now n c.find-2.result) f.address_name-name.ensures c.find-2.ensures in
-    let apart : (s : State) → WellFormed s → let a = c.args in a.t.now ≡ words s → is_member (address_name a.vpi a.vci) s.members ≡ false = λ s w e. no_member s w e (finds-member) c.in-Nothing-find_member.is in
-    let entry : c.in-At.i < capacity = entry-below c.find_free.ensures c.in-At.is in
-    let least : (s : State) → WellFormed s → c.args.t.now ≡ words s → position is_free s.entries ≡ c.in-At.i = λ s w e. lowest c.find_free.ensures s w e c.in-At.is in
+    let apart : (s : State) → WellFormed s → let a = c.args in a.t.now ≡ words s → is_member (address_name a.vpi a.vci) s.members ≡ false = λ s w e. no_member s w e (finds-member) c.in-None-find_member.is in
+    let entry : c.in-Some.i < capacity = entry-below c.find_free.ensures c.in-Some.is in
+    let least : (s : State) → WellFormed s → c.args.t.now ≡ words s → position is_free s.entries ≡ c.in-Some.i = λ s w e. lowest c.find_free.ensures s w e c.in-Some.is in
     let i = c in
     let m = i in
     let e5 = m in
     record {
       meets = λ s w e.
           open-refused s 14 e
-          (open-early s (passed) (closed s w e) (apart s w e) (room_at s w i.in-At.i (entry) (least s w e)) (subst (λ x. e5.args.time < x) (last-at s e) c.if-time-t.true));
+          (open-early s (passed) (closed s w e) (apart s w e) (room_at s w i.in-Some.i (entry) (least s w e)) (subst (λ x. e5.args.time < x) (last-at s e) c.if-time-t.true));
     }
 
 pub overflow_cast-leaf : goal.overflow_cast-leaf
 overflow_cast-leaf c =
-    let entry : c.in-At.i < capacity = entry-below c.find_free.ensures c.in-At.is in
+    let entry : c.in-Some.i < capacity = entry-below c.find_free.ensures c.in-Some.is in
     omega (arith, entry)
 
 pub store-comparisons-requires : goal.store-comparisons-requires
@@ -167,7 +167,7 @@ store-comparisons-requires c =
     let tbe-fitted : tbe_fits c.args.params ≡ true = sym c.tbe_fits.ensures ∙ c.if-not-tbe_fits.false in
     let frtt-fitted : frtt_fits c.args.params ≡ true = sym c.frtt_fits.ensures ∙ c.if-not-frtt_fits.false in
     let passed : let a = c.args in InputPassed a.vpi a.vci a.time a.params = let e3 = c in let e2 = e3 in record { clear = clear; fits = fitted; tbe = tbe-fitted; frtt = frtt-fitted; timely = c.if-time-gt-LATEST_TIME.false } in
-    let entry : c.in-At.i < capacity = entry-below c.find_free.ensures c.in-At.is in
+    let entry : c.in-Some.i < capacity = entry-below c.find_free.ensures c.in-Some.is in
     let i = c in
     let f = i in
     let a = f.args in
@@ -187,11 +187,11 @@ returns c =
     let frtt-fitted : frtt_fits c.args.params ≡ true = sym c.frtt_fits.ensures ∙ c.if-not-frtt_fits.false in
     let passed : let a = c.args in InputPassed a.vpi a.vci a.time a.params = let e3 = c in let e2 = e3 in record { clear = clear; fits = fitted; tbe = tbe-fitted; frtt = frtt-fitted; timely = c.if-time-gt-LATEST_TIME.false } in
     let finds : let a = c.args in FindsName a.t.now (address_name a.vpi a.vci) c.find.result = subst (λ (n : ℕ). FindsName c.args.t.now n c.find.result) c.address_name-name.ensures c.find.ensures in
-    let closed : (s : State) → WellFormed s → let a = c.args in a.t.now ≡ words s → find (address_name a.vpi a.vci) s.entries ≡ free = λ s w e. missing s w e _ (finds) c.in-Nothing.is in
+    let closed : (s : State) → WellFormed s → let a = c.args in a.t.now ≡ words s → find (address_name a.vpi a.vci) s.entries ≡ free = λ s w e. missing s w e _ (finds) c.in-None.is in
     let finds-member : let a = c.args in FindsMember a.t.now (address_name a.vpi a.vci) c.find-2.result = let f = c in subst (λ (n : ℕ). FindsMember f.args.t.now n c.find-2.result) f.address_name-name.ensures c.find-2.ensures in
-    let apart : (s : State) → WellFormed s → let a = c.args in a.t.now ≡ words s → is_member (address_name a.vpi a.vci) s.members ≡ false = λ s w e. no_member s w e (finds-member) c.in-Nothing-find_member.is in
-    let entry : c.in-At.i < capacity = entry-below c.find_free.ensures c.in-At.is in
-    let least : (s : State) → WellFormed s → c.args.t.now ≡ words s → position is_free s.entries ≡ c.in-At.i = λ s w e. lowest c.find_free.ensures s w e c.in-At.is in
+    let apart : (s : State) → WellFormed s → let a = c.args in a.t.now ≡ words s → is_member (address_name a.vpi a.vci) s.members ≡ false = λ s w e. no_member s w e (finds-member) c.in-None-find_member.is in
+    let entry : c.in-Some.i < capacity = entry-below c.find_free.ensures c.in-Some.is in
+    let least : (s : State) → WellFormed s → c.args.t.now ≡ words s → position is_free s.entries ≡ c.in-Some.i = λ s w e. lowest c.find_free.ensures s w e c.in-Some.is in
     let fr = c in
     let e6 = fr in
     let i = e6 in
@@ -201,9 +201,9 @@ returns c =
     let a = e5.args in
     record {
       meets = λ s w e.
-          open-out s w e a.vpi a.vci a.time a.params i.in-At.i (least s w e) (input-named (passed)) e5.if-time-gt-LATEST_TIME.false (closed s w e)
-          (open_done s (passed) (closed s w e) (apart s w e) (room_at s w i.in-At.i (entry) (least s w e))
+          open-out s w e a.vpi a.vci a.time a.params i.in-Some.i (least s w e) (input-named (passed)) e5.if-time-gt-LATEST_TIME.false (closed s w e)
+          (open_done s (passed) (closed s w e) (apart s w e) (room_at s w i.in-Some.i (entry) (least s w e))
           (subst (λ x. x ≤ a.time) (last-at s e) e6.if-time-t.false))
-          (subst (λ (x : Connection). OpensEntry a.t.now c.store-comparisons.new.t i.in-At.i x c.store-comparisons.result)
+          (subst (λ (x : Connection). OpensEntry a.t.now c.store-comparisons.new.t i.in-Some.i x c.store-comparisons.result)
           (fr.fresh.ensures ∙ ap (λ (n : ℕ). fresh n a.time a.params) f.address_name-name.ensures) c.store-comparisons.ensures);
     }

@@ -11,10 +11,10 @@ pub returns-then-time-t : goal.returns-then-time-t
 returns-then-time-t c =
     let i = c in
     let f = i in
-    timed-early _ _ _ f.if-time-gt-LATEST_TIME.false f.find.ensures i.in-At.is c.if-time-t.true
+    timed-early _ _ _ f.if-time-gt-LATEST_TIME.false f.find.ensures i.in-Some.is c.if-time-t.true
 
 pub returns : goal.returns
 returns c =
     let i = c in
     let f = i in
-    timed-found _ _ _ f.if-time-gt-LATEST_TIME.false f.find.ensures i.in-At.is c.if-time-t.false
+    timed-found _ _ _ f.if-time-gt-LATEST_TIME.false f.find.ensures i.in-Some.is c.if-time-t.false

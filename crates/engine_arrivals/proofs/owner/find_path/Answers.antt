@@ -19,4 +19,4 @@ returns c =
     let told = p in
     let m = told in
     let a = m.args in
-    its-path a.t.now a.name m.find.ensures told.in-At.is (subst (λ (n : ℕ). FindsName a.t.now n c.find-2.result) p.path_of.ensures c.find-2.ensures)
+    its-path a.t.now a.name m.find.ensures told.in-Some.is (subst (λ (n : ℕ). FindsName a.t.now n c.find-2.result) p.path_of.ensures c.find-2.ensures)

@@ -34,32 +34,32 @@ returns-in_default c =
 pub load-c-requires : goal.load-c-requires
 load-c-requires c =
     let finds : let a = c.args in FindsOwner a.t.now (address_name a.vpi a.vci) c.find_owner.result = subst (λ (n : ℕ). FindsOwner c.args.t.now n c.find_owner.result) c.address_name-name.ensures c.find_owner.ensures in
-    let entry : c.in-At.i < capacity = subst FoundInRange c.in-At.is (finds).inside in
+    let entry : c.in-Some.i < capacity = subst FoundInRange c.in-Some.is (finds).inside in
     entry
 
 pub overflow_cast-leaf : goal.overflow_cast-leaf
 overflow_cast-leaf c =
     let finds : let a = c.args in FindsOwner a.t.now (address_name a.vpi a.vci) c.find_owner.result = subst (λ (n : ℕ). FindsOwner c.args.t.now n c.find_owner.result) c.address_name-name.ensures c.find_owner.ensures in
-    let entry : c.in-At.i < capacity = subst FoundInRange c.in-At.is (finds).inside in
+    let entry : c.in-Some.i < capacity = subst FoundInRange c.in-Some.is (finds).inside in
     omega (arith, entry)
 
 pub levels_won-comparisons-requires : goal.levels_won-comparisons-requires
 levels_won-comparisons-requires c =
     let finds : let a = c.args in FindsOwner a.t.now (address_name a.vpi a.vci) c.find_owner.result = subst (λ (n : ℕ). FindsOwner c.args.t.now n c.find_owner.result) c.address_name-name.ensures c.find_owner.ensures in
-    let entry : c.in-At.i < capacity = subst FoundInRange c.in-At.is (finds).inside in
+    let entry : c.in-Some.i < capacity = subst FoundInRange c.in-Some.is (finds).inside in
     entry
 
 pub update_efci-requires : goal.update_efci-requires
 update_efci-requires c =
     let finds : let a = c.args in FindsOwner a.t.now (address_name a.vpi a.vci) c.find_owner.result = subst (λ (n : ℕ). FindsOwner c.args.t.now n c.find_owner.result) c.address_name-name.ensures c.find_owner.ensures in
-    let entry : c.in-At.i < capacity = subst FoundInRange c.in-At.is (finds).inside in
+    let entry : c.in-Some.i < capacity = subst FoundInRange c.in-Some.is (finds).inside in
     entry
 
 pub returns : goal.returns
 returns c =
     let channel : is_path (address_name c.args.vpi c.args.vci) ≡ false = ap is_path (sym c.address_name-name.ensures) ∙ no-path c.address_name-name.result c.if-name-eq-PATH_VCI.false in
     let finds : let a = c.args in FindsOwner a.t.now (address_name a.vpi a.vci) c.find_owner.result = subst (λ (n : ℕ). FindsOwner c.args.t.now n c.find_owner.result) c.address_name-name.ensures c.find_owner.ensures in
-    let entry : c.in-At.i < capacity = subst FoundInRange c.in-At.is (finds).inside in
+    let entry : c.in-Some.i < capacity = subst FoundInRange c.in-Some.is (finds).inside in
     let n = c in
     let o = n in
     let ld = o in
@@ -68,6 +68,6 @@ returns c =
     let a = f.args in
     record {
       meets = λ s w e.
-          data-done s w e a.vpi a.vci i.in-At.i (entry) (subst (Names (owner (address_name a.vpi a.vci) s.members) s.entries) i.in-At.is ((finds).is s w e))
+          data-done s w e a.vpi a.vci i.in-Some.i (entry) (subst (Names (owner (address_name a.vpi a.vci) s.members) s.entries) i.in-Some.is ((finds).is s w e))
           ld.load-c.result ld.load-c.ensures o.after_data_cell-next.result (channel) c.update_efci.ensures n.levels_won-comparisons.ensures a.efci o.after_data_cell-next.ensures f.address_name-name.result f.address_name-name.ensures;
     }

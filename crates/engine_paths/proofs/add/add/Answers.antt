@@ -31,7 +31,7 @@ returns-in_default c =
 pub returns-then-name-ge-NO_NAME : goal.returns-then-name-ge-NO_NAME
 returns-then-name-ge-NO_NAME c =
     let finds-path : let a = c.args in FindsName a.t.now (path_of (address_name a.vpi a.vci)) c.find.result = subst (λ (n : ℕ). FindsName c.args.t.now n c.find.result) (c.path_of.ensures ∙ ap path_of c.address_name-name.ensures) c.find.ensures in
-    let located : (s : State) → WellFormed s → let a = c.args in a.t.now ≡ words s → Located s.entries (path_of (address_name a.vpi a.vci)) c.in-At.field-0 = λ s w e. entry-located s w e _ (finds-path) c.in-At.is in
+    let located : (s : State) → WellFormed s → let a = c.args in a.t.now ≡ words s → Located s.entries (path_of (address_name a.vpi a.vci)) c.in-Some.field-0 = λ s w e. entry-located s w e _ (finds-path) c.in-Some.is in
     let told = c in
     record { meets = λ s w e. absurd (omega (arith, path-coded s w _ (located s w e), told.address_name-name.ensures, c.if-name-ge-NO_NAME.true)) }
 
@@ -39,7 +39,7 @@ pub returns-in_default-find : goal.returns-in_default-find
 returns-in_default-find c =
     let high : first_vci ≤ c.args.vci = c.if-vci-lt-FIRST_VCI.false in
     let finds-path : let a = c.args in FindsName a.t.now (path_of (address_name a.vpi a.vci)) c.find.result = subst (λ (n : ℕ). FindsName c.args.t.now n c.find.result) (c.path_of.ensures ∙ ap path_of c.address_name-name.ensures) c.find.ensures in
-    let located : (s : State) → WellFormed s → let a = c.args in a.t.now ≡ words s → Located s.entries (path_of (address_name a.vpi a.vci)) c.in-At.field-0 = λ s w e. entry-located s w e _ (finds-path) c.in-At.is in
+    let located : (s : State) → WellFormed s → let a = c.args in a.t.now ≡ words s → Located s.entries (path_of (address_name a.vpi a.vci)) c.in-Some.field-0 = λ s w e. entry-located s w e _ (finds-path) c.in-Some.is in
     let finds : let a = c.args in FindsName a.t.now (address_name a.vpi a.vci) c.find-2.result = let n = c in subst (λ (x : ℕ). FindsName n.args.t.now x c.find-2.result) n.address_name-name.ensures c.find-2.ensures in
     let f = c in
     let told = f in
@@ -55,9 +55,9 @@ pub returns-in_default-find_member : goal.returns-in_default-find_member
 returns-in_default-find_member c =
     let high : first_vci ≤ c.args.vci = c.if-vci-lt-FIRST_VCI.false in
     let finds-path : let a = c.args in FindsName a.t.now (path_of (address_name a.vpi a.vci)) c.find.result = subst (λ (n : ℕ). FindsName c.args.t.now n c.find.result) (c.path_of.ensures ∙ ap path_of c.address_name-name.ensures) c.find.ensures in
-    let located : (s : State) → WellFormed s → let a = c.args in a.t.now ≡ words s → Located s.entries (path_of (address_name a.vpi a.vci)) c.in-At.field-0 = λ s w e. entry-located s w e _ (finds-path) c.in-At.is in
+    let located : (s : State) → WellFormed s → let a = c.args in a.t.now ≡ words s → Located s.entries (path_of (address_name a.vpi a.vci)) c.in-Some.field-0 = λ s w e. entry-located s w e _ (finds-path) c.in-Some.is in
     let finds : let a = c.args in FindsName a.t.now (address_name a.vpi a.vci) c.find-2.result = let n = c in subst (λ (x : ℕ). FindsName n.args.t.now x c.find-2.result) n.address_name-name.ensures c.find-2.ensures in
-    let closed : (s : State) → WellFormed s → let a = c.args in a.t.now ≡ words s → find (address_name a.vpi a.vci) s.entries ≡ free = λ s w e. missing s w e _ (finds) c.in-Nothing.is in
+    let closed : (s : State) → WellFormed s → let a = c.args in a.t.now ≡ words s → find (address_name a.vpi a.vci) s.entries ≡ free = λ s w e. missing s w e _ (finds) c.in-None.is in
     let finds-member : let a = c.args in FindsMember a.t.now (address_name a.vpi a.vci) c.find-3.result = let n = c in subst (λ (x : ℕ). FindsMember n.args.t.now x c.find-3.result) n.address_name-name.ensures c.find-3.ensures in
     let m = c in
     let told = m in
@@ -73,11 +73,11 @@ pub returns-then-not-has_room : goal.returns-then-not-has_room
 returns-then-not-has_room c =
     let high : first_vci ≤ c.args.vci = c.if-vci-lt-FIRST_VCI.false in
     let finds-path : let a = c.args in FindsName a.t.now (path_of (address_name a.vpi a.vci)) c.find.result = subst (λ (n : ℕ). FindsName c.args.t.now n c.find.result) (c.path_of.ensures ∙ ap path_of c.address_name-name.ensures) c.find.ensures in
-    let located : (s : State) → WellFormed s → let a = c.args in a.t.now ≡ words s → Located s.entries (path_of (address_name a.vpi a.vci)) c.in-At.field-0 = λ s w e. entry-located s w e _ (finds-path) c.in-At.is in
+    let located : (s : State) → WellFormed s → let a = c.args in a.t.now ≡ words s → Located s.entries (path_of (address_name a.vpi a.vci)) c.in-Some.field-0 = λ s w e. entry-located s w e _ (finds-path) c.in-Some.is in
     let finds : let a = c.args in FindsName a.t.now (address_name a.vpi a.vci) c.find-2.result = let n = c in subst (λ (x : ℕ). FindsName n.args.t.now x c.find-2.result) n.address_name-name.ensures c.find-2.ensures in
-    let closed : (s : State) → WellFormed s → let a = c.args in a.t.now ≡ words s → find (address_name a.vpi a.vci) s.entries ≡ free = λ s w e. missing s w e _ (finds) c.in-Nothing.is in
+    let closed : (s : State) → WellFormed s → let a = c.args in a.t.now ≡ words s → find (address_name a.vpi a.vci) s.entries ≡ free = λ s w e. missing s w e _ (finds) c.in-None.is in
     let finds-member : let a = c.args in FindsMember a.t.now (address_name a.vpi a.vci) c.find-3.result = let n = c in subst (λ (x : ℕ). FindsMember n.args.t.now x c.find-3.result) n.address_name-name.ensures c.find-3.ensures in
-    let lone : (s : State) → WellFormed s → let a = c.args in a.t.now ≡ words s → is_member (address_name a.vpi a.vci) s.members ≡ false = λ s w e. no_member s w e (finds-member) c.in-Nothing-find_member.is in
+    let lone : (s : State) → WellFormed s → let a = c.args in a.t.now ≡ words s → is_member (address_name a.vpi a.vci) s.members ≡ false = λ s w e. no_member s w e (finds-member) c.in-None-find_member.is in
     let room = c in
     let m = room in
     let told = m in
@@ -93,11 +93,11 @@ pub returns : goal.returns
 returns c =
     let high : first_vci ≤ c.args.vci = c.if-vci-lt-FIRST_VCI.false in
     let finds-path : let a = c.args in FindsName a.t.now (path_of (address_name a.vpi a.vci)) c.find.result = subst (λ (n : ℕ). FindsName c.args.t.now n c.find.result) (c.path_of.ensures ∙ ap path_of c.address_name-name.ensures) c.find.ensures in
-    let located : (s : State) → WellFormed s → let a = c.args in a.t.now ≡ words s → Located s.entries (path_of (address_name a.vpi a.vci)) c.in-At.field-0 = λ s w e. entry-located s w e _ (finds-path) c.in-At.is in
+    let located : (s : State) → WellFormed s → let a = c.args in a.t.now ≡ words s → Located s.entries (path_of (address_name a.vpi a.vci)) c.in-Some.field-0 = λ s w e. entry-located s w e _ (finds-path) c.in-Some.is in
     let finds : let a = c.args in FindsName a.t.now (address_name a.vpi a.vci) c.find-2.result = let n = c in subst (λ (x : ℕ). FindsName n.args.t.now x c.find-2.result) n.address_name-name.ensures c.find-2.ensures in
-    let closed : (s : State) → WellFormed s → let a = c.args in a.t.now ≡ words s → find (address_name a.vpi a.vci) s.entries ≡ free = λ s w e. missing s w e _ (finds) c.in-Nothing.is in
+    let closed : (s : State) → WellFormed s → let a = c.args in a.t.now ≡ words s → find (address_name a.vpi a.vci) s.entries ≡ free = λ s w e. missing s w e _ (finds) c.in-None.is in
     let finds-member : let a = c.args in FindsMember a.t.now (address_name a.vpi a.vci) c.find-3.result = let n = c in subst (λ (x : ℕ). FindsMember n.args.t.now x c.find-3.result) n.address_name-name.ensures c.find-3.ensures in
-    let lone : (s : State) → WellFormed s → let a = c.args in a.t.now ≡ words s → is_member (address_name a.vpi a.vci) s.members ≡ false = λ s w e. no_member s w e (finds-member) c.in-Nothing-find_member.is in
+    let lone : (s : State) → WellFormed s → let a = c.args in a.t.now ≡ words s → is_member (address_name a.vpi a.vci) s.members ≡ false = λ s w e. no_member s w e (finds-member) c.in-None-find_member.is in
     let e3 = c in
     let room = e3 in
     let m = room in
