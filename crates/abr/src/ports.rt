@@ -6,6 +6,7 @@ ghost use Rattle.port.specs.Port.{port};
 ghost use Rattle.abr_answers.specs.Shares.{share_of};
 
 use abr_answers::shares::{AbrShare, share_of};
+use laws::refusals::refusal_or_0;
 use port::limit::limit;
 use port::port::port;
 use port_share::share::fair_share;
@@ -21,7 +22,7 @@ pub fn abr_fair_share(capacity: u64, demands: &[u64]) -> AbrShare
 pub fn abr_limit(rate: u64, cell: &mut [u8]) -> u32
     ensures { passed result cell.new ≡ limit rate cell.old }
 {
-    limit(rate, cell)
+    refusal_or_0(limit(rate, cell))
 }
 
 // Refusals 21, 22, then as for abr_read.

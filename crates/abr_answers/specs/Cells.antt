@@ -4,19 +4,13 @@ use Rattle.std.specs.Prelude.{ℕ, cond, List, length}
 use Rattle.cell.specs.Fields.{rm_cell}
 use Rattle.cell.specs.Writing.{writing, buffer_written}
 use Rattle.cell.specs.declared.fields.Fields.{Fields}
-use Rattle.cell.specs.declared.read.Reading.{Reading}
-use Rattle.cell.specs.declared.read.Reading.TheVariants.{Refused as Unread, DataCell, RmCell}
-use Rattle.cell.specs.declared.write.Written.{Written}
-use Rattle.cell.specs.declared.write.Written.TheVariants.{Done, Refused as Unwritten}
+use Rattle.cell.specs.Read.{Reading, Refused as Unread, DataCell, RmCell}
+use Rattle.laws.specs.Refusals.{refusal_or_0}
 pub use Rattle.abr_answers.specs.declared.cells.AbrCell.{AbrCell}
-
-abbrev pub written_of : Written → ℕ
-written_of Done = 0
-written_of (Unwritten n) = n
 
 -- writing an RM cell of these fields into a buffer: the number, and the octets afterwards
 abbrev pub write_refusal : Fields → (old : List ℕ) → ℕ
-write_refusal f old = written_of (writing (length old) f)
+write_refusal f old = refusal_or_0 (writing (length old) f)
 
 abbrev pub octets_after : Fields → (old : List ℕ) → List ℕ
 octets_after f old = buffer_written (writing (length old) f) (rm_cell 0 f) old

@@ -1,10 +1,11 @@
 // What writing and reading a cell return (document 01, "The cell, 53 octets"; document 02, L6).
-ghost use Rattle.std.specs.Prelude.{◌≡◌, cond};
-ghost use Rattle.abr_answers.specs.Cells.{written_of, address_alone, cell_of};
+ghost use Rattle.std.specs.Prelude.{◌≡◌};
+ghost use Rattle.cell.specs.Read.{read_as};
+ghost use Rattle.abr_answers.specs.Cells.{address_alone, cell_of};
 
 use cell::fields::Fields;
-use cell::read::Reading;
-use cell::write::Written;
+use cell::read::Cell;
+use laws::refusals::Refusal;
 
 // kind 1 is a data cell, of whose fields only the VPI and the VCI count; 2 is an RM cell.
 #[repr(C)]
@@ -14,21 +15,6 @@ pub struct AbrCell {
     pub kind: u32,
     pub efci: u32,
     pub rm: Fields,
-}
-
-pub fn written_of(w: Written) -> u32
-    ensures { result ≡ written_of w }
-{
-    match w {
-        Written::Done => 0,
-        Written::Refused(n) => n,
-    }
-}
-
-fn bit(b: bool) -> u32
-    ensures { result ≡ cond b 1 0 }
-{
-    if b { 1 } else { 0 }
 }
 
 // The fields of no RM cell, with this VPI and VCI.
@@ -51,27 +37,29 @@ fn address_alone(vpi: u32, vci: u32) -> Fields
     }
 }
 
-pub fn cell_of(a: Reading) -> AbrCell
-    ensures { result ≡ cell_of a }
-{
-    match a {
-        Reading::Refused(n) => AbrCell {
-            refusal: n,
-            kind: 0,
-            efci: 0,
-            rm: address_alone(0, 0),
-        },
-        Reading::DataCell { vpi, vci, efci } => AbrCell {
-            refusal: 0,
-            kind: 1,
-            efci: bit(efci),
-            rm: address_alone(vpi, vci),
-        },
-        Reading::RmCell(f) => AbrCell {
-            refusal: 0,
-            kind: 2,
-            efci: 0,
-            rm: f,
-        },
+impl From<Result<Cell, Refusal>> for AbrCell {
+    ghost from_gives = { λ a r. r ≡ cell_of (read_as a) };
+
+    fn from(a: Result<Cell, Refusal>) -> AbrCell {
+        match a {
+            Err(refusal) => AbrCell {
+                refusal: refusal.number(),
+                kind: 0,
+                efci: 0,
+                rm: address_alone(0, 0),
+            },
+            Ok(Cell::Data { vpi, vci, efci }) => AbrCell {
+                refusal: 0,
+                kind: 1,
+                efci: efci as u32,
+                rm: address_alone(vpi, vci),
+            },
+            Ok(Cell::Rm(f)) => AbrCell {
+                refusal: 0,
+                kind: 2,
+                efci: 0,
+                rm: f,
+            },
+        }
     }
 }

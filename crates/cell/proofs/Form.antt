@@ -4,7 +4,6 @@ use mathlib.Core.List.{List, [], ◌∷◌, ◌++◌}
 use Prim.Native.Nat.{ℕ, suc, ◌-◌, ◌%◌, ◌≤◌, ◌<◌}
 use native.Mathlib.Omega.{arith}
 use lib.ListN.{length, get_or, replicate, get_or-append, get_or-replicate}
-use Rattle.cell.specs.Octets.{pair, payload}
 use Rattle.cell.specs.Header.{header}
 use Rattle.cell.specs.Fields.{Fields, with_crc, rm_cell}
 use Rattle.cell.specs.Form.{Framed, WrittenForm}

@@ -1,3 +1,4 @@
+pub mod RefusalNumbers
 pub mod Readings
 pub mod Admits
 pub mod OctetLists
@@ -10,4 +11,3 @@ pub mod Turned
 pub mod Stores
 pub mod PayloadWords
 pub mod Changes
-pub mod Writes

@@ -4,6 +4,7 @@ pub mod Octets
 pub mod Name
 pub mod Header
 pub mod Fields
+pub mod Read
 pub mod Reading
 pub mod Writing
 pub mod Turning

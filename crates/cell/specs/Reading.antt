@@ -6,8 +6,7 @@ use Rattle.cell.specs.Octets.{octet}
 use Rattle.cell.specs.Header.{vpi_of, vci_of, type_of, header_right}
 use Rattle.cell.specs.Fields.{fields_of, rates_clear, crc_right}
 use Rattle.laws.specs.Require.{require}
-pub use Rattle.cell.specs.declared.read.Reading.{Reading}
-pub use Rattle.cell.specs.declared.read.Reading.TheVariants.{Refused, DataCell, RmCell}
+pub use Rattle.cell.specs.Read.{Reading, Refused, DataCell, RmCell}
 
 -- Size, header check and payload type are judged first. The CRC-10, the protocol and the rate codes are judged for
 -- RM cells (type 6) only. A data cell (types 0 to 3) has its EFCI in the middle bit of its type.

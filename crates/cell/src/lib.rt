@@ -1,4 +1,4 @@
-// The cell of 53 octets: its fields, what reading one gives and what writing one answers. The definitions and their
+// The cell of 53 octets: its fields, and what reading one gives. The definitions and their
 // laws are in specs/ and proofs/; the crates cell_write, cell_read and cell_turn have the code.
 #![tactic(auto)]
 
@@ -6,4 +6,3 @@ pub mod fields;
 pub mod name;
 pub mod octets;
 pub mod read;
-pub mod write;

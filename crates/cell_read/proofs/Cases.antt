@@ -1,26 +1,36 @@
 -- What the refusals of the header and of the rest of an RM cell say of the reading.
-use mathlib.Core.Path.{◌≡◌, refl, sym, ◌∙◌}
-use mathlib.Core.Bool.{true, false, true≢false}
-use mathlib.Core.List.{List}
-use Prim.Native.Nat.{ℕ}
-use lib.Dec.{leb}
+use Rattle.std.proofs.Common.{◌≡◌, refl, sym, ◌∙◌, true, false, List, ℕ, leb, length, arith}
+use mathlib.Core.Bool.{true≢false}
+use Rattle.laws.specs.declared.refusals.Refusal.{Refusal}
+use Rattle.laws.specs.Refusals.{number}
 use Rattle.cell.specs.Header.{type_of}
-use Rattle.cell.proofs.Readings.{HeaderMeets, RestMeets}
+use Rattle.cell.specs.Refusals.{header_refusal, rest_refusal}
+use Rattle.cell.proofs.RefusalNumbers.{number-above-0}
+use Rattle.cell.proofs.Readings.{HeaderMeets, RestMeets, header-meets, rest_meets}
 use Rattle.cell_read.specs.RefusedAsRead.{RefusedAsRead}
 
-module _ (o : List ℕ) {first : ℕ} (h : HeaderMeets o first) where
-  pub judged-first : (first ≡ 0 → ⊥) → RefusedAsRead o first
-  judged-first n = record { refused = h.refused; size = λ z. absurd (n z); data_cell = λ z. absurd (n z); rm = λ z. absurd (n z) }
+module _ (o : List ℕ) where
+  pub judged-first : (r : Refusal) → number r ≡ header_refusal o → RefusedAsRead o (number r)
+  judged-first r e =
+      let h : HeaderMeets o (number r) = header-meets o (number r) e in
+      record { refused = h.refused; size = h.size; data_cell = h.data_cell; rm = λ z. absurd (omega (arith, z, number-above-0 r)) }
 
-  module _ (z : first ≡ 0) where
+  module _ (z : 0 ≡ header_refusal o) where
+    pub judged-size : length o ≡ 53
+    judged-size = (header-meets o 0 z).size refl
+
     pub judged-data : leb (type_of o) 3 ≡ true → RefusedAsRead o 0
     judged-data t =
-        record { refused = λ n. absurd (n refl); size = λ _. h.size z; data_cell = λ _. h.data_cell z; rm = λ _ f. absurd (true≢false (sym t ∙ f)) }
+        let h : HeaderMeets o 0 = header-meets o 0 z in
+        record { refused = λ n. absurd (n refl); size = h.size; data_cell = h.data_cell; rm = λ _ f. absurd (true≢false (sym t ∙ f)) }
 
-    pub judged-rest : leb (type_of o) 3 ≡ false → {n : ℕ} → RestMeets o n → RefusedAsRead o n
-    judged-rest f r = record {
-      refused = λ n. h.rm z f ∙ r.refused n;
-      size = λ _. h.size z;
-      data_cell = λ _ t. absurd (true≢false (sym t ∙ f));
-      rm = λ e _. h.rm z f ∙ r.taken e;
-    }
+    pub judged-rest : leb (type_of o) 3 ≡ false → (n : ℕ) → n ≡ rest_refusal o → RefusedAsRead o n
+    judged-rest f n e =
+        let h : HeaderMeets o 0 = header-meets o 0 z in
+        let r : RestMeets o n = rest_meets o n e in
+        record {
+          refused = λ m. h.rm refl f ∙ r.refused m;
+          size = λ _. h.size refl;
+          data_cell = λ _ t. absurd (true≢false (sym t ∙ f));
+          rm = λ m _. h.rm refl f ∙ r.taken m;
+        }

@@ -3,7 +3,7 @@ use Rattle.std.specs.Prelude.{ℕ, ◌/◌, ◌%◌, ◌≡◌, true, false, Lis
 use Rattle.cell.specs.Header.{vpi_of, vci_of, type_of}
 use Rattle.cell.specs.Fields.{fields_of}
 use Rattle.cell.specs.Reading.{reading}
-use Rattle.cell.specs.declared.read.Reading.TheVariants.{Refused, DataCell, RmCell}
+use Rattle.cell.specs.Read.{Refused, DataCell, RmCell}
 
 pub record RefusedAsRead (o : List ℕ) (n : ℕ) : Type 0 where
   pub refused : (n ≡ 0 → ⊥) → reading o ≡ Refused n

@@ -2,20 +2,19 @@
 ghost use Rattle.std.specs.Prelude.{◌≡◌, ◌/◌, ◌%◌, leb, eqb, length};
 ghost use Rattle.cell.specs.Header.{type_of, header_right};
 ghost use Rattle.cell.specs.Fields.{crc_right};
+ghost use Rattle.cell.specs.Read.{read_as};
 ghost use Rattle.cell.specs.Reading.{reading};
 ghost use Rattle.cell.specs.Refusals.{header_refusal, rest_refusal};
 ghost use Rattle.cell_read.specs.RefusedAsRead.{RefusedAsRead};
+ghost use Rattle.laws.specs.Refusals.{refusal_or_0};
 
 use crate::fields::{fields_of, rates_clear, vci_of, vpi_of};
 use cell::octets::CELL_OCTETS;
-use cell::read::Reading;
+use cell::read::Cell;
 use cell_crc::crc10::crc10;
 use cell_crc::header::header_check;
 use cell_payload::payload::payload_at;
-use laws::refusals::{
-    REFUSED_CRC, REFUSED_HEADER_CHECK, REFUSED_LENGTH, REFUSED_PAYLOAD_TYPE, REFUSED_PROTOCOL,
-    REFUSED_RESERVED_BIT,
-};
+use laws::refusals::Refusal;
 
 // Whether octet 5 is right.
 fn header_right(cell: &[u8]) -> bool
@@ -34,24 +33,21 @@ fn crc_right(cell: &[u8]) -> bool
     p.f % 1024 == crc10(p)
 }
 
-// The refusal that the header meets; 0 if it is that of a data or an RM cell.
-pub fn header_refusal(cell: &[u8]) -> u32
-    ensures { result ≡ header_refusal cell.now }
+// The refusal that the header meets; none if it is that of a data or an RM cell.
+#[tactic(auto, unfolding(cell::specs::Refusals::header_refusal))]
+pub fn header_refusal(cell: &[u8]) -> Result<(), Refusal>
+    ensures { refusal_or_0 result ≡ header_refusal cell.now }
 {
     if cell.len() != CELL_OCTETS {
-        return REFUSED_LENGTH;
+        return Err(Refusal::Length);
     }
     if !header_right(cell) {
-        return REFUSED_HEADER_CHECK;
+        return Err(Refusal::HeaderCheck);
     }
-    let kind = cell[3] / 2 % 8;
-    if kind <= 3 {
-        return 0;
+    match cell[3] / 2 % 8 {
+        0..=3 | 6 => Ok(()),
+        _ => Err(Refusal::PayloadType),
     }
-    if kind != 6 {
-        return REFUSED_PAYLOAD_TYPE;
-    }
-    0
 }
 
 // The payload types 0 to 3 are those of data cells.
@@ -70,51 +66,46 @@ pub fn efci_of(cell: &[u8]) -> bool
     cell[3] / 2 % 8 / 2 % 2 == 1
 }
 
-// The refusal that the rest of an RM cell meets; 0 if none.
-pub fn rm_refusal(cell: &[u8]) -> u32
+// The refusal that the rest of an RM cell meets.
+#[tactic(auto, unfolding(cell::specs::Refusals::rest_refusal))]
+pub fn rm_refusal(cell: &[u8]) -> Result<(), Refusal>
     requires { length cell.now ≡ 53 }
-    ensures { result ≡ rest_refusal cell.now }
+    ensures { refusal_or_0 result ≡ rest_refusal cell.now }
 {
     if !crc_right(cell) {
-        return REFUSED_CRC;
+        return Err(Refusal::Crc);
     }
     if cell[5] != 1 {
-        return REFUSED_PROTOCOL;
+        return Err(Refusal::Protocol);
     }
     if !rates_clear(cell) {
-        return REFUSED_RESERVED_BIT;
+        return Err(Refusal::ReservedBit);
     }
-    0
+    Ok(())
 }
 
-// The refusal that reading the cell meets; 0 if none.
-pub fn refusal(cell: &[u8]) -> u32
-    ensures { RefusedAsRead cell.now result }
+// The refusal that reading the cell meets.
+pub fn refusal(cell: &[u8]) -> Result<(), Refusal>
+    ensures { RefusedAsRead cell.now (refusal_or_0 result) }
 {
-    let first = header_refusal(cell);
-    if first != 0 {
-        return first;
-    }
+    header_refusal(cell)?;
     if is_data(cell) {
-        return 0;
+        return Ok(());
     }
     rm_refusal(cell)
 }
 
 // Reads any octets as a cell.
-pub fn read(cell: &[u8]) -> Reading
-    ensures { result ≡ reading cell.now }
+pub fn read(cell: &[u8]) -> Result<Cell, Refusal>
+    ensures { read_as result ≡ reading cell.now }
 {
-    let refused = refusal(cell);
-    if refused != 0 {
-        return Reading::Refused(refused);
-    }
+    refusal(cell)?;
     if is_data(cell) {
-        return Reading::DataCell {
+        return Ok(Cell::Data {
             vpi: vpi_of(cell),
             vci: vci_of(cell),
             efci: efci_of(cell),
-        };
+        });
     }
-    Reading::RmCell(fields_of(cell))
+    Ok(Cell::Rm(fields_of(cell)))
 }

@@ -8,9 +8,8 @@ use crate::put::{put_header, put_payload};
 use crate::with_crc::with_crc;
 use cell::fields::Fields;
 use cell::octets::CELL_OCTETS;
-use cell::write::Written;
 use cell_payload::payload::Payload;
-use laws::refusals::{REFUSED_LENGTH, REFUSED_RANGE};
+use laws::refusals::Refusal;
 
 // Octet 7: the five bits from the top.
 fn marks(dir: u32, bn: u32, ci: u32, ni: u32, ra: u32) -> u64
@@ -65,15 +64,16 @@ pub fn put_rm(cell: &mut [u8], clp: u32, f: Fields)
 }
 
 // Writes an RM cell into any buffer, if it is one cell long and the fields fit.
-pub fn write(cell: &mut [u8], f: Fields) -> Written
+#[tactic(auto, unfolding(cell::specs::Writing::writing, cell::specs::Writing::buffer_written))]
+pub fn write(cell: &mut [u8], f: Fields) -> Result<(), Refusal>
     ensures { (result ≡ writing (length cell.old) f) × (cell.new ≡ buffer_written result (rm_cell 0 f) cell.old) }
 {
     if cell.len() != CELL_OCTETS {
-        return Written::Refused(REFUSED_LENGTH);
+        return Err(Refusal::Length);
     }
     if !f.fits() {
-        return Written::Refused(REFUSED_RANGE);
+        return Err(Refusal::Range);
     }
     put_rm(cell, 0, f);
-    Written::Done
+    Ok(())
 }

@@ -1,14 +1,14 @@
 -- What reading a cell and writing one answer, computed where two refusals apply.
 -- (Document 01, "Refused because of the input" and "Refused because of the state"; document 02, L7.)
-use Rattle.std.specs.Prelude.{ℕ, ◌+◌, ◌*◌, ◌≡◌, true, false, List, [], ◌∷◌, ◌++◌, replicate}
+use Rattle.std.specs.Prelude.{ℕ, ◌+◌, ◌*◌, ◌≡◌, true, false, List, [], ◌∷◌, ◌++◌, replicate, Ok, Err}
 use Rattle.cell_crc.specs.Checks.{header_check}
 use Rattle.cell.specs.Header.{header}
 use Rattle.cell.specs.Fields.{with_crc, rm_cell}
 use Rattle.cell.specs.Reading.{reading}
 use Rattle.cell.specs.Writing.{writing}
 use Rattle.cell.specs.declared.fields.Fields.{Fields}
-use Rattle.cell.specs.declared.read.Reading.TheVariants.{Refused, DataCell}
-use Rattle.cell.specs.declared.write.Written.TheVariants.{Done, Refused as Unwritten}
+use Rattle.cell.specs.Read.{Refused, DataCell}
+use Rattle.laws.specs.declared.refusals.Refusal.TheVariants.{Length, Range}
 
 -- a cell of VCI 33 with this payload type, octet 5 right, and nothing in its payload
 abbrev pub of_type : (payload_type : ℕ) → List ℕ
@@ -44,9 +44,9 @@ pub record Readings : Type 0 where
   pub two : reading (of_type 2) ≡ DataCell 0 33 true
   pub three : reading (of_type 3) ≡ DataCell 0 33 true
   -- writing: 1 before 7
-  pub short : writing 52 (with_dir 2) ≡ Unwritten 1
-  pub unfit : writing 53 (with_dir 2) ≡ Unwritten 7
-  pub fit : writing 53 (with_dir 1) ≡ Done
+  pub short : writing 52 (with_dir 2) ≡ Err Length
+  pub unfit : writing 53 (with_dir 2) ≡ Err Range
+  pub fit : writing 53 (with_dir 1) ≡ Ok tt
   -- a whole cell, with every field in its octets
   pub whole :
       rm_cell 0 distinct_fields

@@ -1,20 +1,19 @@
 // Whole cells, written and read back (document 01, "The cell, 53 octets"; document 02, L6).
 use crate::print;
 use cell::fields::Fields;
-use cell::read::Reading;
-use cell::write::Written;
+use cell::read::Cell;
 use cell_read::read::read;
 use cell_write::write::write;
+use laws::refusals::refusal_or_0;
 use std::io;
 
 // Octets; then what reading them gives: a refusal, a data cell's VPI, VCI and EFCI, or an RM cell's fields.
 pub fn reading(rt: &impl Print, cell: &[u8]) -> io::Result<()> {
     print::octets(rt, cell)?;
-    let got = read(cell);
-    match got {
-        Reading::Refused(number) => print::codes(rt, &[number]),
-        Reading::DataCell { vpi, vci, efci } => print::codes(rt, &[vpi, vci, efci as u32]),
-        Reading::RmCell(f) => print::codes(
+    match read(cell) {
+        Err(refusal) => print::codes(rt, &[refusal.number()]),
+        Ok(Cell::Data { vpi, vci, efci }) => print::codes(rt, &[vpi, vci, efci as u32]),
+        Ok(Cell::Rm(f)) => print::codes(
             rt,
             &[
                 f.vpi, f.vci, f.dir, f.bn, f.ci, f.ni, f.ra, f.er, f.ccr, f.mcr, f.ql, f.sn,
@@ -41,20 +40,12 @@ pub fn sample(vpi: u32, vci: u32, ci: u32, er: u32) -> Fields {
     }
 }
 
-// The refusal of a write, or 0.
-fn refusal(answer: Written) -> u32 {
-    match answer {
-        Written::Done => 0,
-        Written::Refused(number) => number,
-    }
-}
-
 // The refusals of writing into 52 octets and into 53; then what reading the 53 gives.
 fn written(rt: &impl Print, f: Fields) -> io::Result<()> {
     let mut short = [0u8; 52];
     let mut cell = [0u8; 53];
-    let first = refusal(write(&mut short, f));
-    let second = refusal(write(&mut cell, f));
+    let first = refusal_or_0(write(&mut short, f));
+    let second = refusal_or_0(write(&mut cell, f));
     print::codes(rt, &[first, second])?;
     reading(rt, &cell)
 }

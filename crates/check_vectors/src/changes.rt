@@ -15,7 +15,7 @@ fn written(vci: u32) -> [u8; 53]
     ensures { 53 ≡ length result }
 {
     let mut cell = [0u8; 53];
-    write(&mut cell, sample(0, vci, 0, 0x7fff));
+    let _ = write(&mut cell, sample(0, vci, 0, 0x7fff));
     cell
 }
 

@@ -4,7 +4,7 @@ ghost use Rattle.std.specs.Prelude.{◌≡◌, [], length};
 ghost use Rattle.cell_payload.specs.Payload.{payload_of};
 ghost use Rattle.cell.specs.Fields.{CrcMatches};
 ghost use Rattle.cell.specs.Octets.{payload};
-ghost use Rattle.cell.specs.declared.read.Reading.TheVariants.{DataCell, RmCell};
+ghost use Rattle.cell.specs.Read.{DataCell, RmCell};
 ghost use Rattle.cell.specs.Reading.{reading};
 ghost use Rattle.model.specs.Details.{receive_answer};
 ghost use Rattle.model.specs.Returned.{received_as};

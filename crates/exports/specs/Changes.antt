@@ -2,7 +2,7 @@
 -- and after it. (Document 02, L9.)
 use Rattle.std.specs.Prelude.{ℕ, ◌≡◌, List, pos, ◌-ℤ◌}
 use Rattle.cell.specs.declared.fields.Fields.{Fields}
-use Rattle.cell.specs.declared.read.Reading.TheVariants.{RmCell}
+use Rattle.cell.specs.Read.{RmCell}
 use Rattle.cell.specs.Fields.{cell_name}
 use Rattle.cell.specs.Reading.{reading}
 use Rattle.model.specs.Call.{Call, receiving}

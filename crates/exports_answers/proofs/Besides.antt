@@ -12,8 +12,7 @@ use Rattle.cell.specs.Name.{name_from, vpi_in, vci_in, no_name, address_name}
 use Rattle.cell.specs.Octets.{AreOctets}
 use Rattle.cell.specs.Header.{vpi_of, vci_of}
 use Rattle.cell.specs.declared.fields.Fields.{Fields}
-use Rattle.cell.specs.declared.read.Reading.{Reading}
-use Rattle.cell.specs.declared.read.Reading.TheVariants.{RmCell}
+use Rattle.cell.specs.Read.{Reading, RmCell}
 use Rattle.cell.proofs.Names.{name-lt, address-back}
 use Rattle.model.specs.Aspects.{Sort, opener, closer, arrival, slot_at, another, sort_of}
 use Rattle.cell.specs.Reading.{reading}

@@ -7,8 +7,7 @@ use Rattle.cell.specs.Name.{address_name}
 use Rattle.cell.specs.declared.fields.Fields.{Fields}
 use Rattle.cell.specs.Header.{type_of}
 use Rattle.cell.specs.Fields.{fields_of, cell_name}
-use Rattle.cell.specs.declared.read.Reading.{Reading}
-use Rattle.cell.specs.declared.read.Reading.TheVariants.{Refused as Unread, DataCell, RmCell}
+use Rattle.cell.specs.Read.{Reading, Refused as Unread, DataCell, RmCell}
 use Rattle.cell.specs.Reading.{reading}
 use Rattle.connection_members.specs.Path.{path_of}
 use Rattle.connection_members.specs.Members.{owner}

@@ -4,7 +4,7 @@ use Rattle.std.specs.Prelude.{ℕ, ◌≡◌, ◌≢◌, Bool, List}
 use Rattle.std.proofs.Math.Option.{Option, none, some}
 use Rattle.cell.specs.Name.{name_from, address_name}
 use Rattle.cell.specs.declared.fields.Fields.{Fields}
-use Rattle.cell.specs.declared.read.Reading.TheVariants.{DataCell, RmCell}
+use Rattle.cell.specs.Read.{DataCell, RmCell}
 use Rattle.cell.specs.Reading.{reading}
 use Rattle.model.specs.Call.{Call, receiving, slot}
 use Rattle.abr_answers.specs.declared.calls.AbrAllowed.{AbrAllowed}

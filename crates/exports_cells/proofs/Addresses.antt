@@ -10,7 +10,7 @@ use Rattle.laws.specs.Require.{require}
 use Rattle.rate_doubles.specs.declared.export.Exported.{Exported}
 use Rattle.cell.specs.Name.{address_fits, address_name}
 use Rattle.cell.specs.Reading.{reading}
-use Rattle.cell.specs.declared.read.Reading.TheVariants.{DataCell, RmCell}
+use Rattle.cell.specs.Read.{DataCell, RmCell}
 use Rattle.cell.specs.declared.fields.Fields.{Fields}
 use Rattle.cell.specs.Fields.{cell_name}
 use Rattle.connection_members.specs.Path.{is_path, path_vci, path_of}

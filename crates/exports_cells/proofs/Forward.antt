@@ -11,7 +11,7 @@ use Rattle.rate_moves.specs.declared.moves.Rate.{Rate}
 use Rattle.cell.specs.Name.{name_from, address_name}
 use Rattle.cell.specs.Fields.{rm_cell}
 use Rattle.cell.specs.Reading.{reading}
-use Rattle.cell.specs.declared.read.Reading.TheVariants.{RmCell}
+use Rattle.cell.specs.Read.{RmCell}
 use Rattle.cell.proofs.Written.{read-written}
 use Rattle.connection.specs.declared.parts.Connection.{Connection}
 use Rattle.connection.specs.declared.kind.Kind.{Kind}

@@ -19,7 +19,7 @@ use Rattle.cell.specs.Reading.{reading}
 use Rattle.cell.specs.Turning.{turned_cell}
 use Rattle.cell.specs.Returned.{returned, Kept}
 use Rattle.cell.specs.declared.fields.Fields.{Fields}
-use Rattle.cell.specs.declared.read.Reading.TheVariants.{DataCell, RmCell}
+use Rattle.cell.specs.Read.{DataCell, RmCell}
 use Rattle.cell.proofs.Admits.{rm-received}
 use Rattle.cell.proofs.Turned.{turned-read, turned-kept, turned-words}
 use Rattle.connection_members.specs.Path.{path_vci, path_of}

@@ -15,8 +15,7 @@ use Rattle.cell.specs.Fields.{fields_of, cell_name}
 use Rattle.cell.specs.Reading.{reading}
 use Rattle.cell.specs.Returned.{returned}
 use Rattle.cell.specs.declared.fields.Fields.{Fields}
-use Rattle.cell.specs.declared.read.Reading.{Reading}
-use Rattle.cell.specs.declared.read.Reading.TheVariants.{Refused, DataCell, RmCell}
+use Rattle.cell.specs.Read.{Reading, Refused, DataCell, RmCell}
 use Rattle.cell.proofs.Admits.{rm-received}
 use Rattle.connection_members.specs.Path.{path_vci}
 use Rattle.connection.specs.declared.parts.Waiting.{Waiting}

@@ -11,7 +11,7 @@ use Rattle.cell.specs.Fields.{fields_fit, rm_cell}
 use Rattle.cell.specs.Turning.{turned_payload, turned_cell}
 use Rattle.cell.specs.Reading.{reading}
 use Rattle.cell.specs.declared.fields.Fields.{Fields}
-use Rattle.cell.specs.declared.read.Reading.TheVariants.{RmCell}
+use Rattle.cell.specs.Read.{RmCell}
 use Rattle.cell.proofs.Admits.{rm-received}
 use Rattle.cell.proofs.Written.{read-written}
 use Rattle.cell.proofs.Turned.{turned-read, turned-words}

@@ -8,7 +8,7 @@ use Rattle.cell.specs.Name.{name_from}
 use Rattle.cell.specs.Fields.{cell_name}
 use Rattle.cell.specs.Reading.{reading}
 use Rattle.cell.specs.declared.fields.Fields.{Fields}
-use Rattle.cell.specs.declared.read.Reading.TheVariants.{RmCell}
+use Rattle.cell.specs.Read.{RmCell}
 use Rattle.connection.specs.declared.parts.Connection.{Connection}
 use Rattle.connection.specs.declared.kind.Kind.TheVariants.{Turned}
 use Rattle.connection.specs.Slot.{Buffer}

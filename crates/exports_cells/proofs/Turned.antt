@@ -10,7 +10,7 @@ use lib.Dec.{ltb, lit≤}
 use Rattle.rate_params.specs.declared.params.Params.{Params}
 use Rattle.cell.specs.Name.{name_from, no_name}
 use Rattle.cell.specs.Reading.{reading}
-use Rattle.cell.specs.declared.read.Reading.TheVariants.{RmCell}
+use Rattle.cell.specs.Read.{RmCell}
 use Rattle.cell.proofs.Written.{read-written}
 use Rattle.connection.specs.declared.parts.Connection.{Connection}
 use Rattle.connection.specs.declared.parts.Destination.{Destination}

@@ -9,7 +9,7 @@ use lib.Dec.{eqb, lit≤}
 use lib.ListN.{length, get_or, drop, length-drop}
 use lib.Seq.{get_or-drop}
 use Rattle.cell.specs.declared.fields.Fields.{Fields}
-use Rattle.cell.specs.declared.read.Reading.TheVariants.{RmCell}
+use Rattle.cell.specs.Read.{RmCell}
 use Rattle.cell.specs.Octets.{octet, payload, AreOctets}
 use Rattle.cell.specs.Header.{header}
 use Rattle.cell.specs.Fields.{fields_fit, fields_of, rm_cell}
@@ -17,7 +17,8 @@ use Rattle.cell.specs.Turning.{turned_marks, turned_payload, turned_cell}
 use Rattle.cell.specs.Returned.{returned}
 use Rattle.cell.specs.Form.{Framed, Blank}
 use Rattle.cell.specs.Reading.{reading}
-use Rattle.cell.specs.declared.write.Written.TheVariants.{Done, Refused}
+use Rattle.laws.specs.declared.refusals.Refusal.TheVariants.{Length, Range}
+use Rattle.laws.specs.Refusals.{refusal_or_0}
 use Rattle.cell.specs.Writing.{writing, buffer_written}
 use Rattle.cell.specs.Admitted.{Admitted}
 use Rattle.cell.proofs.Admits.{taken-admitted, rm-received}
@@ -36,7 +37,7 @@ use Rattle.model.specs.Step.{refuse, accept, replay, discard, idle_step, send_fr
 use Rattle.model.proofs.Shown.{Shown, refusing, accepting, discarding, idling, serving, serving_out_of_rate, shown}
 use Rattle.abr_answers.specs.Reply.{Reply, no_cell, reply_of}
 use Rattle.model.specs.Aspects.{Lent, for_slot, for_out_of_rate, not_lent, lent_of}
-use Rattle.abr_answers.specs.Cells.{written_of, write_refusal, octets_after}
+use Rattle.abr_answers.specs.Cells.{write_refusal, octets_after}
 use Rattle.engine.specs.Contract.{buffer_content}
 use Rattle.abr.specs.Exports.{Observation}
 use Rattle.exports_cells.specs.Written.{wrote_cell, clp_written, WrittenCell, WritesAdmitted, WrittenAdmitted, wrote_for}
@@ -134,7 +135,7 @@ unfolding writing buffer_written
 wrote-admitted f old e = go (eqb (length old) 53) (fields_fit f) refl e
   where
     go :
-        (a b : Bool) → fields_fit f ≡ b → written_of (cond a (cond b Done (Refused 7)) (Refused 1)) ≡ 0 → let o = buffer_written (cond a (cond b Done (Refused 7)) (Refused 1)) (rm_cell 0 f) old in
+        (a b : Bool) → fields_fit f ≡ b → refusal_or_0 (cond a (cond b (Ok tt) (Err Range)) (Err Length)) ≡ 0 → let o = buffer_written (cond a (cond b (Ok tt) (Err Range)) (Err Length)) (rm_cell 0 f) old in
         Admitted o × Framed 0 o × Blank o
     go true true q e = let h = written-form 0 f (lit≤ tt) in (read-admitted _ f (read-written 0 f (lit≤ tt) q), h.0, h.1)
     go true false q e = absurd (omega (arith, e))

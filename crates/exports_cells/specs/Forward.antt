@@ -7,7 +7,7 @@ use Rattle.rate_params.specs.Params.{peak, least}
 use Rattle.cell.specs.Name.{name_from, vpi_in, vci_in, address_name}
 use Rattle.cell.specs.Reading.{reading}
 use Rattle.cell.specs.declared.fields.Fields.{Fields}
-use Rattle.cell.specs.declared.read.Reading.TheVariants.{RmCell}
+use Rattle.cell.specs.Read.{RmCell}
 use Rattle.model.specs.Call.{Call, slot, out_of_rate}
 use Rattle.abr_answers.specs.declared.calls.AbrAllowed.{AbrAllowed}
 use Rattle.abr.specs.Contract.{ReturnsAllowed}

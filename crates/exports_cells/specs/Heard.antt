@@ -10,8 +10,7 @@ use Rattle.cell.specs.Name.{name_from, vpi_in, vci_in, address_name}
 use Rattle.cell.specs.Fields.{cell_name}
 use Rattle.cell.specs.Reading.{reading}
 use Rattle.cell.specs.declared.fields.Fields.{Fields}
-use Rattle.cell.specs.declared.read.Reading.{Reading}
-use Rattle.cell.specs.declared.read.Reading.TheVariants.{Refused, DataCell, RmCell}
+use Rattle.cell.specs.Read.{Reading, Refused, DataCell, RmCell}
 use Rattle.model.specs.Call.{Call, opening, closing, receiving, offering, levelling, slot, making, out_of_rate, opening_path, adding, offering_member, removing}
 use Rattle.model.specs.Aspects.{Sort, opener, closer, arrival, slot_at, another, sort_of, Asked, asks_made, asks_out_of_rate, asks_none, asked_of}
 use Rattle.abr.specs.Exports.{Observation}

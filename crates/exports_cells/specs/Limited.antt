@@ -6,7 +6,7 @@ use Rattle.rate.specs.Code.{rate_of}
 use Rattle.cell.specs.Admitted.{Admitted}
 use Rattle.cell.specs.Reading.{reading}
 use Rattle.cell.specs.declared.fields.Fields.{Fields}
-use Rattle.cell.specs.declared.read.Reading.TheVariants.{RmCell}
+use Rattle.cell.specs.Read.{RmCell}
 use Rattle.port.specs.Limit.{passed, limit}
 use Rattle.port.specs.Limited.{fields_with_er, SameButEr}
 use Rattle.model.specs.Call.{Call}

@@ -6,7 +6,7 @@ use Rattle.cell.specs.Name.{name_from}
 use Rattle.cell.specs.Fields.{cell_name}
 use Rattle.cell.specs.Reading.{reading}
 use Rattle.cell.specs.declared.fields.Fields.{Fields}
-use Rattle.cell.specs.declared.read.Reading.TheVariants.{RmCell}
+use Rattle.cell.specs.Read.{RmCell}
 use Rattle.model.specs.Call.{Call, receiving, slot}
 use Rattle.model.specs.Aspects.{Sort, opener, closer, arrival, slot_at, another, sort_of}
 use Rattle.abr.specs.Exports.{Observation, Performs, Transcript, final_words, zeros}

@@ -5,7 +5,7 @@ use Rattle.std.proofs.Math.Option.{Option, none, some}
 use Rattle.cell.specs.Name.{name_from}
 use Rattle.cell.specs.Reading.{reading}
 use Rattle.cell.specs.Returned.{Kept}
-use Rattle.cell.specs.declared.read.Reading.TheVariants.{RmCell}
+use Rattle.cell.specs.Read.{RmCell}
 use Rattle.model.specs.Call.{Call, slot}
 use Rattle.abr.specs.Exports.{Observation, Performs, Transcript, final_words, zeros}
 use Rattle.exports.specs.Known.{Opened}

@@ -12,7 +12,7 @@ use Rattle.cell.specs.Name.{address_name}
 use Rattle.cell.specs.Header.{vpi_of, vci_of, type_of}
 use Rattle.cell.specs.Fields.{fields_of}
 use Rattle.cell.specs.Reading.{reading}
-use Rattle.cell.specs.declared.read.Reading.TheVariants.{DataCell, RmCell}
+use Rattle.cell.specs.Read.{DataCell, RmCell}
 use Rattle.connection_members.specs.Path.{is_path, path_of}
 use Rattle.connection_members.specs.Members.{is_member, cells_of, owner}
 use Rattle.model.specs.State.{State, Entry, free, taken, capacity, empty, is_free, find, entry_cells}

@@ -13,8 +13,7 @@ use Rattle.cell.specs.Octets.{octet, pair, payload}
 use Rattle.cell.specs.Header.{vpi_of, vci_of, type_of, header_right}
 use Rattle.cell.specs.Fields.{fields_of, rates_clear, crc_right}
 use Rattle.cell.specs.Reading.{reading}
-use Rattle.cell.specs.declared.read.Reading.{Reading}
-use Rattle.cell.specs.declared.read.Reading.TheVariants.{Refused, DataCell, RmCell}
+use Rattle.cell.specs.Read.{Reading, Refused, DataCell, RmCell}
 use Rattle.laws.specs.Require.{require}
 use Rattle.model.specs.Orders.{Asks, refused, passed, Accepts, accepted}
 use Rattle.abr_answers.specs.declared.cells.AbrCell.{AbrCell}

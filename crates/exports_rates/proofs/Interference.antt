@@ -5,8 +5,7 @@ use mathlib.Core.Bool.{Bool, cond, ◌&&◌, not}
 use mathlib.Core.List.{List}
 use mathlib.Core.Option.{some}
 use lib.Dec.{eqb}
-use Rattle.cell.specs.declared.read.Reading.{Reading}
-use Rattle.cell.specs.declared.read.Reading.TheVariants.{Refused as Unread, DataCell, RmCell}
+use Rattle.cell.specs.Read.{Reading, Refused as Unread, DataCell, RmCell}
 use Rattle.cell.specs.Name.{name_from, address_name}
 use Rattle.cell.specs.Reading.{reading}
 use Rattle.connection_members.specs.Path.{path_of}

@@ -12,8 +12,7 @@ use Rattle.rate_moves.specs.declared.moves.Rate.{Rate}
 use Rattle.rate.specs.Code.{rate_of}
 use Rattle.rate_moves.specs.Moves.{feedback}
 use Rattle.cell.specs.declared.fields.Fields.{Fields}
-use Rattle.cell.specs.declared.read.Reading.{Reading}
-use Rattle.cell.specs.declared.read.Reading.TheVariants.{RmCell}
+use Rattle.cell.specs.Read.{Reading, RmCell}
 use Rattle.cell.specs.Name.{address_name}
 use Rattle.cell.specs.Fields.{cell_name}
 use Rattle.connection_members.specs.Path.{path_vci, path_of}

@@ -12,7 +12,7 @@ use Rattle.rate_params.specs.declared.params.Params.{Params}
 use Rattle.cell.specs.Name.{name_from, vpi_in, vci_in, address_name}
 use Rattle.cell.specs.Fields.{cell_name}
 use Rattle.cell.specs.declared.fields.Fields.{Fields}
-use Rattle.cell.specs.declared.read.Reading.{Reading}
+use Rattle.cell.specs.Read.{Reading}
 use Rattle.connection_members.specs.Path.{path_vci, path_of}
 use Rattle.connection_members.specs.Members.{cells_of}
 use Rattle.connection_members.specs.Turn.{turn, last_after}

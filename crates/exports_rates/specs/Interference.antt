@@ -3,8 +3,7 @@
 -- a backward cell; document 02, L6 and L13.)
 use Rattle.std.specs.Prelude.{ℕ, ◌≡◌, ◌≢◌, Bool, false, ◌&&◌, not, List, eqb}
 use Rattle.std.proofs.Math.Option.{Option, none, some}
-use Rattle.cell.specs.declared.read.Reading.{Reading}
-use Rattle.cell.specs.declared.read.Reading.TheVariants.{Refused, DataCell, RmCell}
+use Rattle.cell.specs.Read.{Reading, Refused, DataCell, RmCell}
 use Rattle.cell.specs.Name.{name_from, address_name}
 use Rattle.cell.specs.Fields.{cell_name}
 use Rattle.cell.specs.Reading.{reading}

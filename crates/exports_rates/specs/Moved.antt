@@ -7,8 +7,7 @@ use Rattle.rate_params.specs.declared.params.Params.{Params}
 use Rattle.rate_moves.specs.declared.moves.Rate.{Rate}
 use Rattle.rate_moves.specs.Moves.{first_cell, idle, unanswered, feedback}
 use Rattle.rate.specs.Code.{rate_of}
-use Rattle.cell.specs.declared.read.Reading.{Reading}
-use Rattle.cell.specs.declared.read.Reading.TheVariants.{Refused, DataCell, RmCell}
+use Rattle.cell.specs.Read.{Reading, Refused, DataCell, RmCell}
 use Rattle.cell.specs.Name.{name_from}
 use Rattle.cell.specs.Fields.{cell_name}
 use Rattle.cell.specs.Reading.{reading}

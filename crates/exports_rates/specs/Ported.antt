@@ -2,7 +2,7 @@
 -- rate that abr_acr returns. (Document 01, "The lists of demand 3"; document 02, L10.)
 use Rattle.std.specs.Prelude.{ℕ, ◌≡◌, List}
 use Rattle.cell.specs.declared.fields.Fields.{Fields}
-use Rattle.cell.specs.declared.read.Reading.TheVariants.{RmCell}
+use Rattle.cell.specs.Read.{RmCell}
 use Rattle.cell.specs.Fields.{cell_name}
 use Rattle.cell.specs.Reading.{reading}
 use Rattle.port_share.specs.Share.{fair_share}

@@ -4,8 +4,7 @@
 -- document 02, L1, L5 and L13.)
 use Rattle.std.specs.Prelude.{ℕ, ◌+◌, ◌-◌, min, Bool, true, false, cond, ◌&&◌, ◌||◌, not, List, eqb}
 use Rattle.cell.specs.declared.fields.Fields.{Fields}
-use Rattle.cell.specs.declared.read.Reading.{Reading}
-use Rattle.cell.specs.declared.read.Reading.TheVariants.{Refused, DataCell, RmCell}
+use Rattle.cell.specs.Read.{Reading, Refused, DataCell, RmCell}
 use Rattle.cell.specs.Name.{name_from, address_name}
 use Rattle.cell.specs.Fields.{cell_name}
 use Rattle.cell.specs.Reading.{reading}

@@ -12,8 +12,7 @@ use lib.ListN.{length}
 use borrow.Author.Tests.{leb-true, leb-false, ltb-true, ltb-false, eqb-true, eqb-false, not-true, not-false}
 use Rattle.rate_params.specs.declared.params.Params.{Params}
 use Rattle.rate.specs.Units.{latest_time}
-use Rattle.cell.specs.declared.read.Reading.{Reading}
-use Rattle.cell.specs.declared.read.Reading.TheVariants.{Refused as Unread, DataCell, RmCell}
+use Rattle.cell.specs.Read.{Reading, Refused as Unread, DataCell, RmCell}
 use Rattle.cell.specs.Name.{address_fits, address_name}
 use Rattle.cell.specs.Reading.{reading}
 use Rattle.connection_members.specs.Path.{is_path}

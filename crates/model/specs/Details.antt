@@ -2,8 +2,7 @@
 -- was received and what was sent. They follow from the table before the call and its outcome. (Beyond the documents'
 -- demands; document 02, L1 and L4, for made cells and leaves.)
 use Rattle.std.specs.Prelude.{ℕ, Bool, true, false, cond, eqb}
-use Rattle.cell.specs.declared.read.Reading.{Reading}
-use Rattle.cell.specs.declared.read.Reading.TheVariants.{Refused as Unread, DataCell, RmCell}
+use Rattle.cell.specs.Read.{Reading, Refused as Unread, DataCell, RmCell}
 use Rattle.cell.specs.Name.{address_name}
 use Rattle.cell.specs.Fields.{cell_name}
 use Rattle.connection_members.specs.Members.{owner}

@@ -10,8 +10,7 @@ use Rattle.rate_params.specs.Params.{params_fit, tbe_fits, frtt_fits}
 use Rattle.cell.specs.Name.{address_name}
 use Rattle.cell.specs.Fields.{cell_name}
 use Rattle.cell.specs.Reading.{reading}
-use Rattle.cell.specs.declared.read.Reading.{Reading}
-use Rattle.cell.specs.declared.read.Reading.TheVariants.{Refused as Unread, DataCell, RmCell}
+use Rattle.cell.specs.Read.{Reading, Refused as Unread, DataCell, RmCell}
 use Rattle.connection_members.specs.Path.{is_path, path_of}
 use Rattle.connection_members.specs.Members.{is_member, cells_of, owner}
 use Rattle.connection.specs.declared.ready.Instant.{Instant}

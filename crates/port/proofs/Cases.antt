@@ -17,8 +17,7 @@ use Rattle.cell.specs.Octets.{payload}
 use Rattle.cell.specs.Header.{type_of}
 use Rattle.cell.specs.Reading.{reading}
 use Rattle.cell.specs.declared.fields.Fields.{Fields}
-use Rattle.cell.specs.declared.read.Reading.{Reading}
-use Rattle.cell.specs.declared.read.Reading.TheVariants.{Refused, DataCell, RmCell}
+use Rattle.cell.specs.Read.{Reading, Refused, DataCell, RmCell}
 use Rattle.cell_read.specs.RefusedAsRead.{RefusedAsRead}
 use Rattle.port_share.specs.Share.{fair_share}
 use Rattle.port_share.specs.declared.share.FairShare.{FairShare}

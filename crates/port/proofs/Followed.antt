@@ -9,8 +9,7 @@ use native.Mathlib.Omega.{arith}
 use Rattle.rate.specs.Code.{rate_of}
 use Rattle.cell.specs.Reading.{reading}
 use Rattle.cell.specs.declared.fields.Fields.{Fields}
-use Rattle.cell.specs.declared.read.Reading.{Reading}
-use Rattle.cell.specs.declared.read.Reading.TheVariants.{Refused, DataCell, RmCell}
+use Rattle.cell.specs.Read.{Reading, Refused, DataCell, RmCell}
 use Rattle.port_share.specs.Demands.{plain_sum}
 use Rattle.port_share.specs.Share.{fair_share}
 use Rattle.port_share.specs.Held.{HeldTo}

@@ -16,7 +16,7 @@ use Rattle.cell.specs.Fields.{fields_of, rates_clear, with_crc, crc_right}
 use Rattle.cell.specs.Reading.{reading}
 use Rattle.cell.specs.Admitted.{Admissible, data_cell, rm_cell, Admitted}
 use Rattle.cell.specs.declared.fields.Fields.{Fields}
-use Rattle.cell.specs.declared.read.Reading.TheVariants.{RmCell}
+use Rattle.cell.specs.Read.{RmCell}
 use Rattle.cell.proofs.Admits.{taken-admitted, rm-received}
 use Rattle.cell.proofs.Readings.{takes-data, takes-rest, takes-fields}
 use Rattle.cell.proofs.WithCrc.{with_crc-size, with_crc-at, with_crc-six, with_crc-right}

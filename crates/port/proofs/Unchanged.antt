@@ -7,8 +7,7 @@ use native.Mathlib.Decide.{ℕ_discrete}
 use native.Mathlib.Omega.{arith}
 use Rattle.cell.specs.Reading.{reading}
 use Rattle.cell.specs.Admitted.{Taken}
-use Rattle.cell.specs.declared.read.Reading.{Reading}
-use Rattle.cell.specs.declared.read.Reading.TheVariants.{Refused, DataCell, RmCell}
+use Rattle.cell.specs.Read.{Reading, Refused, DataCell, RmCell}
 use Rattle.cell.proofs.Admits.{taken-admitted}
 use Rattle.cell.proofs.Readings.{refusal-number}
 use Rattle.port_share.specs.Share.{fair_share}

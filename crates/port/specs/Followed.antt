@@ -4,7 +4,7 @@ use mathlib.Core.List.{List, Forall₂}
 use Rattle.rate.specs.Code.{rate_of}
 use Rattle.cell.specs.Reading.{reading}
 use Rattle.cell.specs.declared.fields.Fields.{Fields}
-use Rattle.cell.specs.declared.read.Reading.TheVariants.{RmCell}
+use Rattle.cell.specs.Read.{RmCell}
 use Rattle.port_share.specs.Demands.{plain_sum}
 use Rattle.port.specs.Port.{port}
 

@@ -4,8 +4,7 @@ use Rattle.rate.specs.Code.{rate_of, code_of}
 use Rattle.cell.specs.Octets.{two, payload}
 use Rattle.cell.specs.Fields.{with_crc}
 use Rattle.cell.specs.Reading.{reading}
-use Rattle.cell.specs.declared.read.Reading.{Reading}
-use Rattle.cell.specs.declared.read.Reading.TheVariants.{Refused, DataCell, RmCell}
+use Rattle.cell.specs.Read.{Reading, Refused, DataCell, RmCell}
 
 -- what a call answers and leaves: the number of its refusal, 0 if it was accepted, and the octets of the cell
 pub record Forwarded : Type 0 where

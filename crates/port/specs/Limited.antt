@@ -4,7 +4,7 @@ use Rattle.rate.specs.Code.{rate_of, GreatestCode}
 use Rattle.cell.specs.Octets.{octet}
 use Rattle.cell.specs.Reading.{reading}
 use Rattle.cell.specs.declared.fields.Fields.{Fields}
-use Rattle.cell.specs.declared.read.Reading.TheVariants.{RmCell}
+use Rattle.cell.specs.Read.{RmCell}
 use Rattle.port.specs.Limit.{held_er, limit}
 
 -- these fields, with another ER

@@ -3,7 +3,7 @@ use Rattle.std.specs.Prelude.{ℕ, ◌<◌, ◌≡◌, Bool, List}
 use Rattle.cell.specs.Reading.{reading}
 use Rattle.cell.specs.Admitted.{Admitted}
 use Rattle.cell.specs.declared.fields.Fields.{Fields}
-use Rattle.cell.specs.declared.read.Reading.TheVariants.{DataCell, RmCell}
+use Rattle.cell.specs.Read.{DataCell, RmCell}
 use Rattle.port_share.specs.Share.{fair_share}
 use Rattle.port_share.specs.declared.share.FairShare.TheVariants.{NoLimit}
 use Rattle.port.specs.Limit.{Forwarded, passed, limit}

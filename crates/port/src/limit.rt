@@ -1,28 +1,24 @@
 // A passing cell held to a rate (document 02, L10).
 ghost use Rattle.std.specs.Prelude.{◌≡◌};
+ghost use Rattle.laws.specs.Refusals.{refusal_or_0};
 ghost use Rattle.port.specs.Limit.{passed, limit};
 
 use crate::er::put_er;
-use cell_read::fields::fields_of;
-use cell_read::read::{is_data, refusal};
-use laws::arithmetic::lower;
+use cell::read::Cell;
+use cell_read::read::read;
+use laws::refusals::Refusal;
 use rate::code::{code_or_zero, rate_of};
 
 // The rate is any number: one above the largest rate lowers no ER.
-pub fn limit(rate: u64, cell: &mut [u8]) -> u32
-    ensures { passed result cell.new ≡ limit rate cell.old }
+#[tactic(auto, unfolding(crate::specs::Limit::held))]
+pub fn limit(rate: u64, cell: &mut [u8]) -> Result<(), Refusal>
+    ensures { passed (refusal_or_0 result) cell.new ≡ limit rate cell.old }
 {
-    let refused = refusal(cell);
-    if refused != 0 {
-        return refused;
+    match read(cell)? {
+        Cell::Rm(f) if f.dir == 1 => {
+            put_er(cell, code_or_zero(rate_of(f.er).min(rate)));
+            Ok(())
+        }
+        _ => Ok(()),
     }
-    if is_data(cell) {
-        return 0;
-    }
-    let f = fields_of(cell);
-    if f.dir != 1 {
-        return 0;
-    }
-    put_er(cell, code_or_zero(lower(rate_of(f.er), rate)));
-    0
 }

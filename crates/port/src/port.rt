@@ -5,6 +5,7 @@ ghost use Rattle.port.specs.Port.{port};
 
 use crate::limit::limit;
 use cell_read::read::refusal;
+use laws::refusals::refusal_or_0;
 use port_share::share::{FairShare, fair_share};
 
 // Refusals 21, 22, and then those of reading a cell.
@@ -13,7 +14,7 @@ pub fn port(capacity: u64, demands: &[u64], cell: &mut [u8]) -> u32
 {
     match fair_share(capacity, demands) {
         FairShare::Refused(n) => n,
-        FairShare::NoLimit => refusal(cell),
-        FairShare::Limit(rate) => limit(rate, cell),
+        FairShare::NoLimit => refusal_or_0(refusal(cell)),
+        FairShare::Limit(rate) => refusal_or_0(limit(rate, cell)),
     }
 }

@@ -6,8 +6,7 @@ use Rattle.std.proofs.Math.Option.{Option, none, some}
 use Rattle.rate.specs.Code.{rate_of}
 use Rattle.rate_params.specs.declared.params.Params.{Params}
 use Rattle.rate_params.specs.Params.{initial_used}
-use Rattle.cell.specs.declared.read.Reading.{Reading}
-use Rattle.cell.specs.declared.read.Reading.TheVariants.{Refused as Unread, DataCell, RmCell}
+use Rattle.cell.specs.Read.{Reading, Refused as Unread, DataCell, RmCell}
 use Rattle.cell.specs.Fields.{cell_name}
 use Rattle.cell.specs.Reading.{reading}
 use Rattle.model.specs.Call.{Call}

@@ -10,7 +10,7 @@ use Rattle.cell.specs.Name.{address_name}
 use Rattle.cell.specs.Fields.{cell_name}
 use Rattle.cell.specs.Reading.{reading}
 use Rattle.cell.specs.declared.fields.Fields.{Fields}
-use Rattle.cell.specs.declared.read.Reading.TheVariants.{RmCell}
+use Rattle.cell.specs.Read.{RmCell}
 use Rattle.rate_params.specs.declared.params.Params.{Params}
 use Rattle.connection_members.specs.Path.{path_vci, path_of}
 use Rattle.connection.specs.declared.parts.Connection.{Connection}

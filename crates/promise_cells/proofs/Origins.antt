@@ -19,7 +19,7 @@ use Rattle.cell.specs.Reading.{reading}
 use Rattle.cell.specs.Turning.{turned_payload, turned_cell}
 use Rattle.cell.specs.Returned.{returned}
 use Rattle.cell.specs.declared.fields.Fields.{Fields}
-use Rattle.cell.specs.declared.read.Reading.TheVariants.{DataCell, RmCell}
+use Rattle.cell.specs.Read.{DataCell, RmCell}
 use Rattle.cell.proofs.Admits.{rm-received}
 use Rattle.cell.proofs.Turned.{turned-read, turned-words}
 use Rattle.cell.proofs.Written.{read-written}

@@ -12,8 +12,7 @@ use lib.ListN.{get_or, take}
 use lib.Seq.{get_or-take, take-take}
 use Rattle.rate.specs.Code.{rate_of}
 use Rattle.cell.specs.declared.fields.Fields.{Fields}
-use Rattle.cell.specs.declared.read.Reading.{Reading}
-use Rattle.cell.specs.declared.read.Reading.TheVariants.{Refused, DataCell, RmCell}
+use Rattle.cell.specs.Read.{Reading, Refused, DataCell, RmCell}
 use Rattle.cell.specs.Octets.{octet}
 use Rattle.cell.specs.Fields.{fields_of, crc_right}
 use Rattle.cell.specs.Reading.{reading}

@@ -14,7 +14,7 @@ use Rattle.cell.specs.Fields.{fields_fit, rm_cell, cell_name}
 use Rattle.cell.specs.Reading.{reading}
 use Rattle.cell.specs.Turning.{turned_payload, turned_cell}
 use Rattle.cell.specs.declared.fields.Fields.{Fields}
-use Rattle.cell.specs.declared.read.Reading.TheVariants.{RmCell}
+use Rattle.cell.specs.Read.{RmCell}
 use Rattle.connection_members.specs.Path.{path_vci, path_of}
 use Rattle.connection.specs.declared.parts.Connection.{Connection}
 use Rattle.connection.specs.declared.parts.Waiting.{Waiting}

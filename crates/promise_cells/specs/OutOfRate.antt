@@ -6,7 +6,7 @@ use Rattle.rate_params.specs.Params.{least}
 use Rattle.cell.specs.Name.{address_name}
 use Rattle.cell.specs.Fields.{rm_cell}
 use Rattle.cell.specs.Reading.{reading}
-use Rattle.cell.specs.declared.read.Reading.TheVariants.{RmCell}
+use Rattle.cell.specs.Read.{RmCell}
 use Rattle.connection.specs.declared.parts.Connection.{Connection}
 use Rattle.connection.specs.declared.ready.Instant.{Instant}
 use Rattle.connection.specs.declared.ready.Instant.TheVariants.{Never, At}

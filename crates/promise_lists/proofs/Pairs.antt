@@ -14,8 +14,7 @@ use Rattle.rate_params.specs.Params.{peak}
 use Rattle.rate_moves.specs.Moves.{moved, feedback}
 use Rattle.rate_moves.proofs.FourMoves.{feedback-mono}
 use Rattle.cell.specs.declared.fields.Fields.{Fields}
-use Rattle.cell.specs.declared.read.Reading.{Reading}
-use Rattle.cell.specs.declared.read.Reading.TheVariants.{Refused as Unread, DataCell, RmCell}
+use Rattle.cell.specs.Read.{Reading, Refused as Unread, DataCell, RmCell}
 use Rattle.cell.specs.Name.{address_fits, address_name}
 use Rattle.cell.specs.Fields.{cell_name}
 use Rattle.cell.specs.Reading.{reading}

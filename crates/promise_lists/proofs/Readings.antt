@@ -10,8 +10,7 @@ use lib.ListN.{get_or}
 use lib.Seq.{get_or-take}
 use Rattle.rate.specs.Code.{rate_of}
 use Rattle.cell.specs.declared.fields.Fields.{Fields}
-use Rattle.cell.specs.declared.read.Reading.{Reading}
-use Rattle.cell.specs.declared.read.Reading.TheVariants.{Refused, RmCell}
+use Rattle.cell.specs.Read.{Reading, Refused, RmCell}
 use Rattle.cell.specs.Octets.{octet}
 use Rattle.cell.specs.Header.{vpi_of, vci_of, type_of}
 use Rattle.cell.specs.Name.{address_name}

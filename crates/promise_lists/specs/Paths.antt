@@ -5,7 +5,7 @@ use Rattle.rate.specs.Units.{latest_time}
 use Rattle.rate.specs.Code.{codes_clear}
 use Rattle.rate_params.specs.Params.{params_fit, tbe_fits, frtt_fits}
 use Rattle.cell.specs.declared.fields.Fields.{Fields}
-use Rattle.cell.specs.declared.read.Reading.TheVariants.{DataCell, RmCell}
+use Rattle.cell.specs.Read.{DataCell, RmCell}
 use Rattle.cell.specs.Name.{address_name}
 use Rattle.cell.specs.Fields.{cell_name}
 use Rattle.cell.specs.Reading.{reading}

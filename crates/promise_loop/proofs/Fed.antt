@@ -13,7 +13,7 @@ use Rattle.rate_moves.specs.Moves.{feedback}
 use Rattle.rate_moves.specs.Bounds.{RateInBounds}
 use Rattle.rate_moves.proofs.FourMoves.{feedback-in-bounds}
 use Rattle.cell.specs.declared.fields.Fields.{Fields}
-use Rattle.cell.specs.declared.read.Reading.TheVariants.{RmCell}
+use Rattle.cell.specs.Read.{RmCell}
 use Rattle.cell.specs.Fields.{cell_name}
 use Rattle.cell.specs.Reading.{reading}
 use Rattle.port_share.specs.declared.share.FairShare.{FairShare}

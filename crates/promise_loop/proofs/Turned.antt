@@ -10,7 +10,7 @@ use Rattle.rate_params.specs.Params.{peak}
 use Rattle.rate_moves.specs.declared.moves.Rate.{Rate}
 use Rattle.rate_moves.specs.Bounds.{RateInBounds}
 use Rattle.cell.specs.declared.fields.Fields.{Fields}
-use Rattle.cell.specs.declared.read.Reading.TheVariants.{RmCell}
+use Rattle.cell.specs.Read.{RmCell}
 use Rattle.cell.specs.Name.{vpi_in, vci_in, no_name}
 use Rattle.cell.specs.Fields.{fields_fit}
 use Rattle.cell.specs.Reading.{reading}

@@ -9,8 +9,7 @@ use lib.Dec.{leb}
 use borrow.Author.Tests.{leb-true, leb-false, le-leb, lt-leb}
 use Rattle.laws.specs.Require.{require}
 use Rattle.rate_params.specs.declared.params.Params.{Params}
-use Rattle.cell.specs.declared.read.Reading.{Reading}
-use Rattle.cell.specs.declared.read.Reading.TheVariants.{Refused as Unread, DataCell, RmCell}
+use Rattle.cell.specs.Read.{Reading, Refused as Unread, DataCell, RmCell}
 use Rattle.cell.specs.Reading.{reading}
 use Rattle.connection_members.specs.Path.{path_vci}
 use Rattle.connection.specs.declared.parts.Connection.{Connection}

@@ -1,7 +1,7 @@
 use mathlib.Core.Path.{◌≡◌, refl, sym, ap, ◌∙◌}
 use lib.ListN.{length}
 use Rattle.cell.specs.Reading.{reading}
-use Rattle.cell.specs.declared.read.Reading.TheVariants.{RmCell}
+use Rattle.cell.specs.Read.{RmCell}
 use Rattle.cell.proofs.Admits.{received-checked}
 use Rattle.cell.proofs.Readings.{data-same, HeaderMeets, header-meets, rest_meets}
 use Rattle.cell_read.specs.RefusedAsRead.{RefusedAsRead}

@@ -3,7 +3,7 @@ use mathlib.Core.Path.{◌≡◌, sym, ap, subst, ◌∙◌}
 use mathlib.Core.Bool.{false}
 use native.Mathlib.Omega.{arith}
 use Rattle.cell.specs.Name.{address_name}
-use Rattle.cell.specs.declared.read.Reading.TheVariants.{DataCell}
+use Rattle.cell.specs.Read.{DataCell}
 use Rattle.connection_members.specs.Path.{is_path}
 use Rattle.connection_members.specs.Members.{owner}
 use Rattle.model.specs.State.{capacity}

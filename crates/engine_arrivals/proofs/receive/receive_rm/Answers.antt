@@ -1,7 +1,7 @@
 use Prim.Native.Nat.{ℕ, ◌<◌}
 use Rattle.table_names.specs.Finding.{Located, FindsName}
 use Rattle.connection.proofs.Ranged.{after-backward-cell-ranged, after-forward-cell-ranged}
-use Rattle.cell.specs.declared.read.Reading.TheVariants.{RmCell}
+use Rattle.cell.specs.Read.{RmCell}
 use Rattle.cell.specs.Fields.{cell_name, CrcMatches}
 use Rattle.connection.specs.Range.{InRange}
 use Rattle.engine.proofs.Outcomes.{below, missing, entry-located, ranged}

@@ -7,7 +7,7 @@ pub returns-in-Refused : goal.returns-in-Refused
 returns-in-Refused c = let s = c in port-refused _ _ _ s.fair_share.ensures c.in-Refused.is
 
 pub returns-in-NoLimit : goal.returns-in-NoLimit
-returns-in-NoLimit c = let s = c in port-unlimited _ _ _ s.fair_share.ensures (search rules) c.refusal.ensures
+returns-in-NoLimit c = let s = c in rw c.refusal_or_0.ensures (port-unlimited _ _ _ s.fair_share.ensures (search rules) c.refusal.ensures)
 
 pub returns-in-Limit : goal.returns-in-Limit
-returns-in-Limit c = let r = c in port-limited _ _ _ r.fair_share.ensures r.in-Limit.is c.limit.ensures
+returns-in-Limit c = let r = c in rw c.refusal_or_0-in-Limit.ensures (port-limited _ _ _ r.fair_share.ensures r.in-Limit.is c.limit.ensures)
