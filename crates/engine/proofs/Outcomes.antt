@@ -4,6 +4,9 @@ use mathlib.Core.Path.{◌≡◌, refl, sym, ap, subst, ◌∙◌}
 use mathlib.Core.List.{List}
 use native.Mathlib.Omega.{arith}
 use lib.ListN.{get_or, set, length-set}
+use Rattle.std.specs.Prelude.{Result, Ok, Err}
+use Rattle.std.specs.Result.{IsErrAnd}
+use Rattle.laws.specs.declared.refusals.Refusal.{Refusal}
 use Rattle.cell.specs.Name.{vpi_in, vci_in, no_name, address_name}
 use Rattle.cell.proofs.Names.{address-back}
 use Rattle.connection.specs.declared.parts.Connection.{Connection}
@@ -36,6 +39,11 @@ use Rattle.table_tournament.proofs.Orders.{entries-ordered}
 pub same_meets :
     {R : Type 0} {part : State → Outcome → R} {f g : State → Outcome} {l m : List ℕ} {r : R} → ((s : State) → g s ≡ f s) → Meets part f l m r → Meets part g l m r
 same_meets h k = record { meets = λ s w e. rw (h s) (k.meets s w e) }
+
+-- what a `?` returns
+pub refused-with : {A : Type 0} {r : Result A Refusal} {n : Refusal} → IsErrAnd r (λ x. x ≡ n) → r ≡ Err n
+refused-with {r = Ok v} h = absurd h
+refused-with {r = Err x} h = ap Err h
 
 -- The two plain ways out.
 pub refused-out : {l : List ℕ} {o : Outcome} (s : State) (n : ℕ) → l ≡ words s → o ≡ refuse s n → (l ≡ words o.state) × (Refused n ≡ o.answer)

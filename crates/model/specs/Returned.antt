@@ -33,10 +33,16 @@ abbrev pub received_as : Result ReceivedOne Refusal → ReceiveAnswer
 received_as (Ok c) = Received c.comparisons c.kind c.name c.leaf c.acr
 received_as (Err r) = ReceiveRefused (number r)
 
--- Ok None is an idle slot
+-- a slot that is not refused: None is an idle one
+abbrev pub sent_cell_as : SentOne → SlotAnswer
+sent_cell_as c = SentCell c.name c.kind c.acr c.comparisons c.leaf c.acr_before c.made
+
+abbrev pub slot_as : Option SentOne → SlotAnswer
+slot_as None = IdleSlot
+slot_as (Some c) = sent_cell_as c
+
 abbrev pub sent_as : Result (Option SentOne) Refusal → SlotAnswer
-sent_as (Ok None) = IdleSlot
-sent_as (Ok (Some c)) = SentCell c.name c.kind c.acr c.comparisons c.leaf c.acr_before c.made
+sent_as (Ok x) = slot_as x
 sent_as (Err r) = SlotRefused (number r)
 
 -- the readings, whose only refusal is 11

@@ -7,7 +7,7 @@ use Rattle.connection.proofs.Ranged.{offered-ranged}
 use Rattle.connection_members.specs.Path.{is_path}
 use Rattle.model.specs.Invariant.{WellFormed}
 use Rattle.model.specs.Step.{offer_step}
-use Rattle.model.specs.Answers.{Refused}
+use Rattle.model.specs.declared.answer.Answer.TheVariants.{Refused}
 use Rattle.table.specs.Layout.{words}
 use Rattle.table_names.specs.Finding.{Located}
 use Rattle.table_names.proofs.Found.{found_at}

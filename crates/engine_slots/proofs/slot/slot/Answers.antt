@@ -62,5 +62,5 @@ returns-in-Some c =
     record {
       meets = λ s w e.
           send-leaves s w a.t.now e a.time (length a.cell.now) (fits) e2.if-time-gt-LATEST_TIME.false (later s e) ch.slot_winner-found.result ch.slot_winner-found.ensures.picks i.in-Some.i i.in-Some.is
-          _ sd.send.result a.cell.now _ sd.send.ensures;
+          _ _ a.cell.now _ sd.send.ensures;
     }
