@@ -108,7 +108,7 @@ module _ (o : List ℕ) where
       unfolding require
       takes-fields r = simp (w, eq-eqb _ _ p, r)
 
-  refused-1 : (length o ≡ 53 → ⊥) → Refused 1 ≡ reading o
+  pub refused-1 : (length o ≡ 53 → ⊥) → Refused 1 ≡ reading o
   unfolding reading require
   refused-1 n = simp (ne_eqb _ _ n)
 

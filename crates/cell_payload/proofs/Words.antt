@@ -1,40 +1,12 @@
 -- A payload's octets and its words tell the same.
-use mathlib.Core.Path.{◌≡◌, refl, sym, ap, ap₂, ◌∙◌}
+use mathlib.Core.Path.{◌≡◌, sym, ap, ap₂, ◌∙◌}
 use mathlib.Core.List.{List, [], ◌∷◌, ◌++◌}
 use Prim.Native.Nat.{ℕ, zero, suc, ◌+◌, ◌*◌, ◌/◌, ◌%◌, ◌^◌, ◌<◌}
 use native.Mathlib.Nat.{add_assoc}
 use native.Mathlib.Omega.{arith}
-use lib.Bits.{bit_or, or_shifted}
 use lib.ListN.{length, get_or, drop, drop_of_length-le}
 use lib.Seq.{drop-cons, get_or-drop}
 use Rattle.cell_payload.specs.Payload.{Payload, word_octets, octets_of, word_at, payload_of}
-
--- eight octets side by side, as the code joins them
-pub word-or : (a b c d e f g h : ℕ) → b < 256 → c < 256 → d < 256 → e < 256 → f < 256 → g < 256 → h < 256
-    → bit_or
-    (bit_or
-    (bit_or
-    (bit_or (bit_or (bit_or (bit_or (a * 0x100000000000000) (b * 0x1000000000000)) (c * 0x10000000000)) (d * 0x100000000)) (e * 0x1000000))
-    (f * 0x10000))
-    (g * 0x100))
-    h
-    ≡ a * 0x100000000000000 + b * 0x1000000000000 + c * 0x10000000000 + d * 0x100000000 + e * 0x1000000 + f * 0x10000 + g * 0x100 + h
-word-or a b c d e f g h hb hc hd he hf hg hh =
-    let w : ℕ = ((((a * 256 + b) * 256 + c) * 256 + d) * 256 + e) * 256 + f in
-    more (w * 256 + g) 8 h _ _
-    (more w 16 (g * 0x100) _ _
-    (more ((((a * 256 + b) * 256 + c) * 256 + d) * 256 + e) 24 (f * 0x10000) _ _
-    (more (((a * 256 + b) * 256 + c) * 256 + d) 32 (e * 0x1000000) _ _
-    (more ((a * 256 + b) * 256 + c) 40 (d * 0x100000000) _ _
-    (more (a * 256 + b) 48 (c * 0x10000000000) _ _ (more a 56 (b * 0x1000000000000) _ _ refl refl (omega arith)) (omega arith) (omega arith))
-    (omega arith) (omega arith))
-    (omega arith) (omega arith))
-    (omega arith) (omega arith))
-    (omega arith) (omega arith))
-    (omega arith) hh
-  where
-    more : (x k y s t : ℕ) → s ≡ t → t ≡ x * 2 ^ k → y < 2 ^ k → bit_or s y ≡ t + y
-    more x k y s t e u h = ap (λ (z : ℕ). bit_or z y) (e ∙ u) ∙ or_shifted x k y h ∙ ap (λ (z : ℕ). z + y) (sym u)
 
 -- the octets of the word that eight octets make
 octets-back : (a b c d e f g h : ℕ) → a < 256 → b < 256 → c < 256 → d < 256 → e < 256 → f < 256 → g < 256 → h < 256

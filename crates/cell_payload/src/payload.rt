@@ -1,5 +1,5 @@
 // A payload of 48 octets in six words, so that it moves, and is checked, eight octets at a time.
-ghost use Rattle.std.specs.Prelude.{◌≡◌, ◌+◌, ◌*◌, ◌≤◌, length, drop};
+ghost use Rattle.std.specs.Prelude.{◌≡◌, ◌≤◌, drop};
 ghost use Rattle.cell_payload.specs.Payload.{word_at, payload_of};
 
 #[derive(Clone, Copy)]
@@ -12,27 +12,12 @@ pub struct Payload {
     pub f: u64,
 }
 
-// Eight octets as one word, the first highest.
-fn word(a: u8, b: u8, c: u8, d: u8, e: u8, f: u8, g: u8, h: u8) -> u64
-    ensures { result
-        ≡ a * 0x100000000000000 + b * 0x1000000000000 + c * 0x10000000000 + d * 0x100000000 + e * 0x1000000 + f * 0x10000 + g * 0x100 + h }
-{
-    a as u64 * 0x100000000000000
-        | b as u64 * 0x1000000000000
-        | c as u64 * 0x10000000000
-        | d as u64 * 0x100000000
-        | e as u64 * 0x1000000
-        | f as u64 * 0x10000
-        | g as u64 * 0x100
-        | h as u64
-}
-
-// The eight octets from index i on.
-fn word_at(cell: &[u8], i: usize) -> u64
-    requires { (i + 8 ≤ length cell.now) × (i ≤ 45) }
+// The eight octets from index i on as one word, the first highest.
+fn word_at(cell: &[u8; 53], i: usize) -> u64
+    requires { i ≤ 45 }
     ensures { result ≡ word_at cell.now i }
 {
-    word(
+    u64::from_be_bytes([
         cell[i],
         cell[i + 1],
         cell[i + 2],
@@ -41,12 +26,11 @@ fn word_at(cell: &[u8], i: usize) -> u64
         cell[i + 5],
         cell[i + 6],
         cell[i + 7],
-    )
+    ])
 }
 
 // The payload of a cell.
-pub fn payload_at(cell: &[u8]) -> Payload
-    requires { length cell.now ≡ 53 }
+pub fn payload_at(cell: &[u8; 53]) -> Payload
     ensures { result ≡ payload_of (drop 5 cell.now) }
 {
     Payload {

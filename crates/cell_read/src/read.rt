@@ -1,12 +1,12 @@
 // Reading a cell (document 01, "The cell, 53 octets" and "Refused because of the input"; document 02, L6 and L7).
-ghost use Rattle.std.specs.Prelude.{◌≡◌, ◌/◌, ◌%◌, leb, eqb, length};
+ghost use Rattle.std.specs.Prelude.{◌≡◌, ◌/◌, ◌%◌, leb, eqb, MatchResult};
 ghost use Rattle.cell.specs.Header.{type_of, header_right};
 ghost use Rattle.cell.specs.Fields.{crc_right};
 ghost use Rattle.cell.specs.Read.{read_as};
 ghost use Rattle.cell.specs.Reading.{reading};
 ghost use Rattle.cell.specs.Refusals.{header_refusal, rest_refusal};
 ghost use Rattle.cell_read.specs.RefusedAsRead.{RefusedAsRead};
-ghost use Rattle.laws.specs.Refusals.{refusal_or_0};
+ghost use Rattle.laws.specs.Refusals.{number, refusal_or_0};
 
 use crate::fields::{fields_of, rates_clear, vci_of, vpi_of};
 use cell::octets::CELL_OCTETS;
@@ -17,50 +17,46 @@ use cell_payload::payload::payload_at;
 use laws::refusals::Refusal;
 
 // Whether octet 5 is right.
-fn header_right(cell: &[u8]) -> bool
-    requires { length cell.now ≡ 53 }
+fn header_right(cell: &[u8; CELL_OCTETS]) -> bool
     ensures { result ≡ header_right cell.now }
 {
     cell[4] == header_check(cell[0], cell[1], cell[2], cell[3])
 }
 
 // Whether the CRC-10 is right: it is the low ten bits of the payload's last word.
-fn crc_right(cell: &[u8]) -> bool
-    requires { length cell.now ≡ 53 }
+fn crc_right(cell: &[u8; CELL_OCTETS]) -> bool
     ensures { result ≡ crc_right cell.now }
 {
     let p = payload_at(cell);
     p.f % 1024 == crc10(p)
 }
 
-// The refusal that the header meets; none if it is that of a data or an RM cell.
+// The octets as those of one cell, whose header is that of a data or an RM cell; else the refusal that it meets.
 #[tactic(auto, unfolding(cell::specs::Refusals::header_refusal))]
-pub fn header_refusal(cell: &[u8]) -> Result<(), Refusal>
-    ensures { refusal_or_0 result ≡ header_refusal cell.now }
+pub fn header_checked(cell: &[u8]) -> Result<&[u8; CELL_OCTETS], Refusal>
+    ensures { MatchResult result (λ o. (o.now ≡ cell.now) × (0 ≡ header_refusal o.now)) (λ r. number r ≡ header_refusal cell.now) }
 {
-    if cell.len() != CELL_OCTETS {
+    let Ok(cell) = <&[u8; CELL_OCTETS]>::try_from(cell) else {
         return Err(Refusal::Length);
-    }
+    };
     if !header_right(cell) {
         return Err(Refusal::HeaderCheck);
     }
     match cell[3] / 2 % 8 {
-        0..=3 | 6 => Ok(()),
+        0..=3 | 6 => Ok(cell),
         _ => Err(Refusal::PayloadType),
     }
 }
 
 // The payload types 0 to 3 are those of data cells.
-pub fn is_data(cell: &[u8]) -> bool
-    requires { length cell.now ≡ 53 }
+pub fn is_data(cell: &[u8; CELL_OCTETS]) -> bool
     ensures { result ≡ leb (type_of cell.now) 3 }
 {
     cell[3] / 2 % 8 <= 3
 }
 
 // A data cell's EFCI is the middle bit of its payload type.
-pub fn efci_of(cell: &[u8]) -> bool
-    requires { length cell.now ≡ 53 }
+pub fn efci_of(cell: &[u8; CELL_OCTETS]) -> bool
     ensures { result ≡ eqb (type_of cell.now / 2 % 2) 1 }
 {
     cell[3] / 2 % 8 / 2 % 2 == 1
@@ -68,8 +64,7 @@ pub fn efci_of(cell: &[u8]) -> bool
 
 // The refusal that the rest of an RM cell meets.
 #[tactic(auto, unfolding(cell::specs::Refusals::rest_refusal))]
-pub fn rm_refusal(cell: &[u8]) -> Result<(), Refusal>
-    requires { length cell.now ≡ 53 }
+pub fn rm_refusal(cell: &[u8; CELL_OCTETS]) -> Result<(), Refusal>
     ensures { refusal_or_0 result ≡ rest_refusal cell.now }
 {
     if !crc_right(cell) {
@@ -88,7 +83,7 @@ pub fn rm_refusal(cell: &[u8]) -> Result<(), Refusal>
 pub fn refusal(cell: &[u8]) -> Result<(), Refusal>
     ensures { RefusedAsRead cell.now (refusal_or_0 result) }
 {
-    header_refusal(cell)?;
+    let cell = header_checked(cell)?;
     if is_data(cell) {
         return Ok(());
     }
@@ -99,7 +94,7 @@ pub fn refusal(cell: &[u8]) -> Result<(), Refusal>
 pub fn read(cell: &[u8]) -> Result<Cell, Refusal>
     ensures { read_as result ≡ reading cell.now }
 {
-    refusal(cell)?;
+    let cell = header_checked(cell)?;
     if is_data(cell) {
         return Ok(Cell::Data {
             vpi: vpi_of(cell),
@@ -107,5 +102,6 @@ pub fn read(cell: &[u8]) -> Result<Cell, Refusal>
             efci: efci_of(cell),
         });
     }
+    rm_refusal(cell)?;
     Ok(Cell::Rm(fields_of(cell)))
 }

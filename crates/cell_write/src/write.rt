@@ -55,8 +55,8 @@ fn without_crc(f: Fields) -> Payload
 }
 
 // An RM cell with these fields.
-pub fn put_rm(cell: &mut [u8], clp: u32, f: Fields)
-    requires { (length cell.old ≡ 53) × ((clp ≤ 1) × (fields_fit f ≡ true)) }
+pub fn put_rm(cell: &mut [u8; CELL_OCTETS], clp: u32, f: Fields)
+    requires { (clp ≤ 1) × (fields_fit f ≡ true) }
     ensures { cell.new ≡ rm_cell clp f }
 {
     put_header(cell, clp, f.vpi, f.vci);
@@ -68,9 +68,9 @@ pub fn put_rm(cell: &mut [u8], clp: u32, f: Fields)
 pub fn write(cell: &mut [u8], f: Fields) -> Result<(), Refusal>
     ensures { (result ≡ writing (length cell.old) f) × (cell.new ≡ buffer_written result (rm_cell 0 f) cell.old) }
 {
-    if cell.len() != CELL_OCTETS {
+    let Some(cell) = cell.as_mut_array() else {
         return Err(Refusal::Length);
-    }
+    };
     if !f.fits() {
         return Err(Refusal::Range);
     }

@@ -1,11 +1,12 @@
 // Writes a new ER into a cell, with its CRC-10 (document 02, L10).
-ghost use Rattle.std.specs.Prelude.{◌≡◌, ◌++◌, ◌+◌, ◌*◌, ◌%◌, ◌≤◌, ◌<◌, length, take};
+ghost use Rattle.std.specs.Prelude.{◌≡◌, ◌++◌, ◌+◌, ◌*◌, ◌%◌, ◌≤◌, ◌<◌, take};
 ghost use Rattle.cell_crc.specs.Checks.{payload_check};
 ghost use Rattle.cell_payload.specs.Payload.{octets_of};
 ghost use Rattle.cell.specs.Octets.{pair, payload};
 ghost use Rattle.port.specs.Limit.{with_er};
 ghost use Rattle.port.specs.ErAlone.{er_alone};
 
+use cell::octets::CELL_OCTETS;
 use cell_crc::crc10::crc10;
 use cell_payload::payload::Payload;
 
@@ -24,8 +25,8 @@ fn er_check(high: u8, low: u8) -> u64
 }
 
 // The CRC-10 is linear, so that the bits that change in ER say what changes in the CRC-10, which was found right.
-pub fn put_er(cell: &mut [u8], code: u32)
-    requires { (length cell.old ≡ 53) × ((code ≤ 65535) × (pair 52 cell.old % 1024 ≡ payload_check (payload cell.old))) }
+pub fn put_er(cell: &mut [u8; CELL_OCTETS], code: u32)
+    requires { (code ≤ 65535) × (pair 52 cell.old % 1024 ≡ payload_check (payload cell.old)) }
     ensures { cell.new ≡ take 5 cell.old ++ with_er code (payload cell.old) }
 {
     let high = (code / 256) as u8;

@@ -14,6 +14,9 @@ use rate::code::{code_or_zero, rate_of};
 pub fn limit(rate: u64, cell: &mut [u8]) -> Result<(), Refusal>
     ensures { passed (refusal_or_0 result) cell.new ≡ limit rate cell.old }
 {
+    let Some(cell) = cell.as_mut_array() else {
+        return Err(Refusal::Length);
+    };
     match read(cell)? {
         Cell::Rm(f) if f.dir == 1 => {
             put_er(cell, code_or_zero(rate_of(f.er).min(rate)));

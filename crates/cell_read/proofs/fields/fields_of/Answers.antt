@@ -1,17 +1,9 @@
 -- The fields, one by one, are those of the definition.
-use native.Mathlib.Omega.{arith}
+use Rattle.std.proofs.Common.{arith}
 use Rattle.cell.proofs.Readings.{fields-are}
 use Rattle.cell_read.proofs.fields.fields_of.Goals as goal
 
-pub overflow_cast-marks : goal.overflow_cast-marks
-overflow_cast-marks c = omega (arith, c.shared_slice_known-2-1.given 6)
-
 pub returns : goal.returns
 returns c =
-    let l = c in
-    let m = l in
-    let n = m in
-    let e = n in
-    let v = e in
-    let s = v in
-    fields-are s.args.cell.now v.vpi_of.ensures v.vci_of.ensures e.pair.ensures n.pair-2.ensures m.pair-3.ensures l.long.ensures c.long-2.ensures
+    fields-are _ c.vpi_of.ensures c.vci_of.ensures c.from_be_bytes.ensures c.from_be_bytes-2.ensures c.from_be_bytes-3.ensures
+    (omega (arith, c.from_be_bytes-4.ensures)) (omega (arith, c.from_be_bytes-5.ensures))

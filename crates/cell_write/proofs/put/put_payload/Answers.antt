@@ -1,15 +1,9 @@
 -- The six words, one after the other, fill octets 6 to 53.
+use Rattle.std.proofs.Common.{rules}
 use Rattle.cell.proofs.Stores.{payload-put}
 use Rattle.cell_write.proofs.put.put_payload.Goals as goal
 
 pub returns : goal.returns
 returns c =
-    let f = c in
-    let e = f in
-    let d = e in
-    let k = d in
-    let b = k in
-    let a = b in
-    let s = a in
-    payload-put s.args.cell.now s.args.p s.requires
-    a.put_word.ensures b.put_word-2.ensures k.put_word-3.ensures d.put_word-4.ensures e.put_word-5.ensures f.put_word-6.ensures
+    payload-put c.args.cell.now c.args.p (search rules) c.put_word.ensures c.put_word-2.ensures c.put_word-3.ensures
+    c.put_word-4.ensures c.put_word-5.ensures c.put_word-6.ensures

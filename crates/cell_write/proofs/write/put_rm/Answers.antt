@@ -19,4 +19,4 @@ returns c =
     let f = s.args.f in
     cell-put s.args.clp f.vpi f.vci s.args.cell.now (octets_of p.with_crc.result) h.put_header.ensures p.put_payload.ensures
     ∙ ap (λ (l : List ℕ). header s.args.clp f.vpi f.vci ++ l)
-    (with_crc-words f (fit f s.requires.1.1) p.without_crc.ensures p.with_crc.ensures.0)
+    (with_crc-words f (fit f s.requires.1) p.without_crc.ensures p.with_crc.ensures.0)
