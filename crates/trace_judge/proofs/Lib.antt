@@ -1,5 +1,3 @@
-pub mod RuleCases
-pub mod ReadCases
 pub mod Progress
 pub mod Rest
 pub mod Earliest

@@ -1,7 +1,7 @@
 -- The loop of the judge: what is left to read, judged from what is kept, gives the answer.
 use mathlib.Core.Path.{◌≡◌, refl, sym, ap, subst, ◌∙◌}
 use mathlib.Core.Bool.{Bool, true, false, cond}
-use mathlib.Core.List.{List, [], ◌∷◌}
+use mathlib.Core.List.{List, []}
 use Prim.Native.Nat.{ℕ, zero, suc, ◌+◌, ◌-◌, ◌^◌, ◌≤◌, ◌<◌}
 use native.Mathlib.Nat.{le_refl}
 use native.Mathlib.Omega.{arith}
@@ -9,40 +9,52 @@ use lib.Dec.{eqb}
 use lib.ListN.{length}
 use lib.Pow.{pow_pos}
 use borrow.Author.Tests.{lt-ltb, le-ltb, ne_eqb}
+use Rattle.std.specs.Prelude.{Option, Some, None, Ok, Err, IsErrAnd}
+use Rattle.laws.specs.declared.refusals.Refusal.{Refusal}
 use Rattle.rate.specs.Units.{latest_time}
 use Rattle.rate_params.specs.Params.{trm_time}
 use Rattle.rate_params.proofs.Ranges.{trm-le}
-use Rattle.trace_judge.specs.Rules.{Cell, Sent, Verdict, Refused, Breaks, is_forward_cell, nothing_sent, with_sent, broken_rule, judged_from}
-use Rattle.trace_judge.specs.Octets.{Record, Whole, cut, record_at, most_since, Parsed, refusing, listed, prepended, record_then, cells_parsed, verdict_of}
-use Rattle.trace_judge.specs.Concluded.{Broken, unbroken, with_broken, concluded, NextFits, RulesFit}
+use Rattle.trace_judge.specs.Rules.{Cell, Sent, Rule, Broken, Verdict, is_forward_cell, nothing_sent, with_sent, broken_rule, broken_at, broken_or, judged_from}
+use Rattle.trace_judge.specs.Octets.{Record, record_at, most_since, Parsed, prepended, record_then, cells_parsed, verdict_of}
+use Rattle.trace_judge.specs.Kept.{with_broken, NextFits, RulesFit}
 use Rattle.trace_judge.proofs.Progress.{RecordFits, record-fits}
 
+abbrev refused : Refusal → Verdict
+refused r = Err r
+
+abbrev verdict : Option Broken → Verdict
+verdict b = Ok b
+
+-- a refusal that `?` hands on
+pub passed_on : (v : Verdict) {r : Refusal} → IsErrAnd v (λ x. x ≡ r) → v ≡ refused r
+passed_on (Ok b) h = absurd h
+passed_on (Err x) h = ap refused h
+
 -- the answer, from what is kept and from the cells that are left
-unfoldable pub finish : (nrm trm : ℕ) → Broken → Sent → Parsed → Verdict
-finish nrm trm b h (refusing r) = Refused r
-finish nrm trm b h (listed cs) = cond (eqb b.rule 0) (judged_from nrm trm h cs) (Breaks b.cell b.rule)
+unfoldable pub finish : (nrm trm : ℕ) → Option Broken → Sent → Parsed → Verdict
+finish nrm trm b h (Err r) = Err r
+finish nrm trm (Some b) h (Ok cs) = Ok (Some b)
+finish nrm trm None h (Ok cs) = judged_from nrm trm h cs
 
-finish-start : (n trm : ℕ) (q : Parsed) → finish (2 ^ n) (trm_time trm) unbroken nothing_sent q ≡ verdict_of n trm q
+finish-start : (n trm : ℕ) (q : Parsed) → finish (2 ^ n) (trm_time trm) None nothing_sent q ≡ verdict_of n trm q
 unfolding finish verdict_of
-finish-start n trm (refusing r) = refl
-finish-start n trm (listed cs) = refl
+finish-start n trm (Err r) = refl
+finish-start n trm (Ok cs) = refl
 
-finish-end : (nrm trm : ℕ) (b : Broken) (h : Sent) → concluded b ≡ finish nrm trm b h (listed [])
-unfolding finish concluded judged_from
-finish-end nrm trm b h = refl
+finish-end : (nrm trm : ℕ) (b : Option Broken) (h : Sent) → verdict b ≡ finish nrm trm b h (Ok [])
+unfolding finish judged_from
+finish-end nrm trm (Some b) h = refl
+finish-end nrm trm None h = refl
 
-finish-next : (nrm trm : ℕ) (b : Broken) (h : Sent) (c : Cell) (q : Parsed) → finish nrm trm b h (prepended c q) ≡ finish nrm trm (with_broken nrm trm b h c) (with_sent h c) q
+finish-next : (nrm trm : ℕ) (b : Option Broken) (h : Sent) (c : Cell) (q : Parsed) → finish nrm trm b h (prepended c q) ≡ finish nrm trm (with_broken nrm trm b h c) (with_sent h c) q
 unfolding finish prepended with_broken judged_from
-finish-next nrm trm b h c (refusing r) = refl
-finish-next nrm trm b h c (listed cs) = go (eqb b.rule 0) refl
+finish-next nrm trm b h c (Err r) = refl
+finish-next nrm trm (Some b) h c (Ok cs) = refl
+finish-next nrm trm None h c (Ok cs) = go (broken_rule nrm trm h c)
   where
-    go : (z : Bool) → eqb b.rule 0 ≡ z
-        → cond (eqb b.rule 0) (judged_from nrm trm h (c ∷ cs)) (Breaks b.cell b.rule) ≡ finish nrm trm (with_broken nrm trm b h c) (with_sent h c) (listed cs)
-    go true e = rw e
-    go false e =
-        ap (λ (z : Bool). cond z (judged_from nrm trm h (c ∷ cs)) (Breaks b.cell b.rule)) e
-        ∙ sym (ap (λ (z : Bool). cond z (judged_from nrm trm (with_sent h c) cs) (Breaks b.cell b.rule)) e)
-        ∙ sym (ap (λ (z : Bool). finish nrm trm (cond z (record { cell = h.cells + 1; rule = broken_rule nrm trm h c }) b) (with_sent h c) (listed cs)) e)
+    go : (r : Option Rule) → broken_or (h.cells + 1) r (judged_from nrm trm (with_sent h c) cs) ≡ finish nrm trm (broken_at (h.cells + 1) r) (with_sent h c) (Ok cs)
+    go None = refl
+    go (Some r) = refl
 
 -- counts and times in order
 pub record InSequence (offset : ℕ) (h : Sent) : Type 0 where
@@ -79,7 +91,7 @@ abbrev left : (n : ℕ) → List ℕ → (k : ℕ) → Sent → Parsed
 left n s k h = cells_parsed n s k (eqb h.cells 0) h.time
 
 -- what is known whenever the loop's test is reached, v being the answer
-pub record Rest (nrm trm : ℕ) (s : List ℕ) (v : Verdict) (k : ℕ) (b : Broken) (h : Sent) : Type 0 where
+pub record Rest (nrm trm : ℕ) (s : List ℕ) (v : Verdict) (k : ℕ) (b : Option Broken) (h : Sent) : Type 0 where
   pub some : 0 < nrm
   pub short : trm ≤ 100_000_000
   pub steps : ℕ
@@ -87,7 +99,7 @@ pub record Rest (nrm trm : ℕ) (s : List ℕ) (v : Verdict) (k : ℕ) (b : Brok
   pub same : finish nrm trm b h (left steps s k h) ≡ v
   pub order : InSequence k h
 
-pub rest-start : (n trm : ℕ) (s : List ℕ) (k : ℕ) → {x y : ℕ} → x ≡ 2 ^ n → y ≡ trm_time trm → Rest x y s (verdict_of n trm (cells_parsed (length s) s k true 0)) k unbroken nothing_sent
+pub rest-start : (n trm : ℕ) (s : List ℕ) (k : ℕ) → {x y : ℕ} → x ≡ 2 ^ n → y ≡ trm_time trm → Rest x y s (verdict_of n trm (cells_parsed (length s) s k true 0)) k None nothing_sent
 rest-start n trm s k e f = record {
   some = omega (arith, e, pow_pos n);
   short = omega (arith, f, trm-le trm);
@@ -110,25 +122,25 @@ unroll (suc n) s k first sum en h = rw (lt-ltb k (length s) h, less n)
     less : (n : ℕ) → suc n - 1 ≡ n
     less n = omega arith
 
-ended : (n : ℕ) (s : List ℕ) (k : ℕ) (first : Bool) (sum : ℕ) → length s ≤ k → cells_parsed n s k first sum ≡ listed []
+ended : (n : ℕ) (s : List ℕ) (k : ℕ) (first : Bool) (sum : ℕ) → length s ≤ k → cells_parsed n s k first sum ≡ Ok []
 unfolding cells_parsed
 ended zero s k first sum h = refl
 ended (suc n) s k first sum h = rw (le-ltb k (length s) h)
 
-module _ (nrm trm : ℕ) (s : List ℕ) (v : Verdict) (k : ℕ) (b : Broken) (h : Sent) (rest : Rest nrm trm s v k b h) where
-  pub rest_end : length s ≤ k → {x : Verdict} → x ≡ concluded b → x ≡ v
-  rest_end l e = e ∙ finish-end nrm trm b h ∙ ap (finish nrm trm b h) (sym (ended rest.steps s k (eqb h.cells 0) h.time l)) ∙ rest.same
+module _ {nrm trm : ℕ} {s : List ℕ} {v : Verdict} {k : ℕ} {b : Option Broken} {h : Sent} (rest : Rest nrm trm s v k b h) where
+  pub rest_end : length s ≤ k → verdict b ≡ v
+  rest_end l = finish-end nrm trm b h ∙ ap (finish nrm trm b h) (sym (ended rest.steps s k (eqb h.cells 0) h.time l)) ∙ rest.same
 
   module _ (l : k < length s) {x : Record} {most : ℕ} (m : most ≡ most_since (eqb h.cells 0) h.time) (e : x ≡ record_at s k most) where
     read : finish nrm trm b h (record_then x (λ c j. cells_parsed (rest.steps - 1) s j false (h.time + c.since))) ≡ v
     read = ap (λ (y : Record). finish nrm trm b h (record_then y (λ c j. cells_parsed (rest.steps - 1) s j false (h.time + c.since)))) (e ∙ ap (record_at s k) m)
         ∙ ap (finish nrm trm b h) (sym (unroll rest.steps s k (eqb h.cells 0) h.time rest.enough l)) ∙ rest.same
 
-    pub rest-refused : {r : ℕ} → x ≡ cut r → Refused r ≡ v
+    pub rest-refused : {r : Refusal} → x ≡ Err r → refused r ≡ v
     unfolding finish record_then
     rest-refused f = ap (λ (y : Record). finish nrm trm b h (record_then y (λ c j. cells_parsed (rest.steps - 1) s j false (h.time + c.since)))) (sym f) ∙ read
 
-    module _ {c : Cell} {j : ℕ} (f : x ≡ Whole c j) where
+    module _ {c : Cell} {j : ℕ} (f : x ≡ Ok (c, j)) where
       fits : (c.since ≤ latest_time - h.time) × (k < j)
       fits =
           let q : (c.since ≤ most) × (k < j) = subst (RecordFits k most) (sym e ∙ f) (record-fits s k most) in
@@ -146,7 +158,7 @@ module _ (nrm trm : ℕ) (s : List ℕ) (v : Verdict) (k : ℕ) (b : Broken) (h 
       pub rules-fit : length s < 2 ^ 64 → RulesFit nrm trm h c
       rules-fit w = record { next = next_fits w; some = rest.some; due = omega (arith, rest.short, rest.order.past, rest.order.latest) }
 
-      pub rest-next : {d : Broken} {g : Sent} → d ≡ with_broken nrm trm b h c → g ≡ with_sent h c → Rest nrm trm s v j d g
+      pub rest-next : {d : Option Broken} {g : Sent} → d ≡ with_broken nrm trm b h c → g ≡ with_sent h c → Rest nrm trm s v j d g
       unfolding record_then
       rest-next p q = rw (p, q) (record {
         some = rest.some;

@@ -8,7 +8,8 @@ use native.Mathlib.Nat.{le_trans, suc-mul}
 use native.Mathlib.Omega.{arith}
 use lib.Dec.{ltb, eqb}
 use lib.ListN.{length}
-use borrow.Author.Tests.{eqb-true, eqb-false, ne_eqb, ltb-false}
+use borrow.Author.Tests.{eqb-false, ne_eqb, ltb-false}
+use Rattle.std.specs.Prelude.{Option, Some, None}
 use Rattle.rate.specs.Gap.{gap}
 use Rattle.rate.proofs.Gaps.{gap-antitone}
 use Rattle.rate_params.specs.declared.params.Params.{Params}
@@ -16,7 +17,7 @@ use Rattle.rate_params.specs.Params.{initial_used}
 use Rattle.rate_params.specs.Forward.{forward_due}
 use Rattle.rate_params.specs.Setup.{cells_allowed}
 use Rattle.rate_params.proofs.Setup.{initial-rate}
-use Rattle.trace_judge.specs.Rules.{Cell, Sent, Passes, Breaks, nothing_sent, is_forward_cell, with_sent, too_soon, broken_rule, judged_from}
+use Rattle.trace_judge.specs.Rules.{Cell, Sent, Rule, FirstForward, Spacing, ForwardDue, Verdict, Passes, broken_or, nothing_sent, is_forward_cell, with_sent, too_soon, broken_rule, judged_from}
 use Rattle.trace_judge.specs.RoundTrip.{span, RatesUpTo, TripBounded}
 
 -- One cell that passes.
@@ -32,29 +33,28 @@ not-soon c e =
     record { some = omega (arith, n); slow = ltb-false c.since (gap c.rate) h.1 }
 
 module _ (nr trm : ℕ) (h : Sent) (c : Cell) where
-  slow-cell : 0 < h.cells → broken_rule nr trm h c ≡ 0 → Slow c
+  slow-cell : 0 < h.cells → broken_rule nr trm h c ≡ None → Slow c
   unfolding broken_rule
   slow-cell l e = not-soon c (go (eqb h.cells 0) (too_soon c) (ne_eqb h.cells 0 (λ z. omega arith)) e)
     where
-      first : ℕ
-      first = cond (is_forward_cell c) 0 1
+      first : Option Rule
+      first = cond (is_forward_cell c) None (Some FirstForward)
 
-      rest : ℕ
-      rest = cond (forward_due nr trm h.k h.forward (h.time + c.since)) (cond (is_forward_cell c) 0 3) (cond (is_forward_cell c) 3 0)
+      rest : Option Rule
+      rest = cond (forward_due nr trm h.k h.forward (h.time + c.since)) (cond (is_forward_cell c) None (Some ForwardDue)) (cond (is_forward_cell c) (Some ForwardDue) None)
 
-      go : (z b : Bool) → z ≡ false → cond z first (cond b 2 rest) ≡ 0 → b ≡ false
-      go true b q e = let x : ◌≡◌ {A = ℕ} 0 1 = cc in absurd (omega arith)
-      go false true q e = absurd (omega arith)
+      go : (z b : Bool) → z ≡ false → cond z first (cond b (Some Spacing) rest) ≡ None → b ≡ false
+      go true b q e = absurd cc
+      go false true q e = absurd cc
       go false false q e = refl
 
-  passed : (cs : List Cell) → judged_from nr trm h (c ∷ cs) ≡ Passes → (broken_rule nr trm h c ≡ 0) × (judged_from nr trm (with_sent h c) cs ≡ Passes)
+  passed : (cs : List Cell) → judged_from nr trm h (c ∷ cs) ≡ Passes → (broken_rule nr trm h c ≡ None) × (judged_from nr trm (with_sent h c) cs ≡ Passes)
   unfolding judged_from
-  passed cs e = go (eqb (broken_rule nr trm h c) 0) refl e
+  passed cs e = go (broken_rule nr trm h c) (judged_from nr trm (with_sent h c) cs) e
     where
-      go : (b : Bool) → eqb (broken_rule nr trm h c) 0 ≡ b → cond b (judged_from nr trm (with_sent h c) cs) (Breaks (h.cells + 1) (broken_rule nr trm h c)) ≡ Passes
-          → (broken_rule nr trm h c ≡ 0) × (judged_from nr trm (with_sent h c) cs ≡ Passes)
-      go true q e = (eqb-true _ _ q, e)
-      go false q e = let z : ◌≡◌ {A = ℕ} 0 1 = cc in absurd (omega arith)
+      go : (b : Option Rule) (v : Verdict) → broken_or (h.cells + 1) b v ≡ Passes → (b ≡ None) × (v ≡ Passes)
+      go None v e = (refl, e)
+      go (Some r) v e = absurd cc
 
   some-sent : 0 < (with_sent h c).cells
   unfolding with_sent

@@ -7,4 +7,4 @@ pub mod RoundTrip
 -- And computed:
 pub mod Examples
 -- For the code's own functions:
-pub mod Concluded
+pub mod Kept

@@ -1,70 +1,46 @@
 // The cells of a trace (document 02, L11).
 ghost use Rattle.std.specs.Prelude.{◌≡◌};
-ghost use Rattle.trace_judge.specs.Octets.{number_within, with_kind, with_since, record_at};
+ghost use Rattle.trace_judge.specs.Octets.{number_within, record_at};
 
-use laws::refusals::REFUSED_TRACE_RANGE;
+use laws::refusals::Refusal;
 use rate::units::LARGEST_RATE;
-use trace::number::Number;
-use trace::reader::number_from;
+use trace::number::number_at;
 
 // The nanoseconds since the cell before, the kind (1 forward, 2 backward, 3 data) and the rate in force before it.
-#[derive(Clone, Copy)]
+#[derive(Clone, Copy, Debug, PartialEq, Eq)]
 pub struct Cell {
     pub since: u64,
+    // The octets' own number and no enum: the theorems on the engine's traces compare it with `kind_number`.
     pub kind: u64,
     pub rate: u64,
 }
 
-#[derive(Clone, Copy)]
-pub enum Record {
-    // A cell, and the offset after it.
-    Whole(Cell, usize),
-    // 23, 24, 25.
-    Refused(u32),
-}
-
-// A number, refused with 25 if it is out of its range.
-pub fn number_within(trace: &[u8], offset: usize, low: u64, high: u64) -> Number
+// A number and the offset after it. TraceRange if it is out of its range; TraceNumber and TraceEnd as `number_at`.
+#[tactic(auto, unfolding(crate::specs::Octets::ranged, rate_params::specs::Params::within))]
+pub fn number_within(
+    trace: &[u8],
+    offset: usize,
+    low: u64,
+    high: u64,
+) -> Result<(u64, usize), Refusal>
     ensures { result ≡ number_within trace.now offset low high }
 {
-    match number_from(trace, offset) {
-        Number::Refused(r) => Number::Refused(r),
-        Number::Value(v, k) => {
-            if v < low {
-                return Number::Refused(REFUSED_TRACE_RANGE);
-            }
-            if high < v {
-                return Number::Refused(REFUSED_TRACE_RANGE);
-            }
-            Number::Value(v, k)
-        }
+    let (value, next) = number_at(trace, offset)?;
+    if (low..=high).contains(&value) {
+        Ok((value, next))
+    } else {
+        Err(Refusal::TraceRange)
     }
 }
 
-fn with_kind(trace: &[u8], since: u64, kind: u64, offset: usize) -> Record
-    ensures { result ≡ with_kind trace.now since kind offset }
-{
-    match number_within(trace, offset, 0, LARGEST_RATE) {
-        Number::Refused(r) => Record::Refused(r),
-        Number::Value(rate, k) => Record::Whole(Cell { since, kind, rate }, k),
-    }
-}
-
-fn with_since(trace: &[u8], since: u64, offset: usize) -> Record
-    ensures { result ≡ with_since trace.now since offset }
-{
-    match number_within(trace, offset, 1, 3) {
-        Number::Refused(r) => Record::Refused(r),
-        Number::Value(kind, k) => with_kind(trace, since, kind, k),
-    }
-}
-
-// The record at an offset; `most` is the latest that its cell may come after the one before.
-pub fn record_at(trace: &[u8], offset: usize, most: u64) -> Record
+// The cell of the record at an offset, and the offset after it; `most` is the latest that it may come after the cell
+// before.
+#[tactic(auto, unfolding(crate::specs::Octets::since_read, crate::specs::Octets::kind_read, crate::specs::Octets::rate_read))]
+pub fn record_at(trace: &[u8], offset: usize, most: u64) -> Result<(Cell, usize), Refusal>
     ensures { result ≡ record_at trace.now offset most }
 {
-    match number_within(trace, offset, 0, most) {
-        Number::Refused(r) => Record::Refused(r),
-        Number::Value(since, k) => with_since(trace, since, k),
-    }
+    let (since, kind_from) = number_within(trace, offset, 0, most)?;
+    let (kind, rate_from) = number_within(trace, kind_from, 1, 3)?;
+    let (rate, next) = number_within(trace, rate_from, 0, LARGEST_RATE)?;
+    Ok((Cell { since, kind, rate }, next))
 }
