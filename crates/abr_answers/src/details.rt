@@ -1,11 +1,9 @@
 // What an open, a received cell and a slot return (document 01, "Slots"; document 02, L1, L4, L6 and L13).
 ghost use Rattle.std.specs.Prelude.{◌≡◌};
-ghost use Rattle.connection.specs.Kind.{kind_number};
 ghost use Rattle.model.specs.Returned.{opened_as, received_as, sent_as};
 ghost use Rattle.abr_answers.specs.Details.{opened_of, received_of, sent_nothing, sent_of};
 
 use cell::name::VCIS;
-use connection::kind::Kind;
 use laws::refusals::Refusal;
 use model::answers::{Opened, Received, Sent};
 
@@ -36,16 +34,6 @@ impl From<Result<Opened, Refusal>> for AbrOpened {
     }
 }
 
-fn kind_number(k: Kind) -> u32
-    ensures { result ≡ kind_number k }
-{
-    match k {
-        Kind::Forward => 1,
-        Kind::Turned => 2,
-        Kind::Data => 3,
-    }
-}
-
 // kind 0: refused.
 #[repr(C)]
 #[derive(Clone, Copy)]
@@ -67,7 +55,7 @@ impl From<Result<Received, Refusal>> for AbrReceived {
             Ok(received) => AbrReceived {
                 refusal: 0,
                 comparisons: received.comparisons,
-                kind: kind_number(received.kind),
+                kind: received.kind.number(),
                 vpi: received.name / VCIS,
                 vci: received.name % VCIS,
                 leaf: received.leaf,
@@ -128,7 +116,7 @@ impl From<Result<Option<Sent>, Refusal>> for AbrSent {
             Ok(Some(sent)) => AbrSent {
                 refusal: 0,
                 comparisons: sent.comparisons,
-                kind: kind_number(sent.kind),
+                kind: sent.kind.number(),
                 vpi: sent.name / VCIS,
                 vci: sent.name % VCIS,
                 leaf: sent.leaf,

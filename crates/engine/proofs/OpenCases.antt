@@ -39,6 +39,7 @@ use Rattle.table_tournament.specs.Replaying.{Playable}
 use Rattle.table_tournament.proofs.Orders.{ordered}
 use Rattle.model.specs.Call.{Outcome}
 use Rattle.model.specs.Details.{opened_with, open_answer}
+use Rattle.engine.specs.Input.{InputPassed}
 use Rattle.engine.proofs.Outcomes.{refused-out, replayed-out, time-word}
 use Rattle.laws.specs.Require.{require}
 
@@ -76,14 +77,6 @@ module _ (s : State) (a b t : ℕ) (p : Params) where
       pub open-late : tbe_fits p ≡ true → frtt_fits p ≡ true → latest_time < t → open_address s a b t p ≡ refuse s 8
       unfolding open_address require
       open-late x y z = rw (k, f, x, y, lt-leb t latest_time z)
-
--- the tests of the input that an open has passed
-pub record InputPassed (a b t : ℕ) (p : Params) : Type 0 where
-  pub clear : codes_clear p.pcr p.mcr p.icr ≡ true
-  pub fits : (address_fits a b && params_fit p) ≡ true
-  pub tbe : tbe_fits p ≡ true
-  pub frtt : frtt_fits p ≡ true
-  pub timely : t ≤ latest_time
 
 module _ (s : State) {a b t : ℕ} {p : Params} (i : InputPassed a b t p) where
   rest :

@@ -1,9 +1,12 @@
 -- What a call on the words of a reached state finds and leaves: shared by the calls' proofs.
 use Prim.Native.Nat.{ℕ, ◌<◌, ◌%◌}
 use mathlib.Core.Path.{◌≡◌, refl, sym, ap, subst, ◌∙◌}
+use mathlib.Core.Bool.{true, false, true≢false}
 use mathlib.Core.List.{List}
 use native.Mathlib.Omega.{arith}
 use lib.ListN.{get_or, set, length-set}
+use Rattle.std.specs.Option.{ok_or, is_some}
+use Rattle.std.proofs.lemmas.Result.{err_from_is_err_and}
 use Rattle.std.specs.Prelude.{Result, Ok, Err}
 use Rattle.std.specs.Result.{IsErrAnd}
 use Rattle.laws.specs.declared.refusals.Refusal.{Refusal}
@@ -42,8 +45,23 @@ same_meets h k = record { meets = λ s w e. rw (h s) (k.meets s w e) }
 
 -- what a `?` returns
 pub refused-with : {A : Type 0} {r : Result A Refusal} {n : Refusal} → IsErrAnd r (λ x. x ≡ n) → r ≡ Err n
-refused-with {r = Ok v} h = absurd h
-refused-with {r = Err x} h = ap Err h
+refused-with {r = r} h = let p = err_from_is_err_and r h in p.1 ∙ ap Err p.2
+
+abbrev error_or : {A : Type 0} → Refusal → Result A Refusal → Refusal
+error_or d (Ok v) = d
+error_or d (Err e) = e
+
+-- what the `?` after a search returns that found nothing
+pub unfound : {A B : Type 0} {r : Result A Refusal} {x : Option B} {n e : Refusal} → IsErrAnd r (λ y. y ≡ n) → x ≡ None → Err n ≡ ok_or x e → r ≡ Err e
+unfound {e = e} h p q = refused-with h ∙ ap Err (ap (error_or e) (q ∙ ap (λ z. ok_or z e) p))
+
+pub nothing : {A : Type 0} {x : Option A} → is_some x ≡ false → x ≡ None
+nothing {x = None} h = refl
+nothing {x = Some v} h = absurd (true≢false h)
+
+pub something : {A : Type 0} {x : Option A} → is_some x ≡ true → (v : A) × (x ≡ Some v)
+something {x = None} h = absurd (true≢false (sym h))
+something {x = Some v} h = (v, refl)
 
 -- The two plain ways out.
 pub refused-out : {l : List ℕ} {o : Outcome} (s : State) (n : ℕ) → l ≡ words s → o ≡ refuse s n → (l ≡ words o.state) × (Refused n ≡ o.answer)

@@ -14,9 +14,7 @@ use table_names::find::find;
 pub fn read_acr(t: &[u64; WORDS], name: u32) -> Option<Allowed>
     ensures { MeetsReading (λ s. allowed_as result ≡ acr_of s name) t.now }
 {
-    let Some(i) = find(t, name) else {
-        return None;
-    };
+    let i = find(t, name)?;
     let c = load(t, i);
     Some(Allowed {
         acr: c.rate.acr,

@@ -16,9 +16,7 @@ use table_store::store::clear;
 pub fn close(t: &mut [u64; WORDS], name: u32) -> Result<Closed, Refusal>
     ensures { Meets whole_answer (λ s. close_step s name) t.old t.new (closed_as result) }
 {
-    let Some(i) = find(t, name) else {
-        return Err(Refusal::NotOpen);
-    };
+    let i = find(t, name).ok_or(Refusal::NotOpen)?;
     let c = load(t, i);
     let cells = c.queue.cells as u64;
     let comparisons = clear(t, i, name);

@@ -13,9 +13,7 @@ use table_names::find::find;
 pub fn read_contract(t: &[u64; WORDS], name: u32) -> Option<Codes>
     ensures { MeetsReading (λ s. codes_as result ≡ contract_of s name) t.now }
 {
-    let Some(i) = find(t, name) else {
-        return None;
-    };
+    let i = find(t, name)?;
     let c = load(t, i);
     Some(Codes {
         pcr: c.rate.params.pcr,

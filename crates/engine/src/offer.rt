@@ -20,9 +20,7 @@ const MOST: u64 = WAITING_MOST as u64;
 pub fn offer(t: &mut [u64; WORDS], name: u32, cells: u64) -> Result<u32, Refusal>
     ensures { Meets whole_answer (λ s. offer_step s name cells) t.old t.new (accepted_as result) }
 {
-    let Some(i) = find(t, name) else {
-        return Err(Refusal::NotOpen);
-    };
+    let i = find(t, name).ok_or(Refusal::NotOpen)?;
     if name % VCIS == PATH_VCI {
         return Err(Refusal::NotAMember);
     }

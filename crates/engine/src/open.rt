@@ -6,6 +6,7 @@ ghost use Rattle.model.specs.Details.{open_answer};
 ghost use Rattle.model.specs.Returned.{opened_as};
 ghost use Rattle.model.specs.Step.{open_address, open_step, open_path_step};
 ghost use Rattle.engine.specs.Contract.{Meets};
+ghost use Rattle.engine.specs.Input.{JudgesInput};
 
 use cell::name::{VCI_MOST, VPI_MOST, address_name};
 use connection::parts::Connection;
@@ -28,9 +29,9 @@ fn in_range(vpi: u32, vci: u32, params: Params) -> bool
     vpi <= VPI_MOST && (vci <= VCI_MOST && params.fits())
 }
 
-// What every open refuses: 19, 7, 29, 30, 8, 12, 27, 13, 14.
-fn open_address(t: &mut [u64; WORDS], vpi: u32, vci: u32, time: u64, params: Params) -> Result<Opened, Refusal>
-    ensures { Meets open_answer (λ s. open_address s vpi vci time params) t.old t.new (opened_as result) }
+// What every open refuses of its arguments alone: 19, 7, 29, 30, 8.
+fn judge_input(vpi: u32, vci: u32, time: u64, params: Params) -> Result<(), Refusal>
+    ensures { JudgesInput vpi vci time params result }
 {
     if !codes_clear(params.pcr, params.mcr, params.icr) {
         return Err(Refusal::ReservedBit);
@@ -47,16 +48,28 @@ fn open_address(t: &mut [u64; WORDS], vpi: u32, vci: u32, time: u64, params: Par
     if LATEST_TIME < time {
         return Err(Refusal::Time);
     }
+    Ok(())
+}
+
+// What every open refuses: those, 12, 27, 13, 14.
+fn open_address(
+    t: &mut [u64; WORDS],
+    vpi: u32,
+    vci: u32,
+    time: u64,
+    params: Params,
+) -> Result<Opened, Refusal>
+    ensures { Meets open_answer (λ s. open_address s vpi vci time params) t.old t.new (opened_as result) }
+{
+    judge_input(vpi, vci, time, params)?;
     let name = address_name(vpi, vci);
-    let None = find(t, name) else {
+    if find(t, name).is_some() {
         return Err(Refusal::AlreadyOpen);
-    };
-    let None = find_member(t, name) else {
+    }
+    if find_member(t, name).is_some() {
         return Err(Refusal::AlreadyMember);
-    };
-    let Some(i) = find_free(t) else {
-        return Err(Refusal::Full);
-    };
+    }
+    let i = find_free(t).ok_or(Refusal::Full)?;
     if time < t[LAST] {
         return Err(Refusal::TimeBackward);
     }
@@ -67,7 +80,13 @@ fn open_address(t: &mut [u64; WORDS], vpi: u32, vci: u32, time: u64, params: Par
 }
 
 // Opening a channel: 10 before all that, which looks at the VCI alone.
-pub fn open(t: &mut [u64; WORDS], vpi: u32, vci: u32, time: u64, params: Params) -> Result<Opened, Refusal>
+pub fn open(
+    t: &mut [u64; WORDS],
+    vpi: u32,
+    vci: u32,
+    time: u64,
+    params: Params,
+) -> Result<Opened, Refusal>
     ensures { Meets open_answer (λ s. open_step s vpi vci time params) t.old t.new (opened_as result) }
 {
     if vci < FIRST_VCI {
@@ -77,7 +96,12 @@ pub fn open(t: &mut [u64; WORDS], vpi: u32, vci: u32, time: u64, params: Params)
 }
 
 // Opening the path of a VPI: without 10.
-pub fn open_path(t: &mut [u64; WORDS], vpi: u32, time: u64, params: Params) -> Result<Opened, Refusal>
+pub fn open_path(
+    t: &mut [u64; WORDS],
+    vpi: u32,
+    time: u64,
+    params: Params,
+) -> Result<Opened, Refusal>
     ensures { Meets open_answer (λ s. open_path_step s vpi time params) t.old t.new (opened_as result) }
 {
     open_address(t, vpi, PATH_VCI, time, params)

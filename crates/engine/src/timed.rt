@@ -14,9 +14,7 @@ pub fn timed_entry(t: &[u64; WORDS], name: u32, time: u64) -> Result<usize, Refu
     if LATEST_TIME < time {
         return Err(Refusal::Time);
     }
-    let Some(i) = find(t, name) else {
-        return Err(Refusal::NotOpen);
-    };
+    let i = find(t, name).ok_or(Refusal::NotOpen)?;
     if time < t[LAST] {
         return Err(Refusal::TimeBackward);
     }

@@ -14,9 +14,7 @@ fn find_path(t: &[u64; WORDS], name: u32) -> Option<usize>
     if NO_NAME <= name {
         return None;
     }
-    let Some(_) = find_member(t, name) else {
-        return None;
-    };
+    find_member(t, name)?;
     find(t, path_of(name))
 }
 

@@ -37,9 +37,7 @@ fn receive_data(t: &mut [u64; WORDS], vpi: u32, vci: u32, efci: bool) -> Result<
     if name % VCIS == PATH_VCI {
         return Err(Refusal::NotOpen);
     }
-    let Some(i) = find_owner(t, name) else {
-        return Err(Refusal::NotOpen);
-    };
+    let i = find_owner(t, name).ok_or(Refusal::NotOpen)?;
     let c = load(t, i);
     let next = after_data_cell(efci, c);
     let destination = next.destination;
@@ -61,9 +59,7 @@ fn receive_rm(t: &mut [u64; WORDS], cell: &[u8], f: Fields) -> Result<Received, 
     ensures { Meets (receive_answer (RmCell f)) (λ s. read_step s cell.now (RmCell f)) t.old t.new (received_as result) }
 {
     let name = address_name(f.vpi, f.vci);
-    let Some(i) = find(t, name) else {
-        return Err(Refusal::NotOpen);
-    };
+    let i = find(t, name).ok_or(Refusal::NotOpen)?;
     let leaf = i as u32;
     let c = load(t, i);
     if f.dir == 1 {
@@ -94,16 +90,10 @@ fn receive_rm(t: &mut [u64; WORDS], cell: &[u8], f: Fields) -> Result<Received, 
 pub fn receive(t: &mut [u64; WORDS], cell: &[u8]) -> Result<Received, Refusal>
     ensures { Meets (receive_answer (reading cell.now)) (λ s. receive_step s cell.now) t.old t.new (received_as result) }
 {
-    let first = header_refusal(cell);
-    if first != 0 {
-        return ReceiveAnswer::Refused(first);
-    }
+    header_refusal(cell)?;
     if is_data(cell) {
         return receive_data(t, vpi_of(cell), vci_of(cell), efci_of(cell));
     }
-    let second = rm_refusal(cell);
-    if second != 0 {
-        return ReceiveAnswer::Refused(second);
-    }
+    rm_refusal(cell)?;
     receive_rm(t, cell, fields_of(cell))
 }

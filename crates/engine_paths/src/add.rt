@@ -19,18 +19,16 @@ pub fn add(t: &mut [u64; WORDS], vpi: u32, vci: u32) -> Result<(), Refusal>
         return Err(Refusal::LowVci);
     }
     let name = address_name(vpi, vci);
-    let Some(_) = find(t, path_of(name)) else {
-        return Err(Refusal::NotOpen);
-    };
+    find(t, path_of(name)).ok_or(Refusal::NotOpen)?;
     if NO_NAME <= name {
         return Err(Refusal::NotOpen);
     }
-    let None = find(t, name) else {
+    if find(t, name).is_some() {
         return Err(Refusal::AlreadyOpen);
-    };
-    let None = find_member(t, name) else {
+    }
+    if find_member(t, name).is_some() {
         return Err(Refusal::AlreadyMember);
-    };
+    }
     if !has_room(t) {
         return Err(Refusal::MembersFull);
     }

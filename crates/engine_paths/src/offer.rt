@@ -21,12 +21,8 @@ use table_store::store::update_queue;
 pub fn offer_member(t: &mut [u64; WORDS], vpi: u32, vci: u32, cells: u64) -> Result<u32, Refusal>
     ensures { Meets whole_answer (λ s. offer_member_step s vpi vci cells) t.old t.new (accepted_as result) }
 {
-    let Some(i) = find(t, address_name(vpi, PATH_VCI)) else {
-        return Err(Refusal::NotOpen);
-    };
-    let Some(j) = member_at(t, vpi, vci) else {
-        return Err(Refusal::NotAMember);
-    };
+    let i = find(t, address_name(vpi, PATH_VCI)).ok_or(Refusal::NotOpen)?;
+    let j = member_at(t, vpi, vci).ok_or(Refusal::NotAMember)?;
     let waiting = cells_at(t, j);
     if ((WAITING_MOST - waiting) as u64) < cells {
         return Err(Refusal::TooMuchData);

@@ -20,12 +20,8 @@ use table_store::store::update_queue;
 pub fn remove(t: &mut [u64; WORDS], vpi: u32, vci: u32) -> Result<Closed, Refusal>
     ensures { Meets whole_answer (λ s. remove_step s vpi vci) t.old t.new (closed_as result) }
 {
-    let Some(i) = find(t, address_name(vpi, PATH_VCI)) else {
-        return Err(Refusal::NotOpen);
-    };
-    let Some(j) = member_at(t, vpi, vci) else {
-        return Err(Refusal::NotAMember);
-    };
+    let i = find(t, address_name(vpi, PATH_VCI)).ok_or(Refusal::NotOpen)?;
+    let j = member_at(t, vpi, vci).ok_or(Refusal::NotAMember)?;
     let waiting = cells_at(t, j);
     let c = load(t, i);
     change::remove(t, address_name(vpi, vci));
