@@ -14,9 +14,7 @@ fn find_path(t: &[u64; WORDS], name: u32) -> Option<usize>
     if NO_NAME <= name {
         return None;
     }
-    let Some(_) = find_member(t, name) else {
-        return None;
-    };
+    find_member(t, name)?;
     find(t, path_of(name))
 }
 
@@ -24,8 +22,5 @@ fn find_path(t: &[u64; WORDS], name: u32) -> Option<usize>
 pub fn find_owner(t: &[u64; WORDS], name: u32) -> Option<usize>
     ensures { FindsOwner t.now name result }
 {
-    match find(t, name) {
-        Some(i) => Some(i),
-        None => find_path(t, name),
-    }
+    find(t, name).or_else(|| find_path(t, name))
 }

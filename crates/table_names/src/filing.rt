@@ -72,16 +72,14 @@ fn shift_up(t: &mut [u64; WORDS], b: usize, word: u64)
     requires { b < groups * 8 }
     ensures { ShiftsUp b word t.old t.new }
 {
-    let mut i = b;
     let mut moved = word;
-    while i + 1 < BLOCKS {
+    for i in b..BLOCKS - 1 {
         let last = t[DIRECTORY + (i * 8 + 7)];
         put_last(t, i, moved);
         if last == 0 {
             return;
         }
         moved = move_up(t, DIRECTORY + (i * 8 + 8), last);
-        i += 1;
     }
     t[DIRECTORY + (CAPACITY - 1)] = moved;
 }
@@ -91,15 +89,13 @@ fn shift_down(t: &mut [u64; WORDS], b: usize)
     requires { b < groups * 8 }
     ensures { ShiftsDown b t.old t.new }
 {
-    let mut i = b;
-    while i + 1 < BLOCKS {
+    for i in b..BLOCKS - 1 {
         let next = t[DIRECTORY + (i * 8 + 8)];
         put_last(t, i, next);
         if next == 0 {
             return;
         }
         move_down(t, DIRECTORY + (i * 8 + 8));
-        i += 1;
     }
     t[DIRECTORY + (CAPACITY - 1)] = 0;
 }
