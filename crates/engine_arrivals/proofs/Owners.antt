@@ -13,7 +13,7 @@ use Rattle.model.specs.Invariant.{WellFormed}
 use Rattle.model.proofs.Frames.{name_of}
 use Rattle.model.proofs.Preserved.{valid-at}
 use Rattle.table.specs.Layout.{words}
-use Rattle.std.specs.Prelude.{Option, Some, None}
+use Rattle.std.specs.Prelude.{Option, Some, None, MatchOption}
 use Rattle.table_names.specs.Finding.{Located, Names, FindsName}
 use Rattle.table_names.proofs.Found.{found_at}
 use Rattle.table_members.specs.Words.{FindsMember}
@@ -68,6 +68,10 @@ module _ (l : List ℕ) (x : ℕ) {r : Option ℕ} (f : FindsName l x r) where
   -- or what is found among the paths
   pub found-path : {k : Option ℕ} → r ≡ None → FindsPath l x k → FindsOwner l x k
   found-path q h = record { inside = h.inside; is = λ s w e. h.is s w e (missing s w e x f q) }
+
+pub found-owner : (l : List ℕ) (x : ℕ) (r k : Option ℕ) → FindsName l x r → MatchOption r (FindsPath l x k) (λ i. k ≡ Some i) → FindsOwner l x k
+found-owner l x (Some i) k f h = subst (FindsOwner l x) (sym h) (found-channel l x f refl)
+found-owner l x None k f h = found-path l x f refl h
 
 -- the path, or no connection
 module _ (l : List ℕ) (x : ℕ) where

@@ -22,8 +22,5 @@ fn find_path(t: &[u64; WORDS], name: u32) -> Option<usize>
 pub fn find_owner(t: &[u64; WORDS], name: u32) -> Option<usize>
     ensures { FindsOwner t.now name result }
 {
-    match find(t, name) {
-        Some(i) => Some(i),
-        None => find_path(t, name),
-    }
+    find(t, name).or_else(|| find_path(t, name))
 }

@@ -19,6 +19,7 @@ pub fn at_least_from(t: &[u64; WORDS], from: usize, start: usize, len: usize, wo
     requires { Column (from + start) len }
     ensures { (start ≤ result) × AtLeast (from + start) len t.now word (result - start) }
 {
+    // not `partition_point`, which looks at other words of the column and branches on each
     let mut p = start;
     let mut half = len / 2;
     while 0 < half {
@@ -71,16 +72,14 @@ pub fn enter(t: &mut [u64; WORDS], from: usize, p: usize, len: usize, word: u64)
     requires { (p ≤ len) × (from + len ≤ size) }
     ensures { Enters from p len word t.old t.new result }
 {
-    let mut i = p;
     let mut moved = word;
-    while i < len {
+    for i in p..len {
         let next = t[from + i];
         t[from + i] = moved;
         if next == 0 {
             return 0;
         }
         moved = next;
-        i += 1;
     }
     moved
 }
@@ -99,14 +98,12 @@ pub fn leave(t: &mut [u64; WORDS], from: usize, p: usize, len: usize)
     requires { (p < len) × (from + len ≤ size) }
     ensures { Leaves from p len t.old t.new }
 {
-    let mut i = p;
-    while i + 1 < len {
+    for i in p..len - 1 {
         let next = t[from + (i + 1)];
         t[from + i] = next;
         if next == 0 {
             return;
         }
-        i += 1;
     }
     t[from + (len - 1)] = 0;
 }
@@ -146,8 +143,7 @@ pub fn remove_run(t: &mut [u64; WORDS], from: usize, len: usize, high: u64, low:
     ensures { RemovesRun from len high low t.old t.new }
 {
     let mut p = at_least(t, from, len, high);
-    let mut i = p;
-    while i < len {
+    for i in p..len {
         let word = t[from + i];
         if word == 0 {
             return;
@@ -155,6 +151,5 @@ pub fn remove_run(t: &mut [u64; WORDS], from: usize, len: usize, high: u64, low:
         t[from + i] = 0;
         t[from + p] = left(word, high, low);
         p = p + stays(word, high, low);
-        i += 1;
     }
 }

@@ -9,7 +9,7 @@ use crate::destination::{destination_word, instant_word, put_turned};
 use crate::source::{halves, put_source};
 use connection::parts::Connection;
 use rate_params::params::Params;
-use table::layout::{FACTOR_LIMIT, HALF, NAME_LIMIT, WORDS};
+use table::layout::{FACTOR_LIMIT, HALF, NAME_LIMIT, RECORD_WIDTH, WORDS};
 
 // Trm in nanoseconds, n and the name.
 fn identity_word(c: Connection) -> u64
@@ -68,28 +68,5 @@ pub fn clear_record(t: &mut [u64; WORDS], b: usize)
     requires { b + 24 ≤ size }
     ensures { t.new ≡ put t.old b (replicate record_width 0) }
 {
-    t[b] = 0;
-    t[b + 1] = 0;
-    t[b + 2] = 0;
-    t[b + 3] = 0;
-    t[b + 4] = 0;
-    t[b + 5] = 0;
-    t[b + 6] = 0;
-    t[b + 7] = 0;
-    t[b + 8] = 0;
-    t[b + 9] = 0;
-    t[b + 10] = 0;
-    t[b + 11] = 0;
-    t[b + 12] = 0;
-    t[b + 13] = 0;
-    t[b + 14] = 0;
-    t[b + 15] = 0;
-    t[b + 16] = 0;
-    t[b + 17] = 0;
-    t[b + 18] = 0;
-    t[b + 19] = 0;
-    t[b + 20] = 0;
-    t[b + 21] = 0;
-    t[b + 22] = 0;
-    t[b + 23] = 0;
+    t[b..b + RECORD_WIDTH].fill(0);
 }

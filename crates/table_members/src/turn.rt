@@ -15,8 +15,7 @@ fn next(t: &[u64; WORDS], first: usize, top: u64) -> Option<usize>
     ensures { Next t.now first top result }
 {
     let low = word_limit(top);
-    let mut i = first;
-    while i < MEMBER_CAPACITY {
+    for i in first..MEMBER_CAPACITY {
         let word = t[MEMBERS + i];
         if word < low {
             return None;
@@ -24,7 +23,6 @@ fn next(t: &[u64; WORDS], first: usize, top: u64) -> Option<usize>
         if 0 < word % MEMBER_LIMIT {
             return Some(i);
         }
-        i += 1;
     }
     None
 }
@@ -44,6 +42,7 @@ pub fn turn(t: &[u64; WORDS], name: u32, last: u16) -> Option<usize>
         MEMBER_CAPACITY,
         word_limit(first + last as u64 + 1),
     );
+    // not `or_else`, whose closure would repeat the contracts of both calls
     match next(t, after, top) {
         Some(i) => Some(i),
         None => next(
@@ -54,7 +53,7 @@ pub fn turn(t: &[u64; WORDS], name: u32, last: u16) -> Option<usize>
     }
 }
 
-// One cell of the member whose turn it is goes; its name, or 0 if it is no member's turn.
+// One cell of the member whose turn it is goes; its name, or 0, as `Serves` has it, if it is no member's turn.
 pub fn serve(t: &mut [u64; WORDS], name: u32, last: u16) -> u32
     ensures { Serves name last t.old t.new result }
 {

@@ -1,13 +1,13 @@
 -- A word enters the directory at its place, and the words behind it move up block by block.
 use Rattle.std.proofs.Common.{◌≡◌, ℕ, ◌+◌, ◌-◌, ◌*◌, ◌/◌, ◌<◌, ◌≤◌, List, [], ◌∷◌, ◌++◌, length, get_or, take, drop, set, sym, refl, ap, ◌∙◌, subst, ap₂, append_assoc, arith, length-append, length-drop, take-append-drop, length-take-le}
 use lib.Seq.{append_snoc, split_at}
-use Rattle.laws.specs.Blocks.{put}
 use Rattle.model.specs.State.{capacity}
 use Rattle.table.specs.Layout.{sampled, groups, samples_from, directory_from}
 use Rattle.table_column.specs.Descending.{at_least, Descending, shifted, pushed, inserted_at}
 use Rattle.table_column.specs.Column.{Enters}
 use Rattle.table_column.proofs.Shifts.{descending-drop, length_inserted, inserted-before, inserted-append, shifted-append, shifted-snoc, pushed-snoc, shifted-zeros}
-use Rattle.table_names.specs.Filing.{InDirectory, FindsPlace, words_from, last_put, both_samples, InBlocks, ShiftsUp, Files}
+use Rattle.std.specs.List.{copy_within}
+use Rattle.table_names.specs.Filing.{InDirectory, FindsPlace, last_put, both_samples, InBlocks, ShiftsUp, Files}
 use Rattle.table_names.proofs.Samples.{sampled-is, length_both}
 use Rattle.table_names.proofs.Changes.{front-column, sampled-again, read_word, store_word, both-kept, both-seven, both-last, last-put}
 use Rattle.table_names.proofs.Moved.{moved_up, come-out}
@@ -61,7 +61,7 @@ module _ (goal h t l : List ℕ) (b moved : ℕ) (head : length h ≡ samples_fr
   -- the last word of this block is stored, and seven of the next one have moved
   entering-moved : (done : List ℕ) (x : ℕ) (us : List ℕ) (u : ℕ) (zs : List ℕ) → Entering goal h t l b moved done (x ∷ (us ++ (u ∷ zs))) → length us ≡ 6 → b * 8 + 8 < capacity
       → Descending zs → (m : List ℕ) (r : ℕ) → let k = last_put l b moved in let at = directory_from + (b * 8 + 8) in
-      m ≡ put k at (get_or l (directory_from + (b * 8 + 7)) 0 ∷ get_or k at 0 ∷ words_from k at 1 5) → r ≡ get_or k (at + 6) 0 → Entered goal h t m (b + 1) r
+      m ≡ set (copy_within k at (at + 6) (at + 1)) at (get_or l (directory_from + (b * 8 + 7)) 0) → r ≡ get_or k (at + 6) 0 → Entered goal h t m (b + 1) r
   unfolding shifted
   entering-moved done x us u zs e six inside falls m r q o =
       record {
@@ -69,8 +69,8 @@ module _ (goal h t l : List ℕ) (b moved : ℕ) (head : length h ≡ samples_fr
         rest = zs;
         is = record {
           now-is =
-              q ∙ ap (λ (y : ℕ). put k at (y ∷ get_or k at 0 ∷ words_from k at 1 5)) (entering-word done x (us ++ (u ∷ zs)) e)
-              ∙ ap (λ (n : List ℕ). put n at (x ∷ get_or n at 0 ∷ words_from n at 1 5)) is
+              q ∙ ap (λ (y : ℕ). set (copy_within k at (at + 6) (at + 1)) at y) (entering-word done x (us ++ (u ∷ zs)) e)
+              ∙ ap (λ (n : List ℕ). set (copy_within n at (at + 6) (at + 1)) at x) is
               ∙ moved_up before us u (zs ++ t) at x long six
               ∙ behind (both_samples now)
               ∙ ap (λ (n : List ℕ). h ++ (n ++ ((next ++ zs) ++ t))) same;
@@ -129,7 +129,7 @@ module _ (goal h t l : List ℕ) (b moved : ℕ) (head : length h ≡ samples_fr
 
   entering-next : (done rest : List ℕ) → Entering goal h t l b moved done rest → b * 8 + 8 < capacity
       → (m : List ℕ) (r : ℕ) → let k = last_put l b moved in let at = directory_from + (b * 8 + 8) in
-      m ≡ put k at (get_or l (directory_from + (b * 8 + 7)) 0 ∷ get_or k at 0 ∷ words_from k at 1 5) → r ≡ get_or k (at + 6) 0 → Entered goal h t m (b + 1) r
+      m ≡ set (copy_within k at (at + 6) (at + 1)) at (get_or l (directory_from + (b * 8 + 7)) 0) → r ≡ get_or k (at + 6) 0 → Entered goal h t m (b + 1) r
   entering-next done [] e inside m r q o = absurd (omega (arith, e.size, inside))
   entering-next done (x ∷ xs) e inside m r q o =
       let n : 6 < length xs = omega (arith, e.size, inside) in
@@ -152,14 +152,14 @@ shifting-up-start b w l k = record {
 
 module _ (first w : ℕ) (start l : List ℕ) (b moved : ℕ) (f : ShiftingUp first w start l b moved) where
   pub shifting-up-next : b * 8 + 8 < capacity → (k m : List ℕ) (r : ℕ) → k ≡ last_put l b moved → let at = directory_from + (b * 8 + 8) in
-      (m ≡ put k at (get_or l (directory_from + (b * 8 + 7)) 0 ∷ get_or k at 0 ∷ words_from k at 1 5)) × (r ≡ get_or k (at + 6) 0) → ShiftingUp first w start m (b + 1) r
+      (m ≡ set (copy_within k at (at + 6) (at + 1)) at (get_or l (directory_from + (b * 8 + 7)) 0)) × (r ≡ get_or k (at + 6) 0) → ShiftingUp first w start m (b + 1) r
   shifting-up-next inside k m r e q = record {
     inside = omega (arith, inside);
     are = λ h xs ys t i.
         let n = f.are h xs ys t i in
         let at : ℕ = directory_from + (b * 8 + 8) in
         entering-next (xs ++ shifted w ys) h t l b moved i.1 n.done n.rest n.is inside m r
-        (q.0 ∙ ap (λ (z : List ℕ). put z at (get_or l (directory_from + (b * 8 + 7)) 0 ∷ get_or z at 0 ∷ words_from z at 1 5)) e) (q.1 ∙ ap (λ (z : List ℕ). get_or z (at + 6) 0) e);
+        (q.0 ∙ ap (λ (z : List ℕ). set (copy_within z at (at + 6) (at + 1)) at (get_or l (directory_from + (b * 8 + 7)) 0)) e) (q.1 ∙ ap (λ (z : List ℕ). get_or z (at + 6) 0) e);
   }
 
   pub shifting-up-zero : b * 8 + 8 < capacity → get_or l (directory_from + (b * 8 + 7)) 0 ≡ 0 → (k : List ℕ) → k ≡ last_put l b moved → ShiftsUp first w start k

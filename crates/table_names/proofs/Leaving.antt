@@ -2,13 +2,13 @@
 use Rattle.std.proofs.Common.{◌≡◌, ℕ, suc, ◌+◌, ◌-◌, ◌*◌, ◌/◌, ◌<◌, ◌≤◌, List, [], ◌∷◌, ◌++◌, length, get_or, take, drop, set, sym, refl, ap, ◌∙◌, subst, append_assoc, arith, length-append, length-drop, take-append-drop, length-take-le, get_or-take}
 use lib.ListN.{get_or-append}
 use lib.Seq.{append_snoc, split_at}
-use Rattle.laws.specs.Blocks.{put}
 use Rattle.model.specs.State.{capacity}
 use Rattle.table.specs.Layout.{sampled, groups, samples_from, directory_from}
 use Rattle.table_column.specs.Descending.{at_least, Descending, removed_at}
 use Rattle.table_column.specs.Column.{Leaves}
 use Rattle.table_column.proofs.Shifts.{descending-drop, removed-split, removed-append, snoc-zeros}
-use Rattle.table_names.specs.Filing.{InDirectory, FindsPlace, words_from, last_put, both_samples, InBlocksBut, ShiftsDown, Unfiles}
+use Rattle.std.specs.List.{copy_within}
+use Rattle.table_names.specs.Filing.{InDirectory, FindsPlace, last_put, both_samples, InBlocksBut, ShiftsDown, Unfiles}
 use Rattle.table_names.proofs.Samples.{length_both}
 use Rattle.table_names.proofs.Changes.{sampled-again, read_word, store_word, front-column, both-kept, both-seven, both-last, last-put}
 use Rattle.table_names.proofs.Moved.{moved_down}
@@ -64,7 +64,7 @@ module _ (goal h t l : List ℕ) (b : ℕ) (head : length h ≡ samples_from) wh
   -- the last word of this block is stored, and seven words of the next one have moved
   leaving-moved : (done : List ℕ) (x y n : ℕ) (us : List ℕ) (u : ℕ) (zs : List ℕ) → Leaving goal h t l b done x y (n ∷ (us ++ (u ∷ zs))) → length us ≡ 6 → b * 8 + 8 < capacity
       → Descending zs → (m : List ℕ) → let k = last_put l b (get_or l (directory_from + (b * 8 + 8)) 0) in let at = directory_from + (b * 8 + 8) in
-      m ≡ put k at (words_from k at 1 7) → Left goal h t m (b + 1)
+      m ≡ copy_within k (at + 1) (at + 8) at → Left goal h t m (b + 1)
   leaving-moved done x y n us u zs e six inside falls m q = record {
     done = next;
     x = u;
@@ -72,7 +72,7 @@ module _ (goal h t l : List ℕ) (b : ℕ) (head : length h ≡ samples_from) wh
     rest = zs;
     is = record {
       now-is =
-          q ∙ ap (λ (z : List ℕ). put z at (words_from z at 1 7)) is
+          q ∙ ap (λ (z : List ℕ). copy_within z (at + 1) (at + 8) at) is
           ∙ moved_down before n us u (zs ++ t) at long six
           ∙ behind (both_samples now)
           ∙ ap (λ (z : List ℕ). h ++ (z ++ ((next ++ (u ∷ zs)) ++ t))) same;
@@ -126,7 +126,7 @@ module _ (goal h t l : List ℕ) (b : ℕ) (head : length h ≡ samples_from) wh
 
   leaving-next : (done : List ℕ) (x y : ℕ) (rest : List ℕ) → Leaving goal h t l b done x y rest → b * 8 + 8 < capacity
       → (m : List ℕ) → let k = last_put l b (get_or l (directory_from + (b * 8 + 8)) 0) in let at = directory_from + (b * 8 + 8) in
-      m ≡ put k at (words_from k at 1 7) → Left goal h t m (b + 1)
+      m ≡ copy_within k (at + 1) (at + 8) at → Left goal h t m (b + 1)
   leaving-next done x y [] e inside m q = absurd (omega (arith, e.size, inside))
   leaving-next done x y (n ∷ xs) e inside m q =
       let s : 6 < length xs = omega (arith, e.size, inside) in
@@ -145,13 +145,13 @@ shifting-down-start b l k = record {
 
 module _ (first : ℕ) (start l : List ℕ) (b : ℕ) (f : ShiftingDown first start l b) where
   pub shifting-down-next : b * 8 + 8 < capacity → (k m : List ℕ) → k ≡ last_put l b (get_or l (directory_from + (b * 8 + 8)) 0) → let at = directory_from + (b * 8 + 8) in
-      m ≡ put k at (words_from k at 1 7) → ShiftingDown first start m (b + 1)
+      m ≡ copy_within k (at + 1) (at + 8) at → ShiftingDown first start m (b + 1)
   shifting-down-next inside k m e q = record {
     inside = omega (arith, inside);
     are = λ h xs ys t x y i.
         let n = f.are h xs ys t x y i in
         let at : ℕ = directory_from + (b * 8 + 8) in
-        leaving-next (xs ++ (ys ++ (0 ∷ []))) h t l b i.1 n.done n.x n.y n.rest n.is inside m (q ∙ ap (λ (z : List ℕ). put z at (words_from z at 1 7)) e);
+        leaving-next (xs ++ (ys ++ (0 ∷ []))) h t l b i.1 n.done n.x n.y n.rest n.is inside m (q ∙ ap (λ (z : List ℕ). copy_within z (at + 1) (at + 8) at) e);
   }
 
   pub shifting-down-zero : b * 8 + 8 < capacity → get_or l (directory_from + (b * 8 + 8)) 0 ≡ 0 → (k : List ℕ) → k ≡ last_put l b (get_or l (directory_from + (b * 8 + 8)) 0) → ShiftsDown first start k

@@ -1,6 +1,6 @@
 -- What finding a word's place, filing a word and taking it out make of the directory and its samples, which stand in a
 -- table between other words.
-use Rattle.std.specs.Prelude.{◌≡◌, ℕ, zero, suc, ◌+◌, ◌-◌, ◌*◌, ◌/◌, ◌%◌, ◌<◌, min, cond, List, [], ◌∷◌, ◌++◌, length, set, ◌==◌, slice_index, slice_set}
+use Rattle.std.specs.Prelude.{◌≡◌, ℕ, ◌+◌, ◌-◌, ◌*◌, ◌/◌, ◌%◌, ◌<◌, min, cond, List, [], ◌∷◌, ◌++◌, length, set, ◌==◌, slice_set}
 use Rattle.model.specs.State.{capacity}
 use Rattle.table.specs.Layout.{samples, sampled, groups, samples_from, finer_from, directory_from}
 use Rattle.table_column.specs.Descending.{at_least, Descending, shifted, inserted_at, removed_at}
@@ -13,11 +13,6 @@ InDirectory l h ds t = (l ≡ h ++ (sampled ds ++ t)) × (length h ≡ samples_f
 pub record FindsPlace (l : List ℕ) (w p : ℕ) : Type 0 where
   pub inside : p < groups * 64
   pub is : (h ds t : List ℕ) → InDirectory l h ds t → 0 < w → p ≡ min (at_least w ds) (capacity - 1)
-
--- n words at b + k, b + k + 1, ..
-abbrev pub words_from : List ℕ → (b k n : ℕ) → List ℕ
-words_from l b k zero = []
-words_from l b k (suc n) = slice_index l (b + k) ∷ words_from l b (k + 1) n
 
 -- the last word of block b, and the samples that repeat it
 abbrev pub last_put : List ℕ → (b w : ℕ) → List ℕ

@@ -1,9 +1,9 @@
 // A word enters the directory or leaves it, with its samples. The words behind it move by one place, eight at a time.
-ghost use Rattle.std.specs.Prelude.{◌≡◌, ◌+◌, ◌*◌, ◌<◌, ◌≤◌, ◌∷◌, slice_index};
-ghost use Rattle.laws.specs.Blocks.{put};
+ghost use Rattle.std.specs.Prelude.{◌≡◌, ◌+◌, ◌*◌, ◌<◌, ◌≤◌, set, slice_index};
+ghost use Rattle.std.specs.List.{copy_within};
 ghost use Rattle.model.specs.State.{capacity};
 ghost use Rattle.table.specs.Layout.{groups, size};
-ghost use Rattle.table_names.specs.Filing.{words_from, last_put, ShiftsUp, ShiftsDown, Files, Unfiles};
+ghost use Rattle.table_names.specs.Filing.{last_put, ShiftsUp, ShiftsDown, Files, Unfiles};
 
 use crate::directory::{directory_word, place};
 use table::layout::{CAPACITY, DIRECTORY, FINER, SAMPLES, WORDS};
@@ -27,44 +27,20 @@ fn put_last(t: &mut [u64; WORDS], b: usize, word: u64)
 // A word enters before six others, which move up by one, and the one behind them comes out.
 fn move_up(t: &mut [u64; WORDS], at: usize, word: u64) -> u64
     requires { at + 7 ≤ size }
-    ensures { (t.new ≡ put t.old at (word ∷ slice_index t.old at ∷ words_from t.old at 1 5)) × (result ≡ slice_index t.old (at + 6)) }
+    ensures { (t.new ≡ set (copy_within t.old at (at + 6) (at + 1)) at word) × (result ≡ slice_index t.old (at + 6)) }
 {
-    let a = t[at];
-    let b = t[at + 1];
-    let c = t[at + 2];
-    let d = t[at + 3];
-    let e = t[at + 4];
-    let f = t[at + 5];
-    let g = t[at + 6];
+    let out = t[at + 6];
+    t.copy_within(at..at + 6, at + 1);
     t[at] = word;
-    t[at + 1] = a;
-    t[at + 2] = b;
-    t[at + 3] = c;
-    t[at + 4] = d;
-    t[at + 5] = e;
-    t[at + 6] = f;
-    g
+    out
 }
 
 // The seven words behind this one move down by one.
 fn move_down(t: &mut [u64; WORDS], at: usize)
     requires { at + 8 ≤ size }
-    ensures { t.new ≡ put t.old at (words_from t.old at 1 7) }
+    ensures { t.new ≡ copy_within t.old (at + 1) (at + 8) at }
 {
-    let a = t[at + 1];
-    let b = t[at + 2];
-    let c = t[at + 3];
-    let d = t[at + 4];
-    let e = t[at + 5];
-    let f = t[at + 6];
-    let g = t[at + 7];
-    t[at] = a;
-    t[at + 1] = b;
-    t[at + 2] = c;
-    t[at + 3] = d;
-    t[at + 4] = e;
-    t[at + 5] = f;
-    t[at + 6] = g;
+    t.copy_within(at + 1..at + 8, at);
 }
 
 // A word enters before the last word of block b, and the words from there on move up by one.
@@ -72,16 +48,14 @@ fn shift_up(t: &mut [u64; WORDS], b: usize, word: u64)
     requires { b < groups * 8 }
     ensures { ShiftsUp b word t.old t.new }
 {
-    let mut i = b;
     let mut moved = word;
-    while i + 1 < BLOCKS {
+    for i in b..BLOCKS - 1 {
         let last = t[DIRECTORY + (i * 8 + 7)];
         put_last(t, i, moved);
         if last == 0 {
             return;
         }
         moved = move_up(t, DIRECTORY + (i * 8 + 8), last);
-        i += 1;
     }
     t[DIRECTORY + (CAPACITY - 1)] = moved;
 }
@@ -91,15 +65,13 @@ fn shift_down(t: &mut [u64; WORDS], b: usize)
     requires { b < groups * 8 }
     ensures { ShiftsDown b t.old t.new }
 {
-    let mut i = b;
-    while i + 1 < BLOCKS {
+    for i in b..BLOCKS - 1 {
         let next = t[DIRECTORY + (i * 8 + 8)];
         put_last(t, i, next);
         if next == 0 {
             return;
         }
         move_down(t, DIRECTORY + (i * 8 + 8));
-        i += 1;
     }
     t[DIRECTORY + (CAPACITY - 1)] = 0;
 }

@@ -26,8 +26,7 @@ fn others(entries: u64) -> u64
 pub fn find_free(t: &[u64; WORDS]) -> Option<usize>
     ensures { FindsFree t.now result }
 {
-    let mut g: usize = 0;
-    while g < GROUPS {
+    for g in 0..GROUPS {
         let vacant = others(t[USED + g]);
         if 0 < vacant {
             let i = g * 64 + lowest(vacant);
@@ -36,7 +35,6 @@ pub fn find_free(t: &[u64; WORDS]) -> Option<usize>
             }
             return None;
         }
-        g += 1;
     }
     None
 }

@@ -15,7 +15,7 @@ use Rattle.connection.specs.Parts.{Instant}
 use Rattle.model.specs.State.{State, Entry, free, taken, capacity}
 use Rattle.model.specs.Invariant.{OnEntry, WellFormed}
 use Rattle.model.specs.Winner.{none_ready, wins, candidate_from}
-use Rattle.model.specs.Tournament.{levels, MatchWinner, no_winner, won_by, winner_at, winner_word, winner_instant, in_time, replayed}
+use Rattle.model.specs.Tournament.{levels, MatchWinner, no_winner, won_by, winner_at, winner_word, winner_instant, in_time}
 use Rattle.model.specs.Queries.{earliest, ready_word, next_ready}
 use Rattle.model.proofs.Entries.{each-get, each_map, entry_place}
 use Rattle.model.proofs.Places.{root_stands, OnMatchWinner, Comes, winner-entry}

@@ -18,15 +18,13 @@ pub fn replay(t: &mut [u64; WORDS], leaf: usize) -> u32
     let beside = neighbour(leaf);
     let mut other = keyed_leaf(t, beside, 0);
     let mut place = (CAPACITY + leaf) / 2;
-    let mut n: u32 = 0;
-    while n < LEVELS {
-        n += 1;
+    for n in 0..LEVELS {
         let beside = neighbour(place);
         let next = keyed_node(t, beside);
         best = winner_of(best, other);
         let b = NODES + 2 * place;
         if t[b] == best.word {
-            return n;
+            return n + 1;
         }
         // without its mark
         t[b] = best.word / 2 * 2;
@@ -34,7 +32,7 @@ pub fn replay(t: &mut [u64; WORDS], leaf: usize) -> u32
         other = next;
         place = place / 2;
     }
-    n
+    LEVELS
 }
 
 // Replays every match of a leaf. Where it was the winner of the tournament no level ends a replay, since the winner of
@@ -47,9 +45,7 @@ pub fn replay_all(t: &mut [u64; WORDS], leaf: usize)
     let beside = neighbour(leaf);
     let mut other = keyed_leaf(t, beside, 0);
     let mut place = (CAPACITY + leaf) / 2;
-    let mut n: u32 = 0;
-    while n < LEVELS {
-        n += 1;
+    for _ in 0..LEVELS {
         let beside = neighbour(place);
         let next = keyed_node(t, beside);
         best = winner_of(best, other);
@@ -69,15 +65,13 @@ pub fn levels_with(t: &[u64; WORDS], leaf: usize, most: u32) -> u32
 {
     let own = 2 * (leaf as u32 + 1);
     let mut place = (CAPACITY + leaf) / 2;
-    let mut n: u32 = 1;
-    while n < most {
+    for n in 1..most {
         if (t[NODES + 2 * place] % HALF) as u32 != own {
             return n;
         }
-        n += 1;
         place = place / 2;
     }
-    n
+    most.max(1)
 }
 
 // What a replay counts of a leaf whose key and name are as before: the matches that it wins, and the first that it does

@@ -3,7 +3,6 @@
 ghost use Rattle.table_tournament.specs.Next.{GivesSlotTime};
 
 use crate::next::next_ready;
-use laws::arithmetic::{higher, lower};
 use table::layout::{LAST, WORDS};
 
 // Of any numbers and any table at most the slot's own time.
@@ -11,6 +10,6 @@ pub fn slot_time(t: &[u64; WORDS], time: u64, lag: u64) -> u64
     ensures { GivesSlotTime t.now time lag result }
 {
     let ready = next_ready(t);
-    let since = higher(t[LAST], time - lower(lag, time));
-    lower(time, higher(ready, since))
+    let since = t[LAST].max(time.saturating_sub(lag));
+    time.min(ready.max(since))
 }

@@ -7,7 +7,8 @@ ghost use Rattle.table.specs.Layout.{record_from};
 
 use table::layout::{CAPACITY, HALF, IDENTITY, NAME_LIMIT, NODES, RECORD_WIDTH, RECORDS, WORDS};
 
-// The winner's number, which is its name above its leaf, and its ready key; both are 0 for none.
+// The winner's number, which is its name above its leaf, and its ready key; both are 0 for none, as the table stores it
+// and `keyed_winner` defines it.
 #[derive(Clone, Copy)]
 pub struct KeyedWinner {
     pub word: u64,
@@ -63,7 +64,8 @@ pub fn word_leaf(word: u64) -> usize
 }
 
 // The winner of a match: a greater key is an earlier instant, and of two with the same key the lower name wins, without
-// a load of their records. Two keys nearly always differ, and then the compiler makes no branch of it.
+// a load of their records. Two keys nearly always differ, and then the compiler makes no branch of it. An order of pairs
+// would be no plainer: it would have to cross the two fields, `(a.key, b.word) < (b.key, a.word)`.
 pub fn winner_of(a: KeyedWinner, b: KeyedWinner) -> KeyedWinner
     ensures { result ≡ matched a b }
 {

@@ -1,4 +1,3 @@
-use Prim.Native.Nat.{◌-◌}
 use borrow.Author.Rules.{rules}
 use Rattle.table_column.proofs.Moves.{inserting-start, inserting-next, inserting-zero, inserting-end}
 use Rattle.table_column.proofs.column.enter.Goals as goal

@@ -1,4 +1,3 @@
-use Prim.Native.Nat.{◌-◌}
 use borrow.Author.Rules.{rules}
 use Rattle.table_column.proofs.Moves.{removing-start, removing-next, removing-zero, removing-end}
 use Rattle.table_column.proofs.column.leave.Goals as goal

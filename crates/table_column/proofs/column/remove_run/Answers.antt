@@ -1,4 +1,3 @@
-use Prim.Native.Nat.{◌-◌}
 use borrow.Author.Rules.{rules}
 use Rattle.table_column.proofs.Runs.{running-start, running-next, running-zero, running-end}
 use Rattle.table_column.proofs.column.remove_run.Goals as goal

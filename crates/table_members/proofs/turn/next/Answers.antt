@@ -1,4 +1,3 @@
-use Prim.Native.Nat.{◌-◌}
 use Rattle.table_members.proofs.Scans.{scan-start, scan-next, scan-found, scan-over, scan-end}
 use borrow.Author.Rules.{rules}
 use Rattle.table_members.proofs.turn.next.Goals as goal

@@ -1,4 +1,4 @@
-use Rattle.std.proofs.Common.{◌-◌, rules}
+use Rattle.std.proofs.Common.{rules}
 use Rattle.table_names.proofs.Leaving.{shifting-down-start, shifting-down-next, shifting-down-zero, shifting-down-end}
 use Rattle.table_names.proofs.filing.shift_down.Goals as goal
 

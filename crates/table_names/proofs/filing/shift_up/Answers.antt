@@ -1,4 +1,4 @@
-use Rattle.std.proofs.Common.{◌-◌, rules}
+use Rattle.std.proofs.Common.{rules}
 use Rattle.table_names.proofs.Entering.{shifting-up-start, shifting-up-next, shifting-up-zero, shifting-up-end}
 use Rattle.table_names.proofs.filing.shift_up.Goals as goal
 

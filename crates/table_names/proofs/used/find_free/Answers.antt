@@ -1,4 +1,4 @@
-use Rattle.std.proofs.Common.{◌-◌, arith, rules}
+use Rattle.std.proofs.Common.{arith, rules}
 use Rattle.table_names.proofs.Found.{searched-start, searched-next, searched-found, searched-behind, searched-none}
 use Rattle.table_names.proofs.used.find_free.Goals as goal
 

@@ -1,8 +1,11 @@
-use Prim.Native.Nat.{ℕ, ◌+◌, ◌-◌, ◌/◌, ◌<◌}
+use Prim.Native.Nat.{ℕ, ◌+◌, ◌/◌, ◌<◌}
 use borrow.Author.Rules.{rules}
-use mathlib.Core.Path.{sym, ap, subst, refl, ◌∙◌}
+use native.Mathlib.Omega.{arith}
+use mathlib.Core.Path.{◌≡◌, sym, ap, subst, refl, ◌∙◌}
 use Rattle.model.specs.State.{capacity}
+use Rattle.model.specs.Tournament.{levels}
 use Rattle.model.proofs.Places.{above-next, above-none}
+use Rattle.table_tournament.specs.Replaying.{Replays}
 use Rattle.table_tournament.specs.KeyedWinner.{word_mark, keyed_leaf}
 use Rattle.table_tournament.proofs.Keyed.{neighbour-below}
 use Rattle.table_tournament.proofs.Replaying.{starts, count-starts, stops, goes_on, count-goes-on, finishes-all, finishes}
@@ -60,5 +63,7 @@ pub returns : goal.returns
 returns c =
     let lp = c in
     let st = lp in
-    finishes st.args.t.now lp.loop-n.t st.args.leaf lp.loop-n.n (search rules)
-    (finishes-all word_mark st.args.t.now lp.loop-n.t st.args.leaf lp.loop-n.n lp.loop-n.best lp.loop-n.other (search rules) lp.loop-n.invariant.3) lp.loop-n.invariant.4
+    let all : lp.loop-n.n ≡ levels = omega arith in
+    subst (Replays st.args.t.now lp.loop-n.t st.args.leaf) all
+    (finishes st.args.t.now lp.loop-n.t st.args.leaf lp.loop-n.n (search rules)
+    (finishes-all word_mark st.args.t.now lp.loop-n.t st.args.leaf lp.loop-n.n lp.loop-n.best lp.loop-n.other (search rules) lp.loop-n.invariant.3) lp.loop-n.invariant.4)

@@ -1,4 +1,4 @@
-use Prim.Native.Nat.{ℕ, ◌+◌, ◌-◌, ◌/◌, ◌<◌}
+use Prim.Native.Nat.{ℕ, ◌+◌, ◌/◌, ◌<◌}
 use borrow.Author.Rules.{rules}
 use mathlib.Core.Path.{sym, ap, subst, refl, ◌∙◌}
 use Rattle.model.specs.State.{capacity}
@@ -13,8 +13,8 @@ keyed_leaf-other-requires c =
     let st = c in
     (subst (λ (k : ℕ). k < capacity) (sym c.neighbour-beside.ensures) (neighbour-below (capacity / 2) st.args.leaf st.requires), search rules)
 
-pub loop-n-init : goal.loop-n-init
-loop-n-init c =
+pub loop-init : goal.loop-init
+loop-init c =
     let nb = c in
     let own = nb in
     let st = own in
@@ -28,23 +28,23 @@ loop-n-init c =
 pub keyed_node-next-requires : goal.keyed_node-next-requires
 keyed_node-next-requires c =
     let lp = c in
-    subst (λ (k : ℕ). k < capacity) (sym c.neighbour-beside-in-loop-n.ensures) (neighbour-below (capacity / 2) lp.loop-n.place lp.loop-n.invariant.1)
+    subst (λ (k : ℕ). k < capacity) (sym c.neighbour-beside-in-loop.ensures) (neighbour-below (capacity / 2) lp.loop.place lp.loop.invariant.1)
 
-pub loop-n-preserved : goal.loop-n-preserved
-loop-n-preserved c =
+pub loop-preserved : goal.loop-preserved
+loop-preserved c =
     let nd = c in
     let nb = nd in
     let lp = nb in
     let st = lp in (
       search rules,
       search rules,
-      above-next (lp.loop-n.n + 1) (capacity + st.args.leaf) lp.loop-n.place lp.loop-n.invariant.2,
-      goes-on-all st.args.t.now lp.loop-n.t st.args.leaf lp.loop-n.n lp.loop-n.place lp.loop-n.best lp.loop-n.other c.winner_of-best.result st.requires (search rules)
-          lp.loop-n.invariant.2 c.winner_of-best.ensures lp.loop-n.invariant.3 _ nd.keyed_node-next.result nb.neighbour-beside-in-loop-n.result nb.neighbour-beside-in-loop-n.ensures refl nd.keyed_node-next.ensures,
+      above-next (lp.loop.counter + 1) (capacity + st.args.leaf) lp.loop.place lp.loop.invariant.2,
+      goes-on-all st.args.t.now lp.loop.t st.args.leaf lp.loop.counter lp.loop.place lp.loop.best lp.loop.other c.winner_of-best.result st.requires (search rules)
+          lp.loop.invariant.2 c.winner_of-best.ensures lp.loop.invariant.3 _ nd.keyed_node-next.result nb.neighbour-beside-in-loop.result nb.neighbour-beside-in-loop.ensures refl nd.keyed_node-next.ensures,
     )
 
 pub returns : goal.returns
 returns c =
     let lp = c in
     let st = lp in
-    finishes-all 0 st.args.t.now lp.loop-n.t st.args.leaf lp.loop-n.n lp.loop-n.best lp.loop-n.other (search rules) lp.loop-n.invariant.3
+    finishes-all 0 st.args.t.now lp.loop.t st.args.leaf lp.loop.counter lp.loop.best lp.loop.other (search rules) lp.loop.invariant.3
