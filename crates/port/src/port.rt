@@ -5,15 +5,15 @@ ghost use Rattle.port.specs.Port.{port};
 
 use crate::limit::limit;
 use cell_read::read::refusal;
-use port_share::share::{FairShare, fair_share};
+use port_share::share::fair_share;
 
 // Refusals 21, 22, and then those of reading a cell.
 pub fn port(capacity: u64, demands: &[u64], cell: &mut [u8]) -> u32
     ensures { passed result cell.new ≡ port capacity demands.now cell.old }
 {
     match fair_share(capacity, demands) {
-        FairShare::Refused(n) => n,
-        FairShare::NoLimit => refusal(cell),
-        FairShare::Limit(rate) => limit(rate, cell),
+        Err(r) => r.number(),
+        Ok(None) => refusal(cell),
+        Ok(Some(rate)) => limit(rate, cell),
     }
 }
