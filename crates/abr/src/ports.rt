@@ -5,7 +5,7 @@ ghost use Rattle.port.specs.Limit.{passed, limit};
 ghost use Rattle.port.specs.Port.{port};
 ghost use Rattle.abr_answers.specs.Shares.{share_of};
 
-use abr_answers::shares::{AbrShare, share_of};
+use abr_answers::shares::AbrShare;
 use port::limit::limit;
 use port::port::port;
 use port_share::share::fair_share;
@@ -14,7 +14,7 @@ use port_share::share::fair_share;
 pub fn abr_fair_share(capacity: u64, demands: &[u64]) -> AbrShare
     ensures { result ≡ share_of (fair_share capacity demands.now) }
 {
-    share_of(fair_share(capacity, demands))
+    AbrShare::from(fair_share(capacity, demands))
 }
 
 // Refusals as for abr_read.
