@@ -1,9 +1,8 @@
 -- The starred lines of document 01, "Checked values", in its order, as one table. Each line is an
 -- equation about the definitions.
-use Rattle.std.specs.Prelude.{ℕ, ◌≡◌, true, false, [], ◌∷◌}
+use Rattle.std.specs.Prelude.{ℕ, ◌≡◌, true, false, [], ◌∷◌, Ok}
 use Rattle.rate.specs.Units.{largest_rate}
 use Rattle.rate.specs.Code.{rate_of, coded}
-use Rattle.rate.specs.declared.code.Coded.TheVariants.{Code}
 use Rattle.rate_params.specs.Params.{house_set}
 use Rattle.rate.specs.Gap.{gap}
 use Rattle.rate_moves.specs.declared.moves.Rate.{Rate}
@@ -22,10 +21,10 @@ er_large = largest_rate
 pub record CheckedValues : Type 0 where
   pub smallest : rate_of 0x4000 ≡ 512
   pub largest : rate_of 0x7FFF ≡ 2_196_875_771_904
-  pub thousand_cells : coded 512_000 ≡ Code 0x53E8
-  pub below1024 : coded 1023 ≡ Code 0x41FF
-  pub above1024 : coded 1025 ≡ Code 0x4200
-  pub below512 : coded 511 ≡ Code 0x0000
+  pub thousand_cells : coded 512_000 ≡ Ok 0x53E8
+  pub below1024 : coded 1023 ≡ Ok 0x41FF
+  pub above1024 : coded 1025 ≡ Ok 0x4200
+  pub below512 : coded 511 ≡ Ok 0x0000
   pub idle_header : header_check (0x00 ∷ 0x00 ∷ 0x00 ∷ 0x01 ∷ []) ≡ 0x52
   pub gap_exact : gap 512_000 ≡ 1_000_000
   pub gap_rounded_up : gap 1536 ≡ 333_333_334

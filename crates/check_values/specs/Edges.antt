@@ -1,8 +1,8 @@
 -- Numbers of document 01 that no list of calls distinguishes from their neighbours: where coding refuses, Trm by
 -- number, and moves of the rate. (Document 01, "Units and the 16-bit rate code", "Opening" and
 -- "Four moves of the allowed rate"; document 02, L14.)
-use Rattle.std.specs.Prelude.{ℕ, suc, ◌*◌, ◌<◌, ◌≡◌, true, false}
-use Rattle.rate.specs.declared.code.Coded.TheVariants.{Code, Refused}
+use Rattle.std.specs.Prelude.{ℕ, suc, ◌*◌, ◌<◌, ◌≡◌, true, false, Ok, Err}
+use Rattle.laws.specs.declared.refusals.Refusal.TheVariants.{TooLarge}
 use Rattle.rate.specs.Code.{coded}
 use Rattle.rate_params.specs.declared.params.Params.{Params}
 use Rattle.rate_params.specs.Params.{house_set, trm_time}
@@ -26,8 +26,8 @@ at acr = record { acr = acr; params = edge_house }
 
 pub record Edges : Type 0 where
   -- 9 above the largest rate, and only there
-  pub largest : coded 2_196_875_771_904 ≡ Code 0x7FFF
-  pub above_largest : coded 2_196_875_771_905 ≡ Refused 9
+  pub largest : coded 2_196_875_771_904 ≡ Ok 0x7FFF
+  pub above_largest : coded 2_196_875_771_905 ≡ Err TooLarge
   -- each Trm is twice the one before, up to a tenth of a second
   pub doubled : (n : ℕ) → n < 7 → trm_time (suc n) ≡ 2 * trm_time n
   pub longest : trm_time 7 ≡ 100_000_000

@@ -1,7 +1,7 @@
 // Rate codes, gaps and the four moves of the allowed rate
 // (document 01, "Units and the 16-bit rate code", "Four moves of the allowed rate", "Slots" and "Checked values").
 use crate::print;
-use rate::code::{Coded, code_of, rate_of};
+use rate::code::{code_of, rate_of};
 use rate::gap::gap;
 use rate_moves::moves::Rate;
 use rate_params::params::Params;
@@ -10,10 +10,9 @@ use std::io;
 // The rate of a code and the gap at an allowed rate; then the code of a rate and 0, or 0 and its refusal.
 fn coded(rt: &impl Print, code: u32, acr: u64, rate: u64) -> io::Result<()> {
     print::rates(rt, &[rate_of(code), gap(acr)])?;
-    let answer = code_of(rate);
-    match answer {
-        Coded::Code(code) => print::codes(rt, &[code, 0]),
-        Coded::Refused(number) => print::codes(rt, &[0, number]),
+    match code_of(rate) {
+        Ok(code) => print::codes(rt, &[code, 0]),
+        Err(refusal) => print::codes(rt, &[0, refusal.number()]),
     }
 }
 
