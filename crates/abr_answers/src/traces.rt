@@ -2,7 +2,8 @@
 ghost use Rattle.std.specs.Prelude.{◌≡◌};
 ghost use Rattle.abr_answers.specs.Traces.{judged_of};
 
-use trace_judge::judge::Verdict;
+use laws::refusals::Refusal;
+use trace_judge::rules::Broken;
 
 // rule 0: the trace passes, and cell is 0.
 #[repr(C)]
@@ -13,24 +14,26 @@ pub struct AbrVerdict {
     pub cell: u64,
 }
 
-pub fn judged_of(v: Verdict) -> AbrVerdict
-    ensures { result ≡ judged_of v }
-{
-    match v {
-        Verdict::Refused(n) => AbrVerdict {
-            refusal: n,
-            rule: 0,
-            cell: 0,
-        },
-        Verdict::Passes => AbrVerdict {
-            refusal: 0,
-            rule: 0,
-            cell: 0,
-        },
-        Verdict::Breaks { cell, rule } => AbrVerdict {
-            refusal: 0,
-            rule,
-            cell,
-        },
+impl From<Result<Option<Broken>, Refusal>> for AbrVerdict {
+    ghost from_gives = { λ v r. r ≡ judged_of v };
+
+    fn from(v: Result<Option<Broken>, Refusal>) -> AbrVerdict {
+        match v {
+            Err(refusal) => AbrVerdict {
+                refusal: refusal.number(),
+                rule: 0,
+                cell: 0,
+            },
+            Ok(None) => AbrVerdict {
+                refusal: 0,
+                rule: 0,
+                cell: 0,
+            },
+            Ok(Some(broken)) => AbrVerdict {
+                refusal: 0,
+                rule: broken.rule.number(),
+                cell: broken.cell,
+            },
+        }
     }
 }

@@ -7,8 +7,7 @@ use lib.Dec.{eqb}
 use borrow.Author.Tests.{eq-eqb}
 use Rattle.rate_params.specs.declared.params.Params.{Params}
 use Rattle.connection.specs.declared.kind.Kind.TheVariants.{Forward, Turned, Data}
-use Rattle.trace_judge.specs.declared.judge.Verdict.{Verdict}
-use Rattle.trace_judge.specs.declared.judge.Verdict.TheVariants.{Passes}
+use Rattle.trace_judge.specs.Rules.{Verdict, Passes}
 use Rattle.trace_judge.specs.Octets.{judged_octets}
 use Rattle.model.specs.State.{State, empty}
 use Rattle.model.specs.Invariant.{WellFormed}

@@ -7,12 +7,12 @@ use native.Mathlib.Nat.{le_trans, sub_self}
 use native.Mathlib.Omega.{arith}
 use lib.Dec.{leb, eqb}
 use borrow.Author.Tests.{leb-true, leb-false, le-leb, lt-leb, le-ltb, ne_eqb}
+use Rattle.std.specs.Prelude.{None}
 use Rattle.rate.specs.Gap.{gap}
 use Rattle.rate_params.specs.Forward.{forward_due}
 use Rattle.trace_judge.specs.declared.cells.Cell.{Cell}
 use Rattle.trace_judge.specs.declared.rules.Sent.{Sent}
-use Rattle.trace_judge.specs.declared.judge.Verdict.TheVariants.{Passes}
-use Rattle.trace_judge.specs.Rules.{nothing_sent, with_sent, is_forward_cell, too_soon, broken_rule, judged_from}
+use Rattle.trace_judge.specs.Rules.{Passes, nothing_sent, with_sent, is_forward_cell, too_soon, broken_rule, judged_from}
 use Rattle.connection.specs.declared.parts.Pace.{Pace}
 use Rattle.connection.specs.declared.parts.Pace.TheVariants.{Unsent, Running}
 use Rattle.promise_traces.specs.InRate.{SentCell}
@@ -20,12 +20,12 @@ use Rattle.promise_traces.specs.Traces.{trace_cell, later_cells, trace_cells}
 
 -- One cell.
 module _ (nr trm : ℕ) (h : Sent) (c : Cell) where
-  judged-next : (cs : List Cell) → broken_rule nr trm h c ≡ 0 → judged_from nr trm h (c ∷ cs) ≡ judged_from nr trm (with_sent h c) cs
+  judged-next : (cs : List Cell) → broken_rule nr trm h c ≡ None → judged_from nr trm h (c ∷ cs) ≡ judged_from nr trm (with_sent h c) cs
   unfolding judged_from
   judged-next cs e = rw e
 
   rule-none :
-      0 < h.cells → too_soon c ≡ false → (b : Bool) → forward_due nr trm h.k h.forward (h.time + c.since) ≡ b → is_forward_cell c ≡ b → broken_rule nr trm h c ≡ 0
+      0 < h.cells → too_soon c ≡ false → (b : Bool) → forward_due nr trm h.k h.forward (h.time + c.since) ≡ b → is_forward_cell c ≡ b → broken_rule nr trm h c ≡ None
   unfolding broken_rule
   rule-none l e true f g = rw (ne_eqb h.cells 0 (λ z. omega arith), e, f, g)
   rule-none l e false f g = rw (ne_eqb h.cells 0 (λ z. omega arith), e, f, g)

@@ -14,8 +14,7 @@ use Rattle.rate_params.specs.Params.{nrm, params_fit, tbe_fits, frtt_fits}
 use Rattle.rate_params.specs.Forward.{forward_due}
 use Rattle.cell.specs.Name.{address_name}
 use Rattle.connection_members.specs.Path.{path_vci}
-use Rattle.trace_judge.specs.declared.judge.Verdict.TheVariants.{Passes}
-use Rattle.trace_judge.specs.Rules.{judged_cells}
+use Rattle.trace_judge.specs.Rules.{Passes, judged_cells}
 use Rattle.connection.specs.declared.parts.Connection.{Connection}
 use Rattle.connection.specs.declared.parts.Pace.{Pace}
 use Rattle.connection.specs.declared.parts.Pace.TheVariants.{Unsent, Running}

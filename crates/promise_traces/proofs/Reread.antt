@@ -9,16 +9,16 @@ use lib.Dec.{leb, ltb}
 use lib.ListN.{length, get_or, drop, length-append, length-drop}
 use lib.Seq.{get_or-drop, drop-drop, drop-append_seam}
 use borrow.Author.Tests.{le-leb, lt-ltb, le-ltb}
+use Rattle.std.specs.Prelude.{Ok}
 use Rattle.rate.specs.Units.{largest_rate, latest_time}
 use Rattle.rate_params.specs.Params.{within}
-use Rattle.trace.specs.declared.number.Number.TheVariants.{Value, Refused as unread}
 use Rattle.trace.specs.Numbers.{written, written_all, Stands}
+use Rattle.trace.proofs.Groups.{value}
 use Rattle.trace.proofs.Written.{read_back}
 use Rattle.trace_judge.specs.declared.cells.Cell.{Cell}
-use Rattle.trace_judge.specs.declared.cells.Record.{Record}
-use Rattle.trace_judge.specs.declared.cells.Record.TheVariants.{Whole}
 use Rattle.trace_judge.specs.Rules.{judged_cells}
-use Rattle.trace_judge.specs.Octets.{ranged, number_within, rate_read, kind_read, since_read, record_at, most_since, Parsed, listed, prepended, record_then, cells_parsed, verdict_of, trm_read, n_read, judged_octets}
+use Rattle.trace_judge.specs.Octets.{Record, ranged, number_within, rate_read, kind_read, since_read, record_at, most_since, Parsed, prepended, record_then, cells_parsed, verdict_of, trm_read, n_read, judged_octets}
+use Rattle.trace_judge.proofs.Progress.{no_range}
 use Rattle.promise_traces.specs.Written.{cell_numbers, trace_octets, CellsFit, WrittenIsJudged}
 
 -- What stands at an offset of a list.
@@ -51,12 +51,12 @@ abbrev past : ℕ → ℕ → ℕ
 past k x = k + length (written 9 x)
 
 module _ (s : List ℕ) (k x : ℕ) (xs : List ℕ) (e : drop k s ≡ written_all (x ∷ xs)) where
-  number_read : (low high : ℕ) → x < 2 ^ 64 → low ≤ x → x ≤ high → number_within s k low high ≡ Value x (past k x)
+  number_read : (low high : ℕ) → x < 2 ^ 64 → low ≤ x → x ≤ high → number_within s k low high ≡ Ok (x, past k x)
   unfolding written_all ranged within
   number_read low high f l h =
       ap (ranged low high) (read_back s k x f (stands s k (written 9 x) (written_all xs) e))
-      ∙ ap (λ (b : Bool). cond (b && leb x high) (Value x (past k x)) (unread 25)) (le-leb low x l)
-      ∙ ap (λ (b : Bool). cond b (Value x (past k x)) (unread 25)) (le-leb x high h)
+      ∙ ap (λ (b : Bool). cond (b && leb x high) (value x (past k x)) no_range) (le-leb low x l)
+      ∙ ap (λ (b : Bool). cond b (value x (past k x)) no_range) (le-leb x high h)
 
   next-at : drop (past k x) s ≡ written_all xs
   unfolding written_all
@@ -85,7 +85,7 @@ module _ (s : List ℕ) (k : ℕ) (c : Cell) (xs : List ℕ) (e : drop k s ≡ w
   at-end : drop (past rate_from c.rate) s ≡ written_all xs
   at-end = next-at s rate_from c.rate xs at-rate
 
-  record-read : (most : ℕ) → c.since ≤ most → most ≤ latest_time → 1 ≤ c.kind → c.kind ≤ 3 → c.rate ≤ largest_rate → record_at s k most ≡ Whole c (past rate_from c.rate)
+  record-read : (most : ℕ) → c.since ≤ most → most ≤ latest_time → 1 ≤ c.kind → c.kind ≤ 3 → c.rate ≤ largest_rate → record_at s k most ≡ Ok (c, past rate_from c.rate)
   unfolding since_read kind_read rate_read
   record-read most a b d f g =
       ap (since_read s) (number_read s k c.since (c.kind ∷ c.rate ∷ xs) e 0 most (omega arith) (omega arith) a)
@@ -98,21 +98,21 @@ most-latest true sum = omega arith
 most-latest false sum = omega arith
 
 -- The cells.
-ended_at : (n : ℕ) (s : List ℕ) (k : ℕ) (first : Bool) (sum : ℕ) → length s ≤ k → cells_parsed n s k first sum ≡ listed []
+ended_at : (n : ℕ) (s : List ℕ) (k : ℕ) (first : Bool) (sum : ℕ) → length s ≤ k → cells_parsed n s k first sum ≡ Ok []
 unfolding cells_parsed
 ended_at zero s k first sum h = refl
 ended_at (suc n) s k first sum h = rw (le-ltb k (length s) h)
 
 cells-read :
     (cs : List Cell) (n : ℕ) (s : List ℕ) (k : ℕ) (first : Bool) (sum : ℕ) → drop k s ≡ written_all (cell_numbers cs) → length cs ≤ n → CellsFit first sum cs
-    → cells_parsed n s k first sum ≡ listed cs
+    → cells_parsed n s k first sum ≡ Ok cs
 unfolding cell_numbers written_all cells_parsed record_then prepended
 cells-read [] n s k first sum e h f = ended_at n s k first sum (none_left s k e)
 cells-read (c ∷ cs) zero s k first sum e h f = absurd (not-suc-le-zero h)
 cells-read (c ∷ cs) (suc n) s k first sum e h f =
     let xs : List ℕ = cell_numbers cs in
     let next : Cell → ℕ → Parsed = λ c j. cells_parsed n s j false (sum + c.since) in
-    ap (λ (b : Bool). cond b (record_then (record_at s k (most_since first sum)) next) (listed [])) (lt-ltb k (length s) (starts s k c.since (c.kind ∷ c.rate ∷ xs) e))
+    ap (λ (b : Bool). cond b (record_then (record_at s k (most_since first sum)) next) (Ok [])) (lt-ltb k (length s) (starts s k c.since (c.kind ∷ c.rate ∷ xs) e))
     ∙ ap (λ (x : Record). record_then x next) (record-read s k c xs e (most_since first sum) f.0 (most-latest first sum) f.1.0 f.1.1 f.2)
     ∙ ap (prepended c) (cells-read cs n s (past (rate_from s k c xs e) c.rate) false (sum + c.since) (at-end s k c xs e) (le_of_suc-le-suc h) f.3)
 

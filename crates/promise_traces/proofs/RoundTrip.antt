@@ -6,8 +6,7 @@ use mathlib.Core.List.{List, [], ◌∷◌, ◌++◌}
 use Rattle.rate_params.specs.Params.{initial_used}
 use Rattle.rate_params.proofs.Ranges.{setup-fits}
 use Rattle.trace_judge.specs.declared.cells.Cell.{Cell}
-use Rattle.trace_judge.specs.declared.judge.Verdict.TheVariants.{Passes}
-use Rattle.trace_judge.specs.Rules.{judged_cells}
+use Rattle.trace_judge.specs.Rules.{Passes, judged_cells}
 use Rattle.trace_judge.specs.RoundTrip.{RatesUpTo}
 use Rattle.trace_judge.proofs.RoundTrip.{round_trip}
 use Rattle.promise_traces.specs.RoundTrip.{OwnTripBounded}

@@ -1,11 +1,10 @@
 -- Shortest form only. The judge refuses a trace exactly if it is not what a recorder writes of numbers in
 -- their ranges. (Document 02, L11.)
-use Rattle.std.specs.Prelude.{ℕ, ◌^◌, ◌≤◌, ◌≡◌, ◌≢◌, List, [], ◌∷◌}
+use Rattle.std.specs.Prelude.{ℕ, ◌^◌, ◌≤◌, ◌≡◌, ◌≢◌, List, [], ◌∷◌, Err}
+use Rattle.laws.specs.declared.refusals.Refusal.{Refusal}
 use Rattle.trace.specs.Shortest.{Octets}
 use Rattle.trace_judge.specs.declared.cells.Cell.{Cell}
-use Rattle.trace_judge.specs.declared.judge.Verdict.{Verdict}
-use Rattle.trace_judge.specs.declared.judge.Verdict.TheVariants.{Refused}
-use Rattle.trace_judge.specs.Rules.{judged_cells}
+use Rattle.trace_judge.specs.Rules.{Verdict, judged_cells}
 use Rattle.trace_judge.specs.Octets.{judged_octets}
 use Rattle.trace_judge.specs.RoundTrip.{span}
 use Rattle.laws.specs.All.{All}
@@ -41,7 +40,7 @@ pub record WrittenTrace (s : List ℕ) : Type 0 where
   pub verdict : judged_octets s ≡ judged_cells n trm cells
 
 abbrev pub NotRefused : Verdict → Type 0
-NotRefused v = (r : ℕ) → v ≢ Refused r
+NotRefused v = (r : Refusal) → v ≢ Err r
 
 -- both ways
 pub record ShortestTraces : Type 0 where

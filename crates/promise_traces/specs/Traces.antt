@@ -5,8 +5,7 @@ use Rattle.rate_params.specs.declared.params.Params.{Params}
 use Rattle.cell.specs.Name.{address_name}
 use Rattle.connection_members.specs.Path.{path_vci}
 use Rattle.trace_judge.specs.declared.cells.Cell.{Cell}
-use Rattle.trace_judge.specs.declared.judge.Verdict.TheVariants.{Passes}
-use Rattle.trace_judge.specs.Rules.{judged_cells}
+use Rattle.trace_judge.specs.Rules.{Passes, judged_cells}
 use Rattle.trace_judge.specs.Octets.{judged_octets}
 use Rattle.model.specs.State.{empty}
 use Rattle.model.specs.Call.{Call, opening, opening_path}
