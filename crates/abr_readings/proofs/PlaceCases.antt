@@ -95,8 +95,8 @@ module _ (l : List ℕ) (x : ℕ) where
 
   -- no channel and no path: what is found among the members
   pub other-status :
-      {k : CodeOption ℕ} {p : CodeOption Place} → FindsName l x k → k ≡ None → MeetsReading (λ s. find x s.entries ≡ free → Points s (status_of s x) p) l → MeetsReading (λ s. Points s (status_of s x) p) l
-  other-status f q g = record { meets = λ s w e. g.meets s w e (missing s w e x f q) }
+      {k : CodeOption ℕ} (p : CodeOption Place) → FindsName l x k → k ≡ None → MeetsReading (λ s. find x s.entries ≡ free → Points s (status_of s x) p) l → MeetsReading (λ s. Points s (status_of s x) p) l
+  other-status p f q g = record { meets = λ s w e. g.meets s w e (missing s w e x f q) }
 
   -- a member with its path
   pub member-status :

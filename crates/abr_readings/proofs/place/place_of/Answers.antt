@@ -28,4 +28,4 @@ returns-in-None c =
     let told = c in
     let f = told in
     let a = f.args in
-    record { inside = c.member_place.ensures.inside; points = other-status a.t.now a.name f.find.ensures told.in-None.is c.member_place.ensures.points }
+    record { inside = c.member_place.ensures.inside; points = other-status a.t.now a.name _ f.find.ensures told.in-None.is c.member_place.ensures.points }
