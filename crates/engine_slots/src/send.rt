@@ -5,7 +5,6 @@ ghost use Rattle.cell.specs.Name.{no_name};
 ghost use Rattle.connection.specs.declared.kind.Kind.TheVariants.{Forward, Turned};
 ghost use Rattle.connection.specs.Destination.{backward_cell};
 ghost use Rattle.engine_slots.specs.Slots.{ForwardIn, SendsKind, Sends};
-ghost use Rattle.model.specs.Details.{none_turned};
 ghost use Rattle.model.specs.State.{capacity};
 
 use crate::data::send_data;
@@ -45,16 +44,6 @@ pub fn put_forward(cell: &mut [u8], clp: u32, name: u32, rate: Rate)
     put_rm(cell, clp, forward_fields(name, rate));
 }
 
-// Whether no turned cell waits: then a backward cell that goes is a made one (document 02, L1).
-fn none_turned(w: Option<Payload>) -> bool
-    ensures { result ≡ none_turned w }
-{
-    match w {
-        None => true,
-        Some(_) => false,
-    }
-}
-
 // The winner has the greatest key of all. Its neighbour's is looked at for the sake of the caches: its line, which the
 // replay needs, is then loaded together with the winner's record and not after it. Other cells need less of the record,
 // and their replay comes soon enough.
@@ -89,12 +78,13 @@ fn send_turned(t: &mut [u64; WORDS], time: u64, i: usize, cell: &mut [u8]) -> Sl
 {
     let c = load(t, i);
     let next = sent_turned(time, c);
-    let destination = c.destination;
-    let turned = destination.turned;
-    let rate = c.rate;
-    let params = rate.params;
-    put_backward(cell, c.name, params, turned, destination.made.level);
-    let made = none_turned(turned);
+    put_backward(
+        cell,
+        c.name,
+        c.rate.params,
+        c.destination.turned,
+        c.destination.made.level,
+    );
     update_winner(t, i, next);
     let leaf = i as u32;
     SlotAnswer::Sent {
@@ -104,7 +94,8 @@ fn send_turned(t: &mut [u64; WORDS], time: u64, i: usize, cell: &mut [u8]) -> Sl
         comparisons: LEVELS,
         leaf,
         acr_before: c.rate.acr,
-        made,
+        // Where no turned cell waits, the backward cell that goes is a made one (document 02, L1).
+        made: c.destination.turned.is_none(),
     }
 }
 
