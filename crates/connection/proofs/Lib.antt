@@ -1,13 +1,9 @@
 -- The laws of one connection.
-pub mod Paces
 pub mod Ranged
 pub mod Reached
-pub mod ReadyCases
-pub mod KindCases
 pub mod FieldsFit
 pub mod SourceCases
 pub mod DestinationCases
-pub mod SlotCases
 pub mod Turnings
 pub mod Keeps
 pub mod Readiness

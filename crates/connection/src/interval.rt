@@ -8,6 +8,7 @@ ghost use Rattle.connection.specs.Range.{InstantInRange};
 const INTERVAL: u64 = 100000000;
 
 // Whether enough time has passed at t since the last one.
+#[tactic(auto, unfolding(crate::specs::Interval::rested))]
 pub fn rested(t: u64, last: Option<u64>) -> bool
     requires { InstantInRange last }
     ensures { result ≡ rested t last }

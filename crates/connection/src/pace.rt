@@ -6,6 +6,7 @@ ghost use Rattle.connection.specs.Range.{PaceInRange};
 use crate::parts::Pace;
 
 // One more cell at t that is no forward cell.
+#[tactic(auto, unfolding(crate::specs::Pace::paced))]
 pub fn paced(t: u64, turns: bool, pace: Pace) -> Pace
     requires { PaceInRange pace }
     ensures { result ≡ paced t turns pace }
@@ -13,10 +14,10 @@ pub fn paced(t: u64, turns: bool, pace: Pace) -> Pace
     match pace {
         Pace::Unsent => Pace::Unsent,
         Pace::Running {
-            sent: _,
             forward,
             k,
             turned,
+            ..
         } => Pace::Running {
             sent: t,
             forward,

@@ -8,6 +8,7 @@ use rate_params::params::{Params, trm_time};
 
 // The cells sent: none yet; or the instants of the last cell and of the last forward cell, the cells k since then, and
 // whether a turned or made cell is among them.
+// An enum and no Option of a struct: its variants name the two states, and None would not say that no cell was sent.
 #[derive(Clone, Copy)]
 pub enum Pace {
     Unsent,
@@ -43,6 +44,7 @@ pub struct Change {
 
 // The backward cells that the connection makes itself (document 02, L1): the level at which the one that waits was
 // made, 0 if none waits, and the instant of the last making, if there was one.
+// No Option of a level: the words of the table and the definitions MadeValidAt and backward_waits have 0 for none.
 #[derive(Clone, Copy)]
 pub struct Made {
     pub level: u32,
@@ -59,6 +61,7 @@ pub struct Destination {
 
 // trm is Trm in nanoseconds, looked up once, at the open; unanswered is the count Y; out_of_rate is the instant of the
 // last out-of-rate forward cell, if there was one (document 02, L5).
+// No ghost field holds InRange: the definitions build connections at every time, also beyond the range.
 #[derive(Clone, Copy)]
 pub struct Connection {
     pub name: u32,
@@ -75,6 +78,7 @@ pub struct Connection {
 
 impl Connection {
     // A connection as it starts.
+    #[tactic(auto, unfolding(crate::specs::Parts::fresh))]
     pub fn fresh(name: u32, time: u64, params: Params) -> Connection
         ensures { result ≡ fresh name time params }
     {
@@ -114,26 +118,11 @@ impl Connection {
         self
     }
 
-    pub fn with_pace(self, pace: Pace) -> Connection
+    pub fn with_pace(mut self, pace: Pace) -> Connection
         ensures { result ≡ with_pace self pace }
     {
-        let rate = self.rate;
-        let queue = self.queue;
-        let change = self.change;
-        let destination = self.destination;
-        let out_of_rate = self.out_of_rate;
-        Connection {
-            name: self.name,
-            opened: self.opened,
-            trm: self.trm,
-            rate,
-            pace,
-            unanswered: self.unanswered,
-            queue,
-            change,
-            destination,
-            out_of_rate,
-        }
+        self.pace = pace;
+        self
     }
 
     pub fn with_unanswered(mut self, unanswered: u32) -> Connection
@@ -164,25 +153,10 @@ impl Connection {
         self
     }
 
-    pub fn with_out_of_rate(self, last: Option<u64>) -> Connection
+    pub fn with_out_of_rate(mut self, last: Option<u64>) -> Connection
         ensures { result ≡ with_out_of_rate self last }
     {
-        let rate = self.rate;
-        let pace = self.pace;
-        let queue = self.queue;
-        let change = self.change;
-        let destination = self.destination;
-        Connection {
-            name: self.name,
-            opened: self.opened,
-            trm: self.trm,
-            rate,
-            pace,
-            unanswered: self.unanswered,
-            queue,
-            change,
-            destination,
-            out_of_rate: last,
-        }
+        self.out_of_rate = last;
+        self
     }
 }

@@ -7,28 +7,25 @@ ghost use Rattle.connection.specs.Destination.{with_made, made_fields};
 use cell::fields::Fields;
 use cell::name::VCIS;
 use connection::parts::{Connection, Destination, Made};
-use laws::arithmetic::bit_u32;
 use rate::canonical::canonical;
 use rate_params::params::Params;
 
 // A cell made at t, at this congestion level, waits in the place of an earlier made one.
+#[tactic(auto, unfolding(connection::specs::Destination::with_made))]
 pub fn with_made(t: u64, level: u32, c: Connection) -> Connection
     ensures { result ≡ with_made t level c }
 {
-    let destination = c.destination;
-    let turned = destination.turned;
-    let made = Made {
-        level,
-        last: Some(t),
-    };
     c.with_destination(Destination {
-        efci: destination.efci,
-        turned,
-        made,
+        made: Made {
+            level,
+            last: Some(t),
+        },
+        ..c.destination
     })
 }
 
 // The fields of a made cell.
+#[tactic(auto, unfolding(connection::specs::Destination::made_fields))]
 pub fn made_fields(name: u32, params: Params, level: u32) -> Fields
     ensures { (result ≡ made_fields name params level) × (name < no_name → fields_fit result ≡ true) }
 {
@@ -37,8 +34,8 @@ pub fn made_fields(name: u32, params: Params, level: u32) -> Fields
         vci: name % VCIS,
         dir: 1,
         bn: 1,
-        ci: bit_u32(level == 2),
-        ni: bit_u32(level == 1),
+        ci: u32::from(level == 2),
+        ni: u32::from(level == 1),
         ra: 0,
         er: canonical(params.pcr),
         ccr: 0,

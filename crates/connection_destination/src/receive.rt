@@ -8,39 +8,35 @@ use cell_turn::turn::turn;
 use connection::parts::{Connection, Destination};
 
 // The latest data cell decides the saved EFCI.
+#[tactic(auto, unfolding(connection::specs::Destination::after_data_cell))]
 pub fn after_data_cell(efci: bool, c: Connection) -> Connection
     ensures { result ≡ after_data_cell efci c }
 {
-    let destination = c.destination;
-    let turned = destination.turned;
-    let made = destination.made;
-    c.with_destination(Destination { efci, turned, made })
+    c.with_destination(Destination {
+        efci,
+        ..c.destination
+    })
 }
 
 // The CI of a turned cell that waits: octet 7 is the second of its first word.
+#[tactic(auto, unfolding(connection::specs::Destination::waiting_ci))]
 fn waiting_ci(w: Option<Payload>) -> bool
     ensures { result ≡ waiting_ci w }
 {
-    match w {
-        None => false,
-        Some(p) => p.a / 0x20000000000000 % 2 == 1,
-    }
+    w.is_some_and(|p| p.a / 0x20000000000000 % 2 == 1)
 }
 
 // A forward cell, whose CRC-10 was found right, becomes the one waiting turned cell, from the words of its payload; the
 // saved EFCI is used up.
+#[tactic(auto, unfolding(connection::specs::Destination::after_forward_payload, connection::specs::Destination::mark_kept))]
 pub fn after_forward_payload(level: u32, p: Payload, c: Connection) -> Connection
     requires { CrcMatches p }
     ensures { result ≡ after_forward_payload level p c }
 {
-    let destination = c.destination;
-    let replaced = destination.turned;
-    let made = destination.made;
-    let kept = destination.efci | waiting_ci(replaced);
-    let turned = Some(turn(p, level, kept));
+    let kept = c.destination.efci | waiting_ci(c.destination.turned);
     c.with_destination(Destination {
         efci: false,
-        turned,
-        made,
+        turned: Some(turn(p, level, kept)),
+        ..c.destination
     })
 }

@@ -8,28 +8,25 @@ use connection::pace::paced;
 use connection::parts::{Connection, Destination, Made};
 
 // The turned cell goes before the made one.
+#[tactic(auto, unfolding(connection::specs::Destination::made_left))]
 fn made_left(w: Option<Payload>, m: Made) -> Made
     ensures { result ≡ made_left w m }
 {
-    let last = m.last;
     match w {
-        None => Made { level: 0, last },
+        None => Made { level: 0, ..m },
         Some(_) => m,
     }
 }
 
+#[tactic(auto, unfolding(connection::specs::Destination::sent_turned))]
 pub fn sent_turned(t: u64, c: Connection) -> Connection
     requires { InRange c }
     ensures { result ≡ sent_turned t c }
 {
-    let pace = c.pace;
-    let destination = c.destination;
-    let turned = destination.turned;
-    let made = destination.made;
     let left = Destination {
-        efci: destination.efci,
         turned: None,
-        made: made_left(turned, made),
+        made: made_left(c.destination.turned, c.destination.made),
+        ..c.destination
     };
-    c.with_pace(paced(t, true, pace)).with_destination(left)
+    c.with_pace(paced(t, true, c.pace)).with_destination(left)
 }

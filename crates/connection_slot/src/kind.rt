@@ -7,62 +7,39 @@ use crate::ready::{backward_waits, last_before};
 use connection::kind::Kind;
 use connection::parts::{Connection, Pace};
 
+#[tactic(auto, unfolding(connection::specs::Kind::is_forward, connection::specs::Ready::last_before, rate_params::specs::Forward::forward_due))]
 fn is_forward(t: u64, c: Connection) -> bool
     requires { InRange c }
     ensures { result ≡ is_forward t c c.pace }
 {
-    let pace = c.pace;
-    match pace {
+    match c.pace {
         Pace::Unsent => true,
-        Pace::Running {
-            sent: _,
-            forward,
-            k,
-            turned: _,
-        } => {
-            if last_before(c, k) {
-                return true;
-            }
-            if k < 2 {
-                return false;
-            }
-            forward + c.trm <= t
+        Pace::Running { forward, k, .. } => {
+            last_before(c, k) || (k >= 2 && forward + c.trm <= t)
         }
     }
 }
 
+#[tactic(auto, unfolding(connection::specs::Kind::is_turned))]
 fn is_turned(c: Connection) -> bool
     ensures { result ≡ is_turned c c.pace }
 {
-    let pace = c.pace;
-    match pace {
+    match c.pace {
         Pace::Unsent => false,
-        Pace::Running {
-            sent: _,
-            forward: _,
-            k: _,
-            turned,
-        } => {
-            let destination = c.destination;
-            if !backward_waits(destination) {
-                return false;
-            }
-            if !turned {
-                return true;
-            }
-            c.queue.cells == 0
+        Pace::Running { turned, .. } => {
+            backward_waits(c.destination) && (!turned || c.queue.cells == 0)
         }
     }
 }
 
+#[tactic(auto, unfolding(connection::specs::Kind::kind_at))]
 pub fn kind_at(t: u64, c: Connection) -> Kind
     requires { InRange c }
     ensures { result ≡ kind_at t c }
 {
     if is_forward(t, c) {
-        return Kind::Forward;
-    }
-    if is_turned(c) {
+        Kind::Forward
+    } else if is_turned(c) {
         Kind::Turned
     } else {
         Kind::Data

@@ -4,10 +4,10 @@ ghost use Rattle.connection.specs.Ready.{backward_waits, any_waits, last_before,
 ghost use Rattle.connection.specs.Range.{InRange, InstantBelow};
 
 use connection::parts::{Connection, Destination, Pace};
-use laws::arithmetic::higher;
 use rate::gap::gap;
 
 // A turned or a made cell waits.
+#[tactic(auto, unfolding(connection::specs::Ready::backward_waits, connection::specs::Ready::waits))]
 pub fn backward_waits(d: Destination) -> bool
     ensures { result ≡ backward_waits d }
 {
@@ -15,14 +15,11 @@ pub fn backward_waits(d: Destination) -> bool
 }
 
 // Data, a turned or a made cell waits.
+#[tactic(auto, unfolding(connection::specs::Ready::any_waits))]
 pub fn any_waits(c: Connection) -> bool
     ensures { result ≡ any_waits c }
 {
-    if 0 < c.queue.cells {
-        return true;
-    }
-    let destination = c.destination;
-    backward_waits(destination)
+    0 < c.queue.cells || backward_waits(c.destination)
 }
 
 // k = Nrm − 1. No k of 32 bits is as large as 2^n − 1 for an n of 64 or more, which only a damaged table holds.
@@ -30,56 +27,42 @@ pub fn last_before(c: Connection, k: u32) -> bool
     ensures { result ≡ last_before c k }
 {
     let n = c.rate.params.n;
-    if n < 64 {
-        k as u64 == (1u64 << n) - 1
-    } else {
-        false
-    }
+    n < 64 && k as u64 == (1u64 << n) - 1
 }
 
 // Of a connection whose allowed rate is not 0.
+#[tactic(auto, unfolding(connection::specs::Ready::ready_from))]
 fn ready_from(c: Connection) -> Option<u64>
     requires { InRange c }
     ensures equal { result ≡ ready_from c c.pace }
     ensures below { InstantBelow result }
 {
-    let pace = c.pace;
-    match pace {
-        Pace::Unsent => {
-            if any_waits(c) {
-                return Some(c.opened);
-            }
-            None
-        }
+    match c.pace {
+        Pace::Unsent => any_waits(c).then_some(c.opened),
         Pace::Running {
             sent,
             forward,
             k,
-            turned: _,
+            ..
         } => {
             let due = sent + gap(c.rate.acr);
-            if any_waits(c) {
-                return Some(due);
+            if any_waits(c) || last_before(c, k) {
+                Some(due)
+            } else if k < 2 {
+                None
+            } else {
+                Some(due.max(forward + c.trm))
             }
-            if last_before(c, k) {
-                return Some(due);
-            }
-            if k < 2 {
-                return None;
-            }
-            Some(higher(due, forward + c.trm))
         }
     }
 }
 
 // At an allowed rate of 0 it is never ready (document 02, L5).
+#[tactic(auto, unfolding(connection::specs::Ready::ready_instant))]
 pub fn ready_instant(c: Connection) -> Option<u64>
     requires { InRange c }
     ensures equal { result ≡ ready_instant c }
     ensures below { InstantBelow result }
 {
-    if c.rate.acr == 0 {
-        return None;
-    }
-    ready_from(c)
+    if c.rate.acr == 0 { None } else { ready_from(c) }
 }

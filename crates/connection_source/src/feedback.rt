@@ -12,11 +12,10 @@ pub fn apply_feedback(rate: &mut Rate, ci: bool, ni: bool, er: u64)
     *rate = rate.feedback(ci, ni, er);
 }
 
-// A record by value, lent from a local and handed back.
-pub fn with_feedback(rate: Rate, ci: bool, ni: bool, er: u64) -> Rate
+// A record by value, lent and handed back.
+pub fn with_feedback(mut rate: Rate, ci: bool, ni: bool, er: u64) -> Rate
     ensures { result ≡ feedback ci ni er rate }
 {
-    let mut lent = rate;
-    apply_feedback(&mut lent, ci, ni, er);
-    lent
+    apply_feedback(&mut rate, ci, ni, er);
+    rate
 }

@@ -7,23 +7,18 @@ ghost use Rattle.connection.specs.Range.{ForwardCarried};
 use cell::fields::Fields;
 use cell::name::VCIS;
 use connection::parts::{Connection, Pace, UNANSWERED_MOST};
-use laws::arithmetic::minus;
 use rate::canonical::canonical;
 use rate::code::code_or_zero;
 use rate_moves::moves::Rate;
 
 // The moves before a forward cell at t. Only a damaged table has the last forward cell later than t.
+#[tactic(auto, unfolding(connection::specs::Source::moved_by))]
 pub fn moved_by(t: u64, y: u32, pace: Pace, rate: Rate) -> Rate
     ensures { result ≡ moved_by t y pace rate }
 {
     match pace {
         Pace::Unsent => rate.first_cell(),
-        Pace::Running {
-            sent: _,
-            forward,
-            k: _,
-            turned: _,
-        } => rate.idle(minus(t, forward)).unanswered(y),
+        Pace::Running { forward, .. } => rate.idle(t.saturating_sub(forward)).unanswered(y),
     }
 }
 
@@ -31,19 +26,14 @@ pub fn moved_by(t: u64, y: u32, pace: Pace, rate: Rate) -> Rate
 fn counted(y: u32) -> u32
     ensures { result ≡ min (y + 1) unanswered_most }
 {
-    if y < UNANSWERED_MOST {
-        y + 1
-    } else {
-        UNANSWERED_MOST
-    }
+    y.saturating_add(1).min(UNANSWERED_MOST)
 }
 
+#[tactic(auto, unfolding(connection::specs::Source::sent_forward))]
 pub fn sent_forward(t: u64, c: Connection) -> Connection
     ensures { result ≡ sent_forward t c }
 {
-    let pace = c.pace;
-    let rate = c.rate;
-    let moved = moved_by(t, c.unanswered, pace, rate);
+    let moved = moved_by(t, c.unanswered, c.pace, c.rate);
     let now = Pace::Running {
         sent: t,
         forward: t,
@@ -59,7 +49,6 @@ pub fn sent_forward(t: u64, c: Connection) -> Connection
 pub fn forward_fields(name: u32, rate: Rate) -> Fields
     ensures { ForwardCarried name rate result }
 {
-    let params = rate.params;
     Fields {
         vpi: name / VCIS,
         vci: name % VCIS,
@@ -68,9 +57,9 @@ pub fn forward_fields(name: u32, rate: Rate) -> Fields
         ci: 0,
         ni: 0,
         ra: 0,
-        er: canonical(params.pcr),
+        er: canonical(rate.params.pcr),
         ccr: code_or_zero(rate.acr),
-        mcr: canonical(params.mcr),
+        mcr: canonical(rate.params.mcr),
         ql: 0,
         sn: 0,
     }

@@ -8,16 +8,16 @@ ghost use Rattle.connection.specs.Range.{InRange};
 use cell::name::VCIS;
 use connection::pace::paced;
 use connection::parts::{Connection, Queue};
-use laws::arithmetic::minus_u32;
 
 // An offer adds to the waiting data.
+#[tactic(auto, unfolding(connection::specs::Source::offered))]
 pub fn offered(n: u32, c: Connection) -> Connection
     requires { waiting c.queue + n < 2 ^ 32 }
     ensures { result ≡ offered n c }
 {
     c.with_queue(Queue {
         cells: c.queue.cells + n,
-        served: c.queue.served,
+        ..c.queue
     })
 }
 
@@ -26,29 +26,30 @@ pub fn dequeued(n: u32, c: Connection) -> Connection
     ensures { result ≡ with_queue c (dequeued n c.queue) }
 {
     c.with_queue(Queue {
-        cells: minus_u32(c.queue.cells, n),
-        served: c.queue.served,
+        cells: c.queue.cells.saturating_sub(n),
+        ..c.queue
     })
 }
 
+#[tactic(auto, unfolding(connection::specs::Source::sent_data))]
 pub fn sent_data(t: u64, c: Connection) -> Connection
     requires { InRange c }
     ensures { result ≡ sent_data t c }
 {
-    let pace = c.pace;
     let queue = Queue {
-        cells: minus_u32(c.queue.cells, 1),
-        served: c.queue.served,
+        cells: c.queue.cells.saturating_sub(1),
+        ..c.queue
     };
-    c.with_pace(paced(t, false, pace)).with_queue(queue)
+    c.with_pace(paced(t, false, c.pace)).with_queue(queue)
 }
 
 // A path keeps the VCI of the member that was served last (document 02, L13).
+#[tactic(auto, unfolding(connection::specs::Source::with_served, connection_members::specs::Turn::last_after))]
 pub fn with_served(member: u32, c: Connection) -> Connection
     ensures { result ≡ with_served (some member) c }
 {
     c.with_queue(Queue {
-        cells: c.queue.cells,
         served: member % VCIS,
+        ..c.queue
     })
 }

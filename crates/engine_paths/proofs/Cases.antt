@@ -17,7 +17,7 @@ use Rattle.connection.specs.Parts.{with_queue, dequeued}
 use Rattle.connection.specs.Range.{InRange}
 use Rattle.connection.specs.Source.{offered}
 use Rattle.connection.proofs.Keeps.{KeepsIdentity}
-use Rattle.model.specs.State.{State, free, taken, is_free, find, leaf_of, with_entry_of, with_members, capacity}
+use Rattle.model.specs.State.{State, free, taken, is_free, holds, position, find, leaf_of, with_entry_of, with_members, capacity}
 use Rattle.model.specs.Invariant.{WellFormed}
 use Rattle.model.specs.Call.{Call, offering_member, removing, Outcome}
 use Rattle.model.specs.Step.{refuse, accept, replay, discard, of_open, with_offer, without_one, add_step, offer_member_step, remove_step, step}
@@ -114,7 +114,9 @@ pub removed-ranged : (n : ℕ) (c : Connection) → InRange c → InRange (with_
 removed-ranged n c h = record { opened = h.opened; trm = h.trm; pace = h.pace; made = h.made; out_of_rate = h.out_of_rate }
 
 on-path : (s : State) (a b : ℕ) {i j : ℕ} → OnPath s a b i j → Located s.entries (path_of (address_name a b)) i
-on-path s a b {i} p = subst (λ (v : ℕ). Located s.entries v i) (sym (path-of-address a b p.fits)) p.located
+on-path s a b {i} p =
+    let e = sym (path-of-address a b p.fits) in
+    record { holder = p.located.holder; here = p.located.here; named = p.located.named ∙ e; place = subst (λ (v : ℕ). position (holds v) s.entries ≡ i) e p.located.place }
 
 -- the member's word is changed, then the path's entry
 module _ (s : State) (w : WellFormed s) {l k m : List ℕ} (e : l ≡ words s) (a b : ℕ) {i j : ℕ} (p : OnPath s a b i j) (below : i < capacity) {d : Connection} (q : d ≡ connection_at l i) where

@@ -46,16 +46,6 @@ pub fn put_forward(cell: &mut [u8], clp: u32, name: u32, rate: Rate)
     put_rm(cell, clp, forward_fields(name, rate));
 }
 
-// Whether no turned cell waits: then a backward cell that goes is a made one (document 02, L1).
-fn none_turned(w: Option<Payload>) -> bool
-    ensures { result ≡ none_turned w }
-{
-    match w {
-        None => true,
-        Some(_) => false,
-    }
-}
-
 // The winner has the greatest key of all. Its neighbour's is looked at for the sake of the caches: its line, which the
 // replay needs, is then loaded together with the winner's record and not after it. Other cells need less of the record,
 // and their replay comes soon enough.
@@ -90,12 +80,13 @@ fn send_turned(t: &mut [u64; WORDS], time: u64, i: usize, cell: &mut [u8]) -> Se
 {
     let c = load(t, i);
     let next = sent_turned(time, c);
-    let destination = c.destination;
-    let turned = destination.turned;
-    let rate = c.rate;
-    let params = rate.params;
-    put_backward(cell, c.name, params, turned, destination.made.level);
-    let made = none_turned(turned);
+    put_backward(
+        cell,
+        c.name,
+        c.rate.params,
+        c.destination.turned,
+        c.destination.made.level,
+    );
     update_winner(t, i, next);
     let leaf = i as u32;
     Sent {
@@ -105,7 +96,8 @@ fn send_turned(t: &mut [u64; WORDS], time: u64, i: usize, cell: &mut [u8]) -> Se
         comparisons: LEVELS,
         leaf,
         acr_before: c.rate.acr,
-        made,
+        // Where no turned cell waits, the backward cell that goes is a made one (document 02, L1).
+        made: c.destination.turned.is_none(),
     }
 }
 

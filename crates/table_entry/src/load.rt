@@ -1,9 +1,10 @@
 // An entry's connection out of its record.
 ghost use Rattle.std.specs.Prelude.{◌≡◌, ◌<◌, ◌+◌, ◌≤◌};
 ghost use Rattle.table.specs.Loading.{pace_of, waiting_of, payload_at, instant_of, queue_of, only_n, params_at, connection_at, first_line};
-ghost use Rattle.table.specs.Layout.{no_payload, size};
+ghost use Rattle.table.specs.Layout.{size};
 ghost use Rattle.model.specs.State.{capacity};
 
+use crate::destination::no_payload;
 use cell_payload::payload::Payload;
 use connection::parts::{Change, Connection, Destination, Made, Pace, Queue};
 use rate_moves::moves::Rate;
@@ -31,11 +32,7 @@ fn pace_of(sent: u64, forward: u64, word: u64) -> Pace
 fn waiting_of(word: u64, p: Payload) -> Option<Payload>
     ensures { result ≡ waiting_of word p }
 {
-    if word % 4 < 2 {
-        None
-    } else {
-        Some(p)
-    }
+    if word % 4 < 2 { None } else { Some(p) }
 }
 
 fn payload_at(t: &[u64; WORDS], b: usize) -> Payload
@@ -56,9 +53,10 @@ fn instant_of(word: u64) -> Option<u64>
     ensures { result ≡ instant_of word }
 {
     if word == 0 {
-        return None;
+        None
+    } else {
+        Some((word - 1) % INSTANT_LIMIT)
     }
-    Some((word - 1) % INSTANT_LIMIT)
 }
 
 // The data that waits, and the VCI served last.
@@ -127,19 +125,6 @@ pub fn load(t: &[u64; WORDS], i: usize) -> Connection
             },
         },
         out_of_rate,
-    }
-}
-
-fn no_payload() -> Payload
-    ensures { result ≡ no_payload }
-{
-    Payload {
-        a: 0,
-        b: 0,
-        c: 0,
-        d: 0,
-        e: 0,
-        f: 0,
     }
 }
 

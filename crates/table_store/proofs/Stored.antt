@@ -3,13 +3,12 @@
 use Prim.Native.Nat.{ℕ, ◌+◌, ◌*◌, ◌<◌}
 use mathlib.Core.Path.{◌≡◌, sym, ap, ap₂, subst, ◌∙◌}
 use mathlib.Core.Bool.{not}
-use mathlib.Core.List.{List, ◌∷◌, ◌++◌}
+use mathlib.Core.List.{List, ◌++◌}
 use lib.ListN.{length, get_or, set, length-set}
 use Rattle.laws.specs.Blocks.{put_from}
 use Rattle.connection.specs.declared.parts.Connection.{Connection}
 use Rattle.connection.specs.Ready.{ready_instant}
 use Rattle.connection.specs.Parts.{Instant}
-use Rattle.connection_members.specs.Members.{Member}
 use Rattle.model.specs.State.{State, Entry, free, taken, capacity}
 use Rattle.model.specs.Tournament.{levels, replayed}
 use Rattle.model.proofs.Replays.{replayed-all}

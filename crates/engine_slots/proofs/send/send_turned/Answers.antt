@@ -1,7 +1,18 @@
+use mathlib.Core.Path.{◌≡◌, refl}
+use mathlib.Core.Bool.{Bool, true, false, not}
+use Rattle.std.specs.Prelude.{is_some, Some, None}
+use Rattle.connection.specs.Parts.{Waiting}
+use Rattle.model.specs.Details.{none_turned}
 use Rattle.engine.proofs.Outcomes.{ranged}
 use Rattle.engine_slots.proofs.SendCases.{loaded-named, turned-in-range, turned-out}
 use borrow.Author.Rules.{rules}
 use Rattle.engine_slots.proofs.send.send_turned.Goals as goal
+
+none-turned : (w : Waiting) {b : Bool} → is_some w ≡ not b → b ≡ none_turned w
+none-turned None {b = true} e = refl
+none-turned None {b = false} e = e
+none-turned (Some p) {b = true} e = e
+none-turned (Some p) {b = false} e = refl
 
 pub sent_turned-next-requires : goal.sent_turned-next-requires
 sent_turned-next-requires c =
@@ -17,12 +28,9 @@ update_winner-requires c =
 
 pub returns : goal.returns
 returns c =
-    let st = c in
-    let ld = c in
-    let n = c in
-    let p = c in
-    let w = c in
+    let a = c.args in
     record {
       sends = λ s x f e kind.
-          turned-out s st.args.time st.args.i x f e st.requires.0 ld.load-c.result ld.load-c.ensures st.args.cell.now p.put_backward.new.cell n.sent_turned-next.result n.sent_turned-next.ensures p.put_backward.ensures c.update_winner.ensures w.none_turned-made.result w.none_turned-made.ensures kind;
+          turned-out s a.time a.i x f e c.requires.0 c.load-c.result c.load-c.ensures a.cell.now c.put_backward.new.cell c.sent_turned-next.result c.sent_turned-next.ensures c.put_backward.ensures c.update_winner.ensures
+          c.is_none.result (none-turned c.load-c.result.destination.turned c.is_none.ensures) kind;
     }
