@@ -13,7 +13,11 @@ const TRM_TIMES: [u64; 8] = [
 pub fn trm_time(number: u32) -> u64
     ensures { result ≡ trm_time number }
 {
-    TRM_TIMES.get(number as usize).copied().unwrap_or(0)
+    // The range is checked, and then the table read, as document 01 names the form: no `get`.
+    if Params::TRM_MOST < number {
+        return 0;
+    }
+    TRM_TIMES[number as usize]
 }
 
 // x / 2^n, rounded up. No x reaches 2^32.
