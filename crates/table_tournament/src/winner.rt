@@ -64,8 +64,8 @@ pub fn word_leaf(word: u64) -> usize
 }
 
 // The winner of a match: a greater key is an earlier instant, and of two with the same key the lower name wins, without
-// a load of their records. Two keys nearly always differ, and then the compiler makes no branch of it. An order of pairs
-// would be no plainer: it would have to cross the two fields, `(a.key, b.word) < (b.key, a.word)`.
+// a load of their records. Two keys nearly always differ, and then the compiler makes no branch of it. An order of
+// pairs would be no plainer: it would have to cross the two fields, `(a.key, b.word) < (b.key, a.word)`.
 pub fn winner_of(a: KeyedWinner, b: KeyedWinner) -> KeyedWinner
     ensures { result ≡ matched a b }
 {

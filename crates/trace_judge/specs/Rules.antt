@@ -44,8 +44,8 @@ with_sent h c =
 unfoldable pub too_soon : Cell → Bool
 too_soon c = eqb c.rate 0 || ltb c.since (gap c.rate)
 
--- The lowest rule that a cell breaks, if it breaks one. The first cell is a forward one (1). A later one is not too soon
--- (2), and is a forward one exactly when a slot would send one (3).
+-- The lowest rule that a cell breaks, if it breaks one. The first cell is a forward one (1). A later one is not too
+-- soon (2), and is a forward one exactly when a slot would send one (3).
 unfoldable pub broken_rule : (nrm trm : ℕ) → Sent → Cell → Option Rule
 broken_rule nrm trm h c =
     cond (eqb h.cells 0) (cond (is_forward_cell c) None (Some FirstForward))
