@@ -2,3 +2,4 @@
 #![tactic(auto)]
 
 pub mod number;
+pub mod reader;
