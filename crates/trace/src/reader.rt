@@ -1,11 +1,11 @@
-// A reader of numbers: the octets of a trace, and an offset (document 01, "The forms we expect"; document 02, L11).
+// A reader of numbers: the octets of a trace, and an offset (document 02, L11).
 ghost use Rattle.std.specs.Prelude.{◌≡◌};
 ghost use Rattle.trace.specs.Numbers.{number_at};
 
 use crate::number::number_at;
 use laws::refusals::Refusal;
 
-#[derive(Clone, Copy)]
+#[derive(Clone, Copy, Debug)]
 pub struct Reader<'a> {
     pub octets: &'a [u8],
     pub offset: usize,
@@ -19,17 +19,10 @@ impl<'a> Reader<'a> {
         Reader { octets, offset }
     }
 
-    // The number at its offset, and the offset after it.
+    // The number at the reader's offset, and the offset after it.
     pub fn read(self) -> Result<(u64, usize), Refusal>
         ensures { result ≡ number_at self.entry.octets.now self.entry.offset }
     {
         number_at(self.octets, self.offset)
     }
-}
-
-// The number at an offset of a trace, and the offset after it.
-pub fn number_from(octets: &[u8], offset: usize) -> Result<(u64, usize), Refusal>
-    ensures { result ≡ number_at octets.now offset }
-{
-    Reader::over(octets, offset).read()
 }

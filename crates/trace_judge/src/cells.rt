@@ -4,7 +4,7 @@ ghost use Rattle.trace_judge.specs.Octets.{number_within, record_at};
 
 use laws::refusals::Refusal;
 use rate::units::LARGEST_RATE;
-use trace::reader::number_from;
+use trace::reader::Reader;
 
 // The nanoseconds since the cell before, the kind (1 forward, 2 backward, 3 data) and the rate in force before it.
 #[derive(Clone, Copy, Debug, PartialEq, Eq)]
@@ -25,7 +25,7 @@ pub fn number_within(
 ) -> Result<(u64, usize), Refusal>
     ensures { result ≡ number_within trace.now offset low high }
 {
-    let (value, next) = number_from(trace, offset)?;
+    let (value, next) = Reader::over(trace, offset).read()?;
     if (low..=high).contains(&value) {
         Ok((value, next))
     } else {
