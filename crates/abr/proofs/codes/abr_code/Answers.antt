@@ -3,4 +3,4 @@ use Rattle.abr_answers.specs.Codes.{coded_of}
 use Rattle.abr.proofs.codes.abr_code.Goals as goal
 
 pub returns : goal.returns
-returns c = c.coded_of.ensures ∙ ap coded_of c.code_of.ensures
+returns c = c.from.ensures ∙ ap coded_of c.code_of.ensures

@@ -7,4 +7,4 @@ use Rattle.abr.proofs.planning.abr_import.Goals as goal
 pub returns : goal.returns
 returns c =
     let held : T (fits binary64 c.args.rate) = subst T (sym c.well_formed.0.1) tt in
-    imports c.args.rate (held) c.import.ensures c.imported_of.ensures
+    imports c.args.rate (held) c.import.ensures c.from.ensures

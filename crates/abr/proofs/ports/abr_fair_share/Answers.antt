@@ -3,4 +3,4 @@ use Rattle.abr_answers.specs.Shares.{share_of}
 use Rattle.abr.proofs.ports.abr_fair_share.Goals as goal
 
 pub returns : goal.returns
-returns c = c.share_of.ensures ∙ ap share_of c.fair_share.ensures
+returns c = c.from.ensures ∙ ap share_of c.fair_share.ensures
