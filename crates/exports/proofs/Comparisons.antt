@@ -13,7 +13,7 @@ use Rattle.cell.specs.Name.{address_name}
 use Rattle.connection_members.specs.Path.{path_vci}
 use Rattle.connection.specs.declared.parts.Connection.{Connection}
 use Rattle.connection.specs.declared.kind.Kind.TheVariants.{Forward, Turned, Data}
-use Rattle.connection.specs.Parts.{fresh}
+use Rattle.connection.specs.Parts.{fresh, Instant}
 use Rattle.connection.specs.Ready.{waits, backward_waits, any_waits, ready_from, ready_instant}
 use Rattle.model.specs.State.{State, Entry, taken, empty, position, is_free, holds, find, with_opened, room_left, with_time}
 use Rattle.model.specs.Invariant.{WellFormed, NamesUnique}
@@ -111,7 +111,7 @@ fresh-never : (u t : ℕ) (p : Params) → ready_instant (fresh u t p) ≡ None
 unfolding fresh ready_instant ready_from any_waits backward_waits waits
 fresh-never u t p = go (eqb (fresh u t p).rate.acr 0)
   where
-    go : (b : Bool) → cond b None None ≡ None
+    go : (b : Bool) → cond {A = Instant} b None None ≡ None
     go true = refl
     go false = refl
 

@@ -225,10 +225,10 @@ module _ (ss : List Entry) (x : ℕ) (y : Entry) where
   one-winner d p no_winner no_winner s t e n = refl
   one-winner d p no_winner (won_by j w z) s t e n = absurd (omega (arith, e))
   one-winner d p (won_by i v u) no_winner s t e n = absurd (omega (arith, e))
-  one-winner d p (won_by i v u) (won_by j w z) s t e n = whole (at_same j i (sym t.ready_at ∙ ap ready_instant one ∙ s.ready_at)) (sym t.named ∙ ap (λ (c : Connection). c.name) one ∙ s.named) (omega (arith, e))
+  one-winner d p (won_by i v u) (won_by j w z) s t e n = whole (some_same j i (sym t.ready_at ∙ ap ready_instant one ∙ s.ready_at)) (sym t.named ∙ ap (λ (c : Connection). c.name) one ∙ s.named) (omega (arith, e))
     where
-      at_same : (i j : ℕ) → Some i ≡ Some j → i ≡ j
-      at_same i j e = cc
+      some_same : (i j : ℕ) → Some i ≡ Some j → i ≡ j
+      some_same i j e = cc
 
       whole : {i j v w x y : ℕ} → i ≡ j → v ≡ w → x ≡ y → won_by i v x ≡ won_by j w y
       whole p q r = rw (p, q, r)

@@ -36,11 +36,11 @@ ahead-instant (tied a d) = omega arith
 no : ◌≡◌ {A = Bool} false true → ⊥
 no e = let z : ◌≡◌ {A = ℕ} 0 1 = cc in omega arith
 
-never≢At : {i : ℕ} → None ≡ Some i → ⊥
-never≢At e = let z : ◌≡◌ {A = ℕ} 0 1 = cc in omega arith
+none≢some : {i : ℕ} → None ≡ Some i → ⊥
+none≢some e = let z : ◌≡◌ {A = ℕ} 0 1 = cc in omega arith
 
-at_same : (i j : ℕ) → Some i ≡ Some j → i ≡ j
-at_same i j e = cc
+some_same : (i j : ℕ) → Some i ≡ Some j → i ≡ j
+some_same i j e = cc
 
 late : (t j : ℕ) → t < j → j ≤ t → ⊥
 late t j a b = omega arith
@@ -101,7 +101,7 @@ meet t d ss i a e l none_ready h = record {
   found = find-hit d.name d ss refl;
   ready_at = e;
   due = l;
-  first = ((λ j f u. tied (at_same i j (sym e ∙ f)) (le_refl _)), each_map _ _ (λ c k j f u. absurd (late t j (k j f) u)) ss h);
+  first = ((λ j f u. tied (some_same i j (sym e ∙ f)) (le_refl _)), each_map _ _ (λ c k j f u. absurd (late t j (k j f) u)) ss h);
 }
 meet t d ss i a e l (wins j w) h = go (ahead? i d.name j w) refl
   where
@@ -111,25 +111,25 @@ meet t d ss i a e l (wins j w) h = go (ahead? i d.name j w) refl
       found = find-hit d.name d ss refl;
       ready_at = e;
       due = l;
-      first = ((λ k f u. tied (at_same i k (sym e ∙ f)) (le_refl _)), each_map _ _ (λ c g k f u. ahead-trans (ahead-yes i d.name j w p) (g k f u)) ss h.first);
+      first = ((λ k f u. tied (some_same i k (sym e ∙ f)) (le_refl _)), each_map _ _ (λ c g k f u. ahead-trans (ahead-yes i d.name j w p) (g k f u)) ss h.first);
     }
     go false p = record {
       holder = h.holder;
       found = find_past w (taken d) ss (elsewhere d ss w h.holder a h.found) ∙ h.found;
       ready_at = h.ready_at;
       due = h.due;
-      first = ((λ k f u. subst (λ (x : ℕ). Ahead j w x d.name) (at_same i k (sym e ∙ f)) (ahead-no i d.name j w p)), h.first);
+      first = ((λ k f u. subst (λ (x : ℕ). Ahead j w x d.name) (some_same i k (sym e ∙ f)) (ahead-no i d.name j w p)), h.first);
     }
 
 enter : (t : ℕ) (d : Connection) (ss : List Entry) (w : Winner) → Absent d.name ss → Best t ss w → (r : Instant) → ready_instant d ≡ r
     → Best t (taken d ∷ ss) (better (candidate_from t d.name r) w)
 unfolding candidate_from better
-enter t d ss w a h None e = pass-late t d ss w a (λ j f. absurd (never≢At (sym e ∙ f))) h
+enter t d ss w a h None e = pass-late t d ss w a (λ j f. absurd (none≢some (sym e ∙ f))) h
 enter t d ss w a h (Some i) e = go (leb i t) refl
   where
     go : (b : Bool) → leb i t ≡ b → Best t (taken d ∷ ss) (better (cond b (wins i d.name) none_ready) w)
     go true p = meet t d ss i a e (leb-true i t p) w h
-    go false p = pass-late t d ss w a (λ j f. subst (λ (x : ℕ). t < x) (at_same i j (sym e ∙ f)) (leb-false i t p)) h
+    go false p = pass-late t d ss w a (λ j f. subst (λ (x : ℕ). t < x) (some_same i j (sym e ∙ f)) (leb-false i t p)) h
 
 pub winner-best : (t : ℕ) (ss : List Entry) → NamesUnique ss → Best t ss (winner t ss)
 unfolding winner candidate better
