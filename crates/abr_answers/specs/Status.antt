@@ -1,5 +1,5 @@
 -- What reading a whole connection, a member and the link return. (Beyond the documents' demands.)
-use Rattle.std.specs.Prelude.{ℕ, Bool, true, false, cond, pos, Some, None}
+use Rattle.std.specs.Prelude.{ℕ, Bool, cond, pos, Some, None}
 use Rattle.rate_params.specs.declared.params.Params.{Params}
 use Rattle.rate_params.specs.Params.{initial_used, crm}
 use Rattle.cell.specs.Name.{vpi_in, vci_in}

@@ -1,12 +1,10 @@
 -- What is read of an entry in use, in the words of a state.
-use Rattle.std.proofs.Common.{◌≡◌, ℕ, suc, ◌+◌, ◌-◌, ◌*◌, ◌/◌, ◌%◌, ◌^◌, ◌<◌, ◌≤◌, List, ◌++◌, get_or, drop, ◌-ℤ◌, ap, ◌∙◌, subst, add-zero, mod-lt, lit<, get_or-drop, w64, SFits, to_z, of_z}
-use Rattle.laws.specs.Blocks.{flat}
+use Rattle.std.proofs.Common.{◌≡◌, ℕ, ◌+◌, ◌-◌, ◌/◌, ◌%◌, ◌^◌, ◌<◌, List, get_or, drop, ◌-ℤ◌, ap, ◌∙◌, subst, add-zero, mod-lt, lit<, get_or-drop, w64, SFits, to_z, of_z}
 use Rattle.rate_params.specs.declared.params.Params.{Params}
 use Rattle.connection.specs.declared.parts.Connection.{Connection}
 use Rattle.connection.specs.Change.{difference}
 use Rattle.connection.specs.Invariant.{ValidAt}
-use Rattle.connection.specs.Ready.{ready_instant}
-use Rattle.model.specs.State.{State, Entry, free, taken, capacity}
+use Rattle.model.specs.State.{State, free, taken, capacity}
 use Rattle.model.specs.Invariant.{WellFormed, OnEntry}
 use Rattle.model.specs.Answers.{Status}
 use Rattle.model.proofs.Entries.{each-get}

@@ -1,5 +1,5 @@
 -- CRM and the initial rate used, as the code makes them: one lemma for each way out.
-use Rattle.std.proofs.Common.{◌≡◌, ℕ, ◌+◌, ◌-◌, ◌*◌, ◌/◌, ◌%◌, ◌^◌, ◌<◌, ◌≤◌, min, max, ap, ◌∙◌, subst, mod-eq_of_lt, div-le_self, arith, eq-eqb, ne_eqb}
+use Rattle.std.proofs.Common.{◌≡◌, ℕ, ◌+◌, ◌-◌, ◌*◌, ◌/◌, ◌%◌, ◌^◌, ◌<◌, ◌≤◌, max, ap, ◌∙◌, subst, mod-eq_of_lt, div-le_self, arith, eq-eqb, ne_eqb}
 use Rattle.rate_params.specs.declared.params.Params.{Params}
 use Rattle.rate_params.specs.Params.{least, initial, initial_used, crm}
 use Rattle.rate_params.proofs.RoundedUp.{part-rounded}

@@ -1,5 +1,5 @@
 -- Where a name leads in the words of a state: one lemma for each way out.
-use Rattle.std.proofs.Common.{◌≡◌, ℕ, ◌+◌, ◌<◌, Bool, true, false, List, get_or, sym, refl, ap, ◌∙◌, subst, arith}
+use Rattle.std.proofs.Common.{◌≡◌, ℕ, ◌+◌, ◌<◌, Bool, true, false, List, get_or, sym, refl, ap, ◌∙◌, subst}
 use mathlib.Core.Option.{Option, none, some}
 use Rattle.connection_members.specs.Path.{path_of}
 use Rattle.connection_members.specs.Members.{is_member, cells_of, owner}

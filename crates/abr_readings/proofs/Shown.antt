@@ -1,7 +1,7 @@
 -- What is shown of a connection's parts, out of their words.
-use Rattle.std.proofs.Common.{◌≡◌, ℕ, ◌+◌, ◌-◌, ◌*◌, ◌/◌, ◌%◌, ◌^◌, ◌<◌, ◌≤◌, Bool, true, false, cond, List, ◌++◌, refl, ap, ◌∙◌, mod-eq_of_lt, arith, pow_mono, ne_eqb, Some, None}
+use Rattle.std.proofs.Common.{◌≡◌, ℕ, ◌+◌, ◌-◌, ◌/◌, ◌%◌, ◌^◌, ◌<◌, ◌≤◌, Bool, true, false, cond, List, ◌++◌, refl, ap, ◌∙◌, mod-eq_of_lt, arith, pow_mono, ne_eqb, Some, None}
 use Rattle.rate.specs.Units.{latest_time}
-use Rattle.rate_params.specs.Params.{nrm, initial_used, crm}
+use Rattle.rate_params.specs.Params.{nrm}
 use Rattle.rate_params.proofs.Ranges.{fits, setup-fits}
 use Rattle.connection.specs.declared.parts.Connection.{Connection}
 use Rattle.connection.specs.declared.parts.Pace.{Pace}

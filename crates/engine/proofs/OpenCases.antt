@@ -33,7 +33,7 @@ use Rattle.std.specs.Prelude.{Option, Some, None}
 use Rattle.model.proofs.Entries.{lowest-free, each_set, unique-set, find_absent}
 use Rattle.model.specs.Step.{refuse, replay, open_address, open_step}
 use Rattle.model.specs.Tournament.{replayed}
-use Rattle.model.specs.Answers.{Accepted, OpenAnswer, OpenRefused, Opened}
+use Rattle.model.specs.Answers.{OpenRefused, Opened}
 use Rattle.table_store.specs.Updates.{with_entry, OpensEntry}
 use Rattle.table_tournament.specs.Replaying.{Playable}
 use Rattle.table_tournament.proofs.Orders.{ordered}

@@ -27,7 +27,7 @@ use Rattle.table_names.specs.Finding.{FoundInRange, Located, Names, FindsName}
 use Rattle.model.proofs.Entries.{each-get, each_set, entry-map, unique-set, freed-absent}
 use Rattle.table.proofs.Loaded.{load-ranged, load-room}
 use Rattle.table.proofs.Words.{winner-same, load_at, efci-at, out-of-rate-at}
-use Rattle.model.specs.Answers.{Answer, Refused, Accepted, Closed}
+use Rattle.model.specs.Answers.{Refused, Accepted, Closed}
 use Rattle.model.specs.Call.{Call, Outcome}
 use Rattle.model.specs.Step.{refuse, accept, replay, discard, step}
 use Rattle.model.specs.Tournament.{levels, leaf_winner, replayed}

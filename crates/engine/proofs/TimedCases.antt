@@ -1,8 +1,7 @@
 -- One lemma for each way out of looking for the entry of a name at a time.
-use Prim.Native.Nat.{ℕ, ◌+◌, ◌≤◌, ◌<◌}
-use mathlib.Core.Path.{◌≡◌, ap, subst, ◌∙◌}
+use Prim.Native.Nat.{ℕ, ◌≤◌, ◌<◌}
+use mathlib.Core.Path.{◌≡◌, subst}
 use mathlib.Core.List.{List}
-use native.Mathlib.Omega.{arith}
 use lib.ListN.{get_or}
 use Rattle.std.specs.Prelude.{Option, Some, None, Ok, Err}
 use borrow.Author.Tests.{le-leb, lt-leb}
@@ -10,11 +9,10 @@ use Rattle.laws.specs.declared.refusals.Refusal.TheVariants.{Time, NotOpen, Time
 use Rattle.laws.specs.Require.{require}
 use Rattle.rate.specs.Units.{latest_time}
 use Rattle.connection.specs.declared.parts.Connection.{Connection}
-use Rattle.model.specs.State.{State, free, taken, find, capacity}
-use Rattle.model.specs.Invariant.{WellFormed}
+use Rattle.model.specs.State.{State, free, taken, find}
 use Rattle.model.specs.Call.{Outcome}
 use Rattle.model.specs.Step.{refuse, of_open}
-use Rattle.table.specs.Layout.{words, last_at}
+use Rattle.table.specs.Layout.{last_at}
 use Rattle.table.proofs.Words.{last-at}
 use Rattle.table_names.specs.Finding.{FindsName}
 use Rattle.table_names.proofs.Found.{found_at}

@@ -1,6 +1,6 @@
 -- A call on a member, up to where the member is found: one lemma for each way out. (Document 02, L13.)
 use Prim.Native.Nat.{ℕ, ◌≤◌, ◌<◌}
-use mathlib.Core.Path.{◌≡◌, refl, sym, ap, subst, ◌∙◌}
+use mathlib.Core.Path.{◌≡◌, refl, ap, subst, ◌∙◌}
 use mathlib.Core.Bool.{Bool, ◌&&◌, true, false}
 use mathlib.Core.List.{List}
 use native.Mathlib.Omega.{arith}
