@@ -34,8 +34,7 @@ fn greatest(capacity: u64, demands: &[u64]) -> u64
     s
 }
 
-// No limit is None. Refusals 21, 22: the pass at the largest rate tells whether a demand is above it, and else it
-// gives
+// No limit is None. Refusals 21, 22: the pass at the largest rate tells whether a demand is above it, and else it gives
 // the plain sum.
 pub fn fair_share(capacity: u64, demands: &[u64]) -> Result<Option<u64>, Refusal>
     ensures { result ≡ fair_share capacity demands.now }

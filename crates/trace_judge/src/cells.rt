@@ -15,7 +15,7 @@ pub struct Cell {
     pub rate: u64,
 }
 
-// A number and the offset after it. TraceRange if it is out of its range; TraceNumber and TraceEnd as `number_from`.
+// A number and the offset after it. TraceRange if it is out of its range; TraceNumber and TraceEnd as `number_at`.
 #[tactic(auto, unfolding(crate::specs::Octets::ranged, rate_params::specs::Params::within))]
 pub fn number_within(
     trace: &[u8],
