@@ -1,6 +1,4 @@
-// Facts about lists and blocks that belong to no single crate, in specs/ and proofs/. Also, for the code, the numbers
-// of the refusals, and functions on numbers.
+// Facts about lists and blocks that belong to no single crate, in specs/ and proofs/. Also the refusals.
 #![tactic(auto)]
 
-pub mod arithmetic;
 pub mod refusals;

@@ -6,7 +6,6 @@ ghost use Rattle.connection.specs.Range.{InstantInRange};
 
 use cell_payload::payload::Payload;
 use connection::parts::Destination;
-use laws::arithmetic::bit;
 use table::layout::{HALF, WORDS};
 
 fn wait_tag(w: Option<Payload>) -> u64
@@ -41,7 +40,7 @@ fn waiting_payload(w: Option<Payload>) -> Payload
 fn destination_tag(destination: Destination) -> u64
     ensures { (result ≡ destination_tag destination) × (result ≤ 3) }
 {
-    wait_tag(destination.turned) + bit(destination.efci)
+    wait_tag(destination.turned) + destination.efci as u64
 }
 
 // With the level at which the made cell that waits was made.
