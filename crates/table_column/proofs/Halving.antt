@@ -118,16 +118,6 @@ module _ (from start len : ℕ) (l : List ℕ) (w p half : ℕ) (b : HalvedFrom 
   pub halved-from-end : half ≤ 0 → (start ≤ p) × AtLeast (from + start) len l w (p - start)
   halved-from-end z = (b.begun, halved-end (from + start) len l w (p - start) half b.is z)
 
--- from the first word on
-pub column-whole : (from len : ℕ) → Column from len → Column (from + 0) len
-column-whole from len c = record { halvings = c.halvings; is = c.is; inside = omega (arith, c.inside) }
-
-pub halved-whole : (from len : ℕ) (l : List ℕ) (w r : ℕ) → AtLeast (from + 0) len l w (r - 0) → AtLeast from len l w r
-halved-whole from len l w r a =
-    let e : from + 0 ≡ from = omega arith in
-    let f : r - 0 ≡ r = omega arith in
-    subst (λ (p : ℕ). AtLeast from len l w p) f (subst (λ (n : ℕ). AtLeast n len l w (r - 0)) e a)
-
 -- a word that is at least w is among those counted, another is not
 module _ (from len : ℕ) (l : List ℕ) (w j : ℕ) (inside : j < len) (h ds t : List ℕ) (i : InColumn from len l h ds t) where
   count-in : w ≤ get_or l (from + j) 0 → j < at_least w ds

@@ -6,7 +6,7 @@ use native.Mathlib.Omega.{arith}
 use lib.ListN.{length, get_or, set, take, drop, length-append, length-drop, take-append-drop}
 use lib.Seq.{length-take-le, append_snoc, split_at, set_at, get_or_at}
 use Rattle.table_column.specs.Descending.{Descending, shifted, pushed, inserted_at, removed_at}
-use Rattle.table_column.specs.Column.{InColumn, AtLeast, Enters, Leaves, Inserts, RemovesWord}
+use Rattle.table_column.specs.Column.{InColumn, Enters, Leaves}
 use Rattle.table_column.proofs.Shifts.{descending-drop, inserted-split, shifted-zeros, pushed-zeros, removed-split, snoc-zeros}
 
 -- ---- a word of the column, read and stored
@@ -126,12 +126,6 @@ module _ (from p len w : ℕ) (start l : List ℕ) (i moved : ℕ) (b : Insertin
     is = λ h ds t d. let e : Entered p len w h ds t l i moved = b.are h ds t d in entering-end from p len w h ds t l i moved d.1 e.done e.rest e.is k;
   }
 
--- at its place
-pub inserted : (from p len w : ℕ) (l m : List ℕ) (r : ℕ) → AtLeast from len l w p → Enters from p len w l m r → Inserts from len w l m
-inserted from p len w l m r a e = record {
-  is = λ h ds t d k. (e.is h ds t d).0 ∙ ap (λ (n : ℕ). h ++ (inserted_at n w ds ++ t)) (omega (arith, a.is h ds t d, k));
-}
-
 -- ---- a word leaves
 
 -- of a column ds: the words done have moved, and the rest is to stand where `old` stands
@@ -233,9 +227,3 @@ module _ (from p len : ℕ) (start l : List ℕ) (i : ℕ) (b : Removing from p 
   removing-end k = record {
     is = λ h ds t d. let e : Left p len h ds t l i = b.are h ds t d in leaving-end from p len h ds t l i d.1 e.done e.old e.rest e.is k;
   }
-
--- at its place
-pub removed : (from p len w : ℕ) (l m : List ℕ) → AtLeast from len l w p → Leaves from p len l m → RemovesWord from len w l m
-removed from p len w l m a e = record {
-  is = λ h ds t d k. e.is h ds t d ∙ ap (λ (n : ℕ). h ++ (removed_at n ds ++ t)) (omega (arith, a.is h ds t d, k));
-}

@@ -1,22 +1,22 @@
 -- The winner of a leaf and of a match, as the code finds them: one lemma for each way out. The number of a winner, with
 -- its mark and without.
-use Prim.Native.Nat.{ℕ, ◌+◌, ◌*◌, ◌/◌, ◌%◌, ◌^◌, ◌≤◌, ◌<◌}
+use Prim.Native.Nat.{ℕ, ◌+◌, ◌*◌, ◌/◌, ◌%◌, ◌^◌, ◌<◌}
 use mathlib.Core.Path.{◌≡◌, refl, sym, ap, ◌∙◌}
 use mathlib.Core.Logic.{◌≢◌}
 use mathlib.Core.Bool.{Bool, true, false, cond}
 use mathlib.Core.List.{List}
 use native.Mathlib.Nat.{add-zero}
 use native.Mathlib.Omega.{arith}
-use lib.Dec.{ltb, eqb}
+use lib.Dec.{eqb}
 use lib.ListN.{get_or, set}
-use borrow.Author.Tests.{eqb-false, eq-eqb, ne_eqb, le-ltb, lt-ltb}
+use borrow.Author.Tests.{eqb-false, eq-eqb, ne_eqb}
 use Rattle.model.specs.State.{Entry, capacity}
 use Rattle.model.specs.Tournament.{MatchWinner, no_winner, won_by, neighbour, winner_at, winner_word}
 use Rattle.model.proofs.Entries.{Case, same, other, case}
 use Rattle.model.proofs.Places.{Stands, OnMatchWinner, Comes, winner-entry, ended}
 use Rattle.table.specs.Layout.{halves, record_from, winner_number, winner_key}
 use Rattle.table_tournament.specs.declared.winner.KeyedWinner.{KeyedWinner}
-use Rattle.table_tournament.specs.KeyedWinner.{word_mark, leaf_word, keyed_leaf, word_leaf, tied_of, matched}
+use Rattle.table_tournament.specs.KeyedWinner.{word_mark, leaf_word, keyed_leaf, word_leaf}
 
 abbrev pub as_keyed : (word key : ℕ) → KeyedWinner
 as_keyed w k = record { word = w; key = k }
@@ -29,31 +29,6 @@ module _ (l : List ℕ) (x m : ℕ) where
 
   pub leaf-some : {w : ℕ} → w ≡ leaf_word l x → get_or l (record_from x) 0 ≢ 0 → as_keyed (w + m) (get_or l (record_from x) 0) ≡ keyed_leaf l x m
   leaf-some f e = ap (λ (w : ℕ). as_keyed (w + m) (get_or l (record_from x) 0)) f ∙ rw (ne_eqb (get_or l (record_from x) 0) 0 e)
-
-module _ (a b : KeyedWinner) where
-  matched-tied : a.key ≡ b.key → matched a b ≡ tied_of a b
-  matched-tied e = go (eqb a.key b.key) (eq-eqb a.key b.key e)
-    where
-      go : (t : Bool) → t ≡ true → cond t (tied_of a b) (cond (ltb a.key b.key) b a) ≡ tied_of a b
-      go t z = rw z
-
-  matched-other : a.key ≢ b.key → matched a b ≡ cond (ltb a.key b.key) b a
-  matched-other e = go (eqb a.key b.key) (ne_eqb a.key b.key e)
-    where
-      go : (t : Bool) → t ≡ false → cond t (tied_of a b) (cond (ltb a.key b.key) b a) ≡ cond (ltb a.key b.key) b a
-      go t z = rw z
-
-  pub tied-second : a.key ≡ b.key → b.word < a.word → b ≡ matched a b
-  tied-second e l = sym (matched-tied e ∙ ap (λ (t : Bool). cond t b a) (lt-ltb b.word a.word l))
-
-  pub tied-first : a.key ≡ b.key → a.word ≤ b.word → a ≡ matched a b
-  tied-first e l = sym (matched-tied e ∙ ap (λ (t : Bool). cond t b a) (le-ltb b.word a.word l))
-
-  pub matched-second : a.key < b.key → b ≡ matched a b
-  matched-second l = sym (matched-other (λ e. omega (arith, e)) ∙ ap (λ (t : Bool). cond t b a) (lt-ltb a.key b.key l))
-
-  pub matched-first : a.key ≢ b.key → b.key ≤ a.key → a ≡ matched a b
-  matched-first d l = sym (matched-other d ∙ ap (λ (t : Bool). cond t b a) (le-ltb a.key b.key l))
 
 -- ---- the number of a winner
 

@@ -1,4 +1,4 @@
-use Rattle.table_column.proofs.Halving.{up-to-all, up-to-first, up-to-last, up-to-count}
+use Rattle.table_column.proofs.Halving.{up-to-all, up-to-first, up-to-last}
 use borrow.Author.Rules.{rules}
 use Rattle.table_column.proofs.column.count_up_to.Goals as goal
 
@@ -10,6 +10,3 @@ returns-then-p-eq1 c = up-to-first _ _ _ _ _ (search rules) (search rules) (sear
 
 pub returns-then-word-t-2 : goal.returns-then-word-t-2
 returns-then-word-t-2 c = up-to-last _ _ _ _ _ (search rules) (search rules) (search rules) (search rules) c.if-word-t-2.true
-
-pub returns : goal.returns
-returns c = up-to-count _ _ _ _ _ _ c.count.ensures

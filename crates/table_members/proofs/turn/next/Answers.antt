@@ -1,9 +1,6 @@
-use Rattle.table_members.proofs.Scans.{scan-start, scan-next, scan-found, scan-over, scan-end}
+use Rattle.table_members.proofs.Scans.{scan-next, scan-found, scan-over, scan-end}
 use borrow.Author.Rules.{rules}
 use Rattle.table_members.proofs.turn.next.Goals as goal
-
-pub loop-i-init : goal.loop-i-init
-loop-i-init c = scan-start _ _ _
 
 pub returns-then-word-low : goal.returns-then-word-low
 returns-then-word-low c = let lp = c in scan-over _ _ _ _ _ lp.requires lp.word_limit-low.ensures lp.loop-i.invariant (search rules) c.if-word-low.true

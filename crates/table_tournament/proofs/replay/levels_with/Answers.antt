@@ -1,6 +1,5 @@
 use borrow.Author.Rules.{rules}
 use native.Mathlib.Omega.{arith}
-use mathlib.Core.Path.{refl}
 use Rattle.table_tournament.proofs.Levels.{looked-other, looked-same, looked-all}
 use Rattle.table_tournament.proofs.replay.levels_with.Goals as goal
 
@@ -22,6 +21,3 @@ returns c =
     let a = lp.args in
     let e = looked-all a.t.now a.leaf _ a.most lp.loop-n.n lp.loop-n.place lp.loop-n.invariant.2 (search rules) in
     omega (arith, e)
-
-pub loop-n-init : goal.loop-n-init
-loop-n-init c = (search rules, omega arith, refl)

@@ -1,20 +1,14 @@
-use Prim.Native.Nat.{ℕ, ◌+◌, ◌/◌, ◌<◌}
+use Prim.Native.Nat.{ℕ, ◌+◌}
 use borrow.Author.Rules.{rules}
 use native.Mathlib.Omega.{arith}
-use mathlib.Core.Path.{◌≡◌, sym, ap, subst, refl, ◌∙◌}
+use mathlib.Core.Path.{◌≡◌, ap, subst, refl, ◌∙◌}
 use Rattle.model.specs.State.{capacity}
 use Rattle.model.specs.Tournament.{levels}
 use Rattle.model.proofs.Places.{above-next, above-none}
 use Rattle.table_tournament.specs.Replaying.{Replays}
 use Rattle.table_tournament.specs.KeyedWinner.{word_mark, keyed_leaf}
-use Rattle.table_tournament.proofs.Keyed.{neighbour-below}
 use Rattle.table_tournament.proofs.Replaying.{starts, count-starts, stops, goes_on, count-goes-on, finishes-all, finishes}
 use Rattle.table_tournament.proofs.replay.replay.Goals as goal
-
-pub keyed_leaf-other-requires : goal.keyed_leaf-other-requires
-keyed_leaf-other-requires c =
-    let st = c in
-    (subst (λ (k : ℕ). k < capacity) (sym c.neighbour-beside.ensures) (neighbour-below (capacity / 2) st.args.leaf st.requires), search rules)
 
 pub loop-n-init : goal.loop-n-init
 loop-n-init c =
@@ -28,11 +22,6 @@ loop-n-init c =
       starts word_mark a.t.now a.leaf st.requires own.keyed_leaf-best.ensures (c.keyed_leaf-other.ensures ∙ ap (λ (x : ℕ). keyed_leaf a.t.now x 0) nb.neighbour-beside.ensures),
       count-starts a.t.now a.leaf,
     )
-
-pub keyed_node-next-requires : goal.keyed_node-next-requires
-keyed_node-next-requires c =
-    let lp = c in
-    subst (λ (k : ℕ). k < capacity) (sym c.neighbour-beside-in-loop-n.ensures) (neighbour-below (capacity / 2) lp.loop-n.place lp.loop-n.invariant.1)
 
 pub returns-then-t-b : goal.returns-then-t-b
 returns-then-t-b c =

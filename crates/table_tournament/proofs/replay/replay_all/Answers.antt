@@ -1,17 +1,11 @@
-use Prim.Native.Nat.{ℕ, ◌+◌, ◌/◌, ◌<◌}
+use Prim.Native.Nat.{ℕ, ◌+◌}
 use borrow.Author.Rules.{rules}
-use mathlib.Core.Path.{sym, ap, subst, refl, ◌∙◌}
+use mathlib.Core.Path.{ap, refl, ◌∙◌}
 use Rattle.model.specs.State.{capacity}
 use Rattle.model.proofs.Places.{above-next, above-none}
 use Rattle.table_tournament.specs.KeyedWinner.{keyed_leaf}
-use Rattle.table_tournament.proofs.Keyed.{neighbour-below}
 use Rattle.table_tournament.proofs.Replaying.{starts, goes-on-all, finishes-all}
 use Rattle.table_tournament.proofs.replay.replay_all.Goals as goal
-
-pub keyed_leaf-other-requires : goal.keyed_leaf-other-requires
-keyed_leaf-other-requires c =
-    let st = c in
-    (subst (λ (k : ℕ). k < capacity) (sym c.neighbour-beside.ensures) (neighbour-below (capacity / 2) st.args.leaf st.requires), search rules)
 
 pub loop-init : goal.loop-init
 loop-init c =
@@ -24,11 +18,6 @@ loop-init c =
       above-next 0 (capacity + a.leaf) (capacity + a.leaf) (above-none (capacity + a.leaf)),
       starts 0 a.t.now a.leaf st.requires own.keyed_leaf-best.ensures (c.keyed_leaf-other.ensures ∙ ap (λ (x : ℕ). keyed_leaf a.t.now x 0) nb.neighbour-beside.ensures),
     )
-
-pub keyed_node-next-requires : goal.keyed_node-next-requires
-keyed_node-next-requires c =
-    let lp = c in
-    subst (λ (k : ℕ). k < capacity) (sym c.neighbour-beside-in-loop.ensures) (neighbour-below (capacity / 2) lp.loop.place lp.loop.invariant.1)
 
 pub loop-preserved : goal.loop-preserved
 loop-preserved c =
