@@ -10,8 +10,7 @@ use Rattle.model.specs.Invariant.{WellFormed}
 use Rattle.model.specs.Call.{Call, opening, closing, receiving, offering, levelling, slot, making, out_of_rate, opening_path, adding, offering_member, removing, Outcome, closed_cells}
 use Rattle.model.specs.Step.{refuse, accept, discard, idle_step, send_step, send_from, send_out_of_rate, step}
 use Rattle.model.specs.Run.{run, final}
-use Rattle.model.specs.declared.answer.Answer.{Answer}
-use Rattle.model.specs.declared.answer.Answer.TheVariants.{Refused, Accepted, Closed, Idle, Sent}
+use Rattle.model.specs.Answers.{Answer, Refused, Accepted, Closed, Idle, Sent}
 use Rattle.model.specs.Details.{opened_with, open_answer, rate_in, kind_received, name_received, connection_received, received_with, receive_answer, slot_answer}
 use Rattle.cell.specs.Reading.{reading}
 use Rattle.connection.specs.declared.kind.Kind.{Kind}

@@ -13,7 +13,7 @@ use Rattle.rate_doubles.specs.declared.import.Imported.TheVariants.{Refused, Exa
 use Rattle.rate_doubles.specs.Import.{import_of}
 use Rattle.rate_doubles.specs.Exact.{IsSum, CodeUnder, ImportedExactly}
 use Rattle.rate_doubles.proofs.Exactness.{imports-exactly}
-use Rattle.model.specs.declared.contract.Contract.{Contract}
+use Rattle.model.specs.Answers.{Contract}
 use Rattle.model.specs.Queries.{contract_of}
 use Rattle.engine.specs.Contract.{MeetsReading}
 use Rattle.abr_answers.specs.declared.planning.AbrImported.{AbrImported}

@@ -5,9 +5,9 @@ ghost use Rattle.cell.specs.Name.{address_name};
 ghost use Rattle.model.specs.Step.{open_step, close_step, offer_step, make_step, out_of_rate_step};
 ghost use Rattle.abr.specs.Contract.{ReturnsOpened, ReturnsAnswer, ReturnsClosed, ReturnsRefusalWriting, ReturnsAllowed, ReturnsStatus, ReturnsAt, ReturnsMember};
 
-use abr_answers::calls::{AbrAllowed, AbrAnswer, AbrClosed, allowed_of, answer_of, closed_of};
-use abr_answers::details::{AbrOpened, opened_of};
-use abr_answers::status::{AbrConnection, AbrMember, member_shown, not_open};
+use abr_answers::calls::{AbrAllowed, AbrAnswer, AbrClosed};
+use abr_answers::details::AbrOpened;
+use abr_answers::status::{AbrConnection, AbrMember, not_open};
 use abr_readings::entry::read_entry;
 use abr_readings::limits::limits_at;
 use abr_readings::members::read_member_at;
@@ -19,8 +19,9 @@ use engine::make::make;
 use engine::offer::offer;
 use engine::open::open;
 use engine_slots::out_of_rate::out_of_rate;
+use laws::refusals::refusal_or_0;
 use rate_params::params::Params;
-use table::layout::{CAPACITY, WORDS};
+use table::layout::WORDS;
 
 // Refusals 10, 19, 7, 29, 30, 8, 12, 27, 13, 14.
 pub fn abr_open(
@@ -32,7 +33,7 @@ pub fn abr_open(
 ) -> AbrOpened
     ensures { ReturnsOpened (λ s. open_step s vpi vci time params) table.old table.new result }
 {
-    opened_of(open(table, vpi, vci, time, params))
+    AbrOpened::from(open(table, vpi, vci, time, params))
 }
 
 // Refusal 11.
@@ -40,7 +41,7 @@ pub fn abr_close(table: &mut [u64; WORDS], vpi: u32, vci: u32) -> AbrClosed
     ensures { ReturnsClosed (λ s. close_step s (address_name vpi vci)) table.old table.new result }
 {
     let name = address_name(vpi, vci);
-    closed_of(close(table, name))
+    AbrClosed::from(close(table, name))
 }
 
 // Refusals 11, 28, 15.
@@ -48,7 +49,7 @@ pub fn abr_offer(table: &mut [u64; WORDS], vpi: u32, vci: u32, cells: u64) -> Ab
     ensures { ReturnsAnswer (λ s. offer_step s (address_name vpi vci) cells) table.old table.new result }
 {
     let name = address_name(vpi, vci);
-    answer_of(offer(table, name, cells))
+    AbrAnswer::from(offer(table, name, cells))
 }
 
 // Refusals 8, 11, 14, 16, 17.
@@ -56,7 +57,7 @@ pub fn abr_make(table: &mut [u64; WORDS], vpi: u32, vci: u32, time: u64) -> AbrA
     ensures { ReturnsAnswer (λ s. make_step s (address_name vpi vci) time) table.old table.new result }
 {
     let name = address_name(vpi, vci);
-    answer_of(make(table, name, time))
+    AbrAnswer::from(make(table, name, time))
 }
 
 // Refusals 1, 8, 11, 14, 18. It makes no comparisons.
@@ -70,8 +71,7 @@ pub fn abr_out_of_rate(
     ensures { ReturnsRefusalWriting (λ s. out_of_rate_step s (address_name vpi vci) time (length cell.old)) table.old table.new result cell.old cell.new }
 {
     let name = address_name(vpi, vci);
-    let answer = answer_of(out_of_rate(table, name, time, cell));
-    answer.refusal
+    refusal_or_0(out_of_rate(table, name, time, cell))
 }
 
 // Refusal 11.
@@ -79,7 +79,7 @@ pub fn abr_acr(table: &[u64; WORDS], vpi: u32, vci: u32) -> AbrAllowed
     ensures { ReturnsAllowed (address_name vpi vci) table.now result }
 {
     let name = address_name(vpi, vci);
-    allowed_of(read_acr(table, name))
+    AbrAllowed::from(read_acr(table, name))
 }
 
 // Refusal 11, of a pair that is neither an open connection nor a member.
@@ -87,29 +87,25 @@ pub fn abr_status(table: &[u64; WORDS], vpi: u32, vci: u32) -> AbrConnection
     ensures { ReturnsStatus (address_name vpi vci) table.now result }
 {
     let name = address_name(vpi, vci);
-    let place = place_of(table, name);
-    let i = place.entry;
-    if CAPACITY <= i {
-        return not_open();
+    match place_of(table, name) {
+        Some(place) => read_entry(table, place, limits_at(table, place.entry)),
+        None => not_open(),
     }
-    read_entry(table, place, limits_at(table, i))
 }
 
 // Refusal 11, of a free leaf and of a number that is none.
 pub fn abr_at(table: &[u64; WORDS], leaf: u32) -> AbrConnection
     ensures { ReturnsAt leaf table.now result }
 {
-    let place = place_at(table, leaf);
-    let i = place.entry;
-    if CAPACITY <= i {
-        return not_open();
+    match place_at(table, leaf) {
+        Some(place) => read_entry(table, place, limits_at(table, place.entry)),
+        None => not_open(),
     }
-    read_entry(table, place, limits_at(table, i))
 }
 
 // Refusal 11, of a number that no member has.
 pub fn abr_member_at(table: &[u64; WORDS], number: u32) -> AbrMember
     ensures { ReturnsMember number table.now result }
 {
-    member_shown(read_member_at(table, number))
+    AbrMember::from(read_member_at(table, number))
 }

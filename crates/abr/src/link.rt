@@ -5,13 +5,13 @@ ghost use Rattle.model.specs.Step.{receive_step, level_step, slot_step};
 ghost use Rattle.table_tournament.specs.Next.{GivesNext, GivesSlotTime};
 ghost use Rattle.abr.specs.Contract.{ReturnsReceived, ReturnsRefusal, ReturnsSent, ReturnsTotals};
 
-use abr_answers::calls::answer_of;
-use abr_answers::details::{AbrReceived, AbrSent, received_of, sent_of};
-use abr_answers::status::{AbrTotals, totals_shown};
+use abr_answers::details::{AbrReceived, AbrSent};
+use abr_answers::status::AbrTotals;
 use abr_readings::totals::read_totals;
 use engine::level::set_level;
 use engine_arrivals::receive::receive;
 use engine_slots::slot::slot;
+use laws::refusals::refusal_or_0;
 use table::layout::WORDS;
 use table_tournament::next::next_ready;
 use table_tournament::slot_time::slot_time;
@@ -20,22 +20,21 @@ use table_tournament::slot_time::slot_time;
 pub fn abr_receive(table: &mut [u64; WORDS], cell: &[u8]) -> AbrReceived
     ensures { ReturnsReceived cell.now (λ s. receive_step s cell.now) table.old table.new result }
 {
-    received_of(receive(table, cell))
+    AbrReceived::from(receive(table, cell))
 }
 
 // Refusal 9.
 pub fn abr_set_level(table: &mut [u64; WORDS], level: u32) -> u32
     ensures { ReturnsRefusal (λ s. level_step s level) table.old table.new result }
 {
-    let answer = answer_of(set_level(table, level));
-    answer.refusal
+    refusal_or_0(set_level(table, level))
 }
 
 // Refusals 1, 8, 14.
 pub fn abr_slot(table: &mut [u64; WORDS], time: u64, cell: &mut [u8]) -> AbrSent
     ensures { ReturnsSent (λ s. slot_step s time (length cell.old)) table.old table.new result cell.old cell.new }
 {
-    sent_of(slot(table, time, cell))
+    AbrSent::from(slot(table, time, cell))
 }
 
 // No refusal: 2^64 - 1 if no connection is ever ready as things stand.
@@ -56,5 +55,5 @@ pub fn abr_slot_time(table: &[u64; WORDS], time: u64, lag: u64) -> u64
 pub fn abr_link(table: &[u64; WORDS]) -> AbrTotals
     ensures { ReturnsTotals table.now result }
 {
-    totals_shown(read_totals(table))
+    AbrTotals::from(read_totals(table))
 }

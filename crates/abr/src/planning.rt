@@ -3,7 +3,7 @@ ghost use Rattle.cell.specs.Name.{address_name};
 ghost use Rattle.abr.specs.Contract.{ReturnsContract};
 ghost use Rattle.abr_answers.specs.Planning.{Imports};
 
-use abr_answers::planning::{AbrImported, exported_of, imported_of};
+use abr_answers::planning::{AbrExported, AbrImported, imported_of};
 use cell::name::address_name;
 use engine::contract::read_contract;
 use rate_doubles::export::Exported;
@@ -15,7 +15,7 @@ pub fn abr_export(table: &[u64; WORDS], vpi: u32, vci: u32, refusal: &mut u32) -
     ensures { ReturnsContract (address_name vpi vci) table.now refusal.new result }
 {
     let name = address_name(vpi, vci);
-    let answer = exported_of(read_contract(table, name));
+    let answer = AbrExported::from(read_contract(table, name));
     *refusal = answer.refusal;
     answer.rates
 }

@@ -10,8 +10,7 @@ use lib.Dec.{ltb, lit<}
 use lib.Signed.{mag}
 use Rattle.connection.specs.declared.parts.Change.{Change}
 use Rattle.connection.specs.Change.{difference}
-use Rattle.model.specs.declared.acr.Acr.{Acr}
-use Rattle.model.specs.declared.acr.Acr.TheVariants.{Rate}
+use Rattle.model.specs.Answers.{Acr, Rate}
 use Rattle.abr_answers.specs.Calls.{AbrAllowed, allowed_of, of_rates}
 use mir.Syntax.{w64}
 use mir.Val.{SFits, to_z, of_z}

@@ -3,11 +3,8 @@
 -- "Refused because of the state"; document 02, L6, L9 and L12.)
 use Rattle.std.specs.Prelude.{ℕ, pos}
 use Rattle.connection.specs.Change.{difference, as_rates}
-use Rattle.model.specs.declared.answer.Answer.{Answer}
-use Rattle.model.specs.declared.answer.Answer.TheVariants.{Refused, Accepted, Closed, Idle, Sent}
+use Rattle.model.specs.Answers.{Answer, Refused, Accepted, Closed, Idle, Sent, Acr, NotOpen, Rate}
 use Rattle.model.specs.Call.{closed_cells}
-use Rattle.model.specs.declared.acr.Acr.{Acr}
-use Rattle.model.specs.declared.acr.Acr.TheVariants.{NotOpen, Rate}
 pub use Rattle.abr_answers.specs.declared.calls.AbrAllowed.{AbrAllowed}
 pub use Rattle.abr_answers.specs.declared.calls.AbrAnswer.{AbrAnswer}
 pub use Rattle.abr_answers.specs.declared.calls.AbrClosed.{AbrClosed}

@@ -3,12 +3,7 @@
 use Rattle.std.specs.Prelude.{ℕ, cond}
 use Rattle.cell.specs.Name.{vpi_in, vci_in}
 use Rattle.connection.specs.Kind.{kind_number}
-use Rattle.model.specs.declared.details.OpenAnswer.{OpenAnswer}
-use Rattle.model.specs.declared.details.OpenAnswer.TheVariants.{Refused as OpenRefused, Opened}
-use Rattle.model.specs.declared.details.ReceiveAnswer.{ReceiveAnswer}
-use Rattle.model.specs.declared.details.ReceiveAnswer.TheVariants.{Refused as ReceiveRefused, Received}
-use Rattle.model.specs.declared.details.SlotAnswer.{SlotAnswer}
-use Rattle.model.specs.declared.details.SlotAnswer.TheVariants.{Refused as SlotRefused, Idle, Sent}
+use Rattle.model.specs.Answers.{OpenAnswer, OpenRefused, Opened, ReceiveAnswer, ReceiveRefused, Received, SlotAnswer, SlotRefused, IdleSlot, SentCell}
 pub use Rattle.abr_answers.specs.declared.details.AbrOpened.{AbrOpened}
 pub use Rattle.abr_answers.specs.declared.details.AbrReceived.{AbrReceived}
 pub use Rattle.abr_answers.specs.declared.details.AbrSent.{AbrSent}
@@ -28,5 +23,5 @@ sent_nothing n = record { refusal = n; comparisons = 0; kind = 0; vpi = 0; vci =
 
 abbrev pub sent_of : SlotAnswer → AbrSent
 sent_of (SlotRefused n) = sent_nothing n
-sent_of Idle = sent_nothing 0
-sent_of (Sent x k a n l b m) = record { refusal = 0; comparisons = n; kind = kind_number k; vpi = vpi_in x; vci = vci_in x; leaf = l; acr = a; acr_before = b; made = cond m 1 0; reserved = 0 }
+sent_of IdleSlot = sent_nothing 0
+sent_of (SentCell x k a n l b m) = record { refusal = 0; comparisons = n; kind = kind_number k; vpi = vpi_in x; vci = vci_in x; leaf = l; acr = a; acr_before = b; made = cond m 1 0; reserved = 0 }

@@ -8,8 +8,7 @@ use Rattle.rate_doubles.specs.declared.import.Imported.TheVariants.{Refused, Exa
 use Rattle.rate_doubles.specs.Export.{ExportsExactly}
 use Rattle.rate_doubles.specs.Import.{import_of}
 use Rattle.rate_doubles.specs.Exact.{IsSum, CodeUnder}
-use Rattle.model.specs.declared.contract.Contract.{Contract}
-use Rattle.model.specs.declared.contract.Contract.TheVariants.{NotOpen, Codes}
+use Rattle.model.specs.Answers.{Contract, NoContract, Codes}
 pub use Rattle.abr_answers.specs.declared.planning.AbrImported.{AbrImported}
 
 -- 0, without a minus sign
@@ -21,7 +20,7 @@ three_zeros = record { pcr = nil; mcr = nil; icr = nil }
 
 -- the refusal that is written, 0 or 11, and the three doubles: the rates of a contract's codes
 abbrev pub ExportedAs : Contract → (refusal : ℕ) → Exported → Type 0
-ExportedAs NotOpen n r = (n ≡ 11) × (r ≡ three_zeros)
+ExportedAs NoContract n r = (n ≡ 11) × (r ≡ three_zeros)
 ExportedAs (Codes p m i) n r = (n ≡ 0) × ExportsExactly p m i r
 
 abbrev pub exact_answer : (code : ℕ) → AbrImported

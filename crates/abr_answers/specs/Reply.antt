@@ -3,8 +3,7 @@
 use Rattle.std.specs.Prelude.{ℕ}
 use Rattle.cell.specs.Name.{vpi_in, vci_in}
 use Rattle.connection.specs.Kind.{kind_number}
-use Rattle.model.specs.declared.answer.Answer.{Answer}
-use Rattle.model.specs.declared.answer.Answer.TheVariants.{Refused, Accepted, Closed, Idle, Sent}
+use Rattle.model.specs.Answers.{Answer, Refused, Accepted, Closed, Idle, Sent}
 use Rattle.abr_answers.specs.declared.details.AbrSent.{AbrSent}
 
 pub record Reply : Type 0 where

@@ -14,11 +14,8 @@ use Rattle.connection.specs.declared.ready.Instant.{Instant}
 use Rattle.connection.specs.declared.ready.Instant.TheVariants.{Never, At}
 use Rattle.model.specs.State.{capacity}
 use Rattle.model.specs.Queries.{never_word}
-use Rattle.model.specs.declared.status.Status.{Status}
-use Rattle.model.specs.declared.status.Status.TheVariants.{NotOpen, Open}
-use Rattle.model.specs.declared.status.MemberStatus.{MemberStatus}
-use Rattle.model.specs.declared.status.MemberStatus.TheVariants.{NoMember, Member}
-use Rattle.model.specs.declared.status.Totals.{Totals}
+use Rattle.model.specs.Answers.{Status, NothingOpen, Open, MemberStatus, NoMember, AMember}
+use Rattle.model.specs.declared.readings.Totals.{Totals}
 pub use Rattle.abr_answers.specs.declared.status.AbrConnection.{AbrConnection}
 pub use Rattle.abr_answers.specs.declared.status.AbrMember.{AbrMember}
 pub use Rattle.abr_answers.specs.declared.status.AbrTotals.{AbrTotals}
@@ -122,12 +119,12 @@ shown_as kind x l n i c = record {
 }
 
 abbrev pub connection_shown : Status → AbrConnection
-connection_shown NotOpen = not_open
+connection_shown NothingOpen = not_open
 connection_shown (Open x m n l i c) = shown_as (kind_shown x m) x l n i c
 
 abbrev pub member_shown : MemberStatus → AbrMember
 member_shown NoMember = record { refusal = 11; vpi = 0; vci = 0; waiting = 0 }
-member_shown (Member x n) = record { refusal = 0; vpi = vpi_in x; vci = vci_in x; waiting = n }
+member_shown (AMember x n) = record { refusal = 0; vpi = vpi_in x; vci = vci_in x; waiting = n }
 
 abbrev pub totals_shown : Totals → AbrTotals
 totals_shown t = record { connections = t.connections; connections_max = capacity; members = t.members; level = t.level; last = t.last }

@@ -1,10 +1,11 @@
 // What the calls on a table return (document 01, "Slots"; document 02, L4, L6, L9, L12 and L13).
 ghost use Rattle.std.specs.Prelude.{◌≡◌};
+ghost use Rattle.model.specs.Returned.{accepted_as, allowed_as, closed_as, done_as};
 ghost use Rattle.abr_answers.specs.Calls.{answer_of, closed_of, allowed_of, of_rates};
 
-use laws::refusals::REFUSED_NOT_OPEN;
-use model::acr::Acr;
-use model::answer::Answer;
+use laws::refusals::{Refusal, refusal_or_0};
+use model::answers::Closed;
+use model::readings::Allowed;
 
 // The documents' number for an answer, 0 if it is no refusal, and the comparisons that the call made (document 02, L4).
 #[repr(C)]
@@ -14,39 +15,32 @@ pub struct AbrAnswer {
     pub comparisons: u32,
 }
 
-pub fn answer_of(a: Answer) -> AbrAnswer
-    ensures { result ≡ answer_of a }
-{
-    match a {
-        Answer::Refused(n) => AbrAnswer {
-            refusal: n,
+impl From<Result<u32, Refusal>> for AbrAnswer {
+    ghost from_gives = { λ a r. r ≡ answer_of (accepted_as a) };
+
+    fn from(answer: Result<u32, Refusal>) -> AbrAnswer {
+        match answer {
+            Ok(comparisons) => AbrAnswer {
+                refusal: 0,
+                comparisons,
+            },
+            Err(refusal) => AbrAnswer {
+                refusal: refusal.number(),
+                comparisons: 0,
+            },
+        }
+    }
+}
+
+// Of a call that makes no comparisons.
+impl From<Result<(), Refusal>> for AbrAnswer {
+    ghost from_gives = { λ a r. r ≡ answer_of (done_as a) };
+
+    fn from(answer: Result<(), Refusal>) -> AbrAnswer {
+        AbrAnswer {
+            refusal: refusal_or_0(answer),
             comparisons: 0,
-        },
-        Answer::Accepted { comparisons } => AbrAnswer {
-            refusal: 0,
-            comparisons,
-        },
-        Answer::Closed {
-            comparisons,
-            cells: _,
-        } => AbrAnswer {
-            refusal: 0,
-            comparisons,
-        },
-        Answer::Idle => AbrAnswer {
-            refusal: 0,
-            comparisons: 0,
-        },
-        Answer::Sent {
-            connection: _,
-            name: _,
-            kind: _,
-            acr: _,
-            comparisons,
-        } => AbrAnswer {
-            refusal: 0,
-            comparisons,
-        },
+        }
     }
 }
 
@@ -59,41 +53,23 @@ pub struct AbrClosed {
     pub cells: u64,
 }
 
-pub fn closed_of(a: Answer) -> AbrClosed
-    ensures { result ≡ closed_of a }
-{
-    match a {
-        Answer::Refused(refusal) => AbrClosed {
-            refusal,
-            comparisons: 0,
-            cells: 0,
-        },
-        Answer::Accepted { comparisons } => AbrClosed {
-            refusal: 0,
-            comparisons,
-            cells: 0,
-        },
-        Answer::Closed { comparisons, cells } => AbrClosed {
-            refusal: 0,
-            comparisons,
-            cells,
-        },
-        Answer::Idle => AbrClosed {
-            refusal: 0,
-            comparisons: 0,
-            cells: 0,
-        },
-        Answer::Sent {
-            connection: _,
-            name: _,
-            kind: _,
-            acr: _,
-            comparisons,
-        } => AbrClosed {
-            refusal: 0,
-            comparisons,
-            cells: 0,
-        },
+impl From<Result<Closed, Refusal>> for AbrClosed {
+    ghost from_gives = { λ a r. r ≡ closed_of (closed_as a) };
+
+    #[tactic(auto, unfolding(model::specs::Call::closed_cells))]
+    fn from(answer: Result<Closed, Refusal>) -> AbrClosed {
+        match answer {
+            Ok(closed) => AbrClosed {
+                refusal: 0,
+                comparisons: closed.comparisons,
+                cells: closed.cells,
+            },
+            Err(refusal) => AbrClosed {
+                refusal: refusal.number(),
+                comparisons: 0,
+                cells: 0,
+            },
+        }
     }
 }
 
@@ -107,21 +83,24 @@ pub struct AbrAllowed {
 }
 
 // The change, new rate minus old, is exact: no rate reaches 2^42 (document 02, L9).
-pub fn allowed_of(a: Acr) -> AbrAllowed
-    ensures { result ≡ allowed_of (of_rates a) }
-{
-    match a {
-        Acr::NotOpen => AbrAllowed {
-            refusal: REFUSED_NOT_OPEN,
-            reserved: 0,
-            acr: 0,
-            change: 0,
-        },
-        Acr::Rate { acr, change } => AbrAllowed {
-            refusal: 0,
-            reserved: 0,
-            acr,
-            change: (change.after % 4398046511104) as i64 - (change.before % 4398046511104) as i64,
-        },
+impl From<Option<Allowed>> for AbrAllowed {
+    ghost from_gives = { λ a r. r ≡ allowed_of (of_rates (allowed_as a)) };
+
+    fn from(answer: Option<Allowed>) -> AbrAllowed {
+        match answer {
+            Some(Allowed { acr, change }) => AbrAllowed {
+                refusal: 0,
+                reserved: 0,
+                acr,
+                change: (change.after % 4398046511104) as i64
+                    - (change.before % 4398046511104) as i64,
+            },
+            None => AbrAllowed {
+                refusal: Refusal::NotOpen.number(),
+                reserved: 0,
+                acr: 0,
+                change: 0,
+            },
+        }
     }
 }

@@ -1,12 +1,11 @@
 // What an open, a received cell and a slot return (document 01, "Slots"; document 02, L1, L4, L6 and L13).
 ghost use Rattle.std.specs.Prelude.{◌≡◌};
-ghost use Rattle.connection.specs.Kind.{kind_number};
+ghost use Rattle.model.specs.Returned.{opened_as, received_as, sent_as};
 ghost use Rattle.abr_answers.specs.Details.{opened_of, received_of, sent_nothing, sent_of};
 
 use cell::name::VCIS;
-use connection::kind::Kind;
-use laws::arithmetic::bit_u32;
-use model::details::{OpenAnswer, ReceiveAnswer, SlotAnswer};
+use laws::refusals::Refusal;
+use model::answers::{Opened, Received, Sent};
 
 #[repr(C)]
 #[derive(Clone, Copy)]
@@ -16,30 +15,22 @@ pub struct AbrOpened {
     pub leaf: u32,
 }
 
-pub fn opened_of(a: OpenAnswer) -> AbrOpened
-    ensures { result ≡ opened_of a }
-{
-    match a {
-        OpenAnswer::Refused(n) => AbrOpened {
-            refusal: n,
-            comparisons: 0,
-            leaf: 0,
-        },
-        OpenAnswer::Opened { comparisons, leaf } => AbrOpened {
-            refusal: 0,
-            comparisons,
-            leaf,
-        },
-    }
-}
+impl From<Result<Opened, Refusal>> for AbrOpened {
+    ghost from_gives = { λ a r. r ≡ opened_of (opened_as a) };
 
-fn kind_number(k: Kind) -> u32
-    ensures { result ≡ kind_number k }
-{
-    match k {
-        Kind::Forward => 1,
-        Kind::Turned => 2,
-        Kind::Data => 3,
+    fn from(answer: Result<Opened, Refusal>) -> AbrOpened {
+        match answer {
+            Ok(Opened { comparisons, leaf }) => AbrOpened {
+                refusal: 0,
+                comparisons,
+                leaf,
+            },
+            Err(refusal) => AbrOpened {
+                refusal: refusal.number(),
+                comparisons: 0,
+                leaf: 0,
+            },
+        }
     }
 }
 
@@ -56,34 +47,30 @@ pub struct AbrReceived {
     pub acr: u64,
 }
 
-pub fn received_of(a: ReceiveAnswer) -> AbrReceived
-    ensures { result ≡ received_of a }
-{
-    match a {
-        ReceiveAnswer::Refused(n) => AbrReceived {
-            refusal: n,
-            comparisons: 0,
-            kind: 0,
-            vpi: 0,
-            vci: 0,
-            leaf: 0,
-            acr: 0,
-        },
-        ReceiveAnswer::Received {
-            comparisons,
-            kind,
-            name,
-            leaf,
-            acr,
-        } => AbrReceived {
-            refusal: 0,
-            comparisons,
-            kind: kind_number(kind),
-            vpi: name / VCIS,
-            vci: name % VCIS,
-            leaf,
-            acr,
-        },
+impl From<Result<Received, Refusal>> for AbrReceived {
+    ghost from_gives = { λ a r. r ≡ received_of (received_as a) };
+
+    fn from(answer: Result<Received, Refusal>) -> AbrReceived {
+        match answer {
+            Ok(received) => AbrReceived {
+                refusal: 0,
+                comparisons: received.comparisons,
+                kind: received.kind.number(),
+                vpi: received.name / VCIS,
+                vci: received.name % VCIS,
+                leaf: received.leaf,
+                acr: received.acr,
+            },
+            Err(refusal) => AbrReceived {
+                refusal: refusal.number(),
+                comparisons: 0,
+                kind: 0,
+                vpi: 0,
+                vci: 0,
+                leaf: 0,
+                acr: 0,
+            },
+        }
     }
 }
 
@@ -121,31 +108,25 @@ fn sent_nothing(refusal: u32) -> AbrSent
     }
 }
 
-pub fn sent_of(a: SlotAnswer) -> AbrSent
-    ensures { result ≡ sent_of a }
-{
-    match a {
-        SlotAnswer::Refused(n) => sent_nothing(n),
-        SlotAnswer::Idle => sent_nothing(0),
-        SlotAnswer::Sent {
-            name,
-            kind,
-            acr,
-            comparisons,
-            leaf,
-            acr_before,
-            made,
-        } => AbrSent {
-            refusal: 0,
-            comparisons,
-            kind: kind_number(kind),
-            vpi: name / VCIS,
-            vci: name % VCIS,
-            leaf,
-            acr,
-            acr_before,
-            made: bit_u32(made),
-            reserved: 0,
-        },
+impl From<Result<Option<Sent>, Refusal>> for AbrSent {
+    ghost from_gives = { λ a r. r ≡ sent_of (sent_as a) };
+
+    fn from(answer: Result<Option<Sent>, Refusal>) -> AbrSent {
+        match answer {
+            Ok(Some(sent)) => AbrSent {
+                refusal: 0,
+                comparisons: sent.comparisons,
+                kind: sent.kind.number(),
+                vpi: sent.name / VCIS,
+                vci: sent.name % VCIS,
+                leaf: sent.leaf,
+                acr: sent.acr,
+                acr_before: sent.acr_before,
+                made: sent.made as u32,
+                reserved: 0,
+            },
+            Ok(None) => sent_nothing(0),
+            Err(refusal) => sent_nothing(refusal.number()),
+        }
     }
 }

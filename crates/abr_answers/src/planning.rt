@@ -1,9 +1,10 @@
 // What exporting a contract and importing a double return (document 02, L8).
 ghost use Rattle.std.specs.Prelude.{◌≡◌};
+ghost use Rattle.model.specs.Returned.{codes_as};
 ghost use Rattle.abr_answers.specs.Planning.{ExportedAs, imported_of};
 
-use laws::refusals::REFUSED_NOT_OPEN;
-use model::contract::Contract;
+use laws::refusals::Refusal;
+use model::readings::Codes;
 use rate_doubles::export::{Exported, export};
 use rate_doubles::import::Imported;
 
@@ -14,22 +15,24 @@ pub struct AbrExported {
     pub rates: Exported,
 }
 
-pub fn exported_of(c: Contract) -> AbrExported
-    ensures { ExportedAs c result.refusal result.rates }
-{
-    match c {
-        Contract::NotOpen => AbrExported {
-            refusal: REFUSED_NOT_OPEN,
-            rates: Exported {
-                pcr: 0.0,
-                mcr: 0.0,
-                icr: 0.0,
+impl From<Option<Codes>> for AbrExported {
+    ghost from_gives = { λ a r. ExportedAs (codes_as a) r.refusal r.rates };
+
+    fn from(answer: Option<Codes>) -> AbrExported {
+        match answer {
+            Some(Codes { pcr, mcr, icr }) => AbrExported {
+                refusal: 0,
+                rates: export(pcr, mcr, icr),
             },
-        },
-        Contract::Codes { pcr, mcr, icr } => AbrExported {
-            refusal: 0,
-            rates: export(pcr, mcr, icr),
-        },
+            None => AbrExported {
+                refusal: Refusal::NotOpen.number(),
+                rates: Exported {
+                    pcr: 0.0,
+                    mcr: 0.0,
+                    icr: 0.0,
+                },
+            },
+        }
     }
 }
 

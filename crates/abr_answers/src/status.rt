@@ -1,11 +1,12 @@
 // What reading a whole connection, a member and the link return.
 ghost use Rattle.std.specs.Prelude.{◌≡◌};
+ghost use Rattle.model.specs.Returned.{member_as};
 ghost use Rattle.abr_answers.specs.Status.{kind_shown, no_params, not_open, member_shown, totals_shown};
 
 use cell::name::VCIS;
 use connection_members::path::PATH_VCI;
-use laws::refusals::REFUSED_NOT_OPEN;
-use model::status::{MemberStatus, Totals};
+use laws::refusals::Refusal;
+use model::readings::{Member, Totals};
 use rate_params::params::Params;
 use table::layout::CAPACITY;
 
@@ -72,7 +73,7 @@ pub fn not_open() -> AbrConnection
     ensures { result ≡ not_open }
 {
     AbrConnection {
-        refusal: REFUSED_NOT_OPEN,
+        refusal: Refusal::NotOpen.number(),
         kind: 0,
         vpi: 0,
         vci: 0,
@@ -109,22 +110,24 @@ pub struct AbrMember {
     pub waiting: u32,
 }
 
-pub fn member_shown(a: MemberStatus) -> AbrMember
-    ensures { result ≡ member_shown a }
-{
-    match a {
-        MemberStatus::NoMember => AbrMember {
-            refusal: REFUSED_NOT_OPEN,
-            vpi: 0,
-            vci: 0,
-            waiting: 0,
-        },
-        MemberStatus::Member { name, waiting } => AbrMember {
-            refusal: 0,
-            vpi: name / VCIS,
-            vci: name % VCIS,
-            waiting,
-        },
+impl From<Option<Member>> for AbrMember {
+    ghost from_gives = { λ a r. r ≡ member_shown (member_as a) };
+
+    fn from(answer: Option<Member>) -> AbrMember {
+        match answer {
+            Some(Member { name, waiting }) => AbrMember {
+                refusal: 0,
+                vpi: name / VCIS,
+                vci: name % VCIS,
+                waiting,
+            },
+            None => AbrMember {
+                refusal: Refusal::NotOpen.number(),
+                vpi: 0,
+                vci: 0,
+                waiting: 0,
+            },
+        }
     }
 }
 
@@ -138,14 +141,16 @@ pub struct AbrTotals {
     pub last: u64,
 }
 
-pub fn totals_shown(a: Totals) -> AbrTotals
-    ensures { result ≡ totals_shown a }
-{
-    AbrTotals {
-        connections: a.connections,
-        connections_max: CAPACITY as u32,
-        members: a.members,
-        level: a.level,
-        last: a.last,
+impl From<Totals> for AbrTotals {
+    ghost from_gives = { λ a r. r ≡ totals_shown a };
+
+    fn from(totals: Totals) -> AbrTotals {
+        AbrTotals {
+            connections: totals.connections,
+            connections_max: CAPACITY as u32,
+            members: totals.members,
+            level: totals.level,
+            last: totals.last,
+        }
     }
 }

@@ -8,7 +8,7 @@ use Rattle.connection.specs.Invariant.{ValidAt}
 use Rattle.connection.specs.Ready.{ready_instant}
 use Rattle.model.specs.State.{State, Entry, free, taken, capacity}
 use Rattle.model.specs.Invariant.{WellFormed, OnEntry}
-use Rattle.model.specs.declared.status.Status.{Status}
+use Rattle.model.specs.Answers.{Status}
 use Rattle.model.proofs.Entries.{each-get}
 use Rattle.table.specs.Layout.{words, record_from}
 use Rattle.table.specs.Loading.{high_in, low_in, params_at}
@@ -21,6 +21,7 @@ use Rattle.abr_answers.specs.Status.{never, not_open, connection_shown}
 use Rattle.abr_answers.proofs.Signed.{in-range, exact}
 use Rattle.abr_readings.specs.Limits.{LimitsOf}
 use Rattle.abr_readings.specs.Entry.{shown_with, sent_in, instant_in, entry_from, entry_at}
+use Rattle.std.specs.Prelude.{Some, None}
 use Rattle.abr_readings.specs.Place.{shown_in, Points}
 use Rattle.abr_readings.specs.declared.limits.Limits.{Limits}
 use Rattle.abr_readings.specs.declared.place.Place.{Place}
@@ -79,15 +80,15 @@ module _ (l : List ℕ) (p : Place) (g : Limits) where
 
 -- ---- what the exports return
 
-module _ {of : State → Status} {l : List ℕ} {p : Place} (m : MeetsReading (λ s. Points s (of s) p) l) {r : AbrConnection} where
-  pub read-nowhere : capacity ≤ p.entry → r ≡ not_open → MeetsReading (λ s. r ≡ connection_shown (of s)) l
-  read-nowhere h e = record { meets = λ s w b. e ∙ ap connection_shown ((m.meets s w b).nowhere h) }
+module _ {of : State → Status} {l : List ℕ} {r : AbrConnection} where
+  pub read-nowhere : MeetsReading (λ s. Points s (of s) None) l → r ≡ not_open → MeetsReading (λ s. r ≡ connection_shown (of s)) l
+  read-nowhere m e = record { meets = λ s w b. e ∙ ap connection_shown (m.meets s w b) }
 
   pub read-there :
-      {g : Limits} → p.entry < capacity → LimitsOf (params_at l (record_from p.entry)) g → r ≡ entry_at l p g → MeetsReading (λ s. r ≡ connection_shown (of s)) l
-  read-there {g} h k e = record {
+      {p : Place} {g : Limits} → MeetsReading (λ s. Points s (of s) (Some p)) l → p.entry < capacity → LimitsOf (params_at l (record_from p.entry)) g → r ≡ entry_at l p g → MeetsReading (λ s. r ≡ connection_shown (of s)) l
+  read-there {p} {g} m h k e = record {
     meets = λ s w b.
-        let q = (m.meets s w b).holds h in
+        let q = m.meets s w b in
         e ∙ ap (λ (y : List ℕ). entry_at y p g) b
         ∙ shown-at s w p.entry h q.holder q.here p g (subst (λ (y : List ℕ). LimitsOf (params_at y (record_from p.entry)) g) b k)
         ∙ q.shows;

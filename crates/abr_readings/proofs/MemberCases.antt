@@ -6,7 +6,7 @@ use Rattle.connection_members.specs.Invariant.{ValidMember}
 use Rattle.model.specs.State.{State}
 use Rattle.model.specs.Invariant.{WellFormed}
 use Rattle.model.specs.Status.{member_numbered, member_status_at}
-use Rattle.model.specs.declared.status.MemberStatus.TheVariants.{NoMember, Member as AMember}
+use Rattle.model.specs.Answers.{NoMember, AMember}
 use Rattle.table.specs.Layout.{words, members_from, member_word, member_words}
 use Rattle.table_column.proofs.Descending.{Reach, above, below, reach}
 use Rattle.table_members.proofs.Places.{none-there, words-at, words-behind, each_at}

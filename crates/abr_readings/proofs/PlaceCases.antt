@@ -7,12 +7,10 @@ use Rattle.connection.specs.declared.parts.Connection.{Connection}
 use Rattle.model.specs.State.{State, free, taken, capacity, is_free, find}
 use Rattle.model.specs.Invariant.{WellFormed}
 use Rattle.model.specs.Status.{entry_status, member_cells, status_of}
-use Rattle.model.specs.declared.status.Status.{Status}
-use Rattle.model.specs.declared.status.Status.TheVariants.{NotOpen}
+use Rattle.model.specs.Answers.{Status, NothingOpen}
 use Rattle.table.specs.Layout.{words, record_from}
 use Rattle.table.specs.Loading.{low_in}
-use Rattle.table.specs.declared.found.Found.{Found}
-use Rattle.table.specs.declared.found.Found.TheVariants.{At, Nothing}
+use Rattle.std.specs.Prelude.{Option as CodeOption, Some, None}
 use Rattle.table_names.specs.Finding.{Located, Names, FindsName}
 use Rattle.table_names.proofs.Found.{found_at}
 use Rattle.table_members.specs.Words.{FindsMember, CellsAt}
@@ -22,13 +20,13 @@ use Rattle.engine.proofs.Members.{front, with-members, member-at}
 use Rattle.engine_arrivals.specs.Owner.{FindsPath}
 use Rattle.engine_arrivals.proofs.Owners.{found-channel, its-path}
 use Rattle.abr_answers.specs.Status.{kind_shown, connection_shown}
-use Rattle.abr_readings.specs.Place.{no_place, own_place, shown_in, Points}
+use Rattle.abr_readings.specs.Place.{own_place, shown_in, Points}
 use Rattle.abr_readings.specs.declared.place.Place.{Place}
 use Rattle.abr_readings.proofs.EntryCases.{waiting-at}
 
 -- ---- what the status of a name is
 
-status-free : (s : State) (x : ℕ) → find (owner x s.members) s.entries ≡ free → NotOpen ≡ status_of s x
+status-free : (s : State) (x : ℕ) → find (owner x s.members) s.entries ≡ free → NothingOpen ≡ status_of s x
 unfolding status_of entry_status
 status-free s x e = rw e
 
@@ -57,46 +55,37 @@ open-alone s w x c e = go (is_member x s.members) refl
 pub own_is : (l : List ℕ) (i x : ℕ) {k : ℕ} → k ≡ kind_shown x false → ◌≡◌ {A = Place} (record { name = x; entry = i; kind = k; waiting = low_in (get_or l (record_from i + 4) 0) }) (own_place l i x)
 own_is l i x e = ap (λ (n : ℕ). record { name = x; entry = i; kind = n; waiting = low_in (get_or l (record_from i + 4) 0) }) e
 
-pub none-points : {s : State} {r : Status} {p : Place} → p ≡ no_place → NotOpen ≡ r → Points s r p
-none-points {s} {r} e h = subst (Points s r) (sym e) (record { nowhere = λ _. h; holds = λ k. absurd (omega (arith, k)) })
-
 -- an entry in use by its connection's own name
 pub own-points :
     (s : State) → WellFormed s → {l : List ℕ} → l ≡ words s → (i x : ℕ) → i < capacity → (c : Connection) → get_or s.entries i free ≡ taken c → {r : Status}
-    → entry_status x i none (taken c) ≡ r → {p : Place} → p ≡ own_place l i x → Points s r p
+    → entry_status x i none (taken c) ≡ r → {p : Place} → p ≡ own_place l i x → Points s r (Some p)
 unfolding entry_status
 own-points s w {l} b i x h c f {r} e {p} q =
-    subst (Points s r) (sym q)
+    subst (λ (y : Place). Points s r (Some y)) (sym q)
     (record {
-      nowhere = λ k. absurd (omega (arith, h, k));
-      holds = λ _. record {
-        holder = c;
-        here = f;
-        shows =
-            ap (λ (y : List ℕ). shown_in (own_place y i x) c) b
-            ∙ ap (λ (n : ℕ). shown_in (record { name = x; entry = i; kind = kind_shown x false; waiting = n }) c) (waiting-at s w i h c f)
-            ∙ ap connection_shown e;
-      };
+      holder = c;
+      here = f;
+      shows =
+          ap (λ (y : List ℕ). shown_in (own_place y i x) c) b
+          ∙ ap (λ (n : ℕ). shown_in (record { name = x; entry = i; kind = kind_shown x false; waiting = n }) c) (waiting-at s w i h c f)
+          ∙ ap connection_shown e;
     })
 
 -- an entry in use by a member's name
 member-points :
-    (s : State) (i x n : ℕ) → i < capacity → (c : Connection) → get_or s.entries i free ≡ taken c → {r : Status} → entry_status x i (some n) (taken c) ≡ r → {k : ℕ} → k ≡ kind_shown x true
-    → Points s r (record { name = x; entry = i; kind = k; waiting = n })
+    (s : State) (i x n : ℕ) (c : Connection) → get_or s.entries i free ≡ taken c → {r : Status} → entry_status x i (some n) (taken c) ≡ r → {k : ℕ} → k ≡ kind_shown x true
+    → Points s r (Some (record { name = x; entry = i; kind = k; waiting = n }))
 unfolding entry_status
-member-points s i x n h c f {r} e {k} q =
-    record {
-      nowhere = λ m. absurd (omega (arith, h, m));
-      holds = λ _. record { holder = c; here = f; shows = ap (λ (y : ℕ). shown_in (record { name = x; entry = i; kind = y; waiting = n }) c) q ∙ ap connection_shown e };
-    }
+member-points s i x n c f {r} e {k} q =
+    record { holder = c; here = f; shows = ap (λ (y : ℕ). shown_in (record { name = x; entry = i; kind = y; waiting = n }) c) q ∙ ap connection_shown e }
 
 module _ (l : List ℕ) (x : ℕ) where
   -- nothing was found
-  pub no-status : FindsPath l x Nothing → {p : Place} → p ≡ no_place → MeetsReading (λ s. find x s.entries ≡ free → Points s (status_of s x) p) l
-  no-status h q = record { meets = λ s w e f. none-points q (status-free s x (h.is s w e f)) }
+  pub no-status : FindsPath l x None → MeetsReading (λ s. find x s.entries ≡ free → Points s (status_of s x) None) l
+  no-status h = record { meets = λ s w e f. status-free s x (h.is s w e f) }
 
   -- a channel, or a path by its own name
-  pub own-status : {k : Found} {i : ℕ} → i < capacity → FindsName l x k → k ≡ At i → {p : Place} → p ≡ own_place l i x → MeetsReading (λ s. Points s (status_of s x) p) l
+  pub own-status : {k : CodeOption ℕ} {i : ℕ} → i < capacity → FindsName l x k → k ≡ Some i → {p : Place} → p ≡ own_place l i x → MeetsReading (λ s. Points s (status_of s x) (Some p)) l
   own-status {i = i} h f q g = record {
     meets = λ s w e.
         let p = (found-channel l x f q).is s w e in
@@ -106,17 +95,17 @@ module _ (l : List ℕ) (x : ℕ) where
 
   -- no channel and no path: what is found among the members
   pub other-status :
-      {k : Found} {p : Place} → FindsName l x k → k ≡ Nothing → MeetsReading (λ s. find x s.entries ≡ free → Points s (status_of s x) p) l → MeetsReading (λ s. Points s (status_of s x) p) l
+      {k : CodeOption ℕ} {p : CodeOption Place} → FindsName l x k → k ≡ None → MeetsReading (λ s. find x s.entries ≡ free → Points s (status_of s x) p) l → MeetsReading (λ s. Points s (status_of s x) p) l
   other-status f q g = record { meets = λ s w e. g.meets s w e (missing s w e x f q) }
 
   -- a member with its path
   pub member-status :
-      {k m : Found} {i j n d : ℕ} → i < capacity → FindsMember l x m → m ≡ At j → CellsAt l j n → FindsName l (path_of x) k → k ≡ At i → d ≡ kind_shown x true
-      → MeetsReading (λ s. find x s.entries ≡ free → Points s (status_of s x) (record { name = x; entry = i; kind = d; waiting = n })) l
-  member-status {k} {i = i} {n = n} b m o h f q g = record {
+      {k m : CodeOption ℕ} {i j n d : ℕ} → FindsMember l x m → m ≡ Some j → CellsAt l j n → FindsName l (path_of x) k → k ≡ Some i → d ≡ kind_shown x true
+      → MeetsReading (λ s. find x s.entries ≡ free → Points s (status_of s x) (Some (record { name = x; entry = i; kind = d; waiting = n }))) l
+  member-status {k} {i = i} {n = n} m o h f q g = record {
     meets = λ s w e z.
         let a = member-at s w e m o in
         let p = subst (Names (owner x s.members) s.entries) q ((its-path l x m o f).is s w e z) in
-        member-points s i x n b p.holder p.here
+        member-points s i x n p.holder p.here
         (status-located s x i (some n) p (some-member-cells s x n a.member (h.is (front s) s.members x (with-members s w.size w.members.valid e) a))) g;
   }

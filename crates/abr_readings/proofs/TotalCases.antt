@@ -6,7 +6,7 @@ use Rattle.laws.specs.All.{All}
 use Rattle.model.specs.State.{Entry, free, taken, capacity}
 use Rattle.model.specs.Orders.{open_count}
 use Rattle.model.specs.Status.{totals}
-use Rattle.model.specs.declared.status.Totals.{Totals}
+use Rattle.model.specs.declared.readings.Totals.{Totals}
 use Rattle.table.specs.Layout.{words, level_at, last_at, groups, directory_from, directory, samples, directory_word, directory_words, members_from, member_word, packed, member_words}
 use Rattle.table.proofs.Splits.{before_directory, behind_directory}
 use Rattle.table.proofs.Words.{last-at}

@@ -1,19 +1,15 @@
 -- Where a name or a leaf leads: to an entry in use, or to none.
-use Rattle.std.specs.Prelude.{◌≡◌, ℕ, ◌+◌, ◌<◌, ◌≤◌, false, List, slice_index, slice_index_or}
+use Rattle.std.specs.Prelude.{◌≡◌, ℕ, ◌+◌, false, Option, Some, None, List, slice_index, slice_index_or}
 use Rattle.connection.specs.declared.parts.Connection.{Connection}
 use Rattle.connection.specs.Ready.{ready_instant}
-use Rattle.model.specs.State.{State, free, taken, capacity}
+use Rattle.model.specs.State.{State, free, taken}
 use Rattle.model.specs.Queries.{ready_word}
-use Rattle.model.specs.declared.status.Status.{Status}
-use Rattle.model.specs.declared.status.Status.TheVariants.{NotOpen}
+use Rattle.model.specs.Answers.{Status, NothingOpen}
 use Rattle.table.specs.Layout.{record_from}
 use Rattle.table.specs.Loading.{low_in}
 use Rattle.abr_answers.specs.declared.status.AbrConnection.{AbrConnection}
 use Rattle.abr_answers.specs.Status.{kind_shown, shown_as, connection_shown}
 use Rattle.abr_readings.specs.declared.place.Place.{Place}
-
-abbrev pub no_place : Place
-no_place = record { name = 0; entry = capacity; kind = 0; waiting = 0 }
 
 -- the connection in entry i, by its own name
 abbrev pub own_place : List ℕ → (i name : ℕ) → Place
@@ -29,6 +25,7 @@ pub record Holds (s : State) (r : Status) (p : Place) : Type 0 where
   pub here : slice_index_or s.entries p.entry free ≡ taken holder
   pub shows : shown_in p holder ≡ connection_shown r
 
-pub record Points (s : State) (r : Status) (p : Place) : Type 0 where
-  pub nowhere : capacity ≤ p.entry → NotOpen ≡ r
-  pub holds : p.entry < capacity → Holds s r p
+-- the place that was found, or none
+abbrev pub Points : State → Status → Option Place → Type 0
+Points s r None = NothingOpen ≡ r
+Points s r (Some p) = Holds s r p

@@ -7,7 +7,6 @@ ghost use Rattle.model.specs.State.{capacity};
 ghost use Rattle.table.specs.Layout.{record_from};
 ghost use Rattle.abr_readings.specs.Limits.{LimitsOf};
 
-use laws::arithmetic::higher;
 use rate_params::params::Params;
 use table::layout::{RECORD_WIDTH, RECORDS, WORDS};
 use table_entry::load::params_at;
@@ -39,7 +38,7 @@ fn initial_of(p: Params) -> u64
     if initial <= tbe_rate {
         return initial;
     }
-    higher(p.least(), tbe_rate)
+    p.least().max(tbe_rate)
 }
 
 // Of the connection in entry i.

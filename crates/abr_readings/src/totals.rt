@@ -3,7 +3,7 @@ ghost use Rattle.std.specs.Prelude.{◌≡◌};
 ghost use Rattle.model.specs.Status.{totals};
 ghost use Rattle.engine.specs.Contract.{MeetsReading};
 
-use model::status::Totals;
+use model::readings::Totals;
 use table::layout::{CAPACITY, DIRECTORY, HALF, LAST, LEVEL, MEMBER_CAPACITY, MEMBERS, WORDS};
 use table_column::column::count;
 

@@ -6,7 +6,7 @@ use Rattle.connection.specs.declared.kind.Kind.TheVariants.{Forward, Turned}
 use Rattle.connection.specs.Slot.{Buffer, written}
 use Rattle.model.specs.State.{empty}
 use Rattle.model.specs.Call.{Call, opening, closing, receiving, offering, levelling, slot, making, out_of_rate}
-use Rattle.model.specs.declared.acr.Acr.TheVariants.{NotOpen}
+use Rattle.model.specs.Answers.{NotOpen}
 use Rattle.model.specs.Step.{step}
 use Rattle.model.specs.Queries.{acr_of}
 use Rattle.model.specs.Run.{final}

@@ -8,8 +8,7 @@ use Rattle.rate.specs.Units.{latest_time}
 use Rattle.connection.specs.declared.kind.Kind.TheVariants.{Forward}
 use Rattle.connection.specs.Parts.{changed}
 use Rattle.model.specs.State.{empty}
-use Rattle.model.specs.declared.acr.Acr.TheVariants.{Rate}
-use Rattle.model.specs.declared.contract.Contract.TheVariants.{Codes}
+use Rattle.model.specs.Answers.{Rate, Codes}
 use Rattle.model.specs.Call.{opening, offering, slot, opening_path}
 use Rattle.model.specs.Queries.{acr_of, contract_of}
 use Rattle.model.specs.Run.{final}

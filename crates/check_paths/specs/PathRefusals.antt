@@ -6,7 +6,7 @@ use Rattle.cell_crc.specs.Checks.{header_check}
 use Rattle.cell.specs.Name.{address_name}
 use Rattle.cell.specs.Fields.{rm_cell}
 use Rattle.model.specs.State.{empty}
-use Rattle.model.specs.declared.acr.Acr.TheVariants.{NotOpen}
+use Rattle.model.specs.Answers.{NotOpen}
 use Rattle.model.specs.Call.{Call, opening, closing, receiving, offering, levelling, making, out_of_rate, opening_path, adding, offering_member, removing}
 use Rattle.model.specs.Queries.{acr_of}
 use Rattle.model.specs.Run.{final}

@@ -15,11 +15,10 @@ use Rattle.model.specs.State.{State, Entry, free, taken, find, leaf_of, with_ent
 use Rattle.model.specs.Invariant.{WellFormed}
 use Rattle.table.specs.Layout.{words}
 use Rattle.table.specs.Loading.{connection_at}
-use Rattle.table.specs.declared.found.Found.{Found}
-use Rattle.table.specs.declared.found.Found.TheVariants.{At, Nothing}
+use Rattle.std.specs.Prelude.{Option, Some, None}
 use Rattle.table_names.specs.Finding.{Located, FindsName}
 use Rattle.table_names.proofs.Found.{found_at}
-use Rattle.model.specs.declared.answer.Answer.TheVariants.{Refused, Accepted, Closed}
+use Rattle.model.specs.Answers.{Refused, Accepted, Closed}
 use Rattle.model.specs.Call.{offering}
 use Rattle.model.specs.Step.{refuse, accept, replay, discard, of_open, close_step, offer_step, level_step, step}
 use Rattle.table_store.specs.Updates.{Updates, QueueMoved, ClosesEntry}
@@ -67,11 +66,11 @@ close-out s w e {v} {i} h p {d} q u r =
 
 -- Reading what f takes out of the entry of a name: an ACR, or a contract's codes.
 pub reads-missing :
-    {A : Type 0} (f : Entry → A) (l : List ℕ) (v : ℕ) {r : Found} → FindsName l v r → r ≡ Nothing → MeetsReading (λ s. f free ≡ f (find v s.entries)) l
+    {A : Type 0} (f : Entry → A) (l : List ℕ) (v : ℕ) {r : Option ℕ} → FindsName l v r → r ≡ None → MeetsReading (λ s. f free ≡ f (find v s.entries)) l
 reads-missing f l v h q = record { meets = λ s w e. ap f (sym (missing s w e v h q)) }
 
 pub reads-found :
-    {A : Type 0} (f : Entry → A) (l : List ℕ) (v : ℕ) {r : Found} {i : ℕ} → FindsName l v r → r ≡ At i → {d : Connection} → d ≡ connection_at l i
+    {A : Type 0} (f : Entry → A) (l : List ℕ) (v : ℕ) {r : Option ℕ} {i : ℕ} → FindsName l v r → r ≡ Some i → {d : Connection} → d ≡ connection_at l i
     → MeetsReading (λ s. f (taken d) ≡ f (find v s.entries)) l
 reads-found f l v h q k = record {
   meets = λ s w e.

@@ -16,7 +16,7 @@ use Rattle.model.specs.State.{State, taken, leaf_of, with_entry_of, with_time, c
 use Rattle.model.specs.Invariant.{WellFormed}
 use Rattle.model.specs.Call.{making, Outcome}
 use Rattle.model.specs.Step.{refuse, replay, make_step, step}
-use Rattle.model.specs.declared.answer.Answer.TheVariants.{Accepted}
+use Rattle.model.specs.Answers.{Accepted}
 use Rattle.table_store.specs.Updates.{Updates, DestinationMoved}
 use Rattle.table.specs.Layout.{words, last_at}
 use Rattle.table_names.specs.Finding.{Located}

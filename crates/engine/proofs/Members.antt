@@ -1,7 +1,7 @@
 -- The members in the words of a state: what a search finds there, and what a change of them leaves. (Document 02, L13.)
 use Prim.Native.Nat.{ℕ, ◌%◌, ◌<◌}
 use mathlib.Core.Path.{◌≡◌, sym, subst, ◌∙◌}
-use mathlib.Core.Bool.{true, false}
+use mathlib.Core.Bool.{Bool, true, false}
 use mathlib.Core.List.{List, ◌++◌, append_assoc}
 use native.Mathlib.Omega.{arith}
 use lib.ListN.{length, length-append}
@@ -11,14 +11,18 @@ use Rattle.laws.proofs.Blocks.{length-flat}
 use Rattle.connection_members.specs.Path.{is_path}
 use Rattle.connection_members.specs.Members.{Member, member_capacity, is_member}
 use Rattle.connection_members.specs.Invariant.{ValidMembers}
-use Rattle.model.specs.State.{State, with_members}
+use Rattle.connection.specs.declared.parts.Connection.{Connection}
+use Rattle.model.specs.State.{State, free, taken, find, with_members}
 use Rattle.model.specs.Invariant.{WellFormed}
 use Rattle.table.specs.Layout.{record_of, record_width, member_words, members_from, words}
 use Rattle.table.proofs.Records.{record-wide}
 use Rattle.table.proofs.Splits.{header, length-header, header-split}
 use Rattle.table_store.specs.Updates.{Sized}
-use Rattle.table.specs.declared.found.Found.{Found}
-use Rattle.table.specs.declared.found.Found.TheVariants.{At, Nothing}
+use Rattle.std.specs.Prelude.{Option, Some, None}
+use Rattle.std.specs.Option.{is_some}
+use Rattle.table_names.specs.Finding.{FindsName, Located}
+use Rattle.table_names.proofs.Found.{found_at}
+use Rattle.engine.proofs.Outcomes.{nothing, something, missing, entry-located}
 use Rattle.table_members.specs.Place.{MemberAt}
 use Rattle.table_members.specs.Words.{WithMembers, MemberInRange, Named, FindsMember}
 
@@ -50,15 +54,39 @@ unfolding is_path
 no-path v h = ne_eqb (v % 65536) 6 h
 
 -- What was found.
-pub member_below : {l : List ℕ} {x : ℕ} {r : Found} {i : ℕ} → FindsMember l x r → r ≡ At i → i < member_capacity
+pub member_below : {l : List ℕ} {x : ℕ} {r : Option ℕ} {i : ℕ} → FindsMember l x r → r ≡ Some i → i < member_capacity
 member_below h q = subst MemberInRange q h.inside
 
-module _ (s : State) (w : WellFormed s) {l : List ℕ} (e : l ≡ words s) {x : ℕ} {r : Found} (h : FindsMember l x r) where
+module _ (s : State) (w : WellFormed s) {l : List ℕ} (e : l ≡ words s) {x : ℕ} {r : Option ℕ} (h : FindsMember l x r) where
   named : Named x s.members r
   named = h.is (front s) s.members (with-members s w.size w.members.valid e)
 
-  pub no_member : r ≡ Nothing → is_member x s.members ≡ false
+  pub no_member : r ≡ None → is_member x s.members ≡ false
   no_member q = subst (Named x s.members) q named
 
-  pub member-at : {i : ℕ} → r ≡ At i → MemberAt s.members x i
+  pub member-at : {i : ℕ} → r ≡ Some i → MemberAt s.members x i
   member-at q = subst (Named x s.members) q named
+
+-- what a search for a name found, by the same name y
+module _ (s : State) (w : WellFormed s) {l : List ℕ} (e : l ≡ words s) {x y : ℕ} (q : x ≡ y) {r : Option ℕ} (h : FindsName l x r) where
+  pub located_name : {i : ℕ} → r ≡ Some i → Located s.entries y i
+  located_name {i} o = subst (λ (n : ℕ). Located s.entries n i) q (entry-located s w e x h o)
+
+  pub missing_name : r ≡ None → find y s.entries ≡ free
+  missing_name o = subst (λ (n : ℕ). find n s.entries ≡ free) q (missing s w e x h o)
+
+-- and what the test of a search says of it
+module _ (s : State) (w : WellFormed s) {l : List ℕ} (e : l ≡ words s) {x y : ℕ} (q : x ≡ y) {r : Option ℕ} {b : Bool} (t : b ≡ is_some r) where
+  pub closed_name : FindsName l x r → b ≡ false → find y s.entries ≡ free
+  closed_name h f = subst (λ (n : ℕ). find n s.entries ≡ free) q (missing s w e x h (nothing (sym t ∙ f)))
+
+  pub open_name : FindsName l x r → b ≡ true → (c : Connection) × (find y s.entries ≡ taken c)
+  open_name h f =
+      let p = entry-located s w e x h (something (sym t ∙ f)).1 in
+      subst (λ (n : ℕ). (c : Connection) × (find n s.entries ≡ taken c)) q (p.holder, found_at p)
+
+  pub lone_name : FindsMember l x r → b ≡ false → is_member y s.members ≡ false
+  lone_name h f = subst (λ (n : ℕ). is_member n s.members ≡ false) q (no_member s w e h (nothing (sym t ∙ f)))
+
+  pub member_name : FindsMember l x r → b ≡ true → is_member y s.members ≡ true
+  member_name h f = subst (λ (n : ℕ). is_member n s.members ≡ true) q (member-at s w e h (something (sym t ∙ f)).1).member

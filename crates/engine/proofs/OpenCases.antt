@@ -29,19 +29,17 @@ use Rattle.model.specs.Invariant.{WellFormed}
 use Rattle.table.specs.Layout.{words, last_at}
 use Rattle.table.specs.Storing.{FixedFits}
 use Rattle.table_names.specs.Finding.{FoundInRange, Vacant, FindsFree}
-use Rattle.table.specs.declared.found.Found.{Found}
-use Rattle.table.specs.declared.found.Found.TheVariants.{At, Nothing}
+use Rattle.std.specs.Prelude.{Option, Some, None}
 use Rattle.model.proofs.Entries.{lowest-free, each_set, unique-set, find_absent}
 use Rattle.model.specs.Step.{refuse, replay, open_address, open_step}
 use Rattle.model.specs.Tournament.{replayed}
-use Rattle.model.specs.declared.answer.Answer.TheVariants.{Accepted}
+use Rattle.model.specs.Answers.{Accepted, OpenAnswer, OpenRefused, Opened}
 use Rattle.table_store.specs.Updates.{with_entry, OpensEntry}
 use Rattle.table_tournament.specs.Replaying.{Playable}
 use Rattle.table_tournament.proofs.Orders.{ordered}
 use Rattle.model.specs.Call.{Outcome}
 use Rattle.model.specs.Details.{opened_with, open_answer}
-use Rattle.model.specs.declared.details.OpenAnswer.{OpenAnswer}
-use Rattle.model.specs.declared.details.OpenAnswer.TheVariants.{Refused as OpenRefused, Opened}
+use Rattle.engine.specs.Input.{InputPassed}
 use Rattle.engine.proofs.Outcomes.{refused-out, replayed-out, time-word}
 use Rattle.laws.specs.Require.{require}
 
@@ -80,14 +78,6 @@ module _ (s : State) (a b t : ℕ) (p : Params) where
       unfolding open_address require
       open-late x y z = rw (k, f, x, y, lt-leb t latest_time z)
 
--- the tests of the input that an open has passed
-pub record InputPassed (a b t : ℕ) (p : Params) : Type 0 where
-  pub clear : codes_clear p.pcr p.mcr p.icr ≡ true
-  pub fits : (address_fits a b && params_fit p) ≡ true
-  pub tbe : tbe_fits p ≡ true
-  pub frtt : frtt_fits p ≡ true
-  pub timely : t ≤ latest_time
-
 module _ (s : State) {a b t : ℕ} {p : Params} (i : InputPassed a b t p) where
   rest :
       open_address s a b t p
@@ -119,15 +109,15 @@ module _ (s : State) {a b t : ℕ} {p : Params} (i : InputPassed a b t p) where
     open_done e h = rest ∙ rw (new, apart, e, le-leb s.last t h)
 
 -- the lowest free entry, as it was found
-module _ {l : List ℕ} {r : Found} (h : FindsFree l r) where
-  pub entry-below : {i : ℕ} → r ≡ At i → i < capacity
+module _ {l : List ℕ} {r : Option ℕ} (h : FindsFree l r) where
+  pub entry-below : {i : ℕ} → r ≡ Some i → i < capacity
   entry-below q = subst FoundInRange q h.inside
 
   module _ (s : State) (w : WellFormed s) (e : l ≡ words s) where
-    pub lowest : {i : ℕ} → r ≡ At i → position is_free s.entries ≡ i
+    pub lowest : {i : ℕ} → r ≡ Some i → position is_free s.entries ≡ i
     lowest q = subst (Vacant s) q (h.is s w e)
 
-    pub no_room : r ≡ Nothing → room_left s ≡ false
+    pub no_room : r ≡ None → room_left s ≡ false
     no_room q = subst (Vacant s) q (h.is s w e)
 
 with-opened-at : (s : State) (c : Connection) {i : ℕ} → position is_free s.entries ≡ i → with_opened c s ≡ with_entry s i (taken c)

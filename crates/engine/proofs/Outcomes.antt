@@ -1,9 +1,15 @@
 -- What a call on the words of a reached state finds and leaves: shared by the calls' proofs.
 use Prim.Native.Nat.{ℕ, ◌<◌, ◌%◌}
 use mathlib.Core.Path.{◌≡◌, refl, sym, ap, subst, ◌∙◌}
+use mathlib.Core.Bool.{true, false, true≢false}
 use mathlib.Core.List.{List}
 use native.Mathlib.Omega.{arith}
 use lib.ListN.{get_or, set, length-set}
+use Rattle.std.specs.Option.{ok_or, is_some}
+use Rattle.std.proofs.lemmas.Result.{err_from_is_err_and}
+use Rattle.std.specs.Prelude.{Result, Ok, Err}
+use Rattle.std.specs.Result.{IsErrAnd}
+use Rattle.laws.specs.declared.refusals.Refusal.{Refusal}
 use Rattle.cell.specs.Name.{vpi_in, vci_in, no_name, address_name}
 use Rattle.cell.proofs.Names.{address-back}
 use Rattle.connection.specs.declared.parts.Connection.{Connection}
@@ -11,8 +17,7 @@ use Rattle.connection.specs.Invariant.{ValidAt}
 use Rattle.connection.specs.Range.{InRange, CountHasRoom}
 use Rattle.connection.specs.Ready.{ready_instant}
 use Rattle.connection.proofs.Keeps.{KeepsIdentity}
-use Rattle.table.specs.declared.found.Found.{Found}
-use Rattle.table.specs.declared.found.Found.TheVariants.{At, Nothing}
+use Rattle.std.specs.Prelude.{Option, Some, None}
 use Rattle.model.specs.State.{State, Entry, free, taken, find, leaf_of, with_entry_of, position, holds, with_time, with_level, capacity}
 use Rattle.model.specs.Invariant.{WellFormed, OnEntry}
 use Rattle.table.specs.Layout.{words, paced_words, source_words, fixed_words, level_at, last_at}
@@ -22,8 +27,7 @@ use Rattle.table_names.specs.Finding.{FoundInRange, Located, Names, FindsName}
 use Rattle.model.proofs.Entries.{each-get, each_set, entry-map, unique-set, freed-absent}
 use Rattle.table.proofs.Loaded.{load-ranged, load-room}
 use Rattle.table.proofs.Words.{winner-same, load_at, efci-at, out-of-rate-at}
-use Rattle.model.specs.declared.answer.Answer.{Answer}
-use Rattle.model.specs.declared.answer.Answer.TheVariants.{Refused, Accepted, Closed}
+use Rattle.model.specs.Answers.{Answer, Refused, Accepted, Closed}
 use Rattle.model.specs.Call.{Call, Outcome}
 use Rattle.model.specs.Step.{refuse, accept, replay, discard, step}
 use Rattle.model.specs.Tournament.{levels, leaf_winner, replayed}
@@ -38,6 +42,26 @@ use Rattle.table_tournament.proofs.Orders.{entries-ordered}
 pub same_meets :
     {R : Type 0} {part : State → Outcome → R} {f g : State → Outcome} {l m : List ℕ} {r : R} → ((s : State) → g s ≡ f s) → Meets part f l m r → Meets part g l m r
 same_meets h k = record { meets = λ s w e. rw (h s) (k.meets s w e) }
+
+-- what a `?` returns
+pub refused-with : {A : Type 0} {r : Result A Refusal} {n : Refusal} → IsErrAnd r (λ x. x ≡ n) → r ≡ Err n
+refused-with {r = r} h = let p = err_from_is_err_and r h in p.1 ∙ ap Err p.2
+
+abbrev error_or : {A : Type 0} → Refusal → Result A Refusal → Refusal
+error_or d (Ok v) = d
+error_or d (Err e) = e
+
+-- what the `?` after a search returns that found nothing
+pub unfound : {A B : Type 0} {r : Result A Refusal} {x : Option B} {n e : Refusal} → IsErrAnd r (λ y. y ≡ n) → x ≡ None → Err n ≡ ok_or x e → r ≡ Err e
+unfound {e = e} h p q = refused-with h ∙ ap Err (ap (error_or e) (q ∙ ap (λ z. ok_or z e) p))
+
+pub nothing : {A : Type 0} {x : Option A} → is_some x ≡ false → x ≡ None
+nothing {x = None} h = refl
+nothing {x = Some v} h = absurd (true≢false h)
+
+pub something : {A : Type 0} {x : Option A} → is_some x ≡ true → (v : A) × (x ≡ Some v)
+something {x = None} h = absurd (true≢false (sym h))
+something {x = Some v} h = (v, refl)
 
 -- The two plain ways out.
 pub refused-out : {l : List ℕ} {o : Outcome} (s : State) (n : ℕ) → l ≡ words s → o ≡ refuse s n → (l ≡ words o.state) × (Refused n ≡ o.answer)
@@ -98,14 +122,14 @@ pub level-of : (s : State) → WellFormed s → {l : List ℕ} → l ≡ words s
 level-of s w e = ap (λ (x : List ℕ). get_or x level_at 0 % 4294967296) e ∙ ap (λ (x : ℕ). x % 4294967296) (level-at s) ∙ omega (arith, w.levels)
 
 -- What was found.
-pub below : (l : List ℕ) (v : ℕ) {r : Found} {i : ℕ} → FindsName l v r → r ≡ At i → i < capacity
+pub below : (l : List ℕ) (v : ℕ) {r : Option ℕ} {i : ℕ} → FindsName l v r → r ≡ Some i → i < capacity
 below l v h q = subst FoundInRange q h.inside
 
-module _ (s : State) (w : WellFormed s) {l : List ℕ} (e : l ≡ words s) (v : ℕ) {r : Found} (h : FindsName l v r) where
-  pub missing : r ≡ Nothing → find v s.entries ≡ free
+module _ (s : State) (w : WellFormed s) {l : List ℕ} (e : l ≡ words s) (v : ℕ) {r : Option ℕ} (h : FindsName l v r) where
+  pub missing : r ≡ None → find v s.entries ≡ free
   missing q = subst (Names v s.entries) q (h.is s w e)
 
-  pub entry-located : {i : ℕ} → r ≡ At i → Located s.entries v i
+  pub entry-located : {i : ℕ} → r ≡ Some i → Located s.entries v i
   entry-located q = subst (Names v s.entries) q (h.is s w e)
 
 -- The connection that was loaded is the one that stands in the entry; whatever the words, it lies in range.

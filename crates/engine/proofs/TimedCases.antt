@@ -4,7 +4,9 @@ use mathlib.Core.Path.{◌≡◌, ap, subst, ◌∙◌}
 use mathlib.Core.List.{List}
 use native.Mathlib.Omega.{arith}
 use lib.ListN.{get_or}
+use Rattle.std.specs.Prelude.{Option, Some, None, Ok, Err}
 use borrow.Author.Tests.{le-leb, lt-leb}
+use Rattle.laws.specs.declared.refusals.Refusal.TheVariants.{Time, NotOpen, TimeBackward}
 use Rattle.laws.specs.Require.{require}
 use Rattle.rate.specs.Units.{latest_time}
 use Rattle.connection.specs.declared.parts.Connection.{Connection}
@@ -14,8 +16,6 @@ use Rattle.model.specs.Call.{Outcome}
 use Rattle.model.specs.Step.{refuse, of_open}
 use Rattle.table.specs.Layout.{words, last_at}
 use Rattle.table.proofs.Words.{last-at}
-use Rattle.table.specs.declared.found.Found.{Found}
-use Rattle.table.specs.declared.found.Found.TheVariants.{At, Nothing}
 use Rattle.table_names.specs.Finding.{FindsName}
 use Rattle.table_names.proofs.Found.{found_at}
 use Rattle.engine.specs.Timed.{of_timed, FindsTimed}
@@ -40,36 +40,25 @@ module _ (s : State) (v t : ℕ) (f : Connection → Outcome) where
     passes c e h = rw (le-leb t latest_time u, e, le-leb s.last t h)
 
 module _ (l : List ℕ) (v t : ℕ) where
-  refusing : (n : ℕ) → n < capacity → ((s : State) → WellFormed s → l ≡ words s → (f : Connection → Outcome) → of_timed s v t f ≡ refuse s n) → FindsTimed l v t (capacity + n)
-  refusing n k h = record {
-    few = omega (arith, k);
-    timely = λ z. absurd (omega (arith, z));
-    refused = λ _ s w e f. h s w e f ∙ ap (refuse s) (omega arith);
-    found = λ z. absurd (omega (arith, z));
-  }
+  pub timed-late : latest_time < t → FindsTimed l v t (Err Time)
+  timed-late h = λ s w e f. late s v t f h
 
-  pub timed-late : latest_time < t → FindsTimed l v t (capacity + 8)
-  timed-late h = refusing 8 (omega arith) (λ s w e f. late s v t f h)
+  module _ (u : t ≤ latest_time) {r : Option ℕ} (n : FindsName l v r) where
+    pub timed-missing : r ≡ None → FindsTimed l v t (Err NotOpen)
+    timed-missing q = λ s w e f. absent s v t f u (missing s w e v n q)
 
-  module _ (u : t ≤ latest_time) {r : Found} (n : FindsName l v r) where
-    pub timed-missing : r ≡ Nothing → FindsTimed l v t (capacity + 11)
-    timed-missing q = refusing 11 (omega arith) (λ s w e f. absent s v t f u (missing s w e v n q))
-
-    module _ {i : ℕ} (q : r ≡ At i) where
-      pub timed-early : t < get_or l last_at 0 → FindsTimed l v t (capacity + 14)
-      timed-early h =
-          refusing 14 (omega arith) λ s w e f.
+    module _ {i : ℕ} (q : r ≡ Some i) where
+      pub timed-early : t < get_or l last_at 0 → FindsTimed l v t (Err TimeBackward)
+      timed-early h = λ s w e f.
           let p = entry-located s w e v n q in
           early s v t f u p.holder (found_at p) (subst (λ (x : ℕ). t < x) (last-at s e) h)
 
-      pub timed-found : get_or l last_at 0 ≤ t → FindsTimed l v t i
+      pub timed-found : get_or l last_at 0 ≤ t → FindsTimed l v t (Ok i)
       timed-found h =
-          let inside : i < capacity = below l v n q in
           record {
-            few = omega (arith, inside);
-            timely = λ _. u;
-            refused = λ z. absurd (omega (arith, z, inside));
-            found = λ _ s w e.
+            inside = below l v n q;
+            timely = u;
+            found = λ s w e.
                 let p = entry-located s w e v n q in
                 record { located = p; passes = λ f. passes s v t f u p.holder (found_at p) (subst (λ (x : ℕ). x ≤ t) (last-at s e) h) };
           }

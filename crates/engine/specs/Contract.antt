@@ -6,7 +6,7 @@ use Rattle.connection.specs.Slot.{Buffer, untouched, written}
 use Rattle.model.specs.State.{State}
 use Rattle.model.specs.Invariant.{WellFormed}
 use Rattle.table.specs.Layout.{words}
-use Rattle.model.specs.declared.answer.Answer.{Answer}
+use Rattle.model.specs.Answers.{Answer}
 use Rattle.model.specs.Call.{Outcome}
 
 -- Of the words of a well-formed state, as every state that calls reach is, the call makes the words of the state that f

@@ -1,6 +1,8 @@
 -- A call that names a connection and a time: what it refuses before it looks at the connection. (Document 02, L1
 -- and L5.)
-use Rattle.std.specs.Prelude.{ℕ, ◌-◌, ◌*◌, ◌≤◌, ◌<◌, ◌≡◌, List, leb}
+use Rattle.std.specs.Prelude.{ℕ, ◌≤◌, ◌<◌, ◌≡◌, List, leb, Result, Ok, Err}
+use Rattle.laws.specs.declared.refusals.Refusal.{Refusal}
+use Rattle.laws.specs.Refusals.{number}
 use Rattle.laws.specs.Require.{require}
 use Rattle.rate.specs.Units.{latest_time}
 use Rattle.connection.specs.declared.parts.Connection.{Connection}
@@ -24,11 +26,15 @@ pub record TimedAt (s : State) (v t i : ℕ) : Type 0 where
   pub located : Located s.entries v i
   pub passes : (f : Connection → Outcome) → of_timed s v t f ≡ f located.holder
 
--- What the number r says: below the capacity it is an entry, else the refusal above it.
-pub record FindsTimed (l : List ℕ) (v t r : ℕ) : Type 0 where
+-- what an entry that was found says
+pub record TimedEntry (l : List ℕ) (v t i : ℕ) : Type 0 where
   -- of any table
-  pub few : r < 2 * capacity
-  pub timely : r < capacity → t ≤ latest_time
+  pub inside : i < capacity
+  pub timely : t ≤ latest_time
   -- of the words of a state
-  pub refused : capacity ≤ r → (s : State) → WellFormed s → l ≡ words s → (f : Connection → Outcome) → of_timed s v t f ≡ refuse s (r - capacity)
-  pub found : r < capacity → (s : State) → WellFormed s → l ≡ words s → TimedAt s v t r
+  pub found : (s : State) → WellFormed s → l ≡ words s → TimedAt s v t i
+
+-- an entry, or the refusal
+abbrev pub FindsTimed : (l : List ℕ) (v t : ℕ) → Result ℕ Refusal → Type 0
+FindsTimed l v t (Ok i) = TimedEntry l v t i
+FindsTimed l v t (Err r) = (s : State) → WellFormed s → l ≡ words s → (f : Connection → Outcome) → of_timed s v t f ≡ refuse s (number r)

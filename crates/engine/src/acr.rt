@@ -2,25 +2,22 @@
 // (document 01, "Slots"; document 02, L9).
 ghost use Rattle.std.specs.Prelude.{◌≡◌};
 ghost use Rattle.model.specs.Queries.{acr_of};
+ghost use Rattle.model.specs.Returned.{allowed_as};
 ghost use Rattle.engine.specs.Contract.{MeetsReading};
 
-use model::acr::Acr;
-use table::found::Found;
+use model::readings::Allowed;
 use table::layout::WORDS;
 use table_entry::load::load;
 use table_names::find::find;
 
-// 11 is the only refusal.
-pub fn read_acr(t: &[u64; WORDS], name: u32) -> Acr
-    ensures { MeetsReading (λ s. result ≡ acr_of s name) t.now }
+// None is the refusal 11, the only one.
+pub fn read_acr(t: &[u64; WORDS], name: u32) -> Option<Allowed>
+    ensures { MeetsReading (λ s. allowed_as result ≡ acr_of s name) t.now }
 {
-    let Found::At(i) = find(t, name) else {
-        return Acr::NotOpen;
-    };
+    let i = find(t, name)?;
     let c = load(t, i);
-    let change = c.change;
-    Acr::Rate {
+    Some(Allowed {
         acr: c.rate.acr,
-        change,
-    }
+        change: c.change,
+    })
 }

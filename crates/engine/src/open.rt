@@ -3,21 +3,19 @@ ghost use Rattle.std.specs.Prelude.{◌≡◌, ◌&&◌};
 ghost use Rattle.rate_params.specs.Params.{params_fit};
 ghost use Rattle.cell.specs.Name.{address_fits};
 ghost use Rattle.model.specs.Details.{open_answer};
+ghost use Rattle.model.specs.Returned.{opened_as};
 ghost use Rattle.model.specs.Step.{open_address, open_step, open_path_step};
 ghost use Rattle.engine.specs.Contract.{Meets};
+ghost use Rattle.engine.specs.Input.{JudgesInput};
 
 use cell::name::{VCI_MOST, VPI_MOST, address_name};
 use connection::parts::Connection;
 use connection_members::path::{FIRST_VCI, PATH_VCI};
-use laws::refusals::{
-    REFUSED_ALREADY_MEMBER, REFUSED_ALREADY_OPEN, REFUSED_FRTT, REFUSED_FULL, REFUSED_LOW_VCI,
-    REFUSED_RANGE, REFUSED_RESERVED_BIT, REFUSED_TBE, REFUSED_TIME, REFUSED_TIME_BACKWARD,
-};
-use model::details::OpenAnswer;
+use laws::refusals::Refusal;
+use model::answers::Opened;
 use rate::code::codes_clear;
 use rate::units::LATEST_TIME;
 use rate_params::params::Params;
-use table::found::Found;
 use table::layout::{LAST, WORDS};
 use table_members::find::find as find_member;
 use table_names::find::find;
@@ -31,57 +29,80 @@ fn in_range(vpi: u32, vci: u32, params: Params) -> bool
     vpi <= VPI_MOST && (vci <= VCI_MOST && params.fits())
 }
 
-// What every open refuses: 19, 7, 29, 30, 8, 12, 27, 13, 14.
-fn open_address(t: &mut [u64; WORDS], vpi: u32, vci: u32, time: u64, params: Params) -> OpenAnswer
-    ensures { Meets open_answer (λ s. open_address s vpi vci time params) t.old t.new result }
+// What every open refuses of its arguments alone: 19, 7, 29, 30, 8.
+fn judge_input(vpi: u32, vci: u32, time: u64, params: Params) -> Result<(), Refusal>
+    ensures { JudgesInput vpi vci time params result }
 {
     if !codes_clear(params.pcr, params.mcr, params.icr) {
-        return OpenAnswer::Refused(REFUSED_RESERVED_BIT);
+        return Err(Refusal::ReservedBit);
     }
     if !in_range(vpi, vci, params) {
-        return OpenAnswer::Refused(REFUSED_RANGE);
+        return Err(Refusal::Range);
     }
     if !params.tbe_fits() {
-        return OpenAnswer::Refused(REFUSED_TBE);
+        return Err(Refusal::Tbe);
     }
     if !params.frtt_fits() {
-        return OpenAnswer::Refused(REFUSED_FRTT);
+        return Err(Refusal::Frtt);
     }
     if LATEST_TIME < time {
-        return OpenAnswer::Refused(REFUSED_TIME);
+        return Err(Refusal::Time);
     }
+    Ok(())
+}
+
+// What every open refuses: those, 12, 27, 13, 14.
+fn open_address(
+    t: &mut [u64; WORDS],
+    vpi: u32,
+    vci: u32,
+    time: u64,
+    params: Params,
+) -> Result<Opened, Refusal>
+    ensures { Meets open_answer (λ s. open_address s vpi vci time params) t.old t.new (opened_as result) }
+{
+    judge_input(vpi, vci, time, params)?;
     let name = address_name(vpi, vci);
-    let Found::Nothing = find(t, name) else {
-        return OpenAnswer::Refused(REFUSED_ALREADY_OPEN);
-    };
-    let Found::Nothing = find_member(t, name) else {
-        return OpenAnswer::Refused(REFUSED_ALREADY_MEMBER);
-    };
-    let Found::At(i) = find_free(t) else {
-        return OpenAnswer::Refused(REFUSED_FULL);
-    };
+    if find(t, name).is_some() {
+        return Err(Refusal::AlreadyOpen);
+    }
+    if find_member(t, name).is_some() {
+        return Err(Refusal::AlreadyMember);
+    }
+    let i = find_free(t).ok_or(Refusal::Full)?;
     if time < t[LAST] {
-        return OpenAnswer::Refused(REFUSED_TIME_BACKWARD);
+        return Err(Refusal::TimeBackward);
     }
     let leaf = i as u32;
     let comparisons = store(t, i, Connection::fresh(name, time, params));
     t[LAST] = time;
-    OpenAnswer::Opened { comparisons, leaf }
+    Ok(Opened { comparisons, leaf })
 }
 
 // Opening a channel: 10 before all that, which looks at the VCI alone.
-pub fn open(t: &mut [u64; WORDS], vpi: u32, vci: u32, time: u64, params: Params) -> OpenAnswer
-    ensures { Meets open_answer (λ s. open_step s vpi vci time params) t.old t.new result }
+pub fn open(
+    t: &mut [u64; WORDS],
+    vpi: u32,
+    vci: u32,
+    time: u64,
+    params: Params,
+) -> Result<Opened, Refusal>
+    ensures { Meets open_answer (λ s. open_step s vpi vci time params) t.old t.new (opened_as result) }
 {
     if vci < FIRST_VCI {
-        return OpenAnswer::Refused(REFUSED_LOW_VCI);
+        return Err(Refusal::LowVci);
     }
     open_address(t, vpi, vci, time, params)
 }
 
 // Opening the path of a VPI: without 10.
-pub fn open_path(t: &mut [u64; WORDS], vpi: u32, time: u64, params: Params) -> OpenAnswer
-    ensures { Meets open_answer (λ s. open_path_step s vpi time params) t.old t.new result }
+pub fn open_path(
+    t: &mut [u64; WORDS],
+    vpi: u32,
+    time: u64,
+    params: Params,
+) -> Result<Opened, Refusal>
+    ensures { Meets open_answer (λ s. open_path_step s vpi time params) t.old t.new (opened_as result) }
 {
     open_address(t, vpi, PATH_VCI, time, params)
 }

@@ -2,24 +2,21 @@
 // (document 02, L1 and L5).
 ghost use Rattle.engine.specs.Timed.{FindsTimed};
 
-use laws::refusals::{REFUSED_NOT_OPEN, REFUSED_TIME, REFUSED_TIME_BACKWARD};
+use laws::refusals::Refusal;
 use rate::units::LATEST_TIME;
-use table::found::Found;
-use table::layout::{CAPACITY, LAST, WORDS};
+use table::layout::{LAST, WORDS};
 use table_names::find::find;
 
-// Refusals 8, 11, 14, added to CAPACITY: a number of one register costs nothing where it is tested.
-pub fn timed_entry(t: &[u64; WORDS], name: u32, time: u64) -> usize
+// Refusals 8, 11, 14.
+pub fn timed_entry(t: &[u64; WORDS], name: u32, time: u64) -> Result<usize, Refusal>
     ensures { FindsTimed t.now name time result }
 {
     if LATEST_TIME < time {
-        return CAPACITY + REFUSED_TIME as usize;
+        return Err(Refusal::Time);
     }
-    let Found::At(i) = find(t, name) else {
-        return CAPACITY + REFUSED_NOT_OPEN as usize;
-    };
+    let i = find(t, name).ok_or(Refusal::NotOpen)?;
     if time < t[LAST] {
-        return CAPACITY + REFUSED_TIME_BACKWARD as usize;
+        return Err(Refusal::TimeBackward);
     }
-    i
+    Ok(i)
 }

@@ -13,8 +13,7 @@ use Rattle.model.specs.Invariant.{WellFormed}
 use Rattle.model.proofs.Frames.{name_of}
 use Rattle.model.proofs.Preserved.{valid-at}
 use Rattle.table.specs.Layout.{words}
-use Rattle.table.specs.declared.found.Found.{Found}
-use Rattle.table.specs.declared.found.Found.TheVariants.{At, Nothing}
+use Rattle.std.specs.Prelude.{Option, Some, None}
 use Rattle.table_names.specs.Finding.{Located, Names, FindsName}
 use Rattle.table_names.proofs.Found.{found_at}
 use Rattle.table_members.specs.Words.{FindsMember}
@@ -59,30 +58,30 @@ far-alone s w x h = go (is_member x s.members) refl
     go false m = refl
 
 -- What was found: the channel,
-module _ (l : List ℕ) (x : ℕ) {r : Found} (f : FindsName l x r) where
-  pub found-channel : {i : ℕ} → r ≡ At i → FindsOwner l x (At i)
+module _ (l : List ℕ) (x : ℕ) {r : Option ℕ} (f : FindsName l x r) where
+  pub found-channel : {i : ℕ} → r ≡ Some i → FindsOwner l x (Some i)
   found-channel {i} q = record {
     inside = below l x f q;
     is = λ s w e. let p = entry-located s w e x f q in subst (λ (v : ℕ). Located s.entries v i) (owner-alone x s.members (channel-alone s w x p.holder (found_at p))) p;
   }
 
   -- or what is found among the paths
-  pub found-path : {k : Found} → r ≡ Nothing → FindsPath l x k → FindsOwner l x k
+  pub found-path : {k : Option ℕ} → r ≡ None → FindsPath l x k → FindsOwner l x k
   found-path q h = record { inside = h.inside; is = λ s w e. h.is s w e (missing s w e x f q) }
 
 -- the path, or no connection
 module _ (l : List ℕ) (x : ℕ) where
-  unowned : ((s : State) → WellFormed s → l ≡ words s → is_member x s.members ≡ false) → FindsPath l x Nothing
+  unowned : ((s : State) → WellFormed s → l ≡ words s → is_member x s.members ≡ false) → FindsPath l x None
   unowned h = record { inside = tt; is = λ s w e f. ap (λ (v : ℕ). find v s.entries) (sym (owner-alone x s.members (h s w e))) ∙ f }
 
-  pub far : no_name ≤ x → FindsPath l x Nothing
+  pub far : no_name ≤ x → FindsPath l x None
   far h = unowned (λ s w e. far-alone s w x h)
 
-  module _ {r : Found} (m : FindsMember l x r) where
-    pub no-path : r ≡ Nothing → FindsPath l x Nothing
+  module _ {r : Option ℕ} (m : FindsMember l x r) where
+    pub no-path : r ≡ None → FindsPath l x None
     no-path q = unowned (λ s w e. no_member s w e m q)
 
-    pub its-path : {i : ℕ} {k : Found} → r ≡ At i → FindsName l (path_of x) k → FindsPath l x k
+    pub its-path : {i : ℕ} {k : Option ℕ} → r ≡ Some i → FindsName l (path_of x) k → FindsPath l x k
     its-path {k = k} q f = record {
       inside = f.inside;
       is = λ s w e g. subst (λ (v : ℕ). Names v s.entries k) (owner-path x s.members (member-at s w e m q).member) (f.is s w e);

@@ -3,15 +3,23 @@ use Prim.Native.Nat.{ℕ, ◌%◌, ◌<◌}
 use mathlib.Core.Path.{◌≡◌, refl, sym, ap, subst, ◌∙◌}
 use mathlib.Core.Bool.{Bool, true, false}
 use mathlib.Core.List.{List, []}
+use native.Mathlib.Omega.{arith}
+use lib.Dec.{leb}
 use lib.ListN.{length, get_or}
 use borrow.Author.Tests.{eq-eqb, ne_eqb}
+use Rattle.laws.specs.declared.refusals.Refusal.{Refusal}
+use Rattle.laws.specs.Refusals.{number}
 use Rattle.cell_payload.specs.declared.payload.Payload.{Payload}
 use Rattle.cell_payload.specs.Payload.{payload_of}
 use Rattle.cell.specs.declared.fields.Fields.{Fields}
 use Rattle.cell.specs.Read.{Reading, Refused as Unread, DataCell, RmCell}
 use Rattle.cell.specs.Octets.{payload}
 use Rattle.cell.specs.Name.{address_name}
-use Rattle.cell.specs.Fields.{cell_name}
+use Rattle.cell.specs.Header.{type_of}
+use Rattle.cell.specs.Refusals.{header_refusal, rest_refusal}
+use Rattle.cell.specs.Fields.{cell_name, fields_of}
+use Rattle.cell.proofs.RefusalNumbers.{number-above-0}
+use Rattle.cell_read.proofs.Cases.{judged-first, judged-rest}
 use Rattle.cell.specs.Reading.{reading}
 use Rattle.connection_members.specs.Path.{is_path}
 use Rattle.connection_members.specs.Members.{owner}
@@ -36,8 +44,7 @@ use Rattle.table_tournament.specs.Replaying.{Playable, CountsWon}
 use Rattle.model.specs.Tournament.{replayed}
 use Rattle.table_names.specs.Finding.{Located}
 use Rattle.table_names.proofs.Found.{found_at}
-use Rattle.model.specs.declared.details.ReceiveAnswer.{ReceiveAnswer}
-use Rattle.model.specs.declared.details.ReceiveAnswer.TheVariants.{Refused as ReceiveRefused, Received}
+use Rattle.model.specs.Answers.{ReceiveAnswer, ReceiveRefused, Received}
 use Rattle.model.specs.Details.{rate_in, kind_received, name_received, connection_received, received_with, receive_answer}
 use Rattle.model.proofs.Frames.{put-read}
 use Rattle.model.specs.Call.{Outcome}
@@ -206,6 +213,18 @@ module _ (s : State) (w : WellFormed s) {l : List ℕ} (e : l ≡ words s) (o : 
       (updated-is s w.size e p work (work-same s.level o f p.holder) (subst (λ (z : Connection). Updates DestinationMoved l m i z k) y u)
       (subst (DestinationMoved p.holder) (sym t) (after-forward-cell-moved s.level o p.holder)) (work-ordered s w p o f refl)) (RmCell f) refl x y in
       (z.0, rm-answered k v Forward named (is-forward c) ∙ z.1)
+
+-- what the refusal of a header and that of the rest of an RM cell say of the reading
+module _ (o : List ℕ) where
+  pub unread-header : (r : Refusal) → number r ≡ header_refusal o → reading o ≡ Unread (number r)
+  unread-header r h = (judged-first o r h).refused (λ z. omega (arith, z, number-above-0 r))
+
+  module _ (h : 0 ≡ header_refusal o) (t : leb (type_of o) 3 ≡ false) where
+    pub unread-rest : (r : Refusal) → number r ≡ rest_refusal o → reading o ≡ Unread (number r)
+    unread-rest r q = (judged-rest o h t (number r) q).refused (λ z. omega (arith, z, number-above-0 r))
+
+    pub fields-read : 0 ≡ rest_refusal o → {f : Fields} → f ≡ fields_of o → reading o ≡ RmCell f
+    fields-read q e = (judged-rest o h t 0 q).rm refl t ∙ sym (ap RmCell e)
 
 -- What was read: a refusal, or a cell of 53 octets whose step is the rest.
 pub unread : (s : State) (o : List ℕ) (n : ℕ) → reading o ≡ Unread n → receive_step s o ≡ refuse s n

@@ -7,6 +7,7 @@ ghost use Rattle.cell.specs.Octets.{payload};
 ghost use Rattle.cell.specs.Read.{DataCell, RmCell};
 ghost use Rattle.cell.specs.Reading.{reading};
 ghost use Rattle.model.specs.Details.{receive_answer};
+ghost use Rattle.model.specs.Returned.{received_as};
 ghost use Rattle.model.specs.Step.{read_step, receive_step};
 ghost use Rattle.engine.specs.Contract.{Meets};
 
@@ -20,9 +21,8 @@ use connection::kind::Kind;
 use connection_destination::receive::{after_data_cell, after_forward_payload};
 use connection_members::path::PATH_VCI;
 use connection_source::backward::after_backward_cell;
-use laws::refusals::REFUSED_NOT_OPEN;
-use model::details::ReceiveAnswer;
-use table::found::Found;
+use laws::refusals::Refusal;
+use model::answers::Received;
 use table::layout::{HALF, LEVEL, WORDS};
 use table_entry::load::load;
 use table_names::find::find;
@@ -30,80 +30,70 @@ use table_store::store::{update_destination, update_efci, update_source};
 use table_tournament::replay::levels_won;
 
 // A data cell, whose octets no longer count: refusal 11, on a path's own name too.
-fn receive_data(t: &mut [u64; WORDS], vpi: u32, vci: u32, efci: bool) -> ReceiveAnswer
-    ensures { Meets (receive_answer (DataCell vpi vci efci)) (λ s. read_step s [] (DataCell vpi vci efci)) t.old t.new result }
+fn receive_data(t: &mut [u64; WORDS], vpi: u32, vci: u32, efci: bool) -> Result<Received, Refusal>
+    ensures { Meets (receive_answer (DataCell vpi vci efci)) (λ s. read_step s [] (DataCell vpi vci efci)) t.old t.new (received_as result) }
 {
     let name = address_name(vpi, vci);
     if name % VCIS == PATH_VCI {
-        return ReceiveAnswer::Refused(REFUSED_NOT_OPEN);
+        return Err(Refusal::NotOpen);
     }
-    let Found::At(i) = find_owner(t, name) else {
-        return ReceiveAnswer::Refused(REFUSED_NOT_OPEN);
-    };
+    let i = find_owner(t, name).ok_or(Refusal::NotOpen)?;
     let c = load(t, i);
     let next = after_data_cell(efci, c);
     let destination = next.destination;
     let leaf = i as u32;
     let comparisons = levels_won(t, i);
     update_efci(t, i, destination);
-    ReceiveAnswer::Received {
+    Ok(Received {
         comparisons,
         kind: Kind::Data,
         name,
         leaf,
         acr: next.rate.acr,
-    }
+    })
 }
 
 // An RM cell of these fields: a backward cell moves the rate, a forward one is turned round. Refusal 11.
-fn receive_rm(t: &mut [u64; WORDS], cell: &[u8], f: Fields) -> ReceiveAnswer
+fn receive_rm(t: &mut [u64; WORDS], cell: &[u8], f: Fields) -> Result<Received, Refusal>
     requires { (length cell.now ≡ 53) × CrcMatches (payload_of (payload cell.now)) }
-    ensures { Meets (receive_answer (RmCell f)) (λ s. read_step s cell.now (RmCell f)) t.old t.new result }
+    ensures { Meets (receive_answer (RmCell f)) (λ s. read_step s cell.now (RmCell f)) t.old t.new (received_as result) }
 {
     let name = address_name(f.vpi, f.vci);
-    let Found::At(i) = find(t, name) else {
-        return ReceiveAnswer::Refused(REFUSED_NOT_OPEN);
-    };
+    let i = find(t, name).ok_or(Refusal::NotOpen)?;
     let leaf = i as u32;
     let c = load(t, i);
     if f.dir == 1 {
         let next = after_backward_cell(f, c);
         let comparisons = update_source(t, i, next);
-        return ReceiveAnswer::Received {
+        return Ok(Received {
             comparisons,
             kind: Kind::Turned,
             name,
             leaf,
             acr: next.rate.acr,
-        };
+        });
     }
     let level = (t[LEVEL] % HALF) as u32;
     let next = after_forward_payload(level, payload_at(cell), c);
     let comparisons = update_destination(t, i, next);
-    ReceiveAnswer::Received {
+    Ok(Received {
         comparisons,
         kind: Kind::Forward,
         name,
         leaf,
         acr: next.rate.acr,
-    }
+    })
 }
 
 // Refusals 1, 2, 4, then 5, 6 and 19 for RM cells, 11. The steps are those of `refusal`, taken one by one: a data cell
 // makes no fields and does not pay for the check of an RM cell.
-pub fn receive(t: &mut [u64; WORDS], cell: &[u8]) -> ReceiveAnswer
-    ensures { Meets (receive_answer (reading cell.now)) (λ s. receive_step s cell.now) t.old t.new result }
+pub fn receive(t: &mut [u64; WORDS], cell: &[u8]) -> Result<Received, Refusal>
+    ensures { Meets (receive_answer (reading cell.now)) (λ s. receive_step s cell.now) t.old t.new (received_as result) }
 {
-    let first = header_refusal(cell);
-    if first != 0 {
-        return ReceiveAnswer::Refused(first);
-    }
+    header_refusal(cell)?;
     if is_data(cell) {
         return receive_data(t, vpi_of(cell), vci_of(cell), efci_of(cell));
     }
-    let second = rm_refusal(cell);
-    if second != 0 {
-        return ReceiveAnswer::Refused(second);
-    }
+    rm_refusal(cell)?;
     receive_rm(t, cell, fields_of(cell))
 }

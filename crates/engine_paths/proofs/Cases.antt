@@ -21,7 +21,7 @@ use Rattle.model.specs.State.{State, free, taken, is_free, find, leaf_of, with_e
 use Rattle.model.specs.Invariant.{WellFormed}
 use Rattle.model.specs.Call.{Call, offering_member, removing, Outcome}
 use Rattle.model.specs.Step.{refuse, accept, replay, discard, of_open, with_offer, without_one, add_step, offer_member_step, remove_step, step}
-use Rattle.model.specs.declared.answer.Answer.TheVariants.{Accepted, Closed}
+use Rattle.model.specs.Answers.{Accepted, Closed}
 use Rattle.model.proofs.Reached.{step-well-formed}
 use Rattle.table.specs.Layout.{words}
 use Rattle.table.specs.Loading.{connection_at}

@@ -15,8 +15,7 @@ use Rattle.model.specs.Invariant.{WellFormed}
 use Rattle.model.specs.Call.{Outcome}
 use Rattle.model.specs.Step.{refuse, of_open, of_member}
 use Rattle.table.specs.Layout.{words}
-use Rattle.table.specs.declared.found.Found.{Found}
-use Rattle.table.specs.declared.found.Found.TheVariants.{At, Nothing}
+use Rattle.std.specs.Prelude.{Option, Some, None}
 use Rattle.table_names.specs.Finding.{FindsName}
 use Rattle.table_names.proofs.Found.{found_at}
 use Rattle.table_members.specs.Words.{FindsMember}
@@ -56,35 +55,35 @@ module _ (a b : ℕ) {x : ℕ} (q : x ≡ address_name a b) where
 
 -- the member's word
 module _ (l : List ℕ) (a b : ℕ) {x : ℕ} (q : x ≡ address_name a b) where
-  pub no_address : no_name ≤ x → FindsAddress l a b Nothing
+  pub no_address : no_name ≤ x → FindsAddress l a b None
   no_address h = record { inside = tt; is = λ s w e. ap (λ (k : Bool). k && is_member (address_name a b) s.members) (unfit-of a b q h) }
 
-  pub address-found : x < no_name → {r : Found} → FindsMember l x r → FindsAddress l a b r
+  pub address-found : x < no_name → {r : Option ℕ} → FindsMember l x r → FindsAddress l a b r
   address-found h {r} m = go r (subst (λ (z : ℕ). FindsMember l z r) q m)
     where
-      go : (r : Found) → FindsMember l (address_name a b) r → FindsAddress l a b r
-      go (At j) n = record { inside = (member_below n refl, subst (λ (z : ℕ). z < no_name) q h); is = λ s w e. (fits-of a b q h, member-at s w e n refl) }
-      go Nothing n = record { inside = tt; is = λ s w e. ap (λ (k : Bool). k && is_member (address_name a b) s.members) (fits-of a b q h) ∙ no_member s w e n refl }
+      go : (r : Option ℕ) → FindsMember l (address_name a b) r → FindsAddress l a b r
+      go (Some j) n = record { inside = (member_below n refl, subst (λ (z : ℕ). z < no_name) q h); is = λ s w e. (fits-of a b q h, member-at s w e n refl) }
+      go None n = record { inside = tt; is = λ s w e. ap (λ (k : Bool). k && is_member (address_name a b) s.members) (fits-of a b q h) ∙ no_member s w e n refl }
 
 -- The path's entry, by the name that was looked for, and then the member's word.
-module _ {l : List ℕ} {v : ℕ} {r : Found} (a b : ℕ) (named : v ≡ address_name a path_vci) (n : FindsName l v r) where
+module _ {l : List ℕ} {v : ℕ} {r : Option ℕ} (a b : ℕ) (named : v ≡ address_name a path_vci) (n : FindsName l v r) where
   finds : FindsName l (address_name a path_vci) r
   finds = subst (λ (x : ℕ). FindsName l x r) named n
 
-  pub no-path-open : r ≡ Nothing → (s : State) → WellFormed s → l ≡ words s → (f : Connection → Outcome) → of_member s a b f ≡ refuse s 11
+  pub no-path-open : r ≡ None → (s : State) → WellFormed s → l ≡ words s → (f : Connection → Outcome) → of_member s a b f ≡ refuse s 11
   no-path-open q s w e f = path-closed s a b f (missing s w e _ finds q)
 
-  module _ {i : ℕ} (q : r ≡ At i) where
-    module _ {o : Found} (m : FindsAddress l a b o) where
-      pub not-added : o ≡ Nothing → (s : State) → WellFormed s → l ≡ words s → (f : Connection → Outcome) → of_member s a b f ≡ refuse s 28
+  module _ {i : ℕ} (q : r ≡ Some i) where
+    module _ {o : Option ℕ} (m : FindsAddress l a b o) where
+      pub not-added : o ≡ None → (s : State) → WellFormed s → l ≡ words s → (f : Connection → Outcome) → of_member s a b f ≡ refuse s 28
       not-added k s w e f = let p = entry-located s w e _ finds q in no-member-of s a b f p.holder (found_at p) (subst (AddressNamed a b s) k (m.is s w e))
 
-      pub member-found : {j : ℕ} → o ≡ At j → (s : State) → WellFormed s → l ≡ words s → OnPath s a b i j
+      pub member-found : {j : ℕ} → o ≡ Some j → (s : State) → WellFormed s → l ≡ words s → OnPath s a b i j
       member-found k s w e =
           let p = entry-located s w e _ finds q in
           let at = subst (AddressNamed a b s) k (m.is s w e) in
           record { located = p; place = at.1; fits = at.0; passes = λ f. on-member s a b f p.holder (found_at p) at.0 at.1.member }
 
 -- the member's word is one, and the pair makes a name
-pub member-inside : {l : List ℕ} {o : Found} {j : ℕ} (a b : ℕ) → FindsAddress l a b o → o ≡ At j → AddressInRange a b (At j)
+pub member-inside : {l : List ℕ} {o : Option ℕ} {j : ℕ} (a b : ℕ) → FindsAddress l a b o → o ≡ Some j → AddressInRange a b (Some j)
 member-inside a b m k = subst (AddressInRange a b) k m.inside

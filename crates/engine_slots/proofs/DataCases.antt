@@ -23,8 +23,7 @@ use Rattle.connection.proofs.Ranged.{after-ranged}
 use Rattle.model.specs.State.{State, taken, with_entry_of, with_members, capacity}
 use Rattle.model.specs.Call.{Outcome}
 use Rattle.model.specs.Step.{name_answered, send_from, send_step}
-use Rattle.model.specs.declared.answer.Answer.TheVariants.{Sent}
-use Rattle.model.specs.declared.details.SlotAnswer.TheVariants.{Sent as SentCell}
+use Rattle.model.specs.Answers.{Sent, SentCell}
 use Rattle.model.specs.Tournament.{levels}
 use Rattle.model.specs.Details.{sent_with, slot_answer}
 use Rattle.model.proofs.Members.{path-sum}

@@ -8,7 +8,7 @@ use Rattle.connection.specs.declared.kind.Kind.TheVariants.{Data}
 use Rattle.connection.specs.Kind.{kind_at}
 use Rattle.connection.specs.Parts.{waiting}
 use Rattle.model.specs.State.{State, capacity}
-use Rattle.model.specs.declared.details.SlotAnswer.{SlotAnswer}
+use Rattle.model.specs.Answers.{SlotAnswer}
 use Rattle.table.specs.Layout.{words}
 use Rattle.table.specs.Loading.{connection_at, first_line}
 use Rattle.table.proofs.FirstLine.{kind-line}

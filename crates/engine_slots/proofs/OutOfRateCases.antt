@@ -16,7 +16,7 @@ use Rattle.model.specs.State.{State, taken, with_entry_of, with_time, capacity}
 use Rattle.model.specs.Invariant.{WellFormed}
 use Rattle.model.specs.Call.{Outcome}
 use Rattle.model.specs.Step.{refuse, send_out_of_rate, out_of_rate_step}
-use Rattle.model.specs.declared.answer.Answer.TheVariants.{Accepted}
+use Rattle.model.specs.Answers.{Accepted}
 use Rattle.table.specs.Layout.{words, source_words, last_at}
 use Rattle.table.specs.Storing.{out_of_rate_updated}
 use Rattle.table_names.specs.Finding.{Located}

@@ -27,8 +27,7 @@ use Rattle.model.specs.State.{State, Entry, taken, leaf_of, with_entry_of, with_
 use Rattle.model.specs.Call.{Outcome}
 use Rattle.model.specs.Step.{name_answered, send_from, send_step}
 use Rattle.model.specs.Tournament.{levels, neighbour, replayed}
-use Rattle.model.specs.declared.answer.Answer.TheVariants.{Sent}
-use Rattle.model.specs.declared.details.SlotAnswer.TheVariants.{Sent as SentCell}
+use Rattle.model.specs.Answers.{Sent, SentCell}
 use Rattle.model.specs.Details.{none_turned, rate_in, is_made, sent_with, slot_answer}
 use Rattle.table.specs.Layout.{words, record_from}
 use Rattle.table.specs.Loading.{connection_at}

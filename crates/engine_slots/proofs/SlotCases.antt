@@ -12,14 +12,10 @@ use Rattle.model.specs.State.{State, free, taken, position, holds, find, with_ti
 use Rattle.model.specs.Invariant.{WellFormed}
 use Rattle.table.specs.Layout.{words, last_at}
 use Rattle.model.specs.Winner.{Winner, none_ready, wins, winner}
-use Rattle.table_tournament.specs.declared.slot.SlotWinner.{SlotWinner}
-use Rattle.table_tournament.specs.declared.slot.SlotWinner.TheVariants.{Entry, NoneReady}
+use Rattle.std.specs.Prelude.{Option, Some, None}
 use Rattle.table_tournament.specs.SlotWinner.{Picks, FindsSlotWinner, SlotWinnerInRange}
 use Rattle.model.proofs.Preserved.{with_time-well-formed}
-use Rattle.model.specs.declared.answer.Answer.{Answer}
-use Rattle.model.specs.declared.answer.Answer.TheVariants.{Refused, Accepted, Closed, Idle, Sent}
-use Rattle.model.specs.declared.details.SlotAnswer.{SlotAnswer}
-use Rattle.model.specs.declared.details.SlotAnswer.TheVariants.{Refused as SlotRefused, Idle as IdleSlot}
+use Rattle.model.specs.Answers.{Answer, Refused, Accepted, Closed, Idle, Sent, SlotAnswer, SlotRefused, IdleSlot}
 use Rattle.model.specs.Details.{sent_with, slot_answer}
 use Rattle.model.specs.Call.{Outcome}
 use Rattle.model.specs.Step.{refuse, slot_step, serve, serve_entry, send_step, idle_step}
@@ -83,26 +79,26 @@ unfolding find with_time
 found_in s t i c e p = ap (λ (k : ℕ). get_or s.entries k free) p ∙ e
 
 -- A slot that is served: the choice was made on the words at entry, and the time is stored.
-module _ (s : State) (w : WellFormed s) (l : List ℕ) (e : l ≡ words s) (t room : ℕ) (r : room ≡ 53) (u : t ≤ latest_time) (h : s.last ≤ t) (x : SlotWinner) (g : FindsSlotWinner l t x) where
+module _ (s : State) (w : WellFormed s) (l : List ℕ) (e : l ≡ words s) (t room : ℕ) (r : room ≡ 53) (u : t ≤ latest_time) (h : s.last ≤ t) (x : Option ℕ) (g : FindsSlotWinner l t x) where
   timed-words : set l last_at t ≡ words (with_time t s)
   timed-words = ap (λ (y : List ℕ). set y last_at t) e ∙ time-word s t
 
-  pub idle-leaves : (old : List ℕ) → x ≡ NoneReady → LeavesSlot s (set l last_at t) IdleSlot old old (slot_step s t room)
+  pub idle-leaves : (old : List ℕ) → x ≡ None → LeavesSlot s (set l last_at t) IdleSlot old old (slot_step s t room)
   unfolding idle_step
   idle-leaves old q =
-      let n = subst (λ (y : SlotWinner). Picks t s.entries y) q (g.is s w e) in
+      let n = subst (λ (y : Option ℕ). Picks t s.entries y) q (g.is s w e) in
       rw (served s t room r u h ∙ idle-serve (with_time t s) t (winner t s.entries) n) (timed-words, refl, refl)
 
   pub send-leaves :
-      (i : ℕ) → x ≡ Entry i → (m : List ℕ) (a : SlotAnswer) (old new : List ℕ) → Sends t i (set l last_at t) m a old new → LeavesSlot s m a old new (slot_step s t room)
+      (i : ℕ) → x ≡ Some i → (m : List ℕ) (a : SlotAnswer) (old new : List ℕ) → Sends t i (set l last_at t) m a old new → LeavesSlot s m a old new (slot_step s t room)
   unfolding with_time
   send-leaves i q m a old new k =
-      let n = subst (λ (y : SlotWinner). Picks t s.entries y) q (g.is s w e) in
+      let n = subst (λ (y : Option ℕ). Picks t s.entries y) q (g.is s w e) in
       let c = n.holder in
       let step : slot_step s t room ≡ send_step (with_time t s) t c.name c (kind_at t c) =
       served s t room r u h ∙ send-serve (with_time t s) t n.instant (winner t s.entries) c n.won (found_in s t i c n.here n.place) in
       let z = k.sends (with_time t s) c (record { reached = with_time-well-formed w t h u; timed = refl; here = n.here; place = n.place; leads = n.leads }) timed-words (λ q. data-waits t c n.instant n.ready_at n.due q) in
       subst (LeavesSlot s m a old new) (sym step) (z.0, z.1 ∙ timed-answer s t (send_step (with_time t s) t c.name c (kind_at t c)).answer, z.2)
 
-pub entry-below : (x : SlotWinner) (i : ℕ) → SlotWinnerInRange x → x ≡ Entry i → i < capacity
+pub entry-below : (x : Option ℕ) (i : ℕ) → SlotWinnerInRange x → x ≡ Some i → i < capacity
 entry-below x i h q = subst SlotWinnerInRange q h

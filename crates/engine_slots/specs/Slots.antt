@@ -14,7 +14,7 @@ use Rattle.model.specs.Invariant.{WellFormed}
 use Rattle.model.specs.Tournament.{levels, winner_at, winner_word}
 use Rattle.table.specs.Layout.{words}
 use Rattle.table.specs.Loading.{first_line}
-use Rattle.model.specs.declared.details.SlotAnswer.{SlotAnswer}
+use Rattle.model.specs.Answers.{SlotAnswer}
 use Rattle.model.specs.Details.{slot_answer}
 use Rattle.model.specs.Step.{send_step}
 use Rattle.engine.specs.Contract.{buffer_content}

@@ -5,7 +5,8 @@ ghost use Rattle.connection.specs.Range.{InRange, CountHasRoom};
 ghost use Rattle.cell.specs.Name.{no_name};
 ghost use Rattle.engine_slots.specs.Slots.{SendsData};
 ghost use Rattle.connection.specs.declared.kind.Kind.TheVariants.{Data};
-ghost use Rattle.model.specs.declared.details.SlotAnswer.TheVariants.{Sent};
+ghost use Rattle.model.specs.Returned.{sent_cell_as};
+ghost use Rattle.model.specs.Answers.{SentCell};
 ghost use Rattle.model.specs.State.{capacity};
 ghost use Rattle.model.specs.Tournament.{levels};
 
@@ -14,7 +15,7 @@ use connection::kind::Kind;
 use connection::parts::Connection;
 use connection_members::path::PATH_VCI;
 use connection_source::queue::{sent_data, with_served};
-use model::details::SlotAnswer;
+use model::answers::Sent;
 use table::layout::{LEVELS, WORDS};
 use table_entry::load::load_first_line;
 use table_members::turn::serve;
@@ -22,10 +23,10 @@ use table_store::winner::update_winner_paced;
 
 // What a slot answers of data that goes by this name: the allowed rate stays. All matches of its leaf are replayed
 // (document 02, L4).
-fn data_answer(name: u32, acr: u64, leaf: u32) -> SlotAnswer
-    ensures { result ≡ Sent name Data acr levels leaf acr false }
+fn data_answer(name: u32, acr: u64, leaf: u32) -> Sent
+    ensures { sent_cell_as result ≡ SentCell name Data acr levels leaf acr false }
 {
-    SlotAnswer::Sent {
+    Sent {
         name,
         kind: Kind::Data,
         acr,
@@ -39,9 +40,9 @@ fn data_answer(name: u32, acr: u64, leaf: u32) -> SlotAnswer
 // From the first line of the record, which alone was read. Of a path the cell is taken from the member whose turn it
 // is, and the slot answers the member's name; the line is then read again, since the search for the member leaves no
 // register to keep it in. A channel is not looked for among the members.
-pub fn send_data(t: &mut [u64; WORDS], time: u64, i: usize, c: Connection) -> SlotAnswer
+pub fn send_data(t: &mut [u64; WORDS], time: u64, i: usize, c: Connection) -> Sent
     requires { (i < capacity) × ((time ≤ latest_time) × ((c.name < no_name) × (InRange c × CountHasRoom c.pace))) }
-    ensures { SendsData time i c t.old t.new result }
+    ensures { SendsData time i c t.old t.new (sent_cell_as result) }
 {
     let leaf = i as u32;
     if c.name % VCIS == PATH_VCI {

@@ -6,6 +6,7 @@ ghost use Rattle.connection.specs.declared.kind.Kind.TheVariants.{Forward, Turne
 ghost use Rattle.connection.specs.Destination.{backward_cell};
 ghost use Rattle.engine_slots.specs.Slots.{ForwardIn, SendsKind, Sends};
 ghost use Rattle.model.specs.Details.{none_turned};
+ghost use Rattle.model.specs.Returned.{sent_cell_as, slot_as};
 ghost use Rattle.model.specs.State.{capacity};
 
 use crate::data::send_data;
@@ -18,7 +19,7 @@ use connection_destination::make::made_fields;
 use connection_destination::turned::sent_turned;
 use connection_slot::kind::kind_at;
 use connection_source::forward::{forward_fields, sent_forward};
-use model::details::SlotAnswer;
+use model::answers::Sent;
 use rate_moves::moves::Rate;
 use rate_params::params::Params;
 use table::layout::{LEVELS, WORDS};
@@ -58,12 +59,12 @@ fn none_turned(w: Waiting) -> bool
 // The winner has the greatest key of all. Its neighbour's is looked at for the sake of the caches: its line, which the
 // replay needs, is then loaded together with the winner's record and not after it. Other cells need less of the record,
 // and their replay comes soon enough.
-fn send_forward(t: &mut [u64; WORDS], time: u64, i: usize, cell: &mut [u8]) -> SlotAnswer
+fn send_forward(t: &mut [u64; WORDS], time: u64, i: usize, cell: &mut [u8]) -> Option<Sent>
     requires { (i < capacity) × ((time ≤ latest_time) × (length cell.old ≡ 53)) }
-    ensures { SendsKind Forward time i t.old t.new result cell.old cell.new }
+    ensures { SendsKind Forward time i t.old t.new (slot_as result) cell.old cell.new }
 {
     if !leads_neighbour(t, i) {
-        return SlotAnswer::Idle;
+        return None;
     }
     let c = load(t, i);
     let next = sent_forward(time, c);
@@ -71,7 +72,7 @@ fn send_forward(t: &mut [u64; WORDS], time: u64, i: usize, cell: &mut [u8]) -> S
     put_forward(cell, 0, next.name, rate);
     update_winner_source(t, i, next);
     let leaf = i as u32;
-    SlotAnswer::Sent {
+    Some(Sent {
         name: c.name,
         kind: Kind::Forward,
         acr: next.rate.acr,
@@ -79,13 +80,13 @@ fn send_forward(t: &mut [u64; WORDS], time: u64, i: usize, cell: &mut [u8]) -> S
         leaf,
         acr_before: c.rate.acr,
         made: false,
-    }
+    })
 }
 
 // Only such a cell changes the receiving side: it no longer waits.
-fn send_turned(t: &mut [u64; WORDS], time: u64, i: usize, cell: &mut [u8]) -> SlotAnswer
+fn send_turned(t: &mut [u64; WORDS], time: u64, i: usize, cell: &mut [u8]) -> Sent
     requires { (i < capacity) × ((time ≤ latest_time) × (length cell.old ≡ 53)) }
-    ensures { SendsKind Turned time i t.old t.new result cell.old cell.new }
+    ensures { SendsKind Turned time i t.old t.new (sent_cell_as result) cell.old cell.new }
 {
     let c = load(t, i);
     let next = sent_turned(time, c);
@@ -97,7 +98,7 @@ fn send_turned(t: &mut [u64; WORDS], time: u64, i: usize, cell: &mut [u8]) -> Sl
     let made = none_turned(turned);
     update_winner(t, i, next);
     let leaf = i as u32;
-    SlotAnswer::Sent {
+    Sent {
         name: c.name,
         kind: Kind::Turned,
         acr: next.rate.acr,
@@ -108,15 +109,15 @@ fn send_turned(t: &mut [u64; WORDS], time: u64, i: usize, cell: &mut [u8]) -> Sl
     }
 }
 
-// The first line of the record tells the kind, and is all that a data cell needs.
-pub fn send(t: &mut [u64; WORDS], time: u64, i: usize, cell: &mut [u8]) -> SlotAnswer
+// None if the entry does not win. The first line of the record tells the kind, and is all that a data cell needs.
+pub fn send(t: &mut [u64; WORDS], time: u64, i: usize, cell: &mut [u8]) -> Option<Sent>
     requires { (i < capacity) × ((time ≤ latest_time) × (length cell.old ≡ 53)) }
-    ensures { Sends time i t.old t.new result cell.old cell.new }
+    ensures { Sends time i t.old t.new (slot_as result) cell.old cell.new }
 {
     let line = load_first_line(t, i);
     match kind_at(time, line) {
         Kind::Forward => send_forward(t, time, i, cell),
-        Kind::Turned => send_turned(t, time, i, cell),
-        Kind::Data => send_data(t, time, i, line),
+        Kind::Turned => Some(send_turned(t, time, i, cell)),
+        Kind::Data => Some(send_data(t, time, i, line)),
     }
 }

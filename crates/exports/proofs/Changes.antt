@@ -6,8 +6,7 @@ use native.Mathlib.Omega.{arith}
 use Rattle.cell.specs.Fields.{cell_name}
 use Rattle.connection.specs.declared.parts.Change.{Change}
 use Rattle.connection.specs.Change.{difference}
-use Rattle.model.specs.declared.acr.Acr.{Acr}
-use Rattle.model.specs.declared.acr.Acr.TheVariants.{NotOpen, Rate}
+use Rattle.model.specs.Answers.{Acr, NotOpen, Rate}
 use Rattle.model.specs.State.{empty}
 use Rattle.model.specs.Call.{Call, receiving}
 use Rattle.model.specs.Step.{step}

@@ -19,8 +19,7 @@ use Rattle.model.specs.State.{State, Entry, taken, empty, position, is_free, hol
 use Rattle.model.specs.Invariant.{WellFormed, NamesUnique}
 use Rattle.model.specs.Winner.{Winner, none_ready, wins, candidate_from, winner, Ahead, Chosen, Best}
 use Rattle.model.specs.Tournament.{levels, MatchWinner, no_winner, won_by, instant_winner, leaf_winner, winner_at, in_time, winner_word, replayed}
-use Rattle.model.specs.declared.answer.Answer.{Answer}
-use Rattle.model.specs.declared.answer.Answer.TheVariants.{Refused, Accepted, Closed, Idle, Sent}
+use Rattle.model.specs.Answers.{Answer, Refused, Accepted, Closed, Idle, Sent}
 use Rattle.model.specs.Call.{Call, Outcome, comparisons}
 use Rattle.model.specs.Step.{refuse, accept, replay, discard, send_step, send_from, idle_step, send_out_of_rate, step}
 use Rattle.model.specs.Run.{run, final, is_accepted}

@@ -11,8 +11,7 @@ use Rattle.connection.specs.Parts.{waiting}
 use Rattle.connection.specs.declared.kind.Kind.TheVariants.{Forward, Turned, Data}
 use Rattle.model.specs.State.{State, Entry, free, taken, empty, find, entry_cells}
 use Rattle.model.specs.Invariant.{WellFormed}
-use Rattle.model.specs.declared.answer.Answer.{Answer}
-use Rattle.model.specs.declared.answer.Answer.TheVariants.{Refused, Accepted, Closed, Idle, Sent}
+use Rattle.model.specs.Answers.{Answer, Refused, Accepted, Closed, Idle, Sent}
 use Rattle.model.specs.Call.{Call, Outcome, closed_cells}
 use Rattle.model.specs.Step.{refuse, discard, of_open, close_step, step}
 use Rattle.model.specs.Run.{run, final, is_accepted}

@@ -4,8 +4,7 @@ use mathlib.Core.Path.{◌≡◌, refl, sym, ap, subst}
 use mathlib.Core.Option.{some}
 use lib.Dec.{eqb}
 use Rattle.model.specs.State.{empty}
-use Rattle.model.specs.declared.answer.Answer.{Answer}
-use Rattle.model.specs.declared.answer.Answer.TheVariants.{Refused, Accepted, Closed, Idle, Sent}
+use Rattle.model.specs.Answers.{Answer, Refused, Accepted, Closed, Idle, Sent}
 use Rattle.model.specs.Call.{refusal}
 use Rattle.model.specs.Step.{step}
 use Rattle.model.specs.Run.{final, is_accepted}

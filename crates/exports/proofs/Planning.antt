@@ -10,7 +10,7 @@ use Rattle.rate_doubles.specs.declared.export.Exported.{Exported}
 use Rattle.rate_doubles.specs.Export.{IsRate}
 use Rattle.rate_doubles.specs.RoundTrip.{canonical}
 use Rattle.rate_doubles.proofs.Trips.{round_trip}
-use Rattle.model.specs.declared.contract.Contract.{Contract}
+use Rattle.model.specs.Answers.{Contract}
 use Rattle.model.specs.State.{Entry, free, taken, empty, find}
 use Rattle.model.specs.Call.{Call}
 use Rattle.model.specs.Queries.{entry_contract, contract_of}

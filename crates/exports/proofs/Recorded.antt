@@ -12,10 +12,7 @@ use Rattle.trace_judge.specs.declared.judge.Verdict.TheVariants.{Passes}
 use Rattle.trace_judge.specs.Octets.{judged_octets}
 use Rattle.model.specs.State.{State, empty}
 use Rattle.model.specs.Invariant.{WellFormed}
-use Rattle.model.specs.declared.acr.Acr.{Acr}
-use Rattle.model.specs.declared.acr.Acr.TheVariants.{NotOpen, Rate}
-use Rattle.model.specs.declared.answer.Answer.{Answer}
-use Rattle.model.specs.declared.answer.Answer.TheVariants.{Refused, Accepted, Closed, Idle, Sent}
+use Rattle.model.specs.Answers.{Acr, NotOpen, Rate, Answer, Refused, Accepted, Closed, Idle, Sent}
 use Rattle.model.specs.Call.{Call}
 use Rattle.model.specs.Step.{step}
 use Rattle.model.specs.Queries.{acr_of}

@@ -19,8 +19,7 @@ use Rattle.connection.specs.Kind.{kind_at}
 use Rattle.connection.specs.Slot.{member_served}
 use Rattle.model.specs.State.{State, empty, taken, is_free, find, with_time}
 use Rattle.model.specs.Invariant.{WellFormed}
-use Rattle.model.specs.declared.answer.Answer.{Answer}
-use Rattle.model.specs.declared.answer.Answer.TheVariants.{Refused, Accepted, Closed, Idle, Sent}
+use Rattle.model.specs.Answers.{Answer, Refused, Accepted, Closed, Idle, Sent}
 use Rattle.model.specs.Call.{Call, Outcome, goes_to}
 use Rattle.model.specs.Step.{refuse, accept, replay, discard, name_answered, send_from, send_step, idle_step, send_out_of_rate, step}
 use Rattle.model.specs.Run.{is_accepted}

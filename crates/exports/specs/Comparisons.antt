@@ -4,8 +4,7 @@ use Rattle.std.specs.Prelude.{ℕ, ◌≤◌, ◌≡◌, Bool, true, false, not,
 use Rattle.model.specs.State.{empty}
 use Rattle.model.specs.Winner.{winner}
 use Rattle.model.specs.Tournament.{levels, winner_at, in_time}
-use Rattle.model.specs.declared.answer.Answer.{Answer}
-use Rattle.model.specs.declared.answer.Answer.TheVariants.{Refused, Accepted, Closed, Idle, Sent}
+use Rattle.model.specs.Answers.{Answer, Refused, Accepted, Closed, Idle, Sent}
 use Rattle.model.specs.Call.{Call, comparisons}
 use Rattle.model.specs.Aspects.{Sort, opener, closer, arrival, slot_at, another, sort_of, Lent, for_slot, for_out_of_rate, not_lent, lent_of, Subject, by_name, in_cell, in_answer, no_subject, subject_of}
 use Rattle.model.specs.Step.{step}

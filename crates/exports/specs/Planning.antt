@@ -5,8 +5,7 @@ use Rattle.std.proofs.Math.Option.{Option, none, some}
 use Rattle.rate_params.specs.declared.params.Params.{Params}
 use Rattle.rate_doubles.specs.declared.export.Exported.{Exported}
 use Rattle.rate_doubles.specs.RoundTrip.{canonical}
-use Rattle.model.specs.declared.contract.Contract.{Contract}
-use Rattle.model.specs.declared.contract.Contract.TheVariants.{NotOpen, Codes}
+use Rattle.model.specs.Answers.{Contract, NoContract, Codes}
 use Rattle.model.specs.State.{empty}
 use Rattle.model.specs.Call.{Call}
 use Rattle.model.specs.Queries.{contract_of}
@@ -19,7 +18,7 @@ use Rattle.exports.specs.Exports.{params_observed}
 
 -- the contract of the parameters that an open gave; none if the name is not open
 abbrev pub codes_of : Option Params → Contract
-codes_of none = NotOpen
+codes_of none = NoContract
 codes_of (some p) = Codes p.pcr p.mcr p.icr
 
 -- what abr_import returns for each of the doubles: the canonical code, and no remainder

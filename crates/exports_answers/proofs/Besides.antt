@@ -22,8 +22,7 @@ use Rattle.connection.specs.declared.parts.Waiting.{Waiting}
 use Rattle.connection.specs.Kind.{kind_number}
 use Rattle.model.specs.State.{State, Entry, free, taken, empty, is_free, find, leaf_of}
 use Rattle.model.specs.Invariant.{WellFormed}
-use Rattle.model.specs.declared.answer.Answer.{Answer}
-use Rattle.model.specs.declared.answer.Answer.TheVariants.{Refused, Accepted, Closed, Idle, Sent}
+use Rattle.model.specs.Answers.{Answer, Refused, Accepted, Closed, Idle, Sent}
 use Rattle.model.specs.Call.{Call, Outcome, receiving, slot, goes_to}
 use Rattle.model.specs.Step.{refuse, idle_step, send_step, send_from, step}
 use Rattle.model.proofs.Effects.{Effect, refuses, idles, sends, effect}

@@ -32,8 +32,7 @@ use Rattle.connection.specs.Kind.{kind_at}
 use Rattle.connection.proofs.Keeps.{work-same, after_same}
 use Rattle.model.specs.State.{State, Entry, free, taken, capacity, empty, position, is_free, holds, find, leaf_of, with_entry_of, with_opened, room_left, with_time, with_level, with_members}
 use Rattle.model.specs.Invariant.{OnEntry, NamesUnique, WellFormed}
-use Rattle.model.specs.declared.answer.Answer.{Answer}
-use Rattle.model.specs.declared.answer.Answer.TheVariants.{Refused, Accepted, Closed, Idle, Sent}
+use Rattle.model.specs.Answers.{Answer, Refused, Accepted, Closed, Idle, Sent}
 use Rattle.model.specs.Call.{Call, receiving, slot, Outcome}
 use Rattle.model.specs.Aspects.{arrival, sort_of}
 use Rattle.model.specs.Step.{refuse, accept, replay, discard, with_offer, without_one, send_from, send_step, send_out_of_rate, idle_step, step}

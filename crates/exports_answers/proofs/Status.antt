@@ -32,9 +32,7 @@ use Rattle.connection.specs.Change.{difference}
 use Rattle.connection.proofs.Differences.{rates-kept}
 use Rattle.model.specs.State.{State, Entry, free, taken, capacity, empty, is_free, find, leaf_of}
 use Rattle.model.specs.Invariant.{WellFormed, OnEntry, Each}
-use Rattle.model.specs.declared.acr.Acr.TheVariants.{Rate}
-use Rattle.model.specs.declared.status.Status.TheVariants.{NotOpen, Open}
-use Rattle.model.specs.declared.status.MemberStatus.TheVariants.{NoMember}
+use Rattle.model.specs.Answers.{Rate, NothingOpen, Open, NoMember}
 use Rattle.model.specs.Call.{Call}
 use Rattle.model.specs.Run.{final}
 use Rattle.model.specs.Queries.{entry_ready, earlier, earliest, ready_word, never_word, next_ready}
@@ -90,7 +88,7 @@ module _ (s : State) where
   unfolding status_of entry_status owner
   status-member x d m e = rw (m, e)
 
-  status-none : (v : ℕ) → is_member v s.members ≡ false → find v s.entries ≡ free → status_of s v ≡ NotOpen
+  status-none : (v : ℕ) → is_member v s.members ≡ false → find v s.entries ≡ free → status_of s v ≡ NothingOpen
   unfolding status_of entry_status owner
   status-none v m e = rw (m, e)
 

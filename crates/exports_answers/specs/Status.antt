@@ -12,7 +12,7 @@ use Rattle.connection.specs.declared.parts.Pace.TheVariants.{Unsent, Running}
 use Rattle.connection.specs.declared.ready.Instant.{Instant}
 use Rattle.connection.specs.declared.ready.Instant.TheVariants.{Never, At}
 use Rattle.model.specs.State.{capacity}
-use Rattle.model.specs.declared.status.MemberStatus.TheVariants.{NoMember}
+use Rattle.model.specs.Answers.{NoMember}
 use Rattle.model.specs.Queries.{never_word, ready_word}
 use Rattle.table_tournament.specs.Next.{GivesNext}
 use Rattle.abr_answers.specs.declared.calls.AbrAllowed.{AbrAllowed}

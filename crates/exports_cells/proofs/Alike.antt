@@ -20,7 +20,7 @@ use Rattle.model.specs.Tournament.{levels, instant_winner, leaf_winner, winner_a
 use Rattle.model.specs.Queries.{entry_acr, entry_ready, earliest, ready_word}
 use Rattle.model.specs.Orders.{open_count}
 use Rattle.model.specs.Details.{rate_in, is_made}
-use Rattle.model.specs.declared.status.Status.TheVariants.{Open}
+use Rattle.model.specs.Answers.{Open}
 use Rattle.model.specs.Status.{entry_status, leaf_status}
 use Rattle.abr_answers.specs.Status.{connection_shown}
 use Rattle.promise_lists.specs.Demand3.{InPlace}

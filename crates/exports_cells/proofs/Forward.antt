@@ -25,7 +25,7 @@ use Rattle.connection.proofs.Reached.{acr-is-rate}
 use Rattle.connection.proofs.SourceCases.{forward-fits}
 use Rattle.model.specs.State.{State, Entry, taken, empty, find}
 use Rattle.model.specs.Invariant.{WellFormed}
-use Rattle.model.specs.declared.answer.Answer.TheVariants.{Sent}
+use Rattle.model.specs.Answers.{Sent}
 use Rattle.model.specs.Call.{Call, slot, out_of_rate, Outcome}
 use Rattle.model.specs.Step.{refuse, idle_step, send_from, send_step, send_out_of_rate, step}
 use Rattle.model.specs.Queries.{entry_acr, acr_of}

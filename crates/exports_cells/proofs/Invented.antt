@@ -21,8 +21,7 @@ use Rattle.connection_members.specs.Path.{path_vci}
 use Rattle.connection.specs.declared.parts.Waiting.{Waiting}
 use Rattle.connection.specs.declared.parts.Waiting.TheVariants.{Nothing, Cell}
 use Rattle.model.specs.State.{State, Entry, free, taken, is_free, empty, find}
-use Rattle.model.specs.declared.answer.Answer.{Answer}
-use Rattle.model.specs.declared.answer.Answer.TheVariants.{Refused as Unaccepted, Accepted, Closed, Idle, Sent}
+use Rattle.model.specs.Answers.{Answer, Refused as Unaccepted, Accepted, Closed, Idle, Sent}
 use Rattle.model.specs.Call.{Call, closing, receiving, slot}
 use Rattle.model.specs.Step.{step}
 use Rattle.model.specs.Run.{is_accepted}

@@ -13,7 +13,7 @@ use Rattle.connection.specs.declared.parts.Connection.{Connection}
 use Rattle.connection.specs.declared.kind.Kind.TheVariants.{Turned}
 use Rattle.connection.specs.Slot.{Buffer}
 use Rattle.model.specs.State.{State, Entry, taken, empty, find}
-use Rattle.model.specs.declared.answer.Answer.TheVariants.{Sent}
+use Rattle.model.specs.Answers.{Sent}
 use Rattle.model.specs.Call.{Call, receiving, Outcome}
 use Rattle.model.specs.Step.{refuse, step}
 use Rattle.model.specs.Run.{final, is_accepted}

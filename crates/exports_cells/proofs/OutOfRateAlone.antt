@@ -38,9 +38,7 @@ use Rattle.connection.specs.Kind.{is_forward, is_turned, kind_at}
 use Rattle.model.specs.State.{State, Entry, free, taken, is_free, empty, position, holds, find, leaf_of, with_entry_of, with_opened, room_left, with_time, with_level, with_members}
 use Rattle.model.specs.Winner.{Winner, none_ready, wins, winner}
 use Rattle.model.specs.Tournament.{replayed}
-use Rattle.model.specs.declared.answer.Answer.{Answer}
-use Rattle.model.specs.declared.answer.Answer.TheVariants.{Refused, Accepted, Closed, Idle, Sent}
-use Rattle.model.specs.declared.details.SlotAnswer.TheVariants.{Sent as SentCell}
+use Rattle.model.specs.Answers.{Answer, Refused, Accepted, Closed, Idle, Sent, SentCell}
 use Rattle.model.specs.Call.{Call, opening, closing, receiving, offering, levelling, slot, making, out_of_rate, opening_path, adding, offering_member, removing, Outcome, closed_cells}
 use Rattle.model.specs.Step.{refuse, accept, replay, discard, of_open, open_address, open_step, open_path_step, close_step, offer_step, with_offer, without_one, add_step, of_member, offer_member_step, remove_step, data_cell_step, read_step, receive_step, level_step, name_answered, send_from, send_step, idle_step, serve_entry, serve, slot_step, make_step, send_out_of_rate, out_of_rate_step, step}
 use Rattle.model.specs.Run.{final, is_accepted}

@@ -26,7 +26,7 @@ use Rattle.connection.proofs.Waited.{turned-waits}
 use Rattle.connection.proofs.DestinationCases.{made-fits}
 use Rattle.model.specs.State.{State, taken, empty, find}
 use Rattle.model.specs.Invariant.{WellFormed}
-use Rattle.model.specs.declared.answer.Answer.TheVariants.{Sent}
+use Rattle.model.specs.Answers.{Sent}
 use Rattle.model.specs.Call.{slot, Outcome}
 use Rattle.model.specs.Step.{refuse, idle_step, send_from, send_step, step}
 use Rattle.model.specs.Run.{final}

@@ -35,7 +35,7 @@ use Rattle.model.specs.Aspects.{OnMembers}
 use Rattle.model.specs.Step.{refuse, accept, replay, discard, with_offer, without_one, send_from, send_step, send_out_of_rate, idle_step, step}
 use Rattle.model.specs.Run.{final, is_accepted}
 use Rattle.model.specs.Orders.{last_made, last_out_of_rate}
-use Rattle.model.specs.declared.answer.Answer.{Answer}
+use Rattle.model.specs.Answers.{Answer}
 use Rattle.model.proofs.Entries.{absent-find, each_free}
 use Rattle.model.proofs.Frames.{put-read, put-kept, with-opened-read, freed-read}
 use Rattle.model.proofs.Effects.{Effect, refuses, opens, closes, offers, receives_data, receives_rm, sets_level, idles, sends, makes, sends_out_of_rate, opens_path, adds, offers_member, removes, effect}

@@ -15,7 +15,7 @@ use Rattle.connection.specs.declared.kind.Kind.TheVariants.{Forward, Turned, Dat
 use Rattle.connection.specs.Kind.{kind_at}
 use Rattle.connection.specs.Slot.{member_served}
 use Rattle.model.specs.State.{State, Entry, free, taken, empty, find, with_time}
-use Rattle.model.specs.declared.answer.Answer.TheVariants.{Sent}
+use Rattle.model.specs.Answers.{Sent}
 use Rattle.model.specs.Call.{Call, Outcome}
 use Rattle.model.specs.Step.{refuse, accept, replay, discard, name_answered, send_from, send_step, send_out_of_rate, idle_step}
 use Rattle.model.specs.Queries.{entry_acr, acr_of}

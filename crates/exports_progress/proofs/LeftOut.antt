@@ -12,8 +12,7 @@ use Rattle.connection.specs.declared.kind.Kind.{Kind}
 use Rattle.connection.specs.declared.kind.Kind.TheVariants.{Forward, Turned, Data}
 use Rattle.connection.specs.Kind.{kind_number, kind_at}
 use Rattle.model.specs.State.{State, empty, with_time}
-use Rattle.model.specs.declared.answer.Answer.{Answer}
-use Rattle.model.specs.declared.answer.Answer.TheVariants.{Refused, Accepted, Closed, Idle, Sent}
+use Rattle.model.specs.Answers.{Answer, Refused, Accepted, Closed, Idle, Sent}
 use Rattle.model.specs.Call.{Call, slot, Outcome, closed_cells}
 use Rattle.model.specs.Step.{refuse, accept, replay, discard, idle_step, send_from, send_step, send_out_of_rate, step}
 use Rattle.model.specs.Queries.{acr_of, next_ready, slot_time}

@@ -15,8 +15,7 @@ use Rattle.connection.specs.declared.kind.Kind.TheVariants.{Forward, Turned, Dat
 use Rattle.connection.specs.Kind.{kind_number}
 use Rattle.connection.specs.Ready.{backward_waits}
 use Rattle.model.specs.State.{State, Entry, free, taken, empty, find, entry_cells}
-use Rattle.model.specs.declared.answer.Answer.{Answer}
-use Rattle.model.specs.declared.answer.Answer.TheVariants.{Refused, Accepted, Closed, Idle, Sent}
+use Rattle.model.specs.Answers.{Answer, Refused, Accepted, Closed, Idle, Sent}
 use Rattle.model.specs.Call.{Call}
 use Rattle.model.specs.Step.{step}
 use Rattle.model.specs.Run.{final}

@@ -32,8 +32,7 @@ use Rattle.connection.specs.Slot.{after}
 use Rattle.connection.proofs.Keeps.{work-same}
 use Rattle.model.specs.State.{State, Entry, free, taken, capacity, empty, find, with_entry_of, with_opened, with_time, with_level, with_members, entry_cells}
 use Rattle.model.specs.Invariant.{NamesUnique}
-use Rattle.model.specs.declared.answer.Answer.{Answer}
-use Rattle.model.specs.declared.answer.Answer.TheVariants.{Refused, Accepted, Closed, Idle, Sent}
+use Rattle.model.specs.Answers.{Answer, Refused, Accepted, Closed, Idle, Sent}
 use Rattle.model.specs.Call.{Call, Outcome, closed_cells}
 use Rattle.model.specs.Step.{refuse, accept, replay, discard, with_offer, without_one, send_from, send_step, send_out_of_rate, idle_step, step}
 use Rattle.model.specs.Run.{final, is_accepted}

@@ -19,8 +19,7 @@ use Rattle.cell.specs.Reading.{reading}
 use Rattle.connection.specs.declared.parts.Connection.{Connection}
 use Rattle.connection.specs.Change.{difference}
 use Rattle.model.specs.State.{State, Entry, free, taken, capacity, empty, find}
-use Rattle.model.specs.declared.answer.Answer.{Answer}
-use Rattle.model.specs.declared.answer.Answer.TheVariants.{Refused, Accepted, Closed, Idle, Sent}
+use Rattle.model.specs.Answers.{Answer, Refused, Accepted, Closed, Idle, Sent}
 use Rattle.model.specs.Call.{Call, opening, opening_path, Outcome, refusal}
 use Rattle.model.specs.Aspects.{Sort}
 use Rattle.model.specs.Step.{refuse, step}

@@ -12,9 +12,7 @@ use Rattle.connection.specs.declared.parts.Connection.{Connection}
 use Rattle.connection.specs.Parts.{changed}
 use Rattle.connection.specs.Change.{difference}
 use Rattle.model.specs.State.{State, taken, empty, find}
-use Rattle.model.specs.declared.acr.Acr.{Acr}
-use Rattle.model.specs.declared.acr.Acr.TheVariants.{Rate}
-use Rattle.model.specs.declared.answer.Answer.TheVariants.{Accepted}
+use Rattle.model.specs.Answers.{Acr, Rate, Accepted}
 use Rattle.model.specs.Call.{Call, Outcome, comparisons}
 use Rattle.model.specs.Step.{refuse, accept, replay, step}
 use Rattle.model.specs.Queries.{acr_of}

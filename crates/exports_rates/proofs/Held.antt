@@ -10,7 +10,7 @@ use lib.Dec.{eqb}
 use Rattle.rate_params.specs.declared.params.Params.{Params}
 use Rattle.connection.specs.declared.parts.Connection.{Connection}
 use Rattle.model.specs.State.{State, Entry, free, taken, empty, find}
-use Rattle.model.specs.declared.acr.Acr.TheVariants.{Rate}
+use Rattle.model.specs.Answers.{Rate}
 use Rattle.model.specs.Call.{Call}
 use Rattle.model.specs.Queries.{entry_acr, acr_of}
 use Rattle.model.specs.Run.{final, allowed}

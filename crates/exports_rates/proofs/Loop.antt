@@ -11,7 +11,7 @@ use Rattle.port_share.specs.declared.share.FairShare.{FairShare}
 use Rattle.connection.specs.declared.parts.Connection.{Connection}
 use Rattle.connection.specs.declared.kind.Kind.TheVariants.{Forward}
 use Rattle.model.specs.State.{State, Entry, taken, empty}
-use Rattle.model.specs.declared.answer.Answer.TheVariants.{Sent}
+use Rattle.model.specs.Answers.{Sent}
 use Rattle.model.specs.Call.{Call, receiving}
 use Rattle.model.specs.Step.{step}
 use Rattle.model.specs.Run.{final, allowed}

@@ -31,7 +31,7 @@ use Rattle.connection.specs.Kind.{kind_at}
 use Rattle.connection.proofs.Keeps.{work-same, after_same}
 use Rattle.model.specs.State.{State, Entry, free, taken, empty, find, with_entry_of, with_opened, with_time, with_level, with_members}
 use Rattle.model.specs.Invariant.{NamesUnique}
-use Rattle.model.specs.declared.answer.Answer.TheVariants.{Refused, Sent}
+use Rattle.model.specs.Answers.{Refused, Sent}
 use Rattle.model.specs.Call.{Call, opening, closing, receiving, offering, levelling, slot, making, out_of_rate, opening_path, adding, offering_member, removing, Outcome}
 use Rattle.model.specs.Step.{refuse, accept, replay, discard, with_offer, without_one, name_answered, send_from, send_step, idle_step, send_out_of_rate, step}
 use Rattle.model.specs.Run.{final}

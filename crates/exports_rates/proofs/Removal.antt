@@ -16,7 +16,7 @@ use Rattle.connection_members.proofs.Names.{path-of-address}
 use Rattle.connection.specs.declared.parts.Connection.{Connection}
 use Rattle.model.specs.State.{State, Entry, free, taken, is_free, find, leaf_of}
 use Rattle.model.specs.Invariant.{WellFormed}
-use Rattle.model.specs.declared.answer.Answer.{Answer}
+use Rattle.model.specs.Answers.{Answer}
 use Rattle.model.specs.Call.{removing, closed_cells}
 use Rattle.model.specs.Step.{refuse, discard, of_open, of_member, remove_step, without_one, step}
 use Rattle.model.specs.Run.{is_accepted}

@@ -37,7 +37,7 @@ use Rattle.connection.proofs.Keeps.{work-same, after_same}
 use Rattle.model.specs.State.{State, Entry, free, taken, capacity, empty, find, with_entry_of, with_opened, with_time, with_level, with_members}
 use Rattle.model.specs.Invariant.{WellFormed, NamesUnique}
 use Rattle.model.specs.Call.{Call, Outcome, closed_cells}
-use Rattle.model.specs.declared.answer.Answer.TheVariants.{Sent}
+use Rattle.model.specs.Answers.{Sent}
 use Rattle.model.specs.Step.{refuse, accept, replay, discard, with_offer, without_one, name_answered, send_from, send_step, send_out_of_rate, idle_step}
 use Rattle.model.specs.Run.{final, is_accepted}
 use Rattle.model.proofs.Entries.{Case, same, other, case, absent-find, each_free}

@@ -18,8 +18,7 @@ use Rattle.connection.specs.declared.kind.Kind.TheVariants.{Forward, Turned, Dat
 use Rattle.connection.specs.Slot.{member_served}
 use Rattle.model.specs.State.{State, taken, empty, find}
 use Rattle.model.specs.Invariant.{WellFormed}
-use Rattle.model.specs.declared.answer.Answer.{Answer}
-use Rattle.model.specs.declared.answer.Answer.TheVariants.{Refused, Accepted, Closed, Idle, Sent}
+use Rattle.model.specs.Answers.{Answer, Refused, Accepted, Closed, Idle, Sent}
 use Rattle.model.specs.Step.{name_answered, step}
 use Rattle.model.specs.Run.{is_accepted}
 use Rattle.model.specs.Conservation.{data_in}

@@ -15,7 +15,7 @@ use Rattle.connection.specs.declared.parts.Pace.{Pace}
 use Rattle.connection.specs.declared.parts.Pace.TheVariants.{Unsent, Running}
 use Rattle.connection.specs.Ready.{any_waits, backward_waits, last_before, ready_instant}
 use Rattle.model.specs.State.{State, Entry, free, taken, empty, find}
-use Rattle.model.specs.declared.acr.Acr.TheVariants.{Rate}
+use Rattle.model.specs.Answers.{Rate}
 use Rattle.model.specs.Call.{Call, receiving}
 use Rattle.model.specs.Step.{step}
 use Rattle.model.specs.Queries.{entry_acr, acr_of}

@@ -23,7 +23,7 @@ use Rattle.connection.proofs.Keeps.{after_same}
 use Rattle.model.specs.State.{State, Entry, free, taken, empty, find, with_time, with_members}
 use Rattle.model.specs.Invariant.{NamesUnique, Each}
 use Rattle.model.specs.Winner.{Ahead, sooner, Chosen, Best, none_ready}
-use Rattle.model.specs.declared.answer.Answer.TheVariants.{Sent}
+use Rattle.model.specs.Answers.{Sent}
 use Rattle.model.specs.Call.{Call, slot, Outcome, goes_to}
 use Rattle.model.specs.Step.{refuse, idle_step, send_from, send_step, step}
 use Rattle.model.specs.Queries.{entry_ready}

@@ -18,7 +18,7 @@ use Rattle.connection.specs.declared.kind.Kind.{Kind}
 use Rattle.connection.specs.declared.kind.Kind.TheVariants.{Forward, Turned, Data}
 use Rattle.connection.specs.Kind.{kind_number, kind_at}
 use Rattle.model.specs.State.{State, empty}
-use Rattle.model.specs.declared.answer.Answer.TheVariants.{Sent}
+use Rattle.model.specs.Answers.{Sent}
 use Rattle.model.specs.Call.{Call, slot}
 use Rattle.model.specs.Step.{step}
 use Rattle.model.specs.Run.{final}

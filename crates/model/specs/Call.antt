@@ -5,8 +5,7 @@ use Rattle.rate_params.specs.declared.params.Params.{Params}
 use Rattle.connection.specs.declared.kind.Kind.{Kind}
 use Rattle.connection.specs.Slot.{Buffer}
 use Rattle.model.specs.State.{State}
-pub use Rattle.model.specs.declared.answer.Answer.{Answer}
-pub use Rattle.model.specs.declared.answer.Answer.TheVariants.{Refused, Accepted, Closed, Idle, Sent}
+pub use Rattle.model.specs.Answers.{Answer, Refused, Accepted, Closed, Idle, Sent}
 
 -- Nothing bounds the arguments. What a lent buffer holds before a slot or an out-of-rate cell is no
 -- argument, so room is its length.

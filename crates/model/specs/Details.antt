@@ -12,12 +12,7 @@ use Rattle.connection.specs.declared.parts.Waiting.{Waiting}
 use Rattle.connection.specs.declared.parts.Waiting.TheVariants.{Nothing, Cell}
 use Rattle.model.specs.State.{State, Entry, free, taken, position, is_free, find, leaf_of}
 use Rattle.model.specs.Call.{Outcome, Answer, Refused, Accepted, Closed, Idle, Sent}
-use Rattle.model.specs.declared.details.OpenAnswer.{OpenAnswer}
-use Rattle.model.specs.declared.details.OpenAnswer.TheVariants.{Refused as OpenRefused, Opened}
-use Rattle.model.specs.declared.details.ReceiveAnswer.{ReceiveAnswer}
-use Rattle.model.specs.declared.details.ReceiveAnswer.TheVariants.{Refused as ReceiveRefused, Received}
-use Rattle.model.specs.declared.details.SlotAnswer.{SlotAnswer}
-use Rattle.model.specs.declared.details.SlotAnswer.TheVariants.{Refused as SlotRefused, Idle as IdleSlot, Sent as SentCell}
+use Rattle.model.specs.Answers.{OpenAnswer, OpenRefused, Opened, ReceiveAnswer, ReceiveRefused, Received, SlotAnswer, SlotRefused, IdleSlot, SentCell}
 
 -- an open that took this leaf; no open answers Closed, Idle or Sent
 abbrev pub opened_with : (leaf : ℕ) → Answer → OpenAnswer

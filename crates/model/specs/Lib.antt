@@ -5,6 +5,7 @@ pub mod Winner
 -- The tournament that finds the winner, and the comparisons that a call makes in it:
 pub mod Tournament
 -- The calls, each with its refusals in order, and lists of calls:
+pub mod Answers
 pub mod Call
 pub mod Aspects
 pub mod Step
@@ -12,6 +13,7 @@ pub mod Details
 pub mod Queries
 pub mod Status
 pub mod SlotTime
+pub mod Returned
 pub mod Run
 -- What holds of every table that calls made:
 pub mod Invariant

@@ -2,7 +2,7 @@
 -- condition does not hold, and accepted if all hold. The documents' numbers stand here a second time, beside
 -- conditions instead of tests. (Document 01, "Refused because of the input", "Refused because of the state" and
 -- the orders behind them; document 02, each request.)
-use Rattle.std.specs.Prelude.{ℕ, suc, ◌+◌, ◌≤◌, ◌<◌, ◌≡◌, ◌≢◌, Bool, true, false, List, [], ◌∷◌, length}
+use Rattle.std.specs.Prelude.{ℕ, suc, ◌+◌, ◌≤◌, ◌<◌, ◌≡◌, ◌≢◌, true, false, List, [], ◌∷◌, length}
 use Rattle.std.proofs.Math.Option.{Option, none, some}
 use Rattle.rate_params.specs.declared.params.Params.{Params}
 use Rattle.rate.specs.Code.{codes_clear}

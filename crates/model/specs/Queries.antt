@@ -6,10 +6,7 @@ use Rattle.connection.specs.declared.ready.Instant.{Instant}
 use Rattle.connection.specs.declared.ready.Instant.TheVariants.{Never, At}
 use Rattle.connection.specs.Ready.{ready_instant}
 use Rattle.model.specs.State.{State, Entry, free, taken, find}
-use Rattle.model.specs.declared.acr.Acr.{Acr}
-use Rattle.model.specs.declared.acr.Acr.TheVariants.{NotOpen, Rate}
-use Rattle.model.specs.declared.contract.Contract.{Contract}
-use Rattle.model.specs.declared.contract.Contract.TheVariants.{NotOpen as NoContract, Codes}
+use Rattle.model.specs.Answers.{Acr, NotOpen, Rate, Contract, NoContract, Codes}
 
 unfoldable pub entry_acr : Entry → Acr
 entry_acr free = NotOpen

@@ -8,15 +8,12 @@ use Rattle.connection.specs.Ready.{ready_instant}
 use Rattle.model.specs.State.{State, Entry, free, taken, find, leaf_of}
 use Rattle.model.specs.Queries.{ready_word}
 use Rattle.model.specs.Orders.{open_count}
-use Rattle.model.specs.declared.status.Status.{Status}
-use Rattle.model.specs.declared.status.Status.TheVariants.{NotOpen, Open}
-use Rattle.model.specs.declared.status.MemberStatus.{MemberStatus}
-use Rattle.model.specs.declared.status.MemberStatus.TheVariants.{NoMember, Member as AMember}
-use Rattle.model.specs.declared.status.Totals.{Totals}
+use Rattle.model.specs.Answers.{Status, NothingOpen, Open, MemberStatus, NoMember, AMember}
+use Rattle.model.specs.declared.readings.Totals.{Totals}
 
 -- the connection in an entry, under this name; of a member's name the cells that wait on the member
 unfoldable pub entry_status : (name leaf : ℕ) → (member : Option ℕ) → Entry → Status
-entry_status x l m free = NotOpen
+entry_status x l m free = NothingOpen
 entry_status x l none (taken c) = Open x false (waiting c.queue) l (ready_word (ready_instant c)) c
 entry_status x l (some n) (taken c) = Open x true n l (ready_word (ready_instant c)) c
 
@@ -30,7 +27,7 @@ status_of s x = entry_status x (leaf_of (owner x s.members) s) (member_cells x s
 
 -- the connection in a leaf, by its own name
 unfoldable pub leaf_status : (leaf : ℕ) → Entry → Status
-leaf_status l free = NotOpen
+leaf_status l free = NothingOpen
 leaf_status l (taken c) = entry_status c.name l none (taken c)
 
 unfoldable pub status_at : State → (leaf : ℕ) → Status

@@ -6,8 +6,7 @@ use Rattle.std.proofs.Math.Option.{some, Option, none}
 use Rattle.model.specs.State.{State, empty}
 use Rattle.model.specs.Call.{Call}
 use Rattle.model.specs.Aspects.{time_of}
-use Rattle.model.specs.declared.answer.Answer.{Answer}
-use Rattle.model.specs.declared.answer.Answer.TheVariants.{Refused, Accepted, Closed, Idle, Sent}
+use Rattle.model.specs.Answers.{Answer, Refused, Accepted, Closed, Idle, Sent}
 use Rattle.model.specs.Step.{step}
 use Rattle.model.specs.Run.{final, is_accepted, allowed}
 

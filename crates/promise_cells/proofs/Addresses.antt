@@ -27,7 +27,7 @@ use Rattle.connection.specs.Slot.{after, member_served, buffer_sent, untouched, 
 use Rattle.connection.proofs.Keeps.{after_same}
 use Rattle.model.specs.State.{State, Entry, free, taken, empty, is_free, find, with_time}
 use Rattle.model.specs.Invariant.{WellFormed}
-use Rattle.model.specs.declared.answer.Answer.TheVariants.{Refused}
+use Rattle.model.specs.Answers.{Refused, Answer}
 use Rattle.model.specs.Call.{Call, Outcome}
 use Rattle.model.specs.Aspects.{Lent, for_slot, for_out_of_rate, not_lent, lent_of}
 use Rattle.model.specs.Step.{refuse, accept, replay, discard, of_open, open_address, open_step, open_path_step, add_step, of_member, offer_member_step, remove_step, name_answered, send_from, send_step, idle_step, send_out_of_rate, step}
@@ -41,7 +41,6 @@ use Rattle.model.proofs.Shown.{Shown, refusing, accepting, discarding, idling, s
 use Rattle.promise_lists.proofs.NotOpen.{close-out, offer-out, make-out, out-of-rate-out}
 use Rattle.promise_cells.specs.Addresses.{no_member_refusal, OutOfRangeUnknown, NoPathOver255, AddressesApart, Carries, SentCarries, CarriesName, CellsCarryNames, LentCarries}
 use Rattle.laws.specs.Require.{require}
-use Rattle.model.specs.declared.answer.Answer.{Answer}
 
 -- Out of the ranges.
 module _ (s : State) (vpi vci : ℕ) where

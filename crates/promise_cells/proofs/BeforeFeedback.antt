@@ -11,7 +11,7 @@ use Rattle.rate_moves.specs.Bounds.{RateInBounds}
 use Rattle.rate_moves.proofs.Cuts.{cut-le}
 use Rattle.rate_moves.proofs.FourMoves.{cond-all, idle-in-bounds}
 use Rattle.connection.specs.declared.parts.Connection.{Connection}
-use Rattle.model.specs.declared.answer.Answer.{Answer}
+use Rattle.model.specs.Answers.{Answer}
 use Rattle.model.specs.State.{State, taken, find}
 use Rattle.model.specs.Invariant.{WellFormed}
 use Rattle.model.specs.Call.{Call}

@@ -26,8 +26,7 @@ use Rattle.connection.specs.Destination.{with_made, after_data_cell, after_forwa
 use Rattle.connection.specs.Received.{after_rm_cell}
 use Rattle.connection.specs.Slot.{after}
 use Rattle.connection.proofs.Differences.{change-within}
-use Rattle.model.specs.declared.acr.Acr.TheVariants.{NotOpen, Rate}
-use Rattle.model.specs.declared.answer.Answer.TheVariants.{Accepted}
+use Rattle.model.specs.Answers.{NotOpen, Rate, Accepted}
 use Rattle.model.specs.State.{State, Entry, free, taken, empty, find, with_opened, with_time}
 use Rattle.model.specs.Invariant.{OnEntry, NamesUnique}
 use Rattle.model.specs.Call.{Call, opening, receiving, opening_path, Outcome}

@@ -34,7 +34,7 @@ use Rattle.connection.specs.Kind.{kind_at}
 use Rattle.connection.proofs.Keeps.{work-same}
 use Rattle.model.specs.State.{State, Entry, taken, empty, find}
 use Rattle.model.specs.Invariant.{WellFormed}
-use Rattle.model.specs.declared.answer.Answer.TheVariants.{Sent}
+use Rattle.model.specs.Answers.{Sent}
 use Rattle.model.specs.Call.{Call, receiving, slot, Outcome}
 use Rattle.model.specs.Aspects.{Sort, opener, closer, arrival, slot_at, another, sort_of}
 use Rattle.model.specs.Step.{refuse, accept, replay, idle_step, send_from, send_step, step}

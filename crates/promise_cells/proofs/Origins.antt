@@ -40,7 +40,7 @@ use Rattle.connection.proofs.Keeps.{work-same, after_same}
 use Rattle.connection.proofs.DestinationCases.{made-fits}
 use Rattle.model.specs.State.{State, Entry, free, taken, capacity, empty, find, with_entry_of, with_opened, with_time, with_level, with_members}
 use Rattle.model.specs.Invariant.{NamesUnique, WellFormed, OnEntry}
-use Rattle.model.specs.declared.answer.Answer.TheVariants.{Idle, Sent}
+use Rattle.model.specs.Answers.{Idle, Sent}
 use Rattle.model.specs.Call.{Call, receiving, slot, Outcome}
 use Rattle.model.specs.Step.{refuse, accept, replay, discard, with_offer, without_one, idle_step, send_from, send_step, send_out_of_rate, step}
 use Rattle.model.specs.Run.{final, is_accepted}

@@ -12,10 +12,7 @@ use Rattle.connection.specs.declared.kind.Kind.{Kind}
 use Rattle.connection.specs.declared.kind.Kind.TheVariants.{Forward, Turned, Data}
 use Rattle.connection.specs.Slot.{Buffer, untouched, written}
 use Rattle.model.specs.State.{State, empty, is_free, find}
-use Rattle.model.specs.declared.acr.Acr.TheVariants.{NotOpen}
-use Rattle.model.specs.declared.contract.Contract.TheVariants.{NotOpen as NoContract}
-use Rattle.model.specs.declared.answer.Answer.{Answer}
-use Rattle.model.specs.declared.answer.Answer.TheVariants.{Refused, Accepted, Closed, Idle, Sent}
+use Rattle.model.specs.Answers.{NotOpen, NoContract, Answer, Refused, Accepted, Closed, Idle, Sent}
 use Rattle.model.specs.Call.{Call, opening, closing, offering, making, out_of_rate, opening_path, adding, offering_member, removing}
 use Rattle.model.specs.Aspects.{Lent, for_slot, for_out_of_rate, not_lent, lent_of}
 use Rattle.model.specs.Step.{refuse, step}

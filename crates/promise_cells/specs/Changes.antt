@@ -12,9 +12,7 @@ use Rattle.connection_members.specs.Path.{path_vci}
 use Rattle.connection.specs.declared.parts.Change.{Change}
 use Rattle.connection.specs.Parts.{changed}
 use Rattle.connection.specs.Change.{difference}
-use Rattle.model.specs.declared.acr.Acr.{Acr}
-use Rattle.model.specs.declared.acr.Acr.TheVariants.{NotOpen, Rate}
-use Rattle.model.specs.declared.answer.Answer.TheVariants.{Accepted}
+use Rattle.model.specs.Answers.{Acr, NotOpen, Rate, Accepted}
 use Rattle.model.specs.State.{empty}
 use Rattle.model.specs.Call.{Call, opening, receiving, opening_path}
 use Rattle.model.specs.Aspects.{Sort, opener, closer, arrival, slot_at, another, sort_of}

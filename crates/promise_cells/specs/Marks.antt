@@ -10,8 +10,7 @@ use Rattle.connection.specs.declared.parts.Connection.{Connection}
 use Rattle.connection.specs.declared.kind.Kind.TheVariants.{Turned}
 use Rattle.connection.specs.Slot.{Buffer, written}
 use Rattle.model.specs.State.{State, taken, empty, find}
-use Rattle.model.specs.declared.answer.Answer.{Answer}
-use Rattle.model.specs.declared.answer.Answer.TheVariants.{Sent}
+use Rattle.model.specs.Answers.{Answer, Sent}
 use Rattle.model.specs.Call.{Call, receiving, slot}
 use Rattle.model.specs.Aspects.{Sort, opener, closer, arrival, slot_at, another, sort_of}
 use Rattle.model.specs.Step.{step}

@@ -26,7 +26,7 @@ use Rattle.connection.specs.Kind.{kind_at}
 use Rattle.connection.proofs.Keeps.{work-same, after_same}
 use Rattle.model.specs.State.{State, Entry, free, taken, find, with_entry_of, with_opened, with_time, with_level, with_members}
 use Rattle.model.specs.Invariant.{NamesUnique, WellFormed}
-use Rattle.model.specs.declared.answer.Answer.{Answer}
+use Rattle.model.specs.Answers.{Answer}
 use Rattle.model.specs.Call.{Call, opening, closing, opening_path, Outcome, goes_to}
 use Rattle.model.specs.Step.{refuse, accept, replay, discard, with_offer, without_one, send_from, send_step, send_out_of_rate, idle_step, step}
 use Rattle.model.specs.Run.{final, is_accepted}

@@ -10,7 +10,7 @@ use Rattle.rate.specs.Units.{latest_time}
 use Rattle.connection.specs.declared.parts.Connection.{Connection}
 use Rattle.model.specs.State.{State, Entry, free, taken, empty, find, with_time}
 use Rattle.model.specs.Invariant.{WellFormed}
-use Rattle.model.specs.declared.answer.Answer.TheVariants.{Idle}
+use Rattle.model.specs.Answers.{Idle}
 use Rattle.model.specs.Call.{Call, slot, Outcome, goes_to}
 use Rattle.model.specs.Step.{refuse, idle_step, send_from, send_step, slot_step, step}
 use Rattle.model.specs.Queries.{next_ready}

@@ -15,8 +15,7 @@ use Rattle.connection.specs.Kind.{kind_number}
 use Rattle.model.specs.State.{State, Entry, free, taken, find}
 use Rattle.model.specs.Invariant.{OnEntry}
 use Rattle.model.specs.Call.{Call, goes_to}
-use Rattle.model.specs.declared.answer.Answer.{Answer}
-use Rattle.model.specs.declared.answer.Answer.TheVariants.{Refused, Accepted, Closed, Idle, Sent}
+use Rattle.model.specs.Answers.{Answer, Refused, Accepted, Closed, Idle, Sent}
 use Rattle.model.specs.Step.{step}
 use Rattle.model.specs.Queries.{entry_acr, acr_of}
 use Rattle.model.proofs.Entries.{taken≢free, find-name, find-each}

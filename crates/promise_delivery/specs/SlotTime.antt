@@ -2,7 +2,7 @@
 use Rattle.std.specs.Prelude.{ℕ, ◌+◌, ◌≤◌, ◌≡◌, List}
 use Rattle.rate.specs.Units.{latest_time}
 use Rattle.model.specs.State.{State, empty}
-use Rattle.model.specs.declared.answer.Answer.TheVariants.{Idle}
+use Rattle.model.specs.Answers.{Idle}
 use Rattle.model.specs.Call.{Call, slot}
 use Rattle.model.specs.Step.{step}
 use Rattle.model.specs.Queries.{next_ready, slot_time}

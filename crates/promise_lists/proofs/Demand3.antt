@@ -7,7 +7,7 @@ use Rattle.model.specs.State.{State, Entry, free, taken, empty, find}
 use Rattle.model.specs.Invariant.{OnEntry, WellFormed}
 use Rattle.model.proofs.Entries.{find-each}
 use Rattle.model.proofs.Preserved.{empty-well-formed}
-use Rattle.model.specs.declared.answer.Answer.{Answer}
+use Rattle.model.specs.Answers.{Answer}
 use Rattle.model.specs.Call.{Call, Outcome, refusal, kind_sent}
 use Rattle.model.specs.Step.{step}
 use Rattle.model.specs.Run.{run, final, entry_rate, allowed, params_given}

@@ -32,7 +32,7 @@ use Rattle.model.specs.Call.{Call, Outcome, goes_to}
 use Rattle.model.specs.Aspects.{OnMembers}
 use Rattle.model.specs.Step.{refuse, accept, replay, discard, with_offer, without_one, name_answered, send_from, send_step, idle_step, send_out_of_rate, step}
 use Rattle.model.specs.Run.{final}
-use Rattle.model.specs.declared.answer.Answer.{Answer}
+use Rattle.model.specs.Answers.{Answer}
 use Rattle.model.proofs.Effects.{Effect, refuses, opens, closes, offers, receives_data, receives_rm, sets_level, idles, sends, makes, sends_out_of_rate, opens_path, adds, offers_member, removes, effect}
 use Rattle.model.proofs.Reached.{reached-well-formed}
 use Rattle.model.proofs.ToMembers.{ToMembers, refused_kept, none_touched, idle_kept, all_closed, one_added, one_offered, one_removed, one_served, to-members}

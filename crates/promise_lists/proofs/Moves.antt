@@ -30,8 +30,7 @@ use Rattle.model.specs.State.{State, Entry, free, taken, empty, find, with_entry
 use Rattle.model.specs.Invariant.{NamesUnique}
 use Rattle.model.proofs.Entries.{Case, same, other, case}
 use Rattle.model.proofs.Frames.{put-read, with-opened-read, freed-read}
-use Rattle.model.specs.declared.answer.Answer.{Answer}
-use Rattle.model.specs.declared.answer.Answer.TheVariants.{Refused, Accepted, Idle, Sent}
+use Rattle.model.specs.Answers.{Answer, Refused, Accepted, Idle, Sent}
 use Rattle.model.specs.Call.{Call, opening, closing, receiving, offering, levelling, slot, making, out_of_rate, opening_path, adding, offering_member, removing, Outcome}
 use Rattle.model.specs.Aspects.{closer, sort_of}
 use Rattle.model.specs.Step.{refuse, accept, replay, discard, with_offer, without_one, name_answered, send_from, send_step, idle_step, send_out_of_rate, step}

@@ -9,8 +9,7 @@ use Rattle.cell.specs.Reading.{reading}
 use Rattle.connection_members.specs.Path.{path_of}
 use Rattle.connection_members.specs.Members.{Member, is_member, cells_of, owner}
 use Rattle.model.specs.State.{empty, find}
-use Rattle.model.specs.declared.answer.Answer.{Answer}
-use Rattle.model.specs.declared.answer.Answer.TheVariants.{Refused as NotDone, Accepted, Closed, Idle, Sent}
+use Rattle.model.specs.Answers.{Answer, Refused as NotDone, Accepted, Closed, Idle, Sent}
 use Rattle.model.specs.Call.{Call, goes_to}
 use Rattle.model.specs.Aspects.{Subject, by_name, in_cell, in_answer, no_subject, subject_of, OnMembers, of_closed, of_added, of_offered, of_removed, of_slot, of_none, members_of}
 use Rattle.model.specs.Step.{step}

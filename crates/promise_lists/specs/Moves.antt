@@ -12,8 +12,7 @@ use Rattle.connection.specs.declared.parts.Connection.{Connection}
 use Rattle.connection.specs.declared.parts.Pace.TheVariants.{Unsent, Running}
 use Rattle.connection.specs.declared.kind.Kind.TheVariants.{Forward}
 use Rattle.model.specs.State.{taken, empty, find}
-use Rattle.model.specs.declared.answer.Answer.{Answer}
-use Rattle.model.specs.declared.answer.Answer.TheVariants.{Accepted, Sent}
+use Rattle.model.specs.Answers.{Answer, Accepted, Sent}
 use Rattle.model.specs.Call.{Call, receiving, slot}
 use Rattle.model.specs.Step.{step}
 use Rattle.model.specs.Run.{final}

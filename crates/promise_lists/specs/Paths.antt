@@ -13,8 +13,7 @@ use Rattle.connection_members.specs.Path.{path_vci}
 use Rattle.connection_members.specs.Members.{is_member}
 use Rattle.connection.specs.declared.parts.Connection.{Connection}
 use Rattle.model.specs.State.{State, taken, empty, find}
-use Rattle.model.specs.declared.acr.Acr.TheVariants.{NotOpen}
-use Rattle.model.specs.declared.contract.Contract.TheVariants.{NotOpen as NoContract}
+use Rattle.model.specs.Answers.{NotOpen, NoContract}
 use Rattle.model.specs.Invariant.{MembersOf}
 use Rattle.model.specs.Call.{Call, opening, closing, receiving, offering, making, out_of_rate}
 use Rattle.model.specs.Step.{refuse, step}

@@ -20,8 +20,7 @@ use Rattle.connection.specs.declared.parts.Connection.{Connection}
 use Rattle.connection.specs.declared.kind.Kind.TheVariants.{Forward}
 use Rattle.model.specs.State.{State, Entry, free, taken, find}
 use Rattle.model.specs.Invariant.{WellFormed}
-use Rattle.model.specs.declared.answer.Answer.{Answer}
-use Rattle.model.specs.declared.answer.Answer.TheVariants.{Sent}
+use Rattle.model.specs.Answers.{Answer, Sent}
 use Rattle.model.specs.Call.{Call, slot}
 use Rattle.model.specs.Step.{step}
 use Rattle.model.specs.Run.{entry_rate, allowed}

@@ -17,7 +17,7 @@ use Rattle.connection.specs.declared.parts.Connection.{Connection}
 use Rattle.connection.specs.declared.parts.Pace.TheVariants.{Running}
 use Rattle.connection.specs.declared.kind.Kind.TheVariants.{Forward}
 use Rattle.model.specs.State.{State, taken, empty, find}
-use Rattle.model.specs.declared.answer.Answer.TheVariants.{Sent}
+use Rattle.model.specs.Answers.{Sent}
 use Rattle.model.specs.Call.{Call, closing, receiving, slot}
 use Rattle.model.specs.Step.{step}
 use Rattle.model.specs.Run.{final, params_given, allowed}

@@ -32,8 +32,7 @@ use Rattle.connection.specs.Kind.{kind_at}
 use Rattle.connection.proofs.Keeps.{after_same}
 use Rattle.model.specs.State.{State, Entry, free, taken, empty, find}
 use Rattle.model.specs.Invariant.{OnEntry, WellFormed}
-use Rattle.model.specs.declared.answer.Answer.{Answer}
-use Rattle.model.specs.declared.answer.Answer.TheVariants.{Refused, Accepted, Closed, Idle, Sent}
+use Rattle.model.specs.Answers.{Answer, Refused, Accepted, Closed, Idle, Sent}
 use Rattle.model.specs.Call.{Call, goes_to}
 use Rattle.model.specs.Step.{step}
 use Rattle.model.specs.Run.{final}

@@ -33,8 +33,7 @@ use Rattle.connection.proofs.Keeps.{work-same, work-queue}
 use Rattle.connection.proofs.Waited.{data-waits}
 use Rattle.model.specs.State.{State, Entry, free, taken, is_free, empty, find, with_entry_of, with_opened, with_time, with_level, with_members}
 use Rattle.model.specs.Invariant.{NamesUnique, WellFormed}
-use Rattle.model.specs.declared.answer.Answer.{Answer}
-use Rattle.model.specs.declared.answer.Answer.TheVariants.{Refused, Accepted, Closed, Idle, Sent}
+use Rattle.model.specs.Answers.{Answer, Refused, Accepted, Closed, Idle, Sent}
 use Rattle.model.specs.Call.{Call, closing, slot, Outcome}
 use Rattle.model.specs.Aspects.{Sort, opener, closer, arrival, slot_at, another, sort_of}
 use Rattle.model.specs.Step.{refuse, accept, replay, discard, of_open, close_step, with_offer, without_one, name_answered, send_from, send_step, send_out_of_rate, idle_step, step}

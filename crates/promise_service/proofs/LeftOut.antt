@@ -15,8 +15,7 @@ use Rattle.connection_members.specs.Path.{path_vci}
 use Rattle.connection.specs.declared.parts.Connection.{Connection}
 use Rattle.model.specs.State.{State, Entry, free, taken, find, with_entry_of, with_opened, room_left, with_time, with_level, with_members, empty}
 use Rattle.model.specs.Invariant.{WellFormed}
-use Rattle.model.specs.declared.answer.Answer.{Answer}
-use Rattle.model.specs.declared.answer.Answer.TheVariants.{Idle}
+use Rattle.model.specs.Answers.{Answer, Idle}
 use Rattle.model.specs.Winner.{Winner, none_ready, wins, winner}
 use Rattle.model.specs.Call.{Call, opening, closing, receiving, offering, levelling, slot, making, out_of_rate, opening_path, adding, offering_member, removing, Outcome}
 use Rattle.model.specs.Step.{refuse, accept, replay, discard, of_open, open_address, open_step, open_path_step, close_step, offer_step, with_offer, without_one, add_step, of_member, offer_member_step, remove_step, data_cell_step, read_step, receive_step, level_step, send_from, send_step, idle_step, serve_entry, serve, slot_step, make_step, send_out_of_rate, out_of_rate_step, step}

@@ -18,7 +18,7 @@ use Rattle.connection.proofs.Reached.{in-range, ready-below}
 use Rattle.model.specs.State.{State, Entry, free, taken, empty, with_time}
 use Rattle.model.specs.Invariant.{Each, WellFormed}
 use Rattle.model.specs.Winner.{winner}
-use Rattle.model.specs.declared.answer.Answer.TheVariants.{Idle}
+use Rattle.model.specs.Answers.{Idle}
 use Rattle.model.specs.Call.{slot, Outcome, goes_to}
 use Rattle.model.specs.Step.{refuse, idle_step, send_from, send_step, serve, slot_step, step}
 use Rattle.model.specs.Queries.{earliest, never_word, ready_word, next_ready}

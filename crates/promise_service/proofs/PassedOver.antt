@@ -32,7 +32,7 @@ use Rattle.connection.proofs.Readiness.{ready-some}
 use Rattle.connection.proofs.Spaced.{due_from, ready-due}
 use Rattle.model.specs.State.{State, Entry, free, taken, empty, find, with_time, with_members}
 use Rattle.model.specs.Invariant.{WellFormed}
-use Rattle.model.specs.declared.answer.Answer.{Answer}
+use Rattle.model.specs.Answers.{Answer}
 use Rattle.model.specs.Call.{Call, slot, Outcome, goes_to}
 use Rattle.model.specs.Step.{refuse, accept, replay, discard, send_from, send_step, idle_step, send_out_of_rate, step}
 use Rattle.model.specs.Run.{run, final, is_accepted}

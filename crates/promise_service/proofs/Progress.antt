@@ -31,8 +31,7 @@ use Rattle.connection.specs.Kind.{is_forward, is_turned, kind_at}
 use Rattle.connection.proofs.Keeps.{work-same, after_same}
 use Rattle.model.specs.State.{State, Entry, free, taken, empty, find, entry_cells}
 use Rattle.model.specs.Invariant.{OnEntry, WellFormed}
-use Rattle.model.specs.declared.answer.Answer.{Answer}
-use Rattle.model.specs.declared.answer.Answer.TheVariants.{Refused, Accepted, Closed, Idle, Sent}
+use Rattle.model.specs.Answers.{Answer, Refused, Accepted, Closed, Idle, Sent}
 use Rattle.model.specs.Call.{Call, goes_to}
 use Rattle.model.specs.Step.{step}
 use Rattle.model.specs.Run.{final}

@@ -21,7 +21,7 @@ use Rattle.connection.specs.Source.{after_backward_cell}
 use Rattle.connection.specs.Ready.{any_waits, last_before, ready_from}
 use Rattle.connection.proofs.Readiness.{ready-moving}
 use Rattle.model.specs.State.{empty}
-use Rattle.model.specs.declared.answer.Answer.{Answer}
+use Rattle.model.specs.Answers.{Answer}
 use Rattle.model.specs.Call.{Call}
 use Rattle.model.specs.Run.{final}
 use Rattle.model.proofs.Reached.{reached-well-formed}

@@ -14,8 +14,7 @@ use Rattle.connection.specs.Kind.{kind_at}
 use Rattle.connection.proofs.Spaced.{due_from, ready-due}
 use Rattle.connection.proofs.Waited.{turned-waits, data-waits}
 use Rattle.model.specs.State.{State, taken, empty, find}
-use Rattle.model.specs.declared.answer.Answer.{Answer}
-use Rattle.model.specs.declared.answer.Answer.TheVariants.{Sent}
+use Rattle.model.specs.Answers.{Answer, Sent}
 use Rattle.model.specs.Call.{slot, Outcome, goes_to}
 use Rattle.model.specs.Step.{refuse, send_from, send_step, idle_step}
 use Rattle.model.specs.Run.{final}

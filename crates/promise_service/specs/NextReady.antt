@@ -8,7 +8,7 @@ use Rattle.connection.specs.declared.ready.Instant.TheVariants.{Never, At}
 use Rattle.connection.specs.Ready.{ready_instant}
 use Rattle.model.specs.State.{State, taken, empty, find}
 use Rattle.model.specs.Invariant.{Each}
-use Rattle.model.specs.declared.answer.Answer.TheVariants.{Idle}
+use Rattle.model.specs.Answers.{Idle}
 use Rattle.model.specs.Call.{Call, slot, Outcome, goes_to}
 use Rattle.model.specs.Step.{step}
 use Rattle.model.specs.Queries.{never_word, next_ready}

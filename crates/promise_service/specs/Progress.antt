@@ -7,8 +7,7 @@ use Rattle.connection.specs.declared.kind.Kind.{Kind}
 use Rattle.connection.specs.declared.kind.Kind.TheVariants.{Forward, Turned, Data}
 use Rattle.connection.specs.Ready.{backward_waits}
 use Rattle.model.specs.State.{State, Entry, free, taken, empty, find, entry_cells}
-use Rattle.model.specs.declared.answer.Answer.{Answer}
-use Rattle.model.specs.declared.answer.Answer.TheVariants.{Refused, Accepted, Closed, Idle, Sent}
+use Rattle.model.specs.Answers.{Answer, Refused, Accepted, Closed, Idle, Sent}
 use Rattle.model.specs.Call.{Call}
 use Rattle.model.specs.Aspects.{Sort, opener, closer, arrival, slot_at, another, sort_of}
 use Rattle.model.specs.Step.{step}

@@ -7,7 +7,7 @@ use Rattle.connection.specs.declared.kind.Kind.TheVariants.{Forward, Turned, Dat
 use Rattle.connection.specs.Parts.{waiting}
 use Rattle.connection.specs.Ready.{backward_waits}
 use Rattle.model.specs.State.{taken, empty, find}
-use Rattle.model.specs.declared.answer.Answer.TheVariants.{Sent}
+use Rattle.model.specs.Answers.{Sent}
 use Rattle.model.specs.Call.{Call, slot}
 use Rattle.model.specs.Step.{step}
 use Rattle.model.specs.Run.{final}

@@ -3,10 +3,7 @@
 use Rattle.std.specs.Prelude.{ℕ, Bool, false, cond, ◌&&◌, List, [], ◌∷◌, ◌++◌, eqb}
 use Rattle.connection.specs.Kind.{kind_number}
 use Rattle.model.specs.State.{State}
-use Rattle.model.specs.declared.acr.Acr.{Acr}
-use Rattle.model.specs.declared.acr.Acr.TheVariants.{NotOpen, Rate}
-use Rattle.model.specs.declared.answer.Answer.{Answer}
-use Rattle.model.specs.declared.answer.Answer.TheVariants.{Refused, Accepted, Closed, Idle, Sent}
+use Rattle.model.specs.Answers.{Acr, NotOpen, Rate, Answer, Refused, Accepted, Closed, Idle, Sent}
 use Rattle.model.specs.Call.{Call}
 use Rattle.model.specs.Aspects.{Sort, opener, closer, arrival, slot_at, another, sort_of}
 use Rattle.model.specs.Step.{step}

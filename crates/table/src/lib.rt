@@ -1,5 +1,4 @@
 // The words of a table in the lent memory, with their laws; the crates table_column to table_store have the code.
 #![tactic(auto)]
 
-pub mod found;
 pub mod layout;

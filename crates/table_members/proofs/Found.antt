@@ -13,7 +13,7 @@ use Rattle.connection_members.specs.Members.{Member, member_capacity, is_member,
 use Rattle.connection_members.specs.Invariant.{ValidMember, ValidMembers}
 use Rattle.connection_members.proofs.Valid.{cells_fit}
 use Rattle.table.specs.Layout.{members_from, member_words}
-use Rattle.table.specs.declared.found.Found.TheVariants.{At, Nothing}
+use Rattle.std.specs.Prelude.{Some, None}
 use Rattle.table_column.specs.Column.{AtLeast}
 use Rattle.table_column.proofs.Halving.{in-column as column-word}
 use Rattle.table_members.specs.Place.{below, word_limit, MemberAt}
@@ -47,13 +47,13 @@ module _ (l : List ℕ) (x p n : ℕ) (h : x < no_name) (is-limit : n ≡ word_l
   a : AtLeast members_from member_capacity l (word_limit x) p
   a = subst (λ (k : ℕ). AtLeast members_from member_capacity l k p) is-limit b
 
-  pub found_here : get_or l (members_from + p) 0 / 65536 ≡ no_name - x → FindsMember l x (At p)
+  pub found_here : get_or l (members_from + p) 0 / 65536 ≡ no_name - x → FindsMember l x (Some p)
   found_here e = record {
     inside = a.inside;
     is = λ b ms w. named-at ms w.valid x p h (ap (λ (n : ℕ). n / 65536) (sym (word_in l b ms w p a.inside)) ∙ e);
   }
 
-  pub found_nowhere : (get_or l (members_from + p) 0 / 65536 ≡ no_name - x → ⊥) → FindsMember l x Nothing
+  pub found_nowhere : (get_or l (members_from + p) 0 / 65536 ≡ no_name - x → ⊥) → FindsMember l x None
   found_nowhere e = record { inside = tt; is = λ b ms w. go b ms w (is_member x ms) refl }
     where
       go : (b : List ℕ) (ms : List Member) → WithMembers l b ms → (t : Bool) → is_member x ms ≡ t → t ≡ false

@@ -13,7 +13,7 @@ use Rattle.cell.specs.Name.{no_name}
 use Rattle.connection_members.specs.Members.{Member, member_capacity}
 use Rattle.connection_members.specs.Invariant.{ValidMember}
 use Rattle.table.specs.Layout.{members_from, member_word}
-use Rattle.table.specs.declared.found.Found.TheVariants.{At, Nothing}
+use Rattle.std.specs.Prelude.{Some, None}
 use Rattle.table_members.specs.Place.{word_limit, first_below}
 use Rattle.table_members.specs.Words.{WithMembers, Next}
 use Rattle.table_members.proofs.Places.{none-there, words-at, words-behind, each_at, member-at}
@@ -79,7 +79,7 @@ module _ (l : List ℕ) (first top low i : ℕ) (bound : top ≤ no_name) (is-li
           s.is h ms w ∙ first-passed top ms i (here a h ms w) (in_reach a h ms w) (omega (arith, z, cells a h ms w)) ∙ ap (λ (n : ℕ). first_below top (drop n ms)) e;
     }
 
-    pub scan-found : low ≤ get_or l (members_from + i) 0 → 0 < get_or l (members_from + i) 0 % 65536 → Next l first top (At i)
+    pub scan-found : low ≤ get_or l (members_from + i) 0 → 0 < get_or l (members_from + i) 0 % 65536 → Next l first top (Some i)
     scan-found a z = record {
       inside = (k, z);
       is = λ h ms w. record {
@@ -89,7 +89,7 @@ module _ (l : List ℕ) (first top low i : ℕ) (bound : top ≤ no_name) (is-li
       };
     }
 
-    pub scan-over : get_or l (members_from + i) 0 < low → Next l first top Nothing
+    pub scan-over : get_or l (members_from + i) 0 < low → Next l first top None
     scan-over z = record { inside = tt; is = λ h ms w. s.is h ms w ∙ go h ms w (ltb i (length ms)) refl }
       where
         go : (h : List ℕ) (ms : List Member) → WithMembers l h ms → (b : Bool) → ltb i (length ms) ≡ b → first_below top (drop i ms) ≡ none
@@ -98,5 +98,5 @@ module _ (l : List ℕ) (first top low i : ℕ) (bound : top ≤ no_name) (is-li
             first-over top ms i n (omega (arith, z, is-limit, bound, word_in l h ms w i k, words-at ms i n, (each_at ValidMember ms w.valid.each i n).coded))
         go h ms w false q = first-end top ms i (ltb-false i (length ms) q)
 
-  pub scan-end : member_capacity ≤ i → Next l first top Nothing
+  pub scan-end : member_capacity ≤ i → Next l first top None
   scan-end k = record { inside = tt; is = λ h ms w. s.is h ms w ∙ first-end top ms i (omega (arith, k, w.valid.few)) }

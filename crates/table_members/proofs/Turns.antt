@@ -19,8 +19,7 @@ use Rattle.connection_members.proofs.Lists.{all_map, all_named}
 use Rattle.connection_members.proofs.Turns.{turn-none}
 use Rattle.connection_members.proofs.Valid.{cells_fit}
 use Rattle.table.specs.Layout.{members_from, member_words}
-use Rattle.table.specs.declared.found.Found.{Found}
-use Rattle.table.specs.declared.found.Found.TheVariants.{At, Nothing}
+use Rattle.std.specs.Prelude.{Option as CodeOption, Some, None}
 use Rattle.table_column.specs.Descending.{at_least}
 use Rattle.table_column.specs.Column.{CountsAtLeast, CountsUpTo}
 use Rattle.table_column.proofs.Descending.{at-least-fewer}
@@ -117,9 +116,9 @@ module _ (l : List ℕ) (v q x : ℕ) (path : v % 65536 ≡ 6) (last : q ≤ 655
         u.is b (member_words ms) [] (in-column l b ms w)
         (omega (arith, c.is b (member_words ms) [] (in-column l b ms w), at-least-fewer n k (member_words ms) (omega (arith, is-limit, e)))) ∙ f
 
-    pub turn-after : (r : Found) → Next l p (x + 65536) r → (i : ℕ) → r ≡ At i → Turns l v q (At i)
+    pub turn-after : (r : CodeOption ℕ) → Next l p (x + 65536) r → (i : ℕ) → r ≡ Some i → Turns l v q (Some i)
     unfolding or_else
-    turn-after r d i e = let m : Next l p (x + 65536) (At i) = subst (Next l p (x + 65536)) e d in record {
+    turn-after r d i e = let m : Next l p (x + 65536) (Some i) = subst (Next l p (x + 65536)) e d in record {
       inside = m.inside;
       is = λ b ms w h. let t : TurnAt ms (first_below (x + 65536) (drop p ms)) i = m.is b ms w in record {
         name = t.name;
@@ -131,7 +130,7 @@ module _ (l : List ℕ) (v q x : ℕ) (path : v % 65536 ≡ 6) (last : q ≤ 655
     }
 
     pub turn-round :
-        (k s : ℕ) → k ≡ word_limit x → CountsUpTo members_from member_capacity p l k s → (o r : Found) → Next l p (x + 65536) o → o ≡ Nothing → Next l s (x + 65536) r → Turns l v q r
+        (k s : ℕ) → k ≡ word_limit x → CountsUpTo members_from member_capacity p l k s → (o r : CodeOption ℕ) → Next l p (x + 65536) o → o ≡ None → Next l s (x + 65536) r → Turns l v q r
     unfolding or_else
     turn-round k s f u o r d e m = record { inside = m.inside; is = λ b ms w h. go r b ms w h (m.is b ms w) }
       where
@@ -143,17 +142,17 @@ module _ (l : List ℕ) (v q x : ℕ) (path : v % 65536 ≡ 6) (last : q ≤ 655
             scans h ms w.valid.rising ∙ ap (λ (y : Option ℕ). or_else y (first_below (x + 65536) (drop (below x ms) ms))) (none_after b ms w)
             ∙ ap (λ (y : ℕ). first_below (x + 65536) (drop y ms)) (sym (from_first k s f u b ms w))
 
-        go : (r : Found) (b : List ℕ) (ms : List Member) → WithMembers l b ms → v < no_name → TurnFound ms (first_below (x + 65536) (drop s ms)) r → TurnFound ms (turn v q ms) r
-        go (At i) b ms w h t = record { name = t.name; here = t.here; is = round b ms w h ∙ t.is }
-        go Nothing b ms w h t = round b ms w h ∙ t
+        go : (r : CodeOption ℕ) (b : List ℕ) (ms : List Member) → WithMembers l b ms → v < no_name → TurnFound ms (first_below (x + 65536) (drop s ms)) r → TurnFound ms (turn v q ms) r
+        go (Some i) b ms w h t = record { name = t.name; here = t.here; is = round b ms w h ∙ t.is }
+        go None b ms w h t = round b ms w h ∙ t
 
-pub turn-channel : (l : List ℕ) (v q : ℕ) → (v % 65536 ≡ 6 → ⊥) → Turns l v q Nothing
+pub turn-channel : (l : List ℕ) (v q : ℕ) → (v % 65536 ≡ 6 → ⊥) → Turns l v q None
 unfolding is_path
 turn-channel l v q p = record { inside = tt; is = λ b ms w h. turn-none v q ms (ne_eqb (vci_in v) 6 p) }
 
 -- ---- the member whose turn it is has one cell less
 
-pub served-none : (l : List ℕ) (v q : ℕ) (r : Found) → Turns l v q r → r ≡ Nothing → Serves v q l l 0
+pub served-none : (l : List ℕ) (v q : ℕ) (r : CodeOption ℕ) → Turns l v q r → r ≡ None → Serves v q l l 0
 unfolding after_serving
 served-none l v q r t n = record {
   is = λ b ms w h. let e : turn v q ms ≡ none = (subst (Turns l v q) n t).is b ms w h in (w.is ∙ ap (λ (o : Option ℕ). b ++ member_words (after_serving o ms)) (sym e), sym (ap name_or_zero e));
@@ -164,8 +163,8 @@ named_in : (ms : List Member) → ValidMembers ms → (x : ℕ) → is_member x 
 named_in ms v x e =
     all_named (λ y. (y < no_name) × (first_vci ≤ vci_in y)) x ms (all_map ValidMember (λ m. (m.name < no_name) × (first_vci ≤ vci_in m.name)) (λ m k. (k.coded, k.high)) ms v.each) e
 
-module _ (l : List ℕ) (v q : ℕ) (r : Found) (u : Turns l v q r) (i : ℕ) (e : r ≡ At i) where
-  t : Turns l v q (At i)
+module _ (l : List ℕ) (v q : ℕ) (r : CodeOption ℕ) (u : Turns l v q r) (i : ℕ) (e : r ≡ Some i) where
+  t : Turns l v q (Some i)
   t = subst (Turns l v q) e u
 
   pub served-at : (i < member_capacity) × (0 < get_or l (members_from + i) 0 % 65536)

@@ -5,7 +5,6 @@ ghost use Rattle.cell.specs.Name.{no_name};
 ghost use Rattle.table_members.specs.Place.{word_limit};
 ghost use Rattle.table_members.specs.Words.{FindsMember, CellsAt, HasRoom};
 
-use table::found::Found;
 use table::layout::{MEMBER_CAPACITY, MEMBER_LIMIT, MEMBERS, NAME_LIMIT, WORDS};
 use table_column::column::at_least;
 
@@ -21,15 +20,15 @@ pub fn word_limit(name: u64) -> u64
 }
 
 // The first word behind those of lower names is the member's, if the name is one's.
-pub fn find(t: &[u64; WORDS], name: u32) -> Found
+pub fn find(t: &[u64; WORDS], name: u32) -> Option<usize>
     requires { name < no_name }
     ensures { FindsMember t.now name result }
 {
     let p = at_least(t, MEMBERS, MEMBER_CAPACITY, word_limit(name as u64));
     if t[MEMBERS + p] / MEMBER_LIMIT != NAME_LIMIT - name as u64 {
-        return Found::Nothing;
+        return None;
     }
-    Found::At(p)
+    Some(p)
 }
 
 // What waits on the member in word i.

@@ -6,12 +6,11 @@ ghost use Rattle.table_members.specs.Words.{Next, Turns, Serves};
 use crate::find::word_limit;
 use cell::name::{VCIS, VPIS};
 use connection_members::path::PATH_VCI;
-use table::found::Found;
 use table::layout::{MEMBER_CAPACITY, MEMBER_LIMIT, MEMBERS, NAME_LIMIT, VCI_LIMIT, WORDS};
 use table_column::column::{count, count_up_to};
 
 // The first member with data from word `first` on whose name is below `top`.
-fn next(t: &[u64; WORDS], first: usize, top: u64) -> Found
+fn next(t: &[u64; WORDS], first: usize, top: u64) -> Option<usize>
     requires { top ≤ no_name }
     ensures { Next t.now first top result }
 {
@@ -20,22 +19,22 @@ fn next(t: &[u64; WORDS], first: usize, top: u64) -> Found
     while i < MEMBER_CAPACITY {
         let word = t[MEMBERS + i];
         if word < low {
-            return Found::Nothing;
+            return None;
         }
         if 0 < word % MEMBER_LIMIT {
-            return Found::At(i);
+            return Some(i);
         }
         i += 1;
     }
-    Found::Nothing
+    None
 }
 
 // The first with data after the VCI served last, round to the lowest; of a channel's name there is none.
-pub fn turn(t: &[u64; WORDS], name: u32, last: u16) -> Found
+pub fn turn(t: &[u64; WORDS], name: u32, last: u16) -> Option<usize>
     ensures { Turns t.now name last result }
 {
     if name % VCIS != PATH_VCI {
-        return Found::Nothing;
+        return None;
     }
     let first = (name / VCIS % VPIS) as u64 * VCI_LIMIT;
     let top = first + VCI_LIMIT;
@@ -46,8 +45,8 @@ pub fn turn(t: &[u64; WORDS], name: u32, last: u16) -> Found
         word_limit(first + last as u64 + 1),
     );
     match next(t, after, top) {
-        Found::At(i) => Found::At(i),
-        Found::Nothing => next(
+        Some(i) => Some(i),
+        None => next(
             t,
             count_up_to(t, MEMBERS, MEMBER_CAPACITY, after, word_limit(first)),
             top,
@@ -60,8 +59,8 @@ pub fn serve(t: &mut [u64; WORDS], name: u32, last: u16) -> u32
     ensures { Serves name last t.old t.new result }
 {
     match turn(t, name, last) {
-        Found::Nothing => 0,
-        Found::At(i) => {
+        None => 0,
+        Some(i) => {
             let word = t[MEMBERS + i];
             t[MEMBERS + i] = word - 1;
             (NAME_LIMIT - word / MEMBER_LIMIT % NAME_LIMIT) as u32

@@ -9,7 +9,7 @@ use Rattle.table_column.specs.Descending.{at_least}
 use Rattle.table_names.specs.Finding.{Located, FindsName, FindsFree}
 use Rattle.table_names.specs.Filing.{InDirectory, FindsPlace}
 use Rattle.table_names.proofs.Samples.{place_of, word_in}
-use Rattle.table.specs.declared.found.Found.TheVariants.{At, Nothing}
+use Rattle.std.specs.Prelude.{Some, None}
 use Rattle.model.proofs.Entries.{entry_place, find-name, taken_in}
 use Rattle.table.proofs.Directory.{length-words, length-directory}
 use Rattle.table.proofs.Splits.{start, length-start, length-before-directory, before_directory, behind_directory, directory-split}
@@ -105,13 +105,13 @@ module _ (l : List ℕ) (v p : ℕ) (a : FindsPlace l (higher v) p) where
 
   -- the word less the first that the name can have
   module _ (i : ℕ) (d : (i + (v + 1) * capacity) % 2 ^ 64 ≡ get_or l (directory_from + p) 0) where
-    pub found_here : v < 2 ^ 32 → i < capacity → FindsName l v (At i)
+    pub found_here : v < 2 ^ 32 → i < capacity → FindsName l v (Some i)
     found_here f h = record {
       inside = h;
       is = λ s w q. located-at s.entries w.unique w.size v i p h (place_inside s w q) (sym (word-is s w q) ∙ omega (arith, d, f, h));
     }
 
-    pub found_nowhere : i < 2 ^ 64 → capacity ≤ i → FindsName l v Nothing
+    pub found_nowhere : i < 2 ^ 64 → capacity ≤ i → FindsName l v None
     unfolding find
     found_nowhere f h = record { inside = tt; is = λ s w q. go s w q (find v s.entries) refl (find-name v s.entries) }
       where
@@ -152,14 +152,14 @@ module _ (l : List ℕ) (g : ℕ) (b : Searched l g) where
       first-vacant : (s : State) → WellFormed s → l ≡ words s → position is_free s.entries ≡ g * 64 + i
       first-vacant s w q = past-vacant s.entries w.size g (b.is s w q) m (group-word h s q m e) (omega (arith, d, k)) ∙ ap (λ (n : ℕ). g * 64 + n) (sym d)
 
-      pub searched-found : g * 64 + i < capacity → FindsFree l (At (g * 64 + i))
+      pub searched-found : g * 64 + i < capacity → FindsFree l (Some (g * 64 + i))
       searched-found n = record { inside = n; is = first-vacant }
 
       -- the bit is that of no entry
-      pub searched-behind : capacity ≤ g * 64 + i → FindsFree l Nothing
+      pub searched-behind : capacity ≤ g * 64 + i → FindsFree l None
       searched-behind n = record { inside = tt; is = λ s w q. none_left s w (omega (arith, n, first-vacant s w q)) }
 
-  pub searched-none : groups ≤ g → FindsFree l Nothing
+  pub searched-none : groups ≤ g → FindsFree l None
   searched-none h = record {
     inside = tt;
     is = λ s w q.

@@ -5,7 +5,6 @@ ghost use Rattle.table_names.specs.Finding.{FindsFree};
 ghost use Rattle.table.specs.Storing.{entry_flipped};
 ghost use Rattle.model.specs.State.{capacity};
 
-use table::found::Found;
 use table::layout::{CAPACITY, GROUPS, USED, WORDS};
 
 // The lowest of some entries of one word, where each entry is a bit.
@@ -24,7 +23,7 @@ fn others(entries: u64) -> u64
 }
 
 // The lowest entry that is not taken. A bit of the last word may be of no entry; such a bit is 0.
-pub fn find_free(t: &[u64; WORDS]) -> Found
+pub fn find_free(t: &[u64; WORDS]) -> Option<usize>
     ensures { FindsFree t.now result }
 {
     let mut g: usize = 0;
@@ -33,13 +32,13 @@ pub fn find_free(t: &[u64; WORDS]) -> Found
         if 0 < vacant {
             let i = g * 64 + lowest(vacant);
             if i < CAPACITY {
-                return Found::At(i);
+                return Some(i);
             }
-            return Found::Nothing;
+            return None;
         }
         g += 1;
     }
-    Found::Nothing
+    None
 }
 
 // Entry i enters the bits, or leaves them.

@@ -23,7 +23,7 @@ use Rattle.model.proofs.Scanned.{root-winner}
 use Rattle.model.proofs.NextReady.{NotAfter, earliest-each, root-earliest}
 use Rattle.table.specs.Layout.{key, winner_number, winner_key, words, record_from}
 use Rattle.table.proofs.Words.{key_number}
-use Rattle.table_tournament.specs.declared.slot.SlotWinner.TheVariants.{Entry as InEntry, NoneReady}
+use Rattle.std.specs.Prelude.{Some, None}
 use Rattle.table_tournament.specs.SlotWinner.{Won, FindsSlotWinner}
 use Rattle.table_tournament.specs.declared.winner.KeyedWinner.{KeyedWinner}
 use Rattle.table_tournament.specs.KeyedWinner.{keyed_winner, keyed_node, word_leaf}
@@ -49,7 +49,7 @@ module _ (l : List ℕ) (root : KeyedWinner) (e : root ≡ keyed_node l 1) where
   -- the connection that a slot goes to
   module _ (t : ℕ) (timely : t ≤ latest_time) where
     -- no leaf leads, or the leader is ready later
-    pub slot-winner-none : root.key ≤ 18446744073709551614 - t → FindsSlotWinner l t NoneReady
+    pub slot-winner-none : root.key ≤ 18446744073709551614 - t → FindsSlotWinner l t None
     unfolding winner_key in_time candidate_from
     slot-winner-none k = record {
       is = λ s w q. root-winner t s.entries w.size ∙ go (winner_at s.entries levels 1) (ap (λ (r : KeyedWinner). r.key) (root_is s w q));
@@ -59,7 +59,7 @@ module _ (l : List ℕ) (root : KeyedWinner) (e : root ≡ keyed_node l 1) where
         go no_winner z = refl
         go (won_by i v x) z = rw (lt-leb i t (omega (arith, z)))
 
-    pub slot-winner-entry : 18446744073709551614 - t < root.key → FindsSlotWinner l t (InEntry (word_leaf root.word))
+    pub slot-winner-entry : 18446744073709551614 - t < root.key → FindsSlotWinner l t (Some (word_leaf root.word))
     unfolding winner_number winner_key winner_word in_time candidate_from
     slot-winner-entry k = record {
       is = λ s w q. go s w (winner_at s.entries levels 1) refl (winner-entry s.entries levels 1 root_stands) (root_is s w q);
@@ -85,7 +85,7 @@ module _ (l : List ℕ) (root : KeyedWinner) (e : root ≡ keyed_node l 1) where
 
     -- in the words of a state the winner has won at every place below the root
     pub slot-winner-lost : (x n : ℕ) → x ≡ word_leaf root.word → x < capacity → n ≡ levels_with l x ((capacity + x) / 2) (levels - 2) → n < levels - 1
-        → 18446744073709551614 - t < root.key → FindsSlotWinner l t NoneReady
+        → 18446744073709551614 - t < root.key → FindsSlotWinner l t None
     slot-winner-lost x n f b g m k = record {
       is = λ s w q.
           let leads = ((slot-winner-entry k).is s w q).leads ∙ ap (λ (j : ℕ). j + 1) (sym f) in

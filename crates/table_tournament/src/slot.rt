@@ -11,27 +11,21 @@ use table::layout::{LEVELS, WORDS};
 // is aligned.
 const WON_BELOW: u32 = LEVELS - 1;
 
-#[derive(Clone, Copy)]
-pub enum SlotWinner {
-    Entry(usize),
-    NoneReady,
-}
-
 // A key is above the limit if its instant is not after the time. The key 0, of no winner, is not. The winner has won
 // all its matches. This is looked at for the sake of the caches: the lines of its places, which the replay needs, are
 // then loaded together with the winner's record and not after it.
-pub fn slot_winner(t: &[u64; WORDS], time: u64) -> SlotWinner
+pub fn slot_winner(t: &[u64; WORDS], time: u64) -> Option<usize>
     requires { time ≤ latest_time }
     ensures inside { SlotWinnerInRange result }
     ensures picks { FindsSlotWinner t.now time result }
 {
     let first = keyed_node(t, 1);
     if first.key <= 18446744073709551614 - time {
-        return SlotWinner::NoneReady;
+        return None;
     }
     let leaf = word_leaf(first.word);
     if levels_with(t, leaf, WON_BELOW) < WON_BELOW {
-        return SlotWinner::NoneReady;
+        return None;
     }
-    SlotWinner::Entry(leaf)
+    Some(leaf)
 }

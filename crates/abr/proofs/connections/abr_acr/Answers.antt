@@ -2,4 +2,4 @@ use Rattle.abr.proofs.Answered.{acrs}
 use Rattle.abr.proofs.connections.abr_acr.Goals as goal
 
 pub returns : goal.returns
-returns c = acrs c.address_name-name.ensures c.allowed_of.ensures c.read_acr.ensures
+returns c = acrs c.address_name-name.ensures c.from.ensures c.read_acr.ensures

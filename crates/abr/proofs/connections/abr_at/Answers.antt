@@ -1,11 +1,14 @@
 use Rattle.abr_readings.proofs.EntryCases.{read-nowhere, read-there}
 use Rattle.abr.proofs.connections.abr_at.Goals as goal
 
-pub returns-then-i-ge-CAPACITY : goal.returns-then-i-ge-CAPACITY
-returns-then-i-ge-CAPACITY c = read-nowhere c.place_at-place.ensures c.if-i-ge-CAPACITY.true c.not_open.ensures
+pub limits_at-requires : goal.limits_at-requires
+limits_at-requires c = c.in-Some.ensures.inside
 
-pub returns : goal.returns
-returns c =
-    let g = c in
-    let e = g in
-    read-there e.place_at-place.ensures e.if-i-ge-CAPACITY.false g.limits_at.ensures c.read_entry.ensures
+pub read_entry-requires : goal.read_entry-requires
+read_entry-requires c = c.in-Some.ensures.inside
+
+pub returns-in-None : goal.returns-in-None
+returns-in-None c = read-nowhere c.in-None.ensures.points c.not_open.ensures
+
+pub returns-in-Some : goal.returns-in-Some
+returns-in-Some c = read-there c.in-Some.ensures.points c.in-Some.ensures.inside c.limits_at.ensures c.read_entry.ensures

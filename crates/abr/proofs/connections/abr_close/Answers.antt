@@ -6,4 +6,4 @@ use Rattle.abr.proofs.connections.abr_close.Goals as goal
 pub returns : goal.returns
 returns c =
     let k = c in
-    returned closed_of c.closed_of.ensures (named (λ v s. close_step s v) k.address_name-name.ensures c.close.ensures)
+    returned closed_of c.from.ensures (named (λ v s. close_step s v) k.address_name-name.ensures c.close.ensures)

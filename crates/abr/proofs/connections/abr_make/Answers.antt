@@ -7,4 +7,4 @@ pub returns : goal.returns
 returns c =
     let k = c in
     let a = k.args in
-    returned answer_of c.answer_of.ensures (named (λ v s. make_step s v a.time) k.address_name-name.ensures c.make.ensures)
+    returned answer_of c.from.ensures (named (λ v s. make_step s v a.time) k.address_name-name.ensures c.make.ensures)

@@ -3,4 +3,4 @@ use Rattle.abr.proofs.Answered.{returned}
 use Rattle.abr.proofs.connections.abr_open.Goals as goal
 
 pub returns : goal.returns
-returns c = returned opened_of c.opened_of.ensures c.«open».ensures
+returns c = returned opened_of c.from.ensures c.«open».ensures

@@ -6,15 +6,17 @@ use Rattle.abr_readings.proofs.EntryCases.{read-nowhere, read-there}
 use Rattle.abr.proofs.Answered.{read_named}
 use Rattle.abr.proofs.connections.abr_status.Goals as goal
 
-pub returns-then-i-ge-CAPACITY : goal.returns-then-i-ge-CAPACITY
-returns-then-i-ge-CAPACITY c =
-    let p = c in
-    read_named (λ (s : State) (x : ℕ). connection_shown (status_of s x)) p.address_name-name.ensures (read-nowhere p.place_of-place.ensures c.if-i-ge-CAPACITY.true c.not_open.ensures)
+pub limits_at-requires : goal.limits_at-requires
+limits_at-requires c = c.in-Some.ensures.inside
 
-pub returns : goal.returns
-returns c =
-    let g = c in
-    let e = g in
-    let p = e in
-    read_named (λ (s : State) (x : ℕ). connection_shown (status_of s x)) p.address_name-name.ensures
-    (read-there p.place_of-place.ensures e.if-i-ge-CAPACITY.false g.limits_at.ensures c.read_entry.ensures)
+pub read_entry-requires : goal.read_entry-requires
+read_entry-requires c = c.in-Some.ensures.inside
+
+pub returns-in-None : goal.returns-in-None
+returns-in-None c =
+    read_named (λ (s : State) (x : ℕ). connection_shown (status_of s x)) c.address_name-name.ensures (read-nowhere c.in-None.ensures.points c.not_open.ensures)
+
+pub returns-in-Some : goal.returns-in-Some
+returns-in-Some c =
+    read_named (λ (s : State) (x : ℕ). connection_shown (status_of s x)) c.address_name-name.ensures
+    (read-there c.in-Some.ensures.points c.in-Some.ensures.inside c.limits_at.ensures c.read_entry.ensures)

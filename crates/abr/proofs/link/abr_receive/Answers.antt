@@ -3,4 +3,4 @@ use Rattle.abr.proofs.Answered.{returned}
 use Rattle.abr.proofs.link.abr_receive.Goals as goal
 
 pub returns : goal.returns
-returns c = returned received_of c.received_of.ensures c.receive.ensures
+returns c = returned received_of c.from.ensures c.receive.ensures

@@ -3,4 +3,4 @@ use Rattle.abr.proofs.Answered.{returned-writing}
 use Rattle.abr.proofs.link.abr_slot.Goals as goal
 
 pub returns : goal.returns
-returns c = returned-writing sent_of c.sent_of.ensures c.slot.ensures
+returns c = returned-writing sent_of c.from.ensures c.slot.ensures

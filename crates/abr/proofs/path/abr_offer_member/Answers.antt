@@ -3,4 +3,4 @@ use Rattle.abr.proofs.Answered.{returned}
 use Rattle.abr.proofs.path.abr_offer_member.Goals as goal
 
 pub returns : goal.returns
-returns c = returned answer_of c.answer_of.ensures c.offer_member.ensures
+returns c = returned answer_of c.from.ensures c.offer_member.ensures

@@ -3,4 +3,4 @@ use Rattle.abr.proofs.Answered.{returned}
 use Rattle.abr.proofs.path.abr_open_path.Goals as goal
 
 pub returns : goal.returns
-returns c = returned opened_of c.opened_of.ensures c.open_path.ensures
+returns c = returned opened_of c.from.ensures c.open_path.ensures

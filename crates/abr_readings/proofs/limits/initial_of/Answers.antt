@@ -14,4 +14,4 @@ returns c l =
     let m = c in
     let b = m in
     let e = b in
-    lowered-to _ e.initial-initial.ensures l e.if-p-eq0.false b.if-initial-tbe_rate.false m.least.ensures c.higher.ensures
+    lowered-to _ e.initial-initial.ensures l e.if-p-eq0.false b.if-initial-tbe_rate.false m.least.ensures c.max.ensures

@@ -9,35 +9,30 @@ use Rattle.abr_readings.proofs.PlaceCases.{no-status, member-status}
 use Rattle.abr_readings.proofs.place.member_place.Goals as goal
 
 pub returns-then-name-ge-NO_NAME : goal.returns-then-name-ge-NO_NAME
-returns-then-name-ge-NO_NAME c = let a = c.args in no-status a.t.now a.name (far a.t.now a.name c.if-name-ge-NO_NAME.true) c.no_place.ensures
+returns-then-name-ge-NO_NAME c = let a = c.args in record { inside = tt; points = no-status a.t.now a.name (far a.t.now a.name c.if-name-ge-NO_NAME.true) }
 
-pub returns-in_default : goal.returns-in_default
-returns-in_default c =
-    let d = c in
-    let m = d in
-    let a = m.args in
-    no-status a.t.now a.name (no-path a.t.now a.name m.find.ensures d.in_default.is) c.no_place-in_default.ensures
+pub returns-in_err-j : goal.returns-in_err-j
+returns-in_err-j c =
+    let a = c.args in
+    rw c.from_residual.ensures (record { inside = tt; points = no-status a.t.now a.name (no-path a.t.now a.name c.find.ensures c.in_err-j.was) })
 
-pub returns-in_default-find : goal.returns-in_default-find
-returns-in_default-find c =
-    let path-search : FindsName c.args.t.now (path_of c.args.name) c.find-2.result = subst (λ (n : ℕ). FindsName c.args.t.now n c.find-2.result) c.path_of.ensures c.find-2.ensures in
-    let d = c in
-    let f = d in
-    let j = f in
-    let a = f.args in
-    no-status a.t.now a.name
-    (subst (FindsPath a.t.now a.name) d.in_default-find.is (its-path a.t.now a.name j.find.ensures j.in-At.is (path-search)))
-    c.no_place-in_default-find.ensures
+pub returns-in_err-i : goal.returns-in_err-i
+returns-in_err-i c =
+    let a = c.args in
+    let path-search : FindsName a.t.now (path_of a.name) c.find-2.result = subst (λ (n : ℕ). FindsName a.t.now n c.find-2.result) c.path_of.ensures c.find-2.ensures in
+    rw c.from_residual-in_err-i.ensures (record {
+      inside = tt;
+      points = no-status a.t.now a.name (subst (FindsPath a.t.now a.name) c.in_err-i.was (its-path a.t.now a.name c.find.ensures c.in_ok-j.was path-search));
+    })
 
 pub cells_at-requires : goal.cells_at-requires
-cells_at-requires c = let j = c in member_below j.find.ensures j.in-At.is
+cells_at-requires c = member_below c.find.ensures c.in_ok-j.was
 
 pub returns : goal.returns
 returns c =
-    let path-search : FindsName c.args.t.now (path_of c.args.name) c.find-2.result = subst (λ (n : ℕ). FindsName c.args.t.now n c.find-2.result) c.path_of.ensures c.find-2.ensures in
-    let k = c in
-    let i = k in
-    let f = i in
-    let j = f in
-    let a = f.args in
-    member-status a.t.now a.name (below a.t.now (path_of a.name) (path-search) i.in-At-find.is) j.find.ensures j.in-At.is c.cells_at.ensures (path-search) i.in-At-find.is k.kind_shown.ensures
+    let a = c.args in
+    let path-search : FindsName a.t.now (path_of a.name) c.find-2.result = subst (λ (n : ℕ). FindsName a.t.now n c.find-2.result) c.path_of.ensures c.find-2.ensures in
+    record {
+      inside = below a.t.now (path_of a.name) path-search c.in_ok-i.was;
+      points = member-status a.t.now a.name c.find.ensures c.in_ok-j.was c.cells_at.ensures path-search c.in_ok-i.was c.kind_shown.ensures;
+    }

@@ -4,7 +4,7 @@ use Rattle.connection.proofs.Ranged.{after-backward-cell-ranged, after-forward-c
 use Rattle.cell.specs.Read.{RmCell}
 use Rattle.cell.specs.Fields.{cell_name, CrcMatches}
 use Rattle.connection.specs.Range.{InRange}
-use Rattle.engine.proofs.Outcomes.{below, missing, entry-located, ranged}
+use Rattle.engine.proofs.Outcomes.{unfound, below, missing, entry-located, ranged}
 use Rattle.engine_arrivals.proofs.ReceiveCases.{receive-refused, work-missing, answer-done, turn-done}
 use native.Mathlib.Omega.{arith}
 use mathlib.Core.Path.{◌≡◌, sym, subst}
@@ -13,30 +13,30 @@ use Rattle.model.specs.Invariant.{WellFormed}
 use Rattle.table.specs.Layout.{words}
 use Rattle.engine_arrivals.proofs.receive.receive_rm.Goals as goal
 
-pub returns-in_default : goal.returns-in_default
-returns-in_default c =
+pub returns-in_err-i : goal.returns-in_err-i
+returns-in_err-i c =
     let finds : FindsName c.args.t.now (cell_name c.args.f) c.find.result = subst (λ (n : ℕ). FindsName c.args.t.now n c.find.result) c.address_name-name.ensures c.find.ensures in
     let f = c in
     let a = f.args in
-    record { meets = λ s w e. receive-refused (RmCell a.f) s 11 e (work-missing s a.cell.now a.f (missing s w e _ (finds) c.in_default.is)) }
+    record { meets = λ s w e. rw (unfound c.from_residual.ensures.1 c.in_err-i.ensures.ok_part c.in_err-i.ensures.value) (receive-refused (RmCell a.f) s 11 e (work-missing s a.cell.now a.f (missing s w e _ (finds) c.in_err-i.ensures.ok_part))) }
 
 pub overflow_cast-leaf : goal.overflow_cast-leaf
 overflow_cast-leaf c =
     let finds : FindsName c.args.t.now (cell_name c.args.f) c.find.result = subst (λ (n : ℕ). FindsName c.args.t.now n c.find.result) c.address_name-name.ensures c.find.ensures in
-    let entry : c.in-At.i < capacity = below _ _ (finds) c.in-At.is in
+    let entry : c.in_ok-i.i < capacity = below _ _ (finds) c.in_ok-i.ensures.ok_part in
     omega (arith, entry)
 
 pub load-c-requires : goal.load-c-requires
 load-c-requires c =
     let finds : FindsName c.args.t.now (cell_name c.args.f) c.find.result = subst (λ (n : ℕ). FindsName c.args.t.now n c.find.result) c.address_name-name.ensures c.find.ensures in
-    let entry : c.in-At.i < capacity = below _ _ (finds) c.in-At.is in
+    let entry : c.in_ok-i.i < capacity = below _ _ (finds) c.in_ok-i.ensures.ok_part in
     entry
 
 pub update_source-comparisons-requires : goal.update_source-comparisons-requires
 update_source-comparisons-requires c =
     let finds : FindsName c.args.t.now (cell_name c.args.f) c.find.result = subst (λ (n : ℕ). FindsName c.args.t.now n c.find.result) c.address_name-name.ensures c.find.ensures in
-    let entry : c.in-At.i < capacity = below _ _ (finds) c.in-At.is in
-    let in-range : InRange c.load-c.result = ranged c.args.t.now c.in-At.i c.load-c.ensures in
+    let entry : c.in_ok-i.i < capacity = below _ _ (finds) c.in_ok-i.ensures.ok_part in
+    let in-range : InRange c.load-c.result = ranged c.args.t.now c.in_ok-i.i c.load-c.ensures in
     let o = c in
     let ld = o in
     let i = ld in
@@ -45,15 +45,15 @@ update_source-comparisons-requires c =
 pub returns-then-f-eq1 : goal.returns-then-f-eq1
 returns-then-f-eq1 c =
     let finds : FindsName c.args.t.now (cell_name c.args.f) c.find.result = subst (λ (n : ℕ). FindsName c.args.t.now n c.find.result) c.address_name-name.ensures c.find.ensures in
-    let entry : c.in-At.i < capacity = below _ _ (finds) c.in-At.is in
-    let located : (s : State) → WellFormed s → c.args.t.now ≡ words s → Located s.entries (cell_name c.args.f) c.in-At.i = λ s w e. entry-located s w e _ (finds) c.in-At.is in
+    let entry : c.in_ok-i.i < capacity = below _ _ (finds) c.in_ok-i.ensures.ok_part in
+    let located : (s : State) → WellFormed s → c.args.t.now ≡ words s → Located s.entries (cell_name c.args.f) c.in_ok-i.i = λ s w e. entry-located s w e _ (finds) c.in_ok-i.ensures.ok_part in
     let o = c in
     let ld = o in
     let i = ld in
     let a = i.args in
     record {
       meets = λ s w e.
-          answer-done s w e a.cell.now a.f i.in-At.i (entry) (located s w e) ld.load-c.result ld.load-c.ensures o.after_backward_cell-next.result o.if-f-eq1.true o.after_backward_cell-next.ensures c.update_source-comparisons.ensures i.address_name-name.result i.address_name-name.ensures;
+          answer-done s w e a.cell.now a.f i.in_ok-i.i (entry) (located s w e) ld.load-c.result ld.load-c.ensures o.after_backward_cell-next.result o.if-f-eq1.true o.after_backward_cell-next.ensures c.update_source-comparisons.ensures i.address_name-name.result i.address_name-name.ensures;
     }
 
 pub after_forward_payload-next-requires : goal.after_forward_payload-next-requires
@@ -62,8 +62,8 @@ after_forward_payload-next-requires c = subst CrcMatches (sym c.payload_at.ensur
 pub update_destination-comparisons-requires : goal.update_destination-comparisons-requires
 update_destination-comparisons-requires c =
     let finds : FindsName c.args.t.now (cell_name c.args.f) c.find.result = subst (λ (n : ℕ). FindsName c.args.t.now n c.find.result) c.address_name-name.ensures c.find.ensures in
-    let entry : c.in-At.i < capacity = below _ _ (finds) c.in-At.is in
-    let in-range : InRange c.load-c.result = ranged c.args.t.now c.in-At.i c.load-c.ensures in
+    let entry : c.in_ok-i.i < capacity = below _ _ (finds) c.in_ok-i.ensures.ok_part in
+    let in-range : InRange c.load-c.result = ranged c.args.t.now c.in_ok-i.i c.load-c.ensures in
     let o = c in
     let ld = o in
     (entry, subst InRange (sym o.after_forward_payload-next.ensures) (after-forward-cell-ranged ld.load-c.result (in-range) _ _))
@@ -71,8 +71,8 @@ update_destination-comparisons-requires c =
 pub returns : goal.returns
 returns c =
     let finds : FindsName c.args.t.now (cell_name c.args.f) c.find.result = subst (λ (n : ℕ). FindsName c.args.t.now n c.find.result) c.address_name-name.ensures c.find.ensures in
-    let entry : c.in-At.i < capacity = below _ _ (finds) c.in-At.is in
-    let located : (s : State) → WellFormed s → c.args.t.now ≡ words s → Located s.entries (cell_name c.args.f) c.in-At.i = λ s w e. entry-located s w e _ (finds) c.in-At.is in
+    let entry : c.in_ok-i.i < capacity = below _ _ (finds) c.in_ok-i.ensures.ok_part in
+    let located : (s : State) → WellFormed s → c.args.t.now ≡ words s → Located s.entries (cell_name c.args.f) c.in_ok-i.i = λ s w e. entry-located s w e _ (finds) c.in_ok-i.ensures.ok_part in
     let o = c in
     let p = o in
     let ld = p in
@@ -81,6 +81,6 @@ returns c =
     let a = f.args in
     record {
       meets = λ s w e.
-          turn-done s w e a.cell.now a.f i.in-At.i (entry) (located s w e) ld.load-c.result ld.load-c.ensures o.after_forward_payload-next.result p.if-f-eq1.false f.requires.0
+          turn-done s w e a.cell.now a.f i.in_ok-i.i (entry) (located s w e) ld.load-c.result ld.load-c.ensures o.after_forward_payload-next.result p.if-f-eq1.false f.requires.0
           (λ j. (f.shared_slice_known-1.given j).fits) p.payload_at.result p.payload_at.ensures o.after_forward_payload-next.ensures c.update_destination-comparisons.ensures f.address_name-name.result f.address_name-name.ensures;
     }

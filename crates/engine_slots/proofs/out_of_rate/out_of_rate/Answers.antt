@@ -16,37 +16,32 @@ use Rattle.table.specs.Storing.{out_of_rate_updated}
 use Rattle.table.proofs.Loaded.{load-named}
 use Rattle.engine_slots.specs.Slots.{ForwardIn}
 use Rattle.engine.specs.Timed.{TimedAt}
-use Rattle.engine.proofs.Outcomes.{ranged, loaded-is}
+use Rattle.engine.proofs.Outcomes.{refused-with, ranged, loaded-is}
 use Rattle.engine_slots.proofs.SlotCases.{refused-leaves}
 use Rattle.engine_slots.proofs.OutOfRateCases.{out-of-rate-short, out-of-rate-timed, out-of-rate-soon, out-of-rate-done, out-of-rate-out}
 use Rattle.engine_slots.proofs.out_of_rate.out_of_rate.Goals.{After-load-c}
 use Rattle.engine_slots.proofs.out_of_rate.out_of_rate.Goals as goal
 
 in-range : (c : After-load-c) → InRange c.load-c.result
-in-range c = ranged c.args.t.now c.timed_entry-i.result c.load-c.ensures
+in-range c = ranged c.args.t.now c.in_ok-i.i c.load-c.ensures
 
 pub returns-then-cell-ne-CELL_OCTETS : goal.returns-then-cell-ne-CELL_OCTETS
 returns-then-cell-ne-CELL_OCTETS c =
     let a = c.args in
     record { meets = λ s w e. refused-leaves a.t.now a.cell.now _ s 1 e (out-of-rate-short s a.name a.time (length a.cell.now) c.if-cell-ne-CELL_OCTETS.true) }
 
-pub overflow_cast-refusal : goal.overflow_cast-refusal
-overflow_cast-refusal c = omega (arith, c.timed_entry-i.ensures.few)
-
-pub returns-then-i-ge-CAPACITY : goal.returns-then-i-ge-CAPACITY
-returns-then-i-ge-CAPACITY c =
+pub returns-in_err-i : goal.returns-in_err-i
+returns-in_err-i c =
     let fits : length c.args.cell.now ≡ 53 = omega arith in
-    let k = c in
-    let e1 = k in
-    let a = e1.args in
+    let a = c.args in
     record {
       meets = λ s w e.
-          refused-leaves a.t.now a.cell.now _ s _ e
-          (out-of-rate-timed s a.name a.time (length a.cell.now) (fits) ∙ k.timed_entry-i.ensures.refused c.if-i-ge-CAPACITY.true s w e _);
+          rw (refused-with c.from_residual.ensures.1)
+          (refused-leaves a.t.now a.cell.now _ s _ e (out-of-rate-timed s a.name a.time (length a.cell.now) fits ∙ c.in_err-i.ensures s w e _));
     }
 
 pub load-c-requires : goal.load-c-requires
-load-c-requires c = c.if-i-ge-CAPACITY.false
+load-c-requires c = c.in_ok-i.ensures.inside
 
 pub rested-requires : goal.rested-requires
 rested-requires c = (in-range c).out_of_rate
@@ -55,8 +50,8 @@ pub returns-then-not-rested : goal.returns-then-not-rested
 returns-then-not-rested c =
     let fits : length c.args.cell.now ≡ 53 = omega arith in
     let fits-there : length c.args.cell.now ≡ 53 = fits in
-    let found : (s : State) → WellFormed s → c.args.t.now ≡ words s → TimedAt s c.args.name c.args.time c.timed_entry-i.result = c.timed_entry-i.ensures.found c.if-i-ge-CAPACITY.false in
-    let loaded : (s : State) (w : WellFormed s) (e : c.args.t.now ≡ words s) → c.load-c.result ≡ (found s w e).located.holder = λ s w e. loaded-is s w (found s w e).located e c.if-i-ge-CAPACITY.false c.load-c.ensures in
+    let found : (s : State) → WellFormed s → c.args.t.now ≡ words s → TimedAt s c.args.name c.args.time c.in_ok-i.i = c.in_ok-i.ensures.found in
+    let loaded : (s : State) (w : WellFormed s) (e : c.args.t.now ≡ words s) → c.load-c.result ≡ (found s w e).located.holder = λ s w e. loaded-is s w (found s w e).located e c.in_ok-i.ensures.inside c.load-c.ensures in
     let rested-is : let ld = c in (s : State) (w : WellFormed s) (e : ld.args.t.now ≡ words s) → rested ld.args.time (found s w e).located.holder.out_of_rate ≡ c.rested.result = λ s w e. ap (λ (x : Connection). rested c.args.time x.out_of_rate) (sym (loaded s w e)) ∙ sym c.rested.ensures in
     let r = c in
     let k = r in
@@ -71,25 +66,25 @@ pub put_forward-requires : goal.put_forward-requires
 put_forward-requires c =
     let ld = c in
     let k = ld in
-    (search rules, (omega arith, subst (λ (x : Connection). x.name < no_name) (sym ld.load-c.ensures) (load-named k.args.t.now k.timed_entry-i.result)))
+    (search rules, (omega arith, subst (λ (x : Connection). x.name < no_name) (sym ld.load-c.ensures) (load-named k.args.t.now k.in_ok-i.i)))
 
 pub update_out_of_rate-requires : goal.update_out_of_rate-requires
 update_out_of_rate-requires c =
-    let in-range : InRange c.load-c.result = ranged c.args.t.now c.timed_entry-i.result c.load-c.ensures in
+    let in-range : InRange c.load-c.result = ranged c.args.t.now c.in_ok-i.i c.load-c.ensures in
     let after = c in
     let ld = after in
     let k = ld in (
-      k.if-i-ge-CAPACITY.false,
+      k.in_ok-i.ensures.inside,
       (subst InRange (sym after.after_out_of_rate-next.ensures)
-          (out-of-rate-ranged ld.load-c.result (in-range) k.args.time (omega (arith, k.timed_entry-i.ensures.timely k.if-i-ge-CAPACITY.false)))).out_of_rate,
+          (out-of-rate-ranged ld.load-c.result (in-range) k.args.time (omega (arith, k.in_ok-i.ensures.timely)))).out_of_rate,
     )
 
 pub returns : goal.returns
 returns c =
     let fits : length c.args.cell.now ≡ 53 = omega arith in
     let fits-there : length c.args.cell.now ≡ 53 = fits in
-    let found : (s : State) → WellFormed s → c.args.t.now ≡ words s → TimedAt s c.args.name c.args.time c.timed_entry-i.result = c.timed_entry-i.ensures.found c.if-i-ge-CAPACITY.false in
-    let loaded : (s : State) (w : WellFormed s) (e : c.args.t.now ≡ words s) → c.load-c.result ≡ (found s w e).located.holder = λ s w e. loaded-is s w (found s w e).located e c.if-i-ge-CAPACITY.false c.load-c.ensures in
+    let found : (s : State) → WellFormed s → c.args.t.now ≡ words s → TimedAt s c.args.name c.args.time c.in_ok-i.i = c.in_ok-i.ensures.found in
+    let loaded : (s : State) (w : WellFormed s) (e : c.args.t.now ≡ words s) → c.load-c.result ≡ (found s w e).located.holder = λ s w e. loaded-is s w (found s w e).located e c.in_ok-i.ensures.inside c.load-c.ensures in
     let rested-is : let ld = c in (s : State) (w : WellFormed s) (e : ld.args.t.now ≡ words s) → rested ld.args.time (found s w e).located.holder.out_of_rate ≡ c.rested.result = λ s w e. ap (λ (x : Connection). rested c.args.time x.out_of_rate) (sym (loaded s w e)) ∙ sym c.rested.ensures in
     let after = c in
     let put = after in
@@ -100,9 +95,9 @@ returns c =
     record {
       meets = λ s w e.
           let is = loaded s w e in
-          out-of-rate-out s w e k.if-i-ge-CAPACITY.false (found s w e).located a.time (length a.cell.now)
+          out-of-rate-out s w e k.in_ok-i.ensures.inside (found s w e).located a.time (length a.cell.now)
           (out-of-rate-done s a.name a.time (length a.cell.now) (fits-there) (found s w e) (rested-is s w e ∙ e3.if-not-rested.false))
           (c.update_out_of_rate.ensures
-          ∙ ap (λ (x : Connection). out_of_rate_updated a.t.now k.timed_entry-i.result x.out_of_rate) (after.after_out_of_rate-next.ensures ∙ ap (after_out_of_rate a.time) is))
+          ∙ ap (λ (x : Connection). out_of_rate_updated a.t.now k.in_ok-i.i x.out_of_rate) (after.after_out_of_rate-next.ensures ∙ ap (after_out_of_rate a.time) is))
           a.cell.now _ (subst (λ (x : Connection). ForwardIn 1 x.name x.rate put.put_forward.new.cell) is put.put_forward.ensures);
     }

@@ -36,10 +36,10 @@ pub send-requires : goal.send-requires
 send-requires c =
     let i = c in
     let ch = i in
-    (entry-below ch.slot_winner-found.result i.in-Entry.i ch.slot_winner-found.ensures.inside i.in-Entry.is, (search rules, search rules))
+    (entry-below ch.slot_winner-found.result i.in-Some.i ch.slot_winner-found.ensures.inside i.in-Some.is, (search rules, search rules))
 
-pub returns-in-NoneReady : goal.returns-in-NoneReady
-returns-in-NoneReady c =
+pub returns-in-None : goal.returns-in-None
+returns-in-None c =
     let fits : length c.args.cell.now ≡ 53 = omega arith in
     let later : (s : State) → c.args.t.now ≡ words s → s.last ≤ c.args.time = λ s e. subst (λ (x : ℕ). x ≤ c.args.time) (last-at s e) c.if-time-t.false in
     let ch = c in
@@ -47,11 +47,11 @@ returns-in-NoneReady c =
     let a = e2.args in
     record {
       meets = λ s w e.
-          idle-leaves s w a.t.now e a.time (length a.cell.now) (fits) e2.if-time-gt-LATEST_TIME.false (later s e) ch.slot_winner-found.result ch.slot_winner-found.ensures.picks a.cell.now c.in-NoneReady.is;
+          idle-leaves s w a.t.now e a.time (length a.cell.now) (fits) e2.if-time-gt-LATEST_TIME.false (later s e) ch.slot_winner-found.result ch.slot_winner-found.ensures.picks a.cell.now c.in-None.is;
     }
 
-pub returns-in-Entry : goal.returns-in-Entry
-returns-in-Entry c =
+pub returns-in-Some : goal.returns-in-Some
+returns-in-Some c =
     let fits : length c.args.cell.now ≡ 53 = omega arith in
     let later : (s : State) → c.args.t.now ≡ words s → s.last ≤ c.args.time = λ s e. subst (λ (x : ℕ). x ≤ c.args.time) (last-at s e) c.if-time-t.false in
     let sd = c in
@@ -61,6 +61,6 @@ returns-in-Entry c =
     let a = e2.args in
     record {
       meets = λ s w e.
-          send-leaves s w a.t.now e a.time (length a.cell.now) (fits) e2.if-time-gt-LATEST_TIME.false (later s e) ch.slot_winner-found.result ch.slot_winner-found.ensures.picks i.in-Entry.i i.in-Entry.is
-          _ sd.send.result a.cell.now _ sd.send.ensures;
+          send-leaves s w a.t.now e a.time (length a.cell.now) (fits) e2.if-time-gt-LATEST_TIME.false (later s e) ch.slot_winner-found.result ch.slot_winner-found.ensures.picks i.in-Some.i i.in-Some.is
+          _ _ a.cell.now _ sd.send.ensures;
     }

@@ -8,11 +8,11 @@ use Rattle.table_members.proofs.turn.turn.Goals as goal
 pub returns-then-name-ne-PATH_VCI : goal.returns-then-name-ne-PATH_VCI
 returns-then-name-ne-PATH_VCI c = turn-channel _ _ _ c.if-name-ne-PATH_VCI.true
 
-pub returns-in-At : goal.returns-in-At
-returns-in-At c = let n = c in let start = n in turn-after _ _ _ _ n.if-name-ne-PATH_VCI.false (omega (arith, start.ranges.last.fits)) refl _ _ n.word_limit.ensures n.count-after.ensures _ n.next.ensures _ c.in-At.is
+pub returns-in-Some : goal.returns-in-Some
+returns-in-Some c = let n = c in let start = n in turn-after _ _ _ _ n.if-name-ne-PATH_VCI.false (omega (arith, start.ranges.last.fits)) refl _ _ n.word_limit.ensures n.count-after.ensures _ n.next.ensures _ c.in-Some.is
 
-pub returns-in-Nothing : goal.returns-in-Nothing
-returns-in-Nothing c = let n = c in let start = n in turn-round _ _ _ _ n.if-name-ne-PATH_VCI.false (omega (arith, start.ranges.last.fits)) refl _ _ n.word_limit.ensures n.count-after.ensures _ _ c.word_limit-in-Nothing.ensures c.count_up_to.ensures _ _ n.next.ensures c.in-Nothing.is c.next-in-Nothing.ensures
+pub returns-in-None : goal.returns-in-None
+returns-in-None c = let n = c in let start = n in turn-round _ _ _ _ n.if-name-ne-PATH_VCI.false (omega (arith, start.ranges.last.fits)) refl _ _ n.word_limit.ensures n.count-after.ensures _ _ c.word_limit-in-None.ensures c.count_up_to.ensures _ _ n.next.ensures c.in-None.is c.next-in-None.ensures
 
 pub count-after-requires : goal.count-after-requires
 count-after-requires c = search (rules, members-column)

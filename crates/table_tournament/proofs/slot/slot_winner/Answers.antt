@@ -2,7 +2,7 @@ use Rattle.table_tournament.proofs.Winning.{slot-winner-none, slot-winner-lost, 
 use Prim.Native.Nat.{ℕ}
 use borrow.Author.Rules.{rules}
 use mathlib.Core.Path.{sym, subst}
-use Rattle.table_tournament.specs.declared.slot.SlotWinner.TheVariants.{Entry}
+use Rattle.std.specs.Prelude.{Some}
 use Rattle.table_tournament.specs.SlotWinner.{FindsSlotWinner}
 use Rattle.table_tournament.proofs.slot.slot_winner.Goals as goal
 
@@ -29,6 +29,6 @@ returns c =
     let f = x in
     let st = f in record {
       inside = x.word_leaf-leaf.ensures.1;
-      picks = subst (λ (i : ℕ). FindsSlotWinner st.args.t.now st.args.time (Entry i)) (sym x.word_leaf-leaf.ensures.0)
+      picks = subst (λ (i : ℕ). FindsSlotWinner st.args.t.now st.args.time (Some i)) (sym x.word_leaf-leaf.ensures.0)
           (slot-winner-entry st.args.t.now f.keyed_node-first.result f.keyed_node-first.ensures st.args.time st.requires (search rules));
     }
