@@ -1,15 +1,19 @@
 -- The contracts of exporting and importing out of those of the calls below them.
 use Prim.Native.Nat.{ℕ}
-use mathlib.Core.Path.{◌≡◌, refl, ap, subst, ◌∙◌}
+use mathlib.Core.Path.{◌≡◌, refl, sym, ap, subst, ◌∙◌}
 use mathlib.Core.List.{List}
 use native.Mathlib.Omega.{arith}
 use lib.Dec.{T, lit<}
 use lib.Ieee.{Float, binary64, fits}
 use lib.Ieee.Digits.{Equals}
+use Rattle.std.specs.Prelude.{Result, Ok, Err}
+use Rattle.laws.specs.declared.refusals.Refusal.{Refusal}
+use Rattle.laws.specs.declared.refusals.Refusal.TheVariants.{Double}
+use Rattle.laws.specs.Refusals.{number}
 use Rattle.rate.specs.Code.{rate_of}
 use Rattle.rate_doubles.specs.declared.export.Exported.{Exported}
 use Rattle.rate_doubles.specs.declared.import.Imported.{Imported}
-use Rattle.rate_doubles.specs.declared.import.Imported.TheVariants.{Refused, Exact, Below}
+use Rattle.rate_doubles.specs.declared.import.Imported.TheVariants.{Exact, Below}
 use Rattle.rate_doubles.specs.Import.{import_of}
 use Rattle.rate_doubles.specs.Exact.{IsSum, CodeUnder, ImportedExactly}
 use Rattle.rate_doubles.proofs.Exactness.{imports-exactly}
@@ -35,17 +39,21 @@ plus_nil x rate h = record {
   input = subst (λ (a : ℕ). Equals x a 512) (omega arith) h;
 }
 
-answer-sum : (x : Float) (i : Imported) → ImportedExactly x i → (imported_of i).refusal ≡ 0 → IsSum x (rate_of (imported_of i).code) (imported_of i).remainder
-answer-sum x (Refused n) h z = absurd (omega (arith, h.0))
-answer-sum x (Exact c) h z = plus_nil x (rate_of c) h.1
-answer-sum x (Below c y) h z = h.1
+-- a refusal has a number that is not 0
+twenty : {r : Refusal} → r ≡ Double → number r ≡ 0 → ⊥
+twenty e z = let q : number Double ≡ 0 = ap number (sym e) ∙ z in omega (arith, q)
 
-answer-greatest : (x : Float) (i : Imported) → ImportedExactly x i → (imported_of i).refusal ≡ 0 → CodeUnder x (imported_of i).code
-answer-greatest x (Refused n) h z = absurd (omega (arith, h.0))
-answer-greatest x (Exact c) h z = h.0
-answer-greatest x (Below c y) h z = h.0
+answer-sum : (x : Float) (i : Result Imported Refusal) → ImportedExactly x i → (imported_of i).refusal ≡ 0 → IsSum x (rate_of (imported_of i).code) (imported_of i).remainder
+answer-sum x (Err r) h z = absurd (twenty h.0 z)
+answer-sum x (Ok (Exact c)) h z = plus_nil x (rate_of c) h.1
+answer-sum x (Ok (Below c y)) h z = h.1
 
-pub imports : (x : Float) → T (fits binary64 x) → {i : Imported} {r : AbrImported} → i ≡ import_of x → r ≡ imported_of i → Imports x r
+answer-greatest : (x : Float) (i : Result Imported Refusal) → ImportedExactly x i → (imported_of i).refusal ≡ 0 → CodeUnder x (imported_of i).code
+answer-greatest x (Err r) h z = absurd (twenty h.0 z)
+answer-greatest x (Ok (Exact c)) h z = h.0
+answer-greatest x (Ok (Below c y)) h z = h.0
+
+pub imports : (x : Float) → T (fits binary64 x) → {i : Result Imported Refusal} {r : AbrImported} → i ≡ import_of x → r ≡ imported_of i → Imports x r
 imports x f {i} {r} e q =
     let is : r ≡ imported_of (import_of x) = q ∙ ap imported_of e in
     let h = imports-exactly x f in

@@ -5,7 +5,7 @@ ghost use Rattle.rate.specs.Code.{coded};
 ghost use Rattle.rate_params.specs.Params.{house_set};
 ghost use Rattle.abr_answers.specs.Codes.{coded_of, rated_of};
 
-use abr_answers::codes::{AbrCoded, AbrRated, coded_of, rated_of};
+use abr_answers::codes::{AbrCoded, AbrRated, rate_taken};
 use rate::code::code_of;
 use rate_params::params::Params;
 
@@ -13,14 +13,14 @@ use rate_params::params::Params;
 pub fn abr_code(rate: u64) -> AbrCoded
     ensures { result ≡ coded_of (coded rate) }
 {
-    coded_of(code_of(rate))
+    AbrCoded::from(code_of(rate))
 }
 
 // Refusal 7 over 16 bits, then 19 where bit 15 is set.
 pub fn abr_rate(code: u32) -> AbrRated
     ensures { result ≡ rated_of code }
 {
-    rated_of(code)
+    AbrRated::from(rate_taken(code))
 }
 
 // The house set around three rate codes. Nothing is refused here: an open judges the result.

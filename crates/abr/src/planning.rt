@@ -3,7 +3,7 @@ ghost use Rattle.cell.specs.Name.{address_name};
 ghost use Rattle.abr.specs.Contract.{ReturnsContract};
 ghost use Rattle.abr_answers.specs.Planning.{Imports};
 
-use abr_answers::planning::{AbrExported, AbrImported, imported_of};
+use abr_answers::planning::{AbrExported, AbrImported};
 use cell::name::address_name;
 use engine::contract::read_contract;
 use rate_doubles::export::Exported;
@@ -24,5 +24,5 @@ pub fn abr_export(table: &[u64; WORDS], vpi: u32, vci: u32, refusal: &mut u32) -
 pub fn abr_import(rate: f64) -> AbrImported
     ensures { Imports rate result }
 {
-    imported_of(import(rate))
+    AbrImported::from(import(rate))
 }

@@ -5,7 +5,7 @@ ghost use Rattle.port.specs.Limit.{passed, limit};
 ghost use Rattle.port.specs.Port.{port};
 ghost use Rattle.abr_answers.specs.Shares.{share_of};
 
-use abr_answers::shares::{AbrShare, share_of};
+use abr_answers::shares::AbrShare;
 use laws::refusals::refusal_or_0;
 use port::limit::limit;
 use port::port::port;
@@ -15,7 +15,7 @@ use port_share::share::fair_share;
 pub fn abr_fair_share(capacity: u64, demands: &[u64]) -> AbrShare
     ensures { result ≡ share_of (fair_share capacity demands.now) }
 {
-    share_of(fair_share(capacity, demands))
+    AbrShare::from(fair_share(capacity, demands))
 }
 
 // Refusals as for abr_read.
@@ -29,5 +29,5 @@ pub fn abr_limit(rate: u64, cell: &mut [u8]) -> u32
 pub fn abr_port(capacity: u64, demands: &[u64], cell: &mut [u8]) -> u32
     ensures { passed result cell.new ≡ port capacity demands.now cell.old }
 {
-    port(capacity, demands, cell)
+    refusal_or_0(port(capacity, demands, cell))
 }

@@ -1,10 +1,12 @@
 -- What exporting a contract and importing a double return. (Document 02, L8.)
-use Rattle.std.specs.Prelude.{ℕ, ◌≡◌, false, pos, Float}
+use Rattle.std.specs.Prelude.{ℕ, ◌≡◌, false, pos, Float, Result, Ok, Err}
 use Rattle.std.specs.Float.{fin}
+use Rattle.laws.specs.declared.refusals.Refusal.{Refusal}
+use Rattle.laws.specs.Refusals.{number}
 use Rattle.rate.specs.Code.{rate_of}
 use Rattle.rate_doubles.specs.declared.export.Exported.{Exported}
 use Rattle.rate_doubles.specs.declared.import.Imported.{Imported}
-use Rattle.rate_doubles.specs.declared.import.Imported.TheVariants.{Refused, Exact, Below}
+use Rattle.rate_doubles.specs.declared.import.Imported.TheVariants.{Exact, Below}
 use Rattle.rate_doubles.specs.Export.{ExportsExactly}
 use Rattle.rate_doubles.specs.Import.{import_of}
 use Rattle.rate_doubles.specs.Exact.{IsSum, CodeUnder}
@@ -26,10 +28,10 @@ ExportedAs (Codes p m i) n r = (n ≡ 0) × ExportsExactly p m i r
 abbrev pub exact_answer : (code : ℕ) → AbrImported
 exact_answer code = record { refusal = 0; code = code; remainder = nil }
 
-abbrev pub imported_of : Imported → AbrImported
-imported_of (Refused n) = record { refusal = n; code = 0; remainder = nil }
-imported_of (Exact code) = exact_answer code
-imported_of (Below code y) = record { refusal = 0; code = code; remainder = y }
+abbrev pub imported_of : Result Imported Refusal → AbrImported
+imported_of (Err r) = record { refusal = number r; code = 0; remainder = nil }
+imported_of (Ok (Exact code)) = exact_answer code
+imported_of (Ok (Below code y)) = record { refusal = 0; code = code; remainder = y }
 
 -- What importing x returns. If x is not refused, the code's rate over 512 plus the remainder is x, with no
 -- rounding, and no other code comes nearer from below.

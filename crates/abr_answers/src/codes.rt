@@ -1,9 +1,9 @@
 // What coding a rate, and taking the rate of a code, return (document 01, "Units and the 16-bit rate code").
 ghost use Rattle.std.specs.Prelude.{◌≡◌};
-ghost use Rattle.abr_answers.specs.Codes.{coded_of, rated_of};
+ghost use Rattle.abr_answers.specs.Codes.{coded_of, rated_as, rate_taken};
 
-use laws::refusals::{REFUSED_RANGE, REFUSED_RESERVED_BIT};
-use rate::code::{Coded, SIXTEEN_BITS_MOST, rate_of, reserved_clear};
+use laws::refusals::Refusal;
+use rate::code::{SIXTEEN_BITS_MOST, rate_of, reserved_clear};
 
 #[repr(C)]
 #[derive(Clone, Copy)]
@@ -12,15 +12,17 @@ pub struct AbrCoded {
     pub code: u32,
 }
 
-pub fn coded_of(a: Coded) -> AbrCoded
-    ensures { result ≡ coded_of a }
-{
-    match a {
-        Coded::Code(code) => AbrCoded { refusal: 0, code },
-        Coded::Refused(n) => AbrCoded {
-            refusal: n,
-            code: 0,
-        },
+impl From<Result<u32, Refusal>> for AbrCoded {
+    ghost from_gives = { λ a r. r ≡ coded_of a };
+
+    fn from(answer: Result<u32, Refusal>) -> AbrCoded {
+        match answer {
+            Ok(code) => AbrCoded { refusal: 0, code },
+            Err(refusal) => AbrCoded {
+                refusal: refusal.number(),
+                code: 0,
+            },
+        }
     }
 }
 
@@ -32,27 +34,35 @@ pub struct AbrRated {
     pub rate: u64,
 }
 
+impl From<Result<u64, Refusal>> for AbrRated {
+    ghost from_gives = { λ a r. r ≡ rated_as a };
+
+    fn from(answer: Result<u64, Refusal>) -> AbrRated {
+        match answer {
+            Ok(rate) => AbrRated {
+                refusal: 0,
+                reserved: 0,
+                rate,
+            },
+            Err(refusal) => AbrRated {
+                refusal: refusal.number(),
+                reserved: 0,
+                rate: 0,
+            },
+        }
+    }
+}
+
 // The rate of a code of 16 bits, if bit 15 is clear.
-pub fn rated_of(code: u32) -> AbrRated
-    ensures { result ≡ rated_of code }
+#[tactic(auto, unfolding(laws::specs::Require::require))]
+pub fn rate_taken(code: u32) -> Result<u64, Refusal>
+    ensures { result ≡ rate_taken code }
 {
     if SIXTEEN_BITS_MOST < code {
-        return AbrRated {
-            refusal: REFUSED_RANGE,
-            reserved: 0,
-            rate: 0,
-        };
+        return Err(Refusal::Range);
     }
     if !reserved_clear(code) {
-        return AbrRated {
-            refusal: REFUSED_RESERVED_BIT,
-            reserved: 0,
-            rate: 0,
-        };
+        return Err(Refusal::ReservedBit);
     }
-    AbrRated {
-        refusal: 0,
-        reserved: 0,
-        rate: rate_of(code),
-    }
+    Ok(rate_of(code))
 }

@@ -45,24 +45,26 @@ pub struct AbrImported {
     pub remainder: f64,
 }
 
-pub fn imported_of(a: Imported) -> AbrImported
-    ensures { result ≡ imported_of a }
-{
-    match a {
-        Imported::Refused(n) => AbrImported {
-            refusal: n,
-            code: 0,
-            remainder: 0.0,
-        },
-        Imported::Exact(code) => AbrImported {
-            refusal: 0,
-            code,
-            remainder: 0.0,
-        },
-        Imported::Below { code, remainder } => AbrImported {
-            refusal: 0,
-            code,
-            remainder,
-        },
+impl From<Result<Imported, Refusal>> for AbrImported {
+    ghost from_gives = { λ a r. r ≡ imported_of a };
+
+    fn from(answer: Result<Imported, Refusal>) -> AbrImported {
+        match answer {
+            Ok(Imported::Exact(code)) => AbrImported {
+                refusal: 0,
+                code,
+                remainder: 0.0,
+            },
+            Ok(Imported::Below { code, remainder }) => AbrImported {
+                refusal: 0,
+                code,
+                remainder,
+            },
+            Err(refusal) => AbrImported {
+                refusal: refusal.number(),
+                code: 0,
+                remainder: 0.0,
+            },
+        }
     }
 }

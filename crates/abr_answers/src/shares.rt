@@ -2,7 +2,7 @@
 ghost use Rattle.std.specs.Prelude.{◌≡◌};
 ghost use Rattle.abr_answers.specs.Shares.{share_of};
 
-use port_share::share::FairShare;
+use laws::refusals::Refusal;
 use rate::units::LARGEST_RATE;
 
 // limited 0: no limit, and the largest rate.
@@ -14,24 +14,26 @@ pub struct AbrShare {
     pub rate: u64,
 }
 
-pub fn share_of(a: FairShare) -> AbrShare
-    ensures { result ≡ share_of a }
-{
-    match a {
-        FairShare::Refused(n) => AbrShare {
-            refusal: n,
-            limited: 0,
-            rate: 0,
-        },
-        FairShare::NoLimit => AbrShare {
-            refusal: 0,
-            limited: 0,
-            rate: LARGEST_RATE,
-        },
-        FairShare::Limit(rate) => AbrShare {
-            refusal: 0,
-            limited: 1,
-            rate,
-        },
+impl From<Result<Option<u64>, Refusal>> for AbrShare {
+    ghost from_gives = { λ a r. r ≡ share_of a };
+
+    fn from(answer: Result<Option<u64>, Refusal>) -> AbrShare {
+        match answer {
+            Ok(None) => AbrShare {
+                refusal: 0,
+                limited: 0,
+                rate: LARGEST_RATE,
+            },
+            Ok(Some(rate)) => AbrShare {
+                refusal: 0,
+                limited: 1,
+                rate,
+            },
+            Err(refusal) => AbrShare {
+                refusal: refusal.number(),
+                limited: 0,
+                rate: 0,
+            },
+        }
     }
 }

@@ -2,8 +2,7 @@
 use mathlib.Core.Path.{refl, ap, ◌∙◌}
 use mathlib.Core.List.{[]}
 use Rattle.port_share.specs.Demands.{in_range, plain_sum}
-use Rattle.port_share.specs.Share.{fair_share}
-use Rattle.port_share.specs.declared.share.FairShare.{FairShare}
+use Rattle.port_share.specs.Share.{Share, fair_share}
 use Rattle.port_share.proofs.Examples.{examples}
 use Rattle.port.specs.Limit.{held}
 use Rattle.port.specs.Port.{port_by}
@@ -16,7 +15,7 @@ port-calls = record {
   too_many = refl;
   too_high = refl;
   length = refl;
-  length_limited = ap (λ (s : FairShare). (port_by s []).refusal) examples.nothing ∙ refl;
+  length_limited = ap (λ (s : Share). (port_by s []).refusal) examples.nothing ∙ refl;
   header = refl;
-  header_limited = ap (λ (s : FairShare). (port_by s wrong_header).refusal) examples.nothing ∙ refl;
+  header_limited = ap (λ (s : Share). (port_by s wrong_header).refusal) examples.nothing ∙ refl;
 }

@@ -7,7 +7,7 @@ use mathlib.Core.Option.{none, some}
 use Rattle.rate_params.specs.declared.params.Params.{Params}
 use Rattle.rate_moves.specs.declared.moves.Rate.{Rate}
 use Rattle.rate_moves.specs.Moves.{feedback}
-use Rattle.port_share.specs.declared.share.FairShare.{FairShare}
+use Rattle.port_share.specs.Share.{Share}
 use Rattle.connection.specs.declared.parts.Connection.{Connection}
 use Rattle.connection.specs.declared.kind.Kind.TheVariants.{Forward}
 use Rattle.model.specs.State.{State, Entry, taken, empty}
@@ -89,7 +89,7 @@ read_kept {v} st y h = record { same = sym (rate-seen y.next v h.after h.answers
 
 -- where the rate stays over each other call
 left_in :
-    {v : ℕ} {share : FairShare} {p : Params} {q : Rate} {s : State} {l : List ℕ} {k : Watched} {n : ℕ} {ds : List Call} {ps : List Observation} → Stands s l → StandsAt v q s → q.params ≡ p
+    {v : ℕ} {share : Share} {p : Params} {q : Rate} {s : State} {l : List ℕ} {k : Watched} {n : ℕ} {ds : List Call} {ps : List Observation} → Stands s l → StandsAt v q s → q.params ≡ p
     → Watches v k s → Transcript ds l ps → FeedbacksSeen v (Unmarked v p share) (RateLeft v p) k l n ds ps → Feedbacks v (Unmarked v p share) (RateKept v) s n ds
 unfolding feedback
 left_in st z e m ended_here ended = ended_at
@@ -105,7 +105,7 @@ left_in {v} st z e m (then p t) (other_call n (not_lowered h) f) =
     other_at n (rate-kept z x) (left_in y.next x e ((watches v).goes _ _ _ _ m y) t f)
 
 run-kept :
-    {v : ℕ} {share : FairShare} {p : Params} {q : Rate} {s : State} {l : List ℕ} {k : Watched} {n : ℕ} {ds : List Call} {ps : List Observation} → Stands s l → StandsAt v q s → q.params ≡ p
+    {v : ℕ} {share : Share} {p : Params} {q : Rate} {s : State} {l : List ℕ} {k : Watched} {n : ℕ} {ds : List Call} {ps : List Observation} → Stands s l → StandsAt v q s → q.params ≡ p
     → Watches v k s → Transcript ds l ps → FeedbacksSeen v (Unmarked v p share) (NotLoweredSeen v p) k l n ds ps → FeedbacksSeen v (Unmarked v p share) (SameRate v) k l n ds ps
 unfolding feedback
 run-kept st z e m ended_here ended = ended
@@ -116,7 +116,7 @@ run-kept {v} st z e m (then p t) (other_call n h f) =
     let x = not-lowered-step z e m y n h in
     other_call n (record { same = λ a b i j. rate-seen y.next v b j ∙ (rate-kept z x).same ∙ sym (rate-seen st v a i) }) (run-kept y.next x e ((watches v).goes _ _ _ _ m y) t f)
 
-module _ (cs : List Call) (os : List Observation) (t : Transcript cs zeros os) (v : ℕ) (p : Params) (e : params_observed v none cs os ≡ some p) (share : FairShare) where
+module _ (cs : List Call) (os : List Observation) (t : Transcript cs zeros os) (v : ℕ) (p : Params) (e : params_observed v none cs os ≡ some p) (share : Share) where
   abbrev words : List ℕ
   words = final_words zeros os
 
@@ -146,7 +146,7 @@ module _ (cs : List Call) (os : List Observation) (t : Transcript cs zeros os) (
   left u f = left_in st now (open-under cs os t v p e).params (watched-so v cs os t) u f
 
   left-then :
-      (other : FairShare) {m n : ℕ} (ds : List Call) {es : List Call} (ps : List Observation) {qs : List Observation} (u : Transcript ds words ps)
+      (other : Share) {m n : ℕ} (ds : List Call) {es : List Call} (ps : List Observation) {qs : List Observation} (u : Transcript ds words ps)
       → Feedbacks v (FromPort v share) (NotClosed v) (final empty cs) m ds → Transcript es (final_words words ps) qs
       → FeedbacksSeen v (Unmarked v p other) (RateLeft v p) (watched_from v (watched v cs os) ds ps) (final_words words ps) n es qs
       → Feedbacks v (Unmarked v p other) (RateKept v) (final (final empty cs) ds) n es

@@ -2,9 +2,8 @@
 use Prim.Native.Nat.{ℕ}
 use mathlib.Core.Path.{◌≡◌, sym, ap, subst}
 use mathlib.Core.List.{List, [], ◌∷◌}
-use Rattle.port_share.specs.Share.{fair_share}
-use Rattle.port_share.specs.declared.share.FairShare.{FairShare}
-use Rattle.port_share.specs.declared.share.FairShare.TheVariants.{Refused, NoLimit, Limit}
+use Rattle.port_share.specs.Share.{Share, fair_share}
+use Rattle.std.specs.Prelude.{Some, None, Ok, Err}
 use Rattle.port.specs.Limit.{Forwarded}
 use Rattle.port.specs.Port.{port_by}
 use Rattle.model.specs.Call.{Call, receiving}
@@ -17,11 +16,11 @@ use Rattle.exports_rates.specs.Ported.{PortedCall, same, limited, ported, Export
 left-cell : {a b : Forwarded} → a ≡ b → a.cell ≡ b.cell
 left-cell e = ap (λ (x : Forwarded). x.cell) e
 
-by-share : (share : FairShare) (o : List ℕ) → Comparable (receiving o) (receiving (port_by share o).cell)
+by-share : (share : Share) (o : List ℕ) → Comparable (receiving o) (receiving (port_by share o).cell)
 unfolding port_by
-by-share (Refused n) o = equal
-by-share NoLimit o = equal
-by-share (Limit s) o = comparable (held s o)
+by-share (Err r) o = equal
+by-share (Ok None) o = equal
+by-share (Ok (Some s)) o = comparable (held s o)
 
 compared : {c d : Call} → PortedCall c d → Comparable c d
 compared same = equal

@@ -6,7 +6,7 @@ use Rattle.std.proofs.Math.Option.{none, some}
 use Rattle.rate_params.specs.declared.params.Params.{Params}
 use Rattle.rate_params.specs.Params.{crm, adtf_time}
 use Rattle.cell.specs.Name.{name_from, address_name}
-use Rattle.port_share.specs.declared.share.FairShare.{FairShare}
+use Rattle.port_share.specs.Share.{Share}
 use Rattle.connection.specs.declared.parts.Pace.TheVariants.{Running}
 use Rattle.model.specs.Call.{Call, closing, receiving, slot}
 use Rattle.abr_answers.specs.declared.calls.AbrAllowed.{AbrAllowed}
@@ -72,7 +72,7 @@ pub record SameRate (v : ℕ) (k : Watched) (l : List ℕ) (c : Call) (o : Obser
 
 -- After any exported calls cs from the zero table v is open under p. After further calls abr_acr is called. Where
 -- a move of its own lowered the rate, the count starts again after that move.
-pub record LoopSeen (cs : List Call) (os : List Observation) (v : ℕ) (p : Params) (share : FairShare) : Type 0 where
+pub record LoopSeen (cs : List Call) (os : List Observation) (v : ℕ) (p : Params) (share : Share) : Type 0 where
   -- once one backward cell came from the port, the rate is never above the settled one, whatever marks the cells
   -- carry and whatever else moves the rate
   pub never_above :
@@ -97,7 +97,7 @@ pub record LoopSeen (cs : List Call) (os : List Observation) (v : ℕ) (p : Para
       → (a b : AbrAllowed) → ReturnsAllowed v (final_words zeros os) a → a.acr ≡ settled p share → ReturnsAllowed v (final_words (final_words zeros os) ps) b → rate_returned b ≡ some (settled p share)
   -- another share from some call on is reached likewise, wherever the rate was then
   pub followed :
-      (other : FairShare) (m n : ℕ) (ds es : List Call) (ps qs : List Observation) → 1 ≤ increase p → feedback_bound p ≤ n → Transcript ds (final_words zeros os) ps
+      (other : Share) (m n : ℕ) (ds es : List Call) (ps qs : List Observation) → 1 ≤ increase p → feedback_bound p ≤ n → Transcript ds (final_words zeros os) ps
       → FeedbacksSeen v (FromPort v share) (NotClosedSeen v) (watched v cs os) (final_words zeros os) m ds ps
       → Transcript es (final_words (final_words zeros os) ps) qs
       → FeedbacksSeen v (Unmarked v p other) (RateLeft v p) (watched_from v (watched v cs os) ds ps) (final_words (final_words zeros os) ps) n es qs
@@ -110,4 +110,4 @@ pub record LoopSeen (cs : List Call) (os : List Observation) (v : ℕ) (p : Para
       → FeedbacksSeen v (Unmarked v p share) (SameRate v) (watched v cs os) (final_words zeros os) n ds ps
 
 abbrev pub ExportsLoop : Type 0
-ExportsLoop = (cs : List Call) (os : List Observation) → Transcript cs zeros os → (v : ℕ) (p : Params) → params_observed v none cs os ≡ some p → (share : FairShare) → LoopSeen cs os v p share
+ExportsLoop = (cs : List Call) (os : List Observation) → Transcript cs zeros os → (v : ℕ) (p : Params) → params_observed v none cs os ≡ some p → (share : Share) → LoopSeen cs os v p share

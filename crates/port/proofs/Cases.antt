@@ -12,16 +12,17 @@ use borrow.Author.Tests.{eq-eqb, ne_eqb}
 use Rattle.rate.specs.Units.{largest_rate}
 use Rattle.rate.specs.Code.{rate_of, code_or_zero}
 use Rattle.rate.proofs.Codes.{rate-le, code-greatest}
-use Rattle.rate.proofs.Octaves.{or-zero-code}
+use Rattle.rate.proofs.Octaves.{or_zero_code}
 use Rattle.cell.specs.Octets.{payload}
 use Rattle.cell.specs.Header.{type_of}
 use Rattle.cell.specs.Reading.{reading}
 use Rattle.cell.specs.declared.fields.Fields.{Fields}
 use Rattle.cell.specs.Read.{Reading, Refused, DataCell, RmCell}
 use Rattle.cell_read.specs.RefusedAsRead.{RefusedAsRead}
-use Rattle.port_share.specs.Share.{fair_share}
-use Rattle.port_share.specs.declared.share.FairShare.{FairShare}
-use Rattle.port_share.specs.declared.share.FairShare.TheVariants.{Refused as Unshared, NoLimit, Limit}
+use Rattle.port_share.specs.Share.{Share, fair_share}
+use Rattle.laws.specs.declared.refusals.Refusal.{Refusal}
+use Rattle.laws.specs.Refusals.{number}
+use Rattle.std.specs.Prelude.{Some, None, Ok, Err}
 use Rattle.port.specs.Limit.{passed, refusal_of, held_er, with_er, held, limit}
 use Rattle.port.specs.Port.{port_by, port}
 
@@ -66,7 +67,7 @@ module _ (rate er : ℕ) where
 
   -- from what stands between the two functions
   pub er-is : {r m code : ℕ} → r ≡ rate_of er → m ≡ min r rate → code ≡ code_or_zero m → code ≡ held_er rate er
-  er-is e k c = c ∙ ap code_or_zero (k ∙ ap (λ (x : ℕ). min x rate) e) ∙ or-zero-code (min (rate_of er) rate) er-le
+  er-is e k c = c ∙ ap code_or_zero (k ∙ ap (λ (x : ℕ). min x rate) e) ∙ or_zero_code (min (rate_of er) rate) er-le
 
   pub er-fifteen : held_er rate er < 32768
   er-fifteen = (code-greatest (min (rate_of er) rate) er-le).fifteen
@@ -76,18 +77,18 @@ module _ (rate er : ℕ) where
 
 -- ---- the port, by the share
 module _ (capacity : ℕ) (ds o : List ℕ) where
-  by-share : {a x : FairShare} → x ≡ fair_share capacity ds → x ≡ a → port_by a o ≡ port capacity ds o
-  by-share e f = ap (λ (a : FairShare). port_by a o) (sym f ∙ e)
+  by-share : {a x : Share} → x ≡ fair_share capacity ds → x ≡ a → port_by a o ≡ port capacity ds o
+  by-share e f = ap (λ (a : Share). port_by a o) (sym f ∙ e)
 
-  pub port-refused : {n : ℕ} {x : FairShare} → x ≡ fair_share capacity ds → x ≡ Unshared n → passed n o ≡ port capacity ds o
+  pub port-refused : {r : Refusal} {x : Share} → x ≡ fair_share capacity ds → x ≡ Err r → passed (number r) o ≡ port capacity ds o
   unfolding port_by
   port-refused e f = by-share e f
 
-  pub port-unlimited : {n : ℕ} {x : FairShare} → x ≡ fair_share capacity ds → x ≡ NoLimit → RefusedAsRead o n → passed n o ≡ port capacity ds o
+  pub port-unlimited : {n : ℕ} {x : Share} → x ≡ fair_share capacity ds → x ≡ Ok None → RefusedAsRead o n → passed n o ≡ port capacity ds o
   unfolding port_by
   port-unlimited e f j = ap (λ (n : ℕ). passed n o) (judged-number o j) ∙ by-share e f
 
-  pub port-limited : {rate n : ℕ} {x : FairShare} {new : List ℕ} → x ≡ fair_share capacity ds → x ≡ Limit rate → passed n new ≡ limit rate o
+  pub port-limited : {rate n : ℕ} {x : Share} {new : List ℕ} → x ≡ fair_share capacity ds → x ≡ Ok (Some rate) → passed n new ≡ limit rate o
       → passed n new ≡ port capacity ds o
   unfolding port_by
   port-limited e f l = l ∙ by-share e f

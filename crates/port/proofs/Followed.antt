@@ -11,10 +11,11 @@ use Rattle.cell.specs.Reading.{reading}
 use Rattle.cell.specs.declared.fields.Fields.{Fields}
 use Rattle.cell.specs.Read.{Reading, Refused, DataCell, RmCell}
 use Rattle.port_share.specs.Demands.{plain_sum}
-use Rattle.port_share.specs.Share.{fair_share}
+use Rattle.port_share.specs.Share.{Share, fair_share}
 use Rattle.port_share.specs.Held.{HeldTo}
-use Rattle.port_share.specs.declared.share.FairShare.{FairShare}
-use Rattle.port_share.specs.declared.share.FairShare.TheVariants.{Refused as Unshared, NoLimit, Limit}
+use Rattle.laws.specs.declared.refusals.Refusal.{Refusal}
+use Rattle.laws.specs.Refusals.{number}
+use Rattle.std.specs.Prelude.{Some, None, Ok, Err}
 use Rattle.port_share.proofs.Greatest.{refusal-number}
 use Rattle.port_share.proofs.Held.{held_fits}
 use Rattle.port.specs.Limit.{Forwarded, held_er, limit}
@@ -50,25 +51,25 @@ none_above rate o f h b = go (reading o) refl
 
 -- ---- one rate for each demand
 -- without a share nothing passes
-none-followed : (capacity : ℕ) {n : ℕ} {es ds rs : List ℕ} → fair_share capacity es ≡ Unshared n → Forall₂ (Follows capacity es) ds rs → plain_sum rs ≤ capacity
+none-followed : (capacity : ℕ) {r : Refusal} {es ds rs : List ℕ} → fair_share capacity es ≡ Err r → Forall₂ (Follows capacity es) ds rs → plain_sum rs ≤ capacity
 unfolding port_by plain_sum
 none-followed capacity e Forall₂.nil = omega arith
-none-followed capacity {n} {es} e (Forall₂.cons h t) =
-    let q : (port capacity es h.cell).refusal ≡ n = ap (λ (a : FairShare). (port_by a h.cell).refusal) e in
+none-followed capacity {r} {es} e (Forall₂.cons h t) =
+    let q : (port capacity es h.cell).refusal ≡ number r = ap (λ (a : Share). (port_by a h.cell).refusal) e in
     absurd (omega (arith, h.accepted, refusal-number capacity es e))
 
 -- with a share the ER is not above it
-told : (capacity : ℕ) (ds : List ℕ) (s : ℕ) → fair_share capacity ds ≡ Limit s → (d r : ℕ) → Follows capacity ds d r → HeldTo s d r
+told : (capacity : ℕ) (ds : List ℕ) (s : ℕ) → fair_share capacity ds ≡ Ok (Some s) → (d r : ℕ) → Follows capacity ds d r → HeldTo s d r
 unfolding port_by
 told capacity ds s e d r h =
-    let p : port capacity ds h.cell ≡ limit s h.cell = ap (λ (a : FairShare). port_by a h.cell) e in
+    let p : port capacity ds h.cell ≡ limit s h.cell = ap (λ (a : Share). port_by a h.cell) e in
     let q : reading (limit s h.cell).cell ≡ RmCell h.fields = subst (λ (x : Forwarded). reading x.cell ≡ RmCell h.fields) p h.passed_on in
     record { demanded = h.demanded; limited = omega (arith, h.obeyed, none_above s h.cell h.fields q h.backward) }
 
 pub capacity-kept : CapacityKept
 capacity-kept capacity ds rs h = go (fair_share capacity ds) refl
   where
-    go : (a : FairShare) → fair_share capacity ds ≡ a → plain_sum rs ≤ capacity
-    go (Unshared n) e = none-followed capacity e h
-    go NoLimit e = held_fits.unlimited capacity ds rs e (Forall₂.imp (λ d r f. f.demanded) h)
-    go (Limit s) e = held_fits.limited capacity ds rs s e (Forall₂.imp (told capacity ds s e) h)
+    go : (a : Share) → fair_share capacity ds ≡ a → plain_sum rs ≤ capacity
+    go (Err r) e = none-followed capacity e h
+    go (Ok None) e = held_fits.unlimited capacity ds rs e (Forall₂.imp (λ d r f. f.demanded) h)
+    go (Ok (Some s)) e = held_fits.limited capacity ds rs s e (Forall₂.imp (told capacity ds s e) h)

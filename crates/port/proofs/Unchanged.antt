@@ -10,9 +10,10 @@ use Rattle.cell.specs.Admitted.{Taken}
 use Rattle.cell.specs.Read.{Reading, Refused, DataCell, RmCell}
 use Rattle.cell.proofs.Admits.{taken-admitted}
 use Rattle.cell.proofs.Readings.{refusal-number}
-use Rattle.port_share.specs.Share.{fair_share}
-use Rattle.port_share.specs.declared.share.FairShare.{FairShare}
-use Rattle.port_share.specs.declared.share.FairShare.TheVariants.{Refused as Unshared, NoLimit, Limit}
+use Rattle.port_share.specs.Share.{Share, fair_share}
+use Rattle.laws.specs.declared.refusals.Refusal.{Refusal}
+use Rattle.laws.specs.Refusals.{number}
+use Rattle.std.specs.Prelude.{Some, None, Ok, Err}
 use Rattle.port_share.proofs.Greatest.{refusal-number as share-number}
 use Rattle.port.specs.Limit.{passed, refusal_of, limit}
 use Rattle.port.specs.Port.{port_by, port}
@@ -45,15 +46,15 @@ whole-limit rate o = go (reading o) refl
         })
         (λ d. subst (Whole o) (limit-forward rate o e d) (left o (ap refusal_of e)))
 
-whole-port : (a : FairShare) (o : List ℕ) → ((n : ℕ) → a ≡ Unshared n → 0 < n) → Whole o (port_by a o)
+whole-port : (a : Share) (o : List ℕ) → ((r : Refusal) → a ≡ Err r → 0 < number r) → Whole o (port_by a o)
 unfolding port_by
-whole-port (Unshared n) o p = record { refused = λ _. refl; admitted = λ z. absurd (omega (arith, p n refl)) }
-whole-port NoLimit o p = record { refused = λ _. refl; admitted = λ z. taken-admitted o (no-refusal z (refusal-number o)) }
-whole-port (Limit s) o p = whole-limit s o
+whole-port (Err r) o p = record { refused = λ _. refl; admitted = λ z. absurd (omega (arith, p r refl)) }
+whole-port (Ok None) o p = record { refused = λ _. refl; admitted = λ z. taken-admitted o (no-refusal z (refusal-number o)) }
+whole-port (Ok (Some s)) o p = whole-limit s o
 
-unlimited : (capacity : ℕ) (ds o : List ℕ) → fair_share capacity ds ≡ NoLimit → (port capacity ds o).cell ≡ o
+unlimited : (capacity : ℕ) (ds o : List ℕ) → fair_share capacity ds ≡ Ok None → (port capacity ds o).cell ≡ o
 unfolding port_by
-unlimited capacity ds o e = ap (λ (a : FairShare). (port_by a o).cell) e
+unlimited capacity ds o e = ap (λ (a : Share). (port_by a o).cell) e
 
 pub others-unchanged : OthersUnchanged
 others-unchanged = record {

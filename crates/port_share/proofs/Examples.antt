@@ -4,16 +4,17 @@ use mathlib.Core.Bool.{true}
 use mathlib.Core.List.{List, [], ◌∷◌}
 use Prim.Native.Nat.{ℕ, ◌+◌, ◌≤◌, ◌<◌}
 use lib.Dec.{lit<, lit≤}
+use Rattle.std.specs.Prelude.{Some, Ok}
 use Rattle.laws.specs.Require.{require}
 use Rattle.rate.specs.Units.{largest_rate}
 use Rattle.port_share.specs.Demands.{few_enough, in_range, plain_sum, cut_sum}
-use Rattle.port_share.specs.Share.{fair_share, Limit}
+use Rattle.port_share.specs.Share.{fair_share}
 use Rattle.port_share.specs.Examples.{ShareExamples}
 use Rattle.port_share.proofs.Fitting.{greatest-next}
 use Rattle.port_share.proofs.Greatest.{share-greatest}
 
 limit : (capacity : ℕ) (ds : List ℕ) (s : ℕ) → few_enough ds ≡ true → in_range ds ≡ true → cut_sum s ds ≤ capacity → capacity < cut_sum (s + 1) ds
-    → fair_share capacity ds ≡ Limit s
+    → fair_share capacity ds ≡ Ok (Some s)
 limit capacity ds s few e fits next = share-greatest.found capacity ds s few e (greatest-next capacity ds fits next)
 
 pub examples : ShareExamples

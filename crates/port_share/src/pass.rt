@@ -2,9 +2,7 @@
 ghost use Rattle.std.specs.Prelude.{◌≡◌, ◌≤◌, length};
 ghost use Rattle.rate.specs.Units.{largest_rate};
 ghost use Rattle.port_share.specs.Demands.{cut_sum};
-ghost use Rattle.port_share.specs.Above.{one_above, above};
-
-use laws::arithmetic::lower;
+ghost use Rattle.port_share.specs.Above.{above};
 
 // The sum of the demands, each cut to s, and how many of them are above s.
 #[derive(Clone, Copy)]
@@ -13,25 +11,17 @@ pub struct Sums {
     pub above: u64,
 }
 
-fn one_above(s: u64, d: u64) -> u64
-    ensures { (result ≡ one_above s d) × (result ≤ 1) }
-{
-    if s < d { 1 } else { 0 }
-}
-
 // No sum wraps: at most 1,024 numbers, none above the largest rate.
+#[tactic(auto, using(crate::proofs::Places::pass_steps))]
 pub fn pass(demands: &[u64], s: u64) -> Sums
     requires { (length demands.now ≤ 1024) × (s ≤ largest_rate) }
     ensures { (result.sum ≡ cut_sum s demands.now) × (result.above ≡ above s demands.now) }
 {
-    let mut sum: u64 = 0;
-    let mut count: u64 = 0;
-    let mut i = 0;
-    while i < demands.len() {
-        let d = demands[i];
-        sum += lower(s, d);
-        count += one_above(s, d);
-        i += 1;
+    let mut sum = 0;
+    let mut above = 0;
+    for &d in demands {
+        sum += d.min(s);
+        above += (s < d) as u64;
     }
-    Sums { sum, above: count }
+    Sums { sum, above }
 }

@@ -5,15 +5,8 @@ ghost use Rattle.port_share.specs.Demands.{in_range, plain_sum};
 ghost use Rattle.port_share.specs.Share.{greatest_up_to, fair_share};
 
 use crate::pass::pass;
-use laws::refusals::{REFUSED_DEMAND_TOO_LARGE, REFUSED_TOO_MANY_DEMANDS};
+use laws::refusals::Refusal;
 use rate::units::LARGEST_RATE;
-
-#[derive(Clone, Copy)]
-pub enum FairShare {
-    Refused(u32),
-    NoLimit,
-    Limit(u64),
-}
 
 // Take what is left of the capacity, times the demands that are not met. Each pass brings it to a quarter or less.
 // It starts below 4^31, so after 31 passes nothing is left.
@@ -28,8 +21,7 @@ fn greatest(capacity: u64, demands: &[u64]) -> u64
     let mut s: u64 = 0;
     let mut left = capacity;
     let mut above = demands.len() as u64;
-    let mut passes = 0;
-    while passes < PASSES {
+    for _ in 0..PASSES {
         let tried = s + left / above + 1;
         let p = pass(demands, tried);
         if capacity < p.sum {
@@ -38,24 +30,23 @@ fn greatest(capacity: u64, demands: &[u64]) -> u64
         s = tried;
         left = capacity - p.sum;
         above = p.above;
-        passes += 1;
     }
     s
 }
 
-// Refusals 21, 22. The pass at the largest rate tells whether a demand is above it, and else it gives the plain sum.
-pub fn fair_share(capacity: u64, demands: &[u64]) -> FairShare
+// No limit is None. Refusals 21, 22: the pass at the largest rate tells whether a demand is above it, and else it gives the plain sum.
+pub fn fair_share(capacity: u64, demands: &[u64]) -> Result<Option<u64>, Refusal>
     ensures { result ≡ fair_share capacity demands.now }
 {
     if 1024 < demands.len() {
-        return FairShare::Refused(REFUSED_TOO_MANY_DEMANDS);
+        return Err(Refusal::TooManyDemands);
     }
     let whole = pass(demands, LARGEST_RATE);
     if whole.above != 0 {
-        return FairShare::Refused(REFUSED_DEMAND_TOO_LARGE);
+        return Err(Refusal::DemandTooLarge);
     }
     if whole.sum <= capacity {
-        return FairShare::NoLimit;
+        return Ok(None);
     }
-    FairShare::Limit(greatest(capacity, demands))
+    Ok(Some(greatest(capacity, demands)))
 }

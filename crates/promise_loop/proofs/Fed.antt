@@ -16,8 +16,8 @@ use Rattle.cell.specs.declared.fields.Fields.{Fields}
 use Rattle.cell.specs.Read.{RmCell}
 use Rattle.cell.specs.Fields.{cell_name}
 use Rattle.cell.specs.Reading.{reading}
-use Rattle.port_share.specs.declared.share.FairShare.{FairShare}
-use Rattle.port_share.specs.declared.share.FairShare.TheVariants.{Refused, NoLimit, Limit}
+use Rattle.std.specs.Prelude.{Some, None, Ok, Err}
+use Rattle.port_share.specs.Share.{Share}
 use Rattle.port.specs.Port.{port_by}
 use Rattle.port.specs.Limited.{fields_with_er}
 use Rattle.port.proofs.Limited.{backward-limited}
@@ -56,14 +56,14 @@ same-rate q r e f = λ i. record { acr = e i; params = f i }
 
 -- a backward cell from the port
 pub behind-read :
-    (share : FairShare) (o : List ℕ) (f : Fields) → reading o ≡ RmCell f → f.dir ≡ 1
+    (share : Share) (o : List ℕ) (f : Fields) → reading o ≡ RmCell f → f.dir ≡ 1
     → reading (port_by share o).cell ≡ RmCell (fields_with_er (er_behind share f.er) f)
 unfolding port_by
-behind-read (Refused n) o f e d = e
-behind-read NoLimit o f e d = e
-behind-read (Limit share) o f e d = (backward-limited share o f e d).fields
+behind-read (Err r) o f e d = e
+behind-read (Ok None) o f e d = e
+behind-read (Ok (Some share)) o f e d = (backward-limited share o f e d).fields
 
-module _ {v : ℕ} {share : FairShare} {o : List ℕ} (h : FromPort v share o) where
+module _ {v : ℕ} {share : Share} {o : List ℕ} (h : FromPort v share o) where
   abbrev pub as_fed : Rate → Rate
   as_fed q = feedback (eqb h.fields.ci 1) (eqb h.fields.ni 1) (rate_of (er_behind share h.fields.er)) q
 
@@ -80,14 +80,14 @@ module _ {v : ℕ} {share : FairShare} {o : List ℕ} (h : FromPort v share o) w
       }
 
 -- it leaves at most the settled rate
-pub from-port-low : {v : ℕ} {share : FairShare} {o : List ℕ} (h : FromPort v share o) (q : Rate) → RateInBounds q → (as_fed h q).acr ≤ settled q.params share
+pub from-port-low : {v : ℕ} {share : Share} {o : List ℕ} (h : FromPort v share o) (q : Rate) → RateInBounds q → (as_fed h q).acr ≤ settled q.params share
 unfolding feedback
 from-port-low {share = share} h q b =
     let e : ℕ = rate_of (er_behind share h.fields.er) in
     omega (arith, (feedback-in-bounds (eqb h.fields.ci 1) (eqb h.fields.ni 1) e q b).below, behind-most q.params share h.fields.er, b.above, b.below)
 
 -- without marks it is a feedback with the ER that the port writes
-unmarked-same : {v : ℕ} {share : FairShare} {o : List ℕ} (q : Rate) (t : Unmarked v q.params share o) → RateInBounds q → as_fed t.from_port q ≡ feedback false false (port_rate q.params share) q
+unmarked-same : {v : ℕ} {share : Share} {o : List ℕ} (q : Rate) (t : Unmarked v q.params share o) → RateInBounds q → as_fed t.from_port q ≡ feedback false false (port_rate q.params share) q
 unfolding feedback
 unmarked-same {share = share} q t b =
     let e : ℕ = rate_of (er_behind share t.from_port.fields.er) in
@@ -98,7 +98,7 @@ unmarked-same {share = share} q t b =
     rw (t.ci, t.ni) (same-rate (feedback false false e q) (feedback false false (port_rate q.params share) q) h refl)
 
 pub unmarked-step :
-    {v : ℕ} {share : FairShare} {p : Params} {o : List ℕ} {s : State} (q : Rate) → Unmarked v p share o → WellFormed s → Stands v q s → q.params ≡ p
+    {v : ℕ} {share : Share} {p : Params} {o : List ℕ} {s : State} (q : Rate) → Unmarked v p share o → WellFormed s → Stands v q s → q.params ≡ p
     → Stands v (feedback false false (port_rate p share) q) (step s (receiving o)).state
 unmarked-step {v} {share} {p} {o} {s} q t w z e = subst (λ (x : Params). Unmarked v x share o → Stands v (feedback false false (port_rate x share) q) (step s (receiving o)).state) e go t
   where

@@ -9,7 +9,7 @@ use native.Mathlib.Omega.{arith}
 use Rattle.rate_params.specs.declared.params.Params.{Params}
 use Rattle.rate_moves.specs.declared.moves.Rate.{Rate}
 use Rattle.rate_moves.specs.Moves.{feedback}
-use Rattle.port_share.specs.declared.share.FairShare.{FairShare}
+use Rattle.port_share.specs.Share.{Share}
 use Rattle.model.specs.State.{State, Entry, free, taken, empty, find}
 use Rattle.model.specs.Invariant.{WellFormed}
 use Rattle.model.specs.Call.{Call, receiving}
@@ -36,7 +36,7 @@ pub record Ran (v : ℕ) (p : Params) (m : ℕ) (q : Rate) (n : ℕ) (s : State)
   pub fed : 0 < n → after.acr ≤ m
 
 pub run-from-port :
-    {v : ℕ} {share : FairShare} {p : Params} {q : Rate} {s : State} {n : ℕ} {ds : List Call} → WellFormed s → Stands v q s → q.params ≡ p → Feedbacks v (FromPort v share) (NotClosed v) s n ds
+    {v : ℕ} {share : Share} {p : Params} {q : Rate} {s : State} {n : ℕ} {ds : List Call} → WellFormed s → Stands v q s → q.params ≡ p → Feedbacks v (FromPort v share) (NotClosed v) s n ds
     → Ran v p (settled p share) q n (final s ds)
 unfolding feedback
 run-from-port {q = q} w z e ended = record { after = q; stands = z; params = e; lower = λ l. l; fed = λ l. absurd (omega arith) }
@@ -50,7 +50,7 @@ run-from-port {q = q} w z e (other_call {c = c} n k r) =
     record { after = x.after; stands = x.stands; params = x.params; lower = λ l. x.lower (le_trans (y.down n) l); fed = x.fed }
 
 run-unmarked :
-    {v : ℕ} {share : FairShare} {p : Params} {q : Rate} {s : State} {n : ℕ} {ds : List Call} → WellFormed s → Stands v q s → q.params ≡ p → Feedbacks v (Unmarked v p share) (RateKept v) s n ds
+    {v : ℕ} {share : Share} {p : Params} {q : Rate} {s : State} {n : ℕ} {ds : List Call} → WellFormed s → Stands v q s → q.params ≡ p → Feedbacks v (Unmarked v p share) (RateKept v) s n ds
     → Stands v (fed_times n (port_rate p share) q) (final s ds)
 unfolding feedback
 run-unmarked w z e ended = z
@@ -58,7 +58,7 @@ run-unmarked {share = share} {p = p} {q = q} w z e (fed_back {o = o} t r) = run-
 run-unmarked w z e (other_call {c = c} n k r) = run-unmarked (step-well-formed w c) (kept_step w z c k) e r
 
 run-kept :
-    {v : ℕ} {share : FairShare} {p : Params} {q : Rate} {s : State} {n : ℕ} {ds : List Call} → WellFormed s → Stands v q s → q.params ≡ p → Feedbacks v (Unmarked v p share) (NotLowered v) s n ds
+    {v : ℕ} {share : Share} {p : Params} {q : Rate} {s : State} {n : ℕ} {ds : List Call} → WellFormed s → Stands v q s → q.params ≡ p → Feedbacks v (Unmarked v p share) (NotLowered v) s n ds
     → Feedbacks v (Unmarked v p share) (RateKept v) s n ds
 unfolding feedback entry_rate
 run-kept w z e ended = ended
@@ -88,7 +88,7 @@ not-above {m} x e l = subst (NotAbove (some m)) (sym e) (both l)
 
 -- enough of them, from any rate under these parameters
 reaches :
-    {v : ℕ} {share : FairShare} {p : Params} {q : Rate} {s : State} {n : ℕ} {ds : List Call} → WellFormed s → Stands v q s → q.params ≡ p → 1 ≤ increase p → feedback_bound p ≤ n
+    {v : ℕ} {share : Share} {p : Params} {q : Rate} {s : State} {n : ℕ} {ds : List Call} → WellFormed s → Stands v q s → q.params ≡ p → 1 ≤ increase p → feedback_bound p ≤ n
     → Feedbacks v (Unmarked v p share) (RateKept v) s n ds → allowed v (final s ds) ≡ some (settled p share)
 reaches {v} {share} {p} {q} {s} {n} {ds} w z e h l r = allowed-is (run-unmarked w z e r) ∙ ap some (subst Ends e ends h l)
   where
@@ -98,7 +98,7 @@ reaches {v} {share} {p} {q} {s} {n} {ds} w z e h l r = allowed-is (run-unmarked 
     ends : Ends q.params
     ends = (rates-settle (port_rate q.params share) q (in_bounds w z)).reached n
 
-module _ {v : ℕ} {q : Rate} {s : State} (w : WellFormed s) (z : Stands v q s) (share : FairShare) where
+module _ {v : ℕ} {q : Rate} {s : State} (w : WellFormed s) (z : Stands v q s) (share : Share) where
   abbrev er : ℕ
   er = port_rate q.params share
 

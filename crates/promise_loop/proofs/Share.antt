@@ -12,8 +12,8 @@ use Rattle.rate.proofs.Codes.{code-greatest}
 use Rattle.rate_params.specs.declared.params.Params.{Params}
 use Rattle.rate_params.specs.Params.{peak, least}
 use Rattle.port_share.specs.Demands.{plain_sum, cut_sum}
-use Rattle.port_share.specs.declared.share.FairShare.{FairShare}
-use Rattle.port_share.specs.declared.share.FairShare.TheVariants.{Refused, NoLimit, Limit}
+use Rattle.std.specs.Prelude.{Some, None, Ok, Err}
+use Rattle.port_share.specs.Share.{Share}
 use Rattle.port_share.proofs.Greatest.{share-greatest}
 use Rattle.port.specs.Limit.{held_er}
 use Rattle.port.proofs.Cases.{er-le}
@@ -25,7 +25,7 @@ er-greatest : (share er : ℕ) → GreatestCode (min (rate_of er) share) (held_e
 er-greatest share er = code-greatest (min (rate_of er) share) (er-le share er)
 
 -- a code whose rate is not above the share does not allow more, up to PCR
-under-share : (p : Params) (share code : ℕ) → rate_of code ≤ share → min (peak p) (rate_of code) ≤ port_rate p (Limit share)
+under-share : (p : Params) (share code : ℕ) → rate_of code ≤ share → min (peak p) (rate_of code) ≤ port_rate p (Ok (Some share))
 under-share p share code l =
     let g = er-greatest share p.pcr in
     by_cases (dec_lt (rate_of code) (peak p))
@@ -33,29 +33,29 @@ under-share p share code l =
     (λ h. omega (arith, g.greatest p.pcr (omega arith)))
 
 module _ (p : Params) where
-  pub port-low : (a : FairShare) → port_rate p a ≤ peak p
-  port-low (Refused n) = le_refl _
-  port-low NoLimit = le_refl _
-  port-low (Limit share) = omega (arith, (er-greatest share p.pcr).not_above)
+  pub port-low : (a : Share) → port_rate p a ≤ peak p
+  port-low (Err r) = le_refl _
+  port-low (Ok None) = le_refl _
+  port-low (Ok (Some share)) = omega (arith, (er-greatest share p.pcr).not_above)
 
   -- whatever ER was before the port, PCR and the ER behind it do not allow more
-  pub behind-most : (a : FairShare) (er : ℕ) → min (peak p) (rate_of (er_behind a er)) ≤ port_rate p a
-  behind-most (Refused n) er = omega arith
-  behind-most NoLimit er = omega arith
-  behind-most (Limit share) er = under-share p share (held_er share er) (omega (arith, (er-greatest share er).not_above))
+  pub behind-most : (a : Share) (er : ℕ) → min (peak p) (rate_of (er_behind a er)) ≤ port_rate p a
+  behind-most (Err r) er = omega arith
+  behind-most (Ok None) er = omega arith
+  behind-most (Ok (Some share)) er = under-share p share (held_er share er) (omega (arith, (er-greatest share er).not_above))
 
   -- and they allow as much, if ER was not below that
-  pub behind-same : (a : FairShare) (er : ℕ) → port_rate p a ≤ rate_of er → min (peak p) (rate_of (er_behind a er)) ≡ port_rate p a
-  behind-same (Refused n) er l = omega arith
-  behind-same NoLimit er l = omega arith
-  behind-same (Limit share) er l =
+  pub behind-same : (a : Share) (er : ℕ) → port_rate p a ≤ rate_of er → min (peak p) (rate_of (er_behind a er)) ≡ port_rate p a
+  behind-same (Err r) er l = omega arith
+  behind-same (Ok None) er l = omega arith
+  behind-same (Ok (Some share)) er l =
       let low = (er-greatest share p.pcr).not_above in
-      omega (arith, behind-most (Limit share) er, low, (er-greatest share er).greatest (held_er share p.pcr) (omega (arith, low)))
+      omega (arith, behind-most (Ok (Some share)) er, low, (er-greatest share er).greatest (held_er share p.pcr) (omega (arith, low)))
 
-exact : (p : Params) (code : ℕ) → settled p (Limit (rate_of code)) ≡ settled_rate p (rate_of code)
+exact : (p : Params) (code : ℕ) → settled p (Ok (Some (rate_of code))) ≡ settled_rate p (rate_of code)
 exact p code = omega (arith, (er-greatest (rate_of code) p.pcr).not_above, under-share p (rate_of code) code (le_refl _))
 
-rounded : (p : Params) (share : ℕ) → share ≤ largest_rate → settled p (Limit share) ≡ settled_rate p (rate_of (code_of share))
+rounded : (p : Params) (share : ℕ) → share ≤ largest_rate → settled p (Ok (Some share)) ≡ settled_rate p (rate_of (code_of share))
 rounded p share h =
     let g : GreatestCode share (code_of share) = code-greatest share h in
     let low = (er-greatest share p.pcr).not_above in
@@ -63,12 +63,12 @@ rounded p share h =
 
 sum-above :
     (share : ℕ) (ps : List Params)
-    → plain_sum (map (λ p. settled p (Limit share)) ps) ≤ cut_sum share (map peak ps) + plain_sum (map (λ p. least p - port_rate p (Limit share)) ps)
+    → plain_sum (map (λ p. settled p (Ok (Some share))) ps) ≤ cut_sum share (map peak ps) + plain_sum (map (λ p. least p - port_rate p (Ok (Some share))) ps)
 unfolding plain_sum cut_sum
 sum-above share [] = omega arith
 sum-above share (p ∷ ps) =
     let low = (er-greatest share p.pcr).not_above in
-    let one : settled p (Limit share) ≤ min (peak p) share + (least p - port_rate p (Limit share)) = omega (arith, low) in
+    let one : settled p (Ok (Some share)) ≤ min (peak p) share + (least p - port_rate p (Ok (Some share))) = omega (arith, low) in
     omega (arith, one, sum-above share ps)
 
 pub settled-rates : SettledRates

@@ -1,9 +1,8 @@
 -- The bound computed where it is exact, and shares that are no rate of a code.
-use Rattle.std.specs.Prelude.{◌-◌, ◌≡◌}
+use Rattle.std.specs.Prelude.{◌-◌, ◌≡◌, Some, None, Ok}
 use Rattle.rate_params.specs.declared.params.Params.{Params}
 use Rattle.rate_params.specs.Params.{house_set}
 use Rattle.rate_moves.specs.Moves.{opened}
-use Rattle.port_share.specs.declared.share.FairShare.TheVariants.{NoLimit, Limit}
 use Rattle.promise_service.specs.Restart.{increase}
 use Rattle.promise_loop.specs.Settled.{feedback_bound, fed_times}
 use Rattle.promise_loop.specs.Share.{settled}
@@ -22,9 +21,9 @@ pub record LoopExamples : Type 0 where
   pub there : (fed_times (feedback_bound lowest) 513 (opened lowest)).acr ≡ 513
   pub short : (fed_times (feedback_bound lowest - 1) 513 (opened lowest)).acr ≡ 512
   -- below one cell a second the code is that of 0: a source without a minimum stops
-  pub stopped : settled lowest (Limit 511) ≡ 0
+  pub stopped : settled lowest (Ok (Some 511)) ≡ 0
   -- a share between two codes, one below MCR, none, and one above PCR
-  pub between : settled usual (Limit 1_025) ≡ 1_024
-  pub below_mcr : settled usual (Limit 100) ≡ 512
-  pub no_limit : settled usual NoLimit ≡ 512_000
-  pub above_pcr : settled usual (Limit 600_000) ≡ 512_000
+  pub between : settled usual (Ok (Some 1_025)) ≡ 1_024
+  pub below_mcr : settled usual (Ok (Some 100)) ≡ 512
+  pub no_limit : settled usual (Ok None) ≡ 512_000
+  pub above_pcr : settled usual (Ok (Some 600_000)) ≡ 512_000

@@ -11,7 +11,7 @@ use Rattle.cell.specs.Read.{RmCell}
 use Rattle.cell.specs.Name.{address_name}
 use Rattle.cell.specs.Fields.{cell_name}
 use Rattle.cell.specs.Reading.{reading}
-use Rattle.port_share.specs.declared.share.FairShare.{FairShare}
+use Rattle.port_share.specs.Share.{Share}
 use Rattle.port.specs.Port.{port_by}
 use Rattle.connection.specs.declared.parts.Connection.{Connection}
 use Rattle.connection.specs.declared.parts.Pace.TheVariants.{Running}
@@ -29,7 +29,7 @@ use Rattle.promise_loop.specs.Share.{port_rate, settled}
 
 -- a backward cell of v as a port with this share leaves it, whatever marks and ER it has; for `port capacity
 -- demands` the share is `fair_share capacity demands`
-pub record FromPort (v : ℕ) (share : FairShare) (o : List ℕ) : Type 0 where
+pub record FromPort (v : ℕ) (share : Share) (o : List ℕ) : Type 0 where
   pub before : List ℕ
   pub fields : Fields
   pub read : reading before ≡ RmCell fields
@@ -39,7 +39,7 @@ pub record FromPort (v : ℕ) (share : FairShare) (o : List ℕ) : Type 0 where
 
 -- such a cell without marks, whose ER before the port was not below what this port allows: no
 -- other on the way allows less
-pub record Unmarked (v : ℕ) (p : Params) (share : FairShare) (o : List ℕ) : Type 0 where
+pub record Unmarked (v : ℕ) (p : Params) (share : Share) (o : List ℕ) : Type 0 where
   pub from_port : FromPort v share o
   pub ci : from_port.fields.ci ≡ 0
   pub ni : from_port.fields.ni ≡ 0
@@ -90,7 +90,7 @@ pub record OpenAt (cs : List Call) (v : ℕ) (p : Params) (a : ℕ) : Type 0 whe
 
 -- and after further calls, where s is the table after cs; where a move of its own lowered the rate, the count
 -- starts again after that move
-pub record Loop (s : State) (v : ℕ) (p : Params) (a : ℕ) (share : FairShare) : Type 0 where
+pub record Loop (s : State) (v : ℕ) (p : Params) (a : ℕ) (share : Share) : Type 0 where
   -- once one backward cell came from the port, the rate is never above the settled one, whatever marks the cells
   -- carry and whatever else moves the rate
   pub never_above : (n : ℕ) (ds : List Call) → Feedbacks v (FromPort v share) (NotClosed v) s (suc n) ds → NotAbove (some (settled p share)) (allowed v (final s ds))
@@ -106,10 +106,10 @@ pub record Loop (s : State) (v : ℕ) (p : Params) (a : ℕ) (share : FairShare)
   pub stays : (n : ℕ) (ds : List Call) → a ≡ settled p share → Feedbacks v (Unmarked v p share) (RateKept v) s n ds → allowed v (final s ds) ≡ some (settled p share)
   -- another share from some call on is reached likewise, wherever the rate was then
   pub followed :
-      (m n : ℕ) (other : FairShare) (ds es : List Call) → Feedbacks v (FromPort v share) (NotClosed v) s m ds → 1 ≤ increase p → feedback_bound p ≤ n
+      (m n : ℕ) (other : Share) (ds es : List Call) → Feedbacks v (FromPort v share) (NotClosed v) s m ds → 1 ≤ increase p → feedback_bound p ≤ n
       → Feedbacks v (Unmarked v p other) (RateKept v) (final s ds) n es → allowed v (final (final s ds) es) ≡ some (settled p other)
   -- nothing else moves the rate where no forward cell of v lowers it
   pub kept : (n : ℕ) (ds : List Call) → Feedbacks v (Unmarked v p share) (NotLowered v) s n ds → Feedbacks v (Unmarked v p share) (RateKept v) s n ds
 
 abbrev pub ClosedLoop : Type 0
-ClosedLoop = (cs : List Call) (v a : ℕ) (share : FairShare) (p : Params) → OpenAt cs v p a → Loop (final empty cs) v p a share
+ClosedLoop = (cs : List Call) (v a : ℕ) (share : Share) (p : Params) → OpenAt cs v p a → Loop (final empty cs) v p a share

@@ -9,7 +9,7 @@ use Rattle.cell.specs.Octets.{payload}
 use Rattle.cell.specs.Name.{vpi_in, vci_in, no_name}
 use Rattle.cell.specs.Fields.{rm_cell}
 use Rattle.cell.specs.Turning.{turned_payload, turned_cell}
-use Rattle.port_share.specs.declared.share.FairShare.{FairShare}
+use Rattle.port_share.specs.Share.{Share}
 use Rattle.port.specs.Port.{port_by}
 use Rattle.connection.specs.Source.{forward_fields}
 use Rattle.promise_loop.specs.Loop.{Unmarked}
@@ -23,4 +23,4 @@ abbrev pub turned_back : (v : ℕ) → Rate → List ℕ
 turned_back v q = turned_cell (vpi_in v) (vci_in v) (payload_of (turned_payload 0 false (payload (forward_cell v q))))
 
 abbrev pub TurnedUnmarked : Type 0
-TurnedUnmarked = (v : ℕ) (share : FairShare) (q : Rate) → v < no_name → RateInBounds q → Unmarked v q.params share (port_by share (turned_back v q)).cell
+TurnedUnmarked = (v : ℕ) (share : Share) (q : Rate) → v < no_name → RateInBounds q → Unmarked v q.params share (port_by share (turned_back v q)).cell

@@ -119,11 +119,11 @@ code-of-rate k = go (eqb (k / 16384 % 2) 1) refl
         code-octave e (2 ^ e * y) (omega arith) o ∙ rw d (omega (arith, eqb-true (k / 16384 % 2) 1 p))
 
 -- by the test of nz
-pub canonical-set : (k : ℕ) → k / 16384 % 2 ≡ 1 → k % 32768 ≡ code_of (rate_of k)
-canonical-set k h = sym (code-of-rate k ∙ rw (eq-eqb _ _ h))
+pub canonical_set : (k : ℕ) → k / 16384 % 2 ≡ 1 → k % 32768 ≡ code_of (rate_of k)
+canonical_set k h = sym (code-of-rate k ∙ rw (eq-eqb _ _ h))
 
-pub canonical-clear : (k : ℕ) → (k / 16384 % 2 ≡ 1 → ⊥) → 0 ≡ code_of (rate_of k)
-canonical-clear k h = sym (code-of-rate k ∙ rw (ne_eqb _ _ h))
+pub canonical_clear : (k : ℕ) → (k / 16384 % 2 ≡ 1 → ⊥) → 0 ≡ code_of (rate_of k)
+canonical_clear k h = sym (code-of-rate k ∙ rw (ne_eqb _ _ h))
 
 -- the codes below an octave
 below-le : (e x : ℕ) → x < 512 * 2 ^ e → code_below e x ≤ 16384 + e * 512

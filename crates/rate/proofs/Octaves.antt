@@ -5,7 +5,6 @@ use Prim.Native.Nat.{ℕ, zero, suc, ◌+◌, ◌-◌, ◌*◌, ◌/◌, ◌^◌
 use native.Mathlib.Nat.{le_trans, le-div_iff_mul-le, div-lt_iff_lt-mul, pow-suc, mul-le-mul_left}
 use native.Mathlib.Omega.{arith}
 use native.Mathlib.Decide.{dec_lt}
-use lib.Count.{count_leading_zeros, leading_top}
 use lib.Pow.{pow_pos, pow_mono, pow-add}
 use borrow.Author.Tests.{le-leb, lt-leb}
 use Rattle.rate.specs.Code.{code_below, code_of, code_or_zero}
@@ -53,34 +52,43 @@ pub code-none : (x : ℕ) → x < 512 → code_of x ≡ 0
 unfolding code_of
 code-none x h = below_none 32 x h
 
--- the octave of a rate, from the zeros above its highest digit
-pub record Leading (x z : ℕ) : Type 0 where
-  pub room : z ≤ 54
-  pub small : 54 - z ≤ 31
-  pub within : Octave (54 - z) x
+-- the octave of a rate, from the place of its highest digit
+pub record Leading (x j : ℕ) : Type 0 where
+  pub room : 9 ≤ j
+  pub small : j - 9 ≤ 31
+  pub within : Octave (j - 9) x
 
-pub leading : (x : ℕ) → 512 ≤ x → x ≤ largest_rate → Leading x (count_leading_zeros 64 x)
-leading x l u = go (leading_top 64 x (omega arith) (omega arith))
-  where
-    go : (j : ℕ) × (count_leading_zeros 64 x + suc j ≡ 64) × (2 ^ j ≤ x) × (x < 2 ^ suc j) → Leading x (count_leading_zeros 64 x)
-    go (j, s, a, b) =
-        let least : 9 ≤ j = by_cases (dec_lt j 9) (λ k. absurd (omega (arith, pow_mono {i = suc j} {j = 9} k))) (λ k. omega arith) in
-        let most : j ≤ 40 = by_cases (dec_lt 40 j) (λ k. absurd (omega (arith, pow_mono {i = 41} {j = j} k))) (λ k. omega arith) in
-        let e : ℕ = 54 - count_leading_zeros 64 x in
-        let p : 2 ^ j ≡ 512 * 2 ^ e = ap (λ (n : ℕ). 2 ^ n) (omega arith) ∙ pow-add 2 9 e in
-        record {
-          room = omega arith;
-          small = omega arith;
-          within = octave e x (omega arith) (omega (arith, pow-suc 2 j, pow-suc 2 e));
-        }
+pub leading : (x j : ℕ) → 512 ≤ x → x ≤ largest_rate → 2 ^ j ≤ x → x < 2 * 2 ^ j → Leading x j
+leading x j l u a b =
+    let least : 9 ≤ j = by_cases (dec_lt j 9) (λ k. absurd (omega (arith, pow-suc 2 j, pow_mono {i = suc j} {j = 9} k))) (λ k. omega arith) in
+    let most : j ≤ 40 = by_cases (dec_lt 40 j) (λ k. absurd (omega (arith, pow_mono {i = 41} {j = j} k))) (λ k. omega arith) in
+    let e : ℕ = j - 9 in
+    let p : 2 ^ j ≡ 512 * 2 ^ e = ap (λ (n : ℕ). 2 ^ n) (omega arith) ∙ pow-add 2 9 e in
+    record {
+      room = least;
+      small = omega arith;
+      within = octave e x (omega arith) (omega (arith, pow-suc 2 e));
+    }
 
 -- up to the largest rate, `code_or_zero` is the code
-pub or-zero-code : (x : ℕ) → x ≤ largest_rate → code_or_zero x ≡ code_of x
+pub or_zero_code : (x : ℕ) → x ≤ largest_rate → code_or_zero x ≡ code_of x
 unfolding code_or_zero
-or-zero-code x h = rw (le-leb x largest_rate h)
+or_zero_code x h = rw (le-leb x largest_rate h)
 
-pub or-zero-none : (x : ℕ) → x < 512 → 0 ≡ code_or_zero x
-or-zero-none x h = sym (or-zero-code x (omega arith) ∙ code-none x h)
+pub or_zero_none : (x : ℕ) → x < 512 → 0 ≡ code_or_zero x
+or_zero_none x h = sym (or_zero_code x (omega arith) ∙ code-none x h)
 
-pub or-zero-octave : (x z : ℕ) → x ≤ largest_rate → Leading x z → code_in (54 - z) x ≡ code_or_zero x
-or-zero-octave x z h o = sym (or-zero-code x h ∙ code-octave (54 - z) x (omega (arith, o.small)) o.within)
+pub or_zero_octave : (x j : ℕ) → 512 ≤ x → x ≤ largest_rate → 2 ^ j ≤ x → x < 2 * 2 ^ j → code_in (j - 9) x ≡ code_or_zero x
+or_zero_octave x j l u a b =
+    let o = leading x j l u a b in
+    sym (or_zero_code x u ∙ code-octave (j - 9) x (omega (arith, o.small)) o.within)
+
+-- so the code's sum stays in range
+pub octave_low : (x j : ℕ) → 512 ≤ x → x ≤ largest_rate → 2 ^ j ≤ x → x < 2 * 2 ^ j → 512 ≤ x / 2 ^ (j - 9)
+octave_low x j l u a b = (leading x j l u a b).within.low
+
+pub octave_high : (x j : ℕ) → 512 ≤ x → x ≤ largest_rate → 2 ^ j ≤ x → x < 2 * 2 ^ j → x / 2 ^ (j - 9) + 512 * (j - 9) < 16896
+octave_high x j l u a b = let o = leading x j l u a b in omega (arith, o.small, o.within.high)
+
+-- what the code of `code_or_zero` needs
+pub ruleset code_steps = (or_zero_none, or_zero_octave, octave_low, octave_high)

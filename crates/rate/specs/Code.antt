@@ -1,8 +1,8 @@
 -- The 16-bit rate code. (Document 01, "Units and the 16-bit rate code"; document 02, L7.)
-use Rattle.std.specs.Prelude.{ℕ, zero, suc, ◌+◌, ◌-◌, ◌*◌, ◌/◌, ◌%◌, ◌^◌, ◌≤◌, ◌<◌, Bool, cond, ◌&&◌, ◌||◌, leb, ltb, eqb}
+use Rattle.std.specs.Prelude.{ℕ, zero, suc, ◌+◌, ◌-◌, ◌*◌, ◌/◌, ◌%◌, ◌^◌, ◌≤◌, ◌<◌, Bool, cond, ◌&&◌, ◌||◌, leb, ltb, eqb, Result, Ok, Err}
+use Rattle.laws.specs.declared.refusals.Refusal.{Refusal}
+use Rattle.laws.specs.declared.refusals.Refusal.TheVariants.{TooLarge}
 use Rattle.rate.specs.Units.{largest_rate}
-use Rattle.rate.specs.declared.code.Coded.{Coded}
-use Rattle.rate.specs.declared.code.Coded.TheVariants.{Code, Refused}
 
 -- whether bit 15, which is reserved, is 0; true also for a number over 16 bits, which is no code
 -- and meets 7 where one is given
@@ -32,8 +32,8 @@ unfoldable pub code_or_zero : ℕ → ℕ
 code_or_zero x = cond (leb x largest_rate) (code_of x) 0
 
 -- coding a rate: refusal 9 above the largest
-unfoldable pub coded : ℕ → Coded
-coded x = cond (leb x largest_rate) (Code (code_of x)) (Refused 9)
+unfoldable pub coded : ℕ → Result ℕ Refusal
+coded x = cond (leb x largest_rate) (Ok (code_of x)) (Err TooLarge)
 
 -- what document 01 asks of the code of x: no code has a higher rate that is not above x, and bit 15 is 0
 pub record GreatestCode (x code : ℕ) : Type 0 where

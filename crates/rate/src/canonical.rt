@@ -5,6 +5,7 @@ ghost use Rattle.rate.specs.Code.{rate_of, code_of};
 use crate::code::{NZ, RESERVED};
 
 // Its low 15 bits, and 0 without nz, whatever number stands where a code should.
+#[tactic(auto, using(crate::proofs::Codes::canonical_set, crate::proofs::Codes::canonical_clear))]
 pub fn canonical(code: u32) -> u32
     ensures { result ≡ code_of (rate_of code) }
 {

@@ -3,7 +3,7 @@ ghost use Rattle.std.specs.Prelude.{◌≡◌};
 ghost use Rattle.rate.specs.Code.{reserved_clear, codes_clear, rate_of, code_or_zero, coded};
 
 use crate::units::LARGEST_RATE;
-use laws::refusals::REFUSED_TOO_LARGE;
+use laws::refusals::Refusal;
 
 // Of the 16 bits of a code, bit 14 is nz and bit 15 is reserved.
 pub const NZ: u32 = 16384;
@@ -15,14 +15,8 @@ pub const SIXTEEN_BITS_MOST: u32 = 65535;
 
 pub const CODE_MOST: u32 = 32767;
 
-// A rate's code, or the number of the refusal.
-#[derive(Clone, Copy)]
-pub enum Coded {
-    Code(u32),
-    Refused(u32),
-}
-
 // Whether bit 15 of a code is 0; a number over 16 bits is no code.
+#[tactic(auto, unfolding(crate::specs::Code::reserved_clear))]
 pub fn reserved_clear(code: u32) -> bool
     ensures { result ≡ reserved_clear code }
 {
@@ -30,6 +24,7 @@ pub fn reserved_clear(code: u32) -> bool
 }
 
 // The same of three codes.
+#[tactic(auto, unfolding(crate::specs::Code::codes_clear))]
 pub fn codes_clear(a: u32, b: u32, c: u32) -> bool
     ensures { result ≡ codes_clear a b c }
 {
@@ -37,6 +32,7 @@ pub fn codes_clear(a: u32, b: u32, c: u32) -> bool
 }
 
 // The rate that a code stands for, by its low 15 bits.
+#[tactic(auto, unfolding(crate::specs::Code::rate_of))]
 pub fn rate_of(code: u32) -> u64
     ensures { result ≡ rate_of code }
 {
@@ -47,8 +43,9 @@ pub fn rate_of(code: u32) -> u64
     }
 }
 
-// The code of a rate up to the largest, and 0 for what is no rate. The exponent is read off the leading zeros:
-// a rate with ten binary digits has exponent 0, and each digit more adds 1.
+// The code of a rate up to the largest, and 0 for what is no rate. The exponent is read off the highest binary
+// digit: a rate with ten of them has exponent 0, and each digit more adds 1.
+#[tactic(auto, using(crate::proofs::Octaves::code_steps), unfolding(crate::specs::Code::code_or_zero))]
 pub fn code_or_zero(rate: u64) -> u32
     ensures { result ≡ code_or_zero rate }
 {
@@ -58,16 +55,17 @@ pub fn code_or_zero(rate: u64) -> u32
     if rate < 512 {
         return 0;
     }
-    let e = 54 - u64::leading_zeros(rate);
+    let e = rate.ilog2() - 9;
     NZ + e * 512 + ((rate >> e) - 512) as u32
 }
 
 // Coding a rate, with refusal 9 above the largest.
-pub fn code_of(rate: u64) -> Coded
+#[tactic(auto, using(crate::proofs::Octaves::or_zero_code), unfolding(crate::specs::Code::coded))]
+pub fn code_of(rate: u64) -> Result<u32, Refusal>
     ensures { result ≡ coded rate }
 {
     if LARGEST_RATE < rate {
-        return Coded::Refused(REFUSED_TOO_LARGE);
+        return Err(Refusal::TooLarge);
     }
-    Coded::Code(code_or_zero(rate))
+    Ok(code_or_zero(rate))
 }

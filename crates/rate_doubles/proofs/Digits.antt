@@ -11,10 +11,11 @@ use lib.Pow.{pow_pos, pow_mono, shl-shr, shr_le}
 use lib.Ieee.{Float, binary64, up, down, of_int}
 use lib.Ieee.Exact.{HasValue}
 use lib.Ieee.Fits.{down_pos}
+use Rattle.std.specs.Prelude.{Ok}
 use Rattle.rate.specs.Code.{rate_of}
 use Rattle.rate_doubles.specs.Import.{Exact, Below, remainder_of, split_at, accepted, of_fraction, import_of}
 use Rattle.rate_doubles.specs.Pattern.{place, digits, lead, low, pattern_code, pattern_remainder, pattern_split}
-use Rattle.rate_doubles.proofs.Fractions.{whole_is, power-parts, quotient, quotient-exact}
+use Rattle.rate_doubles.proofs.Fractions.{whole_is, whole-held, power-parts, quotient, quotient-exact}
 use Rattle.rate_doubles.proofs.Patterns.{Within}
 use Rattle.rate_doubles.proofs.Splits.{Split, split}
 
@@ -82,6 +83,9 @@ module _ {x : Float} {b : ℕ} (w : Within x b) where
   unfolding accepted
   taken = rw (le-leb d a w.from, lt-ltb a (2 ^ 32 * d) w.to)
 
-  pub split-is : pattern_split b ≡ import_of x
+  pub split-is : Ok (pattern_split b) ≡ import_of x
   unfolding pattern_split of_fraction split_at
   split-is = rw (w.is, ne_eqb a 0 (λ z. omega (arith, w.from, down_pos w.e)), taken, split-of.coded, nothing_left, left_is)
+
+-- what the code's `split` needs
+pub ruleset split_steps = (none_below, some_below, low_small, unit-small, whole-held)

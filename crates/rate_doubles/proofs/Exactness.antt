@@ -12,11 +12,13 @@ use lib.Ieee.{Float, nan, inf, fin, up, down, eq, le, lt}
 use lib.Ieee.Digits.{Equals}
 use lib.Ieee.Positive.{first_pos}
 use lib.Ieee.Fits.{up_pos, down_pos}
+use Rattle.std.specs.Prelude.{Ok, Err}
+use Rattle.laws.specs.declared.refusals.Refusal.TheVariants.{Double}
 use Rattle.rate.specs.Units.{largest_rate}
 use Rattle.rate.specs.Code.{rate_of, code_of, GreatestCode}
 use Rattle.rate.proofs.Octaves.{octave, code-octave, code-none}
 use Rattle.rate.proofs.Codes.{code-greatest}
-use Rattle.rate_doubles.specs.Import.{Refused, Exact, Below, split_at, accepted, of_fraction, import_of}
+use Rattle.rate_doubles.specs.Import.{Exact, Below, split_at, accepted, of_fraction, import_of}
 use Rattle.rate_doubles.specs.Refused.{Unfit, not_anumber, infinite, below_zero, below_one, too_large, RefusedExactly}
 use Rattle.rate_doubles.specs.Exact.{IsSum, CodeUnder, ImportedExactly, ImportsExactly, LargestBelow}
 use Rattle.rate_doubles.specs.Pattern.{place, low, pattern_code, pattern_remainder, pattern_split}
@@ -40,11 +42,11 @@ module _ {x : Float} {b : ℕ} (w : Within x b) where
   is_sum : IsSum x (rate_of (pattern_code b)) (pattern_remainder b)
   is_sum = record { part = low b; whole = 2 ^ (52 - place b); some = pow_pos (52 - place b); remainder = left-value w; input = rw w.is (split-of w).sum }
 
-  split-exact : ImportedExactly x (pattern_split b)
+  split-exact : ImportedExactly x (Ok (pattern_split b))
   unfolding pattern_split
   split-exact = go (eqb (low b) 0) refl
     where
-      go : (t : Bool) → eqb (low b) 0 ≡ t → ImportedExactly x (cond t (Exact (pattern_code b)) (Below (pattern_code b) (pattern_remainder b)))
+      go : (t : Bool) → eqb (low b) 0 ≡ t → ImportedExactly x (Ok (cond t (Exact (pattern_code b)) (Below (pattern_code b) (pattern_remainder b))))
       go true h = (code-under, rw w.is ((split-of w).none (eqb-true (low b) 0 h)))
       go false h = (code-under, is_sum)
 
@@ -87,7 +89,7 @@ imports-exactly x f = go (eq x nil) (le one x) (lt x top) refl refl refl
     go false true true z h l = let w = in-range x f h l in subst (ImportedExactly x) (split-is w) (split-exact w)
 
 -- What is refused, and what not.
-unfit-refused : (x : Float) → Unfit x → import_of x ≡ Refused 20
+unfit-refused : (x : Float) → Unfit x → import_of x ≡ Err Double
 unfolding of_fraction accepted
 unfit-refused nan not_anumber = refl
 unfit-refused (inf s) (infinite _) = refl

@@ -15,6 +15,7 @@ use lib.Ieee.Back.{round_whole}
 use lib.Ieee.Scale.{round_same}
 use lib.Ieee.Fits.{down_pos}
 use borrow.Author.Tests.{ne_eqb}
+use Rattle.rate.proofs.Codes.{rate-le}
 
 -- a double with the value a / c, by its parts
 pub record Fraction (x : Float) (a c : ℕ) : Type 0 where
@@ -75,3 +76,6 @@ over-power n k h l =
 pub quotient-exact :
     (n k : ℕ) → n < 2 ^ 53 → k ≤ 1074 → (y : Float) → HasValue y false (2 ^ k) 1 → HasValue (div binary64 (of_int binary64 (pos n)) y) false n (2 ^ k)
 quotient-exact n k h l y v = rw (quotient n (2 ^ k) (le_of_lt h) (pow_pos k) y v) (over-power n k h l)
+
+-- no code has a higher rate than the largest, which is below 2^42
+pub ruleset export_steps = (rate-le)

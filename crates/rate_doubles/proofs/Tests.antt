@@ -12,7 +12,9 @@ use lib.Dec.{T, leb, ltb, eqb}
 use lib.IntN.{ℤ, pos}
 use lib.Ieee.{Float, nan, inf, fin, binary64, up, down, lt, le, eq, fits, to_bits}
 use lib.Ieee.Fits.{down_pos}
-use Rattle.rate_doubles.specs.Import.{Refused, Exact, accepted, of_fraction, import_of}
+use Rattle.std.specs.Prelude.{Ok, Err}
+use Rattle.laws.specs.declared.refusals.Refusal.TheVariants.{Double}
+use Rattle.rate_doubles.specs.Import.{Exact, accepted, of_fraction, import_of}
 use Rattle.rate_doubles.proofs.Patterns.{Within, within}
 
 -- the doubles that the code compares with: 0, 1 and 2^32
@@ -56,20 +58,20 @@ unfolding lt
 top-test m e = rw mul-one
 
 -- The ways out of `import`.
-pub zero-found : (x : Float) → eq x nil ≡ true → Exact 0 ≡ import_of x
+pub zero-found : (x : Float) → eq x nil ≡ true → Ok (Exact 0) ≡ import_of x
 unfolding eq of_fraction
 zero-found nan h = absurd (true≢false (sym h))
 zero-found (inf s) h = absurd (true≢false (sym h))
 zero-found (fin s m e) h = rw (sym (nil-test s m e) ∙ h)
 
-pub low-refused : (x : Float) → eq x nil ≡ false → le one x ≡ false → Refused 20 ≡ import_of x
+pub low-refused : (x : Float) → eq x nil ≡ false → le one x ≡ false → Err Double ≡ import_of x
 unfolding of_fraction accepted
 low-refused nan z h = refl
 low-refused (inf s) z h = refl
 low-refused (fin true m e) z h = rw (sym (nil-test true m e) ∙ z)
 low-refused (fin false m e) z h = rw (sym (nil-test false m e) ∙ z, sym (one-test false m e) ∙ h)
 
-pub high-refused : (x : Float) → eq x nil ≡ false → lt x top ≡ false → Refused 20 ≡ import_of x
+pub high-refused : (x : Float) → eq x nil ≡ false → lt x top ≡ false → Err Double ≡ import_of x
 unfolding of_fraction accepted
 high-refused nan z h = refl
 high-refused (inf s) z h = refl

@@ -10,6 +10,7 @@ use borrow.Author.Tests.{eq-eqb, ne_eqb, le-leb, lt-ltb}
 use lib.IntN.{ℤ}
 use lib.Ieee.{fin, up, down}
 use lib.Ieee.Fits.{down_pos}
+use Rattle.std.specs.Prelude.{Ok}
 use Rattle.rate.specs.Code.{rate_of, code_of}
 use Rattle.rate.proofs.Octaves.{code-none}
 use Rattle.rate.proofs.Codes.{rate-le, code-greatest, code-of-rate}
@@ -39,7 +40,7 @@ module _ (k m : ℕ) (e : ℤ) (v : m * up e * 512 ≡ rate_of k * down e) where
   units-are : a * 512 / d ≡ rate_of k
   units-are = ap (λ (z : ℕ). z / d) v ∙ mul-div_cancel (rate_of k) (down_pos e)
 
-  back_from : 512 ≤ rate_of k → import_of (fin false m e) ≡ Exact (code_of (rate_of k))
+  back_from : 512 ≤ rate_of k → import_of (fin false m e) ≡ Ok (Exact (code_of (rate_of k)))
   unfolding of_fraction accepted split_at
   back_from h =
       let p = down_pos e in
@@ -47,7 +48,7 @@ module _ (k m : ℕ) (e : ℤ) (v : m * up e * 512 ≡ rate_of k * down e) where
       let u = mul-le-mul_right d (rate-le k) in
       rw (ne_eqb a 0 (λ z. omega arith), le-leb d a (omega arith), lt-ltb a (2 ^ 32 * d) (omega arith), units-are, rate-back k, eq-eqb (a * 512) (rate_of k * d) v)
 
-  back_none : rate_of k < 512 → import_of (fin false m e) ≡ Exact (code_of (rate_of k))
+  back_none : rate_of k < 512 → import_of (fin false m e) ≡ Ok (Exact (code_of (rate_of k)))
   unfolding of_fraction
   back_none h =
       let z : a * 512 ≡ 0 * d = rw (nil-below k h) at v in
@@ -58,4 +59,4 @@ round_trip k x h =
     let f = fraction x (rate_of k) 512 h in
     ap import_of f.is
     ∙ by_cases (dec_lt (rate_of k) 512) (λ l. back_none k f.m f.e f.value l) (λ l. back_from k f.m f.e f.value (omega arith))
-    ∙ ap Exact (canonical-is k)
+    ∙ ap (λ (code : ℕ). Ok (Exact code)) (canonical-is k)

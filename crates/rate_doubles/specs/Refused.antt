@@ -1,8 +1,10 @@
 -- Refusal 20 is met for these doubles, and import has no other. (Document 02, L8.)
-use Rattle.std.specs.Prelude.{ℕ, ◌*◌, ◌^◌, ◌≤◌, ◌<◌, ◌≡◌, Bool, true, false, T, ℤ, Float}
+use Rattle.std.specs.Prelude.{ℕ, ◌*◌, ◌^◌, ◌≤◌, ◌<◌, ◌≡◌, Bool, true, false, T, ℤ, Ok, Err, Float}
 use Rattle.std.specs.Float.{nan, inf, fin, binary64}
 use Rattle.std.specs.Float.Ieee.{up, down, fits}
-use Rattle.rate_doubles.specs.Import.{Refused, Exact, import_of}
+use Rattle.laws.specs.declared.refusals.Refusal.{Refusal}
+use Rattle.laws.specs.declared.refusals.Refusal.TheVariants.{Double}
+use Rattle.rate_doubles.specs.Import.{Exact, import_of}
 
 -- a finite double is the fraction m * up e / down e, with a minus sign if s is true
 pub data Unfit : Float → Type 0 where
@@ -14,6 +16,6 @@ pub data Unfit : Float → Type 0 where
 
 -- they are refused, and no other double is; both zeros are 0x0000
 pub record RefusedExactly : Type 0 where
-  pub refused : (x : Float) → Unfit x → import_of x ≡ Refused 20
-  pub only : (x : Float) → T (fits binary64 x) → (n : ℕ) → import_of x ≡ Refused n → (n ≡ 20) × Unfit x
-  pub zeros : (s : Bool) (e : ℤ) → import_of (fin s 0 e) ≡ Exact 0x0000
+  pub refused : (x : Float) → Unfit x → import_of x ≡ Err Double
+  pub only : (x : Float) → T (fits binary64 x) → (r : Refusal) → import_of x ≡ Err r → (r ≡ Double) × Unfit x
+  pub zeros : (s : Bool) (e : ℤ) → import_of (fin s 0 e) ≡ Ok (Exact 0x0000)

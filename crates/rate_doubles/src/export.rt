@@ -22,6 +22,7 @@ fn in_cells(rate: u64) -> f64
     (rate as f64) / 512.0
 }
 
+#[tactic(auto, using(crate::proofs::Fractions::export_steps))]
 fn code_in_cells(code: u32) -> f64
     ensures { IsRate result (rate_of code) }
 {

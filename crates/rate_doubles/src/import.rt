@@ -3,12 +3,12 @@ ghost use Rattle.std.specs.Prelude.{◌≡◌, ◌/◌, ◌^◌, ◌≤◌};
 ghost use Rattle.rate_doubles.specs.Import.{import_of};
 ghost use Rattle.rate_doubles.specs.Pattern.{pattern_split};
 
-use laws::refusals::REFUSED_DOUBLE;
+use laws::refusals::Refusal;
 
-// The remainder is in cells per second, as the double is.
+// The greatest code not above the double, and what is left of it. The remainder is in cells per second, as the
+// double is.
 #[derive(Clone, Copy)]
 pub enum Imported {
-    Refused(u32),
     Exact(u32),
     Below { code: u32, remainder: f64 },
 }
@@ -21,6 +21,7 @@ const LOW_DIGITS: u64 = 0x800_0000_0000;
 
 // The bit pattern of a double from 1 on and below 2^32. Its exponent field and its leading digits are the code.
 // The digits below them, at their place, are the remainder.
+#[tactic(auto, using(crate::proofs::Digits::split_steps))]
 fn split(bits: u64) -> Imported
     requires { (1023 ≤ bits / 2 ^ 52) × (bits / 2 ^ 52 ≤ 1054) }
     ensures { result ≡ pattern_split bits }
@@ -40,16 +41,14 @@ fn split(bits: u64) -> Imported
 }
 
 // Refusal 20. Both zeros are equal to 0.0, and what is not a number passes no comparison.
-pub fn import(x: f64) -> Imported
+pub fn import(x: f64) -> Result<Imported, Refusal>
     ensures { result ≡ import_of x }
 {
     if x == 0.0 {
-        return Imported::Exact(0);
+        Ok(Imported::Exact(0))
+    } else if x >= 1.0 && x < 4294967296.0 {
+        Ok(split(x.to_bits()))
+    } else {
+        Err(Refusal::Double)
     }
-    if x >= 1.0 {
-        if x < 4294967296.0 {
-            return split(f64::to_bits(x));
-        }
-    }
-    Imported::Refused(REFUSED_DOUBLE)
 }

@@ -1,9 +1,11 @@
 -- A rate less a part of it: in the form that the code computes, in order, and with at least the whole part taken off.
 use mathlib.Core.Path.{◌≡◌, sym, ap, ◌∙◌}
+use mathlib.Core.Logic.{by_cases}
 use Prim.Native.Nat.{ℕ, ◌+◌, ◌-◌, ◌*◌, ◌/◌, ◌^◌, ◌≤◌, ◌<◌}
 use native.Mathlib.Nat.{le_trans, le_of_eq, lt_of_lt_of_le, sub-le, add-mul, mul-sub, zero-mul, mul-le-mul_left, mul-le-mul_right}
 use native.Mathlib.Nat.{zero-div, mul-div_cancel, mod-lt, div-add-mod', div-le_self, div-mul-le_self, div-eq_of_lt, div-eq_of_lt-le}
 use native.Mathlib.Omega.{arith}
+use native.Mathlib.Decide.{dec_lt}
 use lib.Pow.{pow_pos, pow_mono, shr_mono}
 use Rattle.rate_moves.specs.Moves.{reduced_by}
 
@@ -23,17 +25,17 @@ share b p h =
     let more = add-mul b 1 p in
     div-eq_of_lt-le p (omega arith) (omega (arith, add-mul (b - b / p) 1 p))
 
-pub cut-zero : (k x : ℕ) → x ≡ 0 → 0 ≡ reduced_by k x
+pub cut_is : (k x : ℕ) → x - 1 - (x - 1) / 2 ^ k ≡ reduced_by k x
 unfolding reduced_by
-cut-zero k x q = rw (q, zero-mul, zero-div)
+cut_is k x =
+    by_cases (dec_lt 0 x)
+    (λ h.
+    let more : x ≡ x - 1 + 1 = omega arith in
+    sym (ap (λ (n : ℕ). n * (2 ^ k - 1) / 2 ^ k) more ∙ share (x - 1) (2 ^ k) (pow_pos k)))
+    (λ h. let none : x ≡ 0 = omega arith in rw (none, zero-mul, zero-div))
 
-pub cut-more : (k x : ℕ) → 0 < x → x - 1 - (x - 1) / 2 ^ k ≡ reduced_by k x
-unfolding reduced_by
-cut-more k x h =
-    sym (ap (λ (n : ℕ). n * (2 ^ k - 1) / 2 ^ k) more ∙ share (x - 1) (2 ^ k) (pow_pos k))
-  where
-    more : x ≡ x - 1 + 1
-    more = omega arith
+pub part_le : (k x : ℕ) → x / 2 ^ k ≤ x
+part_le k x = div-le_self x (2 ^ k)
 
 pub cut-mono : (k : ℕ) {a b : ℕ} → a ≤ b → reduced_by k a ≤ reduced_by k b
 unfolding reduced_by

@@ -3,7 +3,6 @@
 ghost use Rattle.std.specs.Prelude.{◌≡◌, ◌+◌, ◌/◌, ◌^◌, min};
 ghost use Rattle.rate_moves.specs.Moves.{moved, opened, first_cell, idle, unanswered, reduced_by, rate_by_marks, feedback};
 
-use laws::arithmetic::{higher, lower};
 use rate_params::params::Params;
 
 #[derive(Clone, Copy)]
@@ -13,31 +12,27 @@ pub struct Rate {
 }
 
 // The part 1/2^k of x, rounded down, for every k.
+#[tactic(auto, using(crate::proofs::Cuts::part_none))]
 fn part(k: u32, x: u64) -> u64
     ensures { result ≡ x / 2 ^ k }
 {
-    if k < 64 { x >> k } else { 0 }
+    x.checked_shr(k).unwrap_or(0)
 }
 
 // x less its part 1/2^k, rounded down: what is taken off is the part of x - 1, rounded down, and 1 more.
+#[tactic(auto, using(crate::proofs::Cuts::part_le, crate::proofs::Cuts::cut_is))]
 fn reduced_by(k: u32, x: u64) -> u64
     ensures { result ≡ reduced_by k x }
 {
-    if x == 0 { 0 } else { x - 1 - part(k, x - 1) }
+    let before = x.saturating_sub(1);
+    before - part(k, before)
 }
 
-// a and a part of the peak, up to the peak; the room is compared before anything is added.
+// a and a part of the peak, up to the peak. No peak is above 2^64 - 1, where the sum stays.
 fn raised(r: u32, peak: u64, a: u64) -> u64
     ensures { result ≡ min peak (a + peak / 2 ^ r) }
 {
-    let step = part(r, peak);
-    if peak <= a {
-        peak
-    } else if peak - a <= step {
-        peak
-    } else {
-        a + step
-    }
+    peak.min(a.saturating_add(part(r, peak)))
 }
 
 impl Rate {
@@ -52,20 +47,21 @@ impl Rate {
     }
 
     // The same parameters at another allowed rate.
-    fn moved(mut self, a: u64) -> Rate
-        ensures { result ≡ moved self a }
+    fn moved(self, acr: u64) -> Rate
+        ensures { result ≡ moved self acr }
     {
-        self.acr = a;
-        self
+        Rate { acr, ..self }
     }
 
+    #[tactic(auto, unfolding(crate::specs::Moves::first_cell))]
     pub fn first_cell(self) -> Rate
         ensures { result ≡ first_cell self }
     {
-        self.moved(lower(self.acr, self.params.initial_used()))
+        self.moved(self.acr.min(self.params.initial_used()))
     }
 
     // `passed` is the time since the last forward cell.
+    #[tactic(auto, unfolding(crate::specs::Moves::idle, crate::specs::Moves::first_cell))]
     pub fn idle(self, passed: u64) -> Rate
         ensures { result ≡ idle passed self }
     {
@@ -77,18 +73,17 @@ impl Rate {
     }
 
     // `y` forward cells are unanswered.
+    #[tactic(auto, unfolding(crate::specs::Moves::unanswered))]
     pub fn unanswered(self, y: u32) -> Rate
         ensures { result ≡ unanswered y self }
     {
-        if y < self.params.crm() {
+        if y < self.params.crm() || self.params.c == Params::CDF_ZERO {
             return self;
         }
-        if self.params.c == Params::CDF_ZERO {
-            return self;
-        }
-        self.moved(higher(self.params.least(), reduced_by(self.params.c, self.acr)))
+        self.moved(self.params.least().max(reduced_by(self.params.c, self.acr)))
     }
 
+    #[tactic(auto, unfolding(crate::specs::Moves::rate_by_marks))]
     fn rate_by_marks(self, ci: bool, ni: bool) -> u64
         ensures { result ≡ rate_by_marks ci ni self }
     {
@@ -102,9 +97,10 @@ impl Rate {
     }
 
     // CI, NI and the rate of ER, as a backward cell brings them.
+    #[tactic(auto, unfolding(crate::specs::Moves::feedback))]
     pub fn feedback(self, ci: bool, ni: bool, er: u64) -> Rate
         ensures { result ≡ feedback ci ni er self }
     {
-        self.moved(higher(self.params.least(), lower(self.rate_by_marks(ci, ni), er)))
+        self.moved(self.params.least().max(self.rate_by_marks(ci, ni).min(er)))
     }
 }

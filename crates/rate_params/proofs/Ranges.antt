@@ -1,11 +1,11 @@
 -- Parameters that fit, as plain inequalities.
-use mathlib.Core.Path.{◌≡◌, refl, sym}
+use mathlib.Core.Path.{◌≡◌, refl}
 use mathlib.Core.Bool.{Bool, true, ◌&&◌}
 use mathlib.Core.List.{List, [], ◌∷◌}
-use Prim.Native.Nat.{ℕ, zero, suc, ◌≤◌, ◌<◌, zero-le}
+use Prim.Native.Nat.{ℕ, zero, suc, ◌≤◌, zero-le}
 use native.Mathlib.Omega.{arith}
 use lib.Dec.{leb}
-use lib.ListN.{get_or, get_or-eq_default}
+use lib.ListN.{get_or}
 use borrow.Author.Tests.{leb-true, le-leb}
 use Rattle.laws.proofs.Tests.{both}
 use Rattle.rate_params.specs.Params.{Params, peak, least, initial, within, codes_fit, rates_fit, numbers_fit, params_fit, tbe_fits, frtt_fits, trm_times, trm_time, n_most, r_most, d_most, c_most, tbe_most, adtf_most, trm_most}
@@ -85,11 +85,6 @@ ranges-exact = record {
 
 pub setup-fits : (p : Params) → tbe_fits p ≡ true → frtt_fits p ≡ true → SetupFits p
 setup-fits p e f = let h = ranges-exact.tbe p e in record { tbe_least = h.0; tbe_most = h.1; frtt_most = ranges-exact.frtt p f }
-
--- a Trm number over the most has no time
-pub trm-none : (n : ℕ) → trm_most < n → 0 ≡ trm_time n
-unfolding trm_time trm_times
-trm-none n h = sym (get_or-eq_default trm_times 0 h)
 
 -- no Trm is longer than a tenth of a second
 abbrev all_up_to : ℕ → List ℕ → Bool

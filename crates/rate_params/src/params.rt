@@ -2,7 +2,6 @@
 ghost use Rattle.std.specs.Prelude.{◌+◌, ◌-◌, ◌/◌, ◌^◌, ◌≡◌, ◌&&◌, leb};
 ghost use Rattle.rate_params.specs.Params.{peak, least, initial, initial_used, within, codes_fit, rates_fit, numbers_fit, params_fit, tbe_fits, frtt_fits, crm, trm_time, house_set, adtf_most, trm_most};
 
-use laws::arithmetic::{higher, lower};
 use rate::code::{SIXTEEN_BITS_MOST, rate_of};
 
 // Trm by its number, in nanoseconds.
@@ -10,32 +9,19 @@ const TRM_TIMES: [u64; 8] = [
     781250, 1562500, 3125000, 6250000, 12500000, 25000000, 50000000, 100000000,
 ];
 
+#[tactic(auto, unfolding(crate::specs::Params::trm_time, crate::specs::Params::trm_times))]
 pub fn trm_time(number: u32) -> u64
     ensures { result ≡ trm_time number }
 {
-    if Params::TRM_MOST < number {
-        return 0;
-    }
-    TRM_TIMES[number as usize]
+    TRM_TIMES.get(number as usize).copied().unwrap_or(0)
 }
 
-// x / 2^n, rounded up: the part of x - 1, rounded down, and 1 more, so that no sum wraps.
+// x / 2^n, rounded up. No x reaches 2^32.
+#[tactic(auto, using(crate::proofs::RoundedUp::part_div_ceil, crate::proofs::RoundedUp::part_of_few))]
 fn rounded_up(x: u32, n: u32) -> u32
     ensures { result ≡ (x + 2 ^ n - 1) / 2 ^ n }
 {
-    if x == 0 {
-        return 0;
-    }
-    if 31 < n {
-        return 1;
-    }
-    ((x - 1) >> n) + 1
-}
-
-fn within(low: u32, high: u32, x: u32) -> bool
-    ensures { result ≡ within low high x }
-{
-    low <= x && x <= high
+    if n < 32 { x.div_ceil(1 << n) } else { x.min(1) }
 }
 
 #[repr(C)]
@@ -130,6 +116,7 @@ impl Params {
     }
 
     // The initial rate used. Its product fits for every TBE.
+    #[tactic(auto, unfolding(crate::specs::Params::initial_used))]
     pub fn initial_used(self) -> u64
         ensures { result ≡ initial_used self }
     {
@@ -137,62 +124,73 @@ impl Params {
             return self.initial();
         }
         let tbe_rate = 512000000 * (self.tbe as u64) / (self.frtt as u64);
-        higher(self.least(), lower(self.initial(), tbe_rate))
+        self.least().max(self.initial().min(tbe_rate))
     }
 
     // CRM.
+    #[tactic(auto, unfolding(crate::specs::Params::crm))]
     pub fn crm(self) -> u32
         ensures { result ≡ crm self }
     {
         rounded_up(self.tbe, self.n)
     }
 
+    #[tactic(auto, unfolding(crate::specs::Params::codes_fit))]
     fn codes_fit(self) -> bool
         ensures { result ≡ codes_fit self }
     {
         self.pcr <= SIXTEEN_BITS_MOST
-            && (self.mcr <= SIXTEEN_BITS_MOST && self.icr <= SIXTEEN_BITS_MOST)
+            && self.mcr <= SIXTEEN_BITS_MOST
+            && self.icr <= SIXTEEN_BITS_MOST
     }
 
     // The peak is 512 or more, the minimum may be 0, the initial rate lies between them (document 02, L5).
+    #[tactic(auto, unfolding(crate::specs::Params::rates_fit))]
     fn rates_fit(self) -> bool
         ensures { result ≡ rates_fit self }
     {
         let least = self.least();
         let initial = self.initial();
         let peak = self.peak();
-        512 <= peak && (least <= initial && initial <= peak)
+        512 <= peak && least <= initial && initial <= peak
     }
 
     // ADTF and the Trm number.
+    #[tactic(auto, unfolding(crate::specs::Params::within))]
     fn limits_fit(self) -> bool
         ensures { result ≡ within 1 adtf_most self.adtf && leb self.trm trm_most }
     {
-        within(1, Params::ADTF_MOST, self.adtf) && self.trm <= Params::TRM_MOST
+        (1..=Params::ADTF_MOST).contains(&self.adtf) && self.trm <= Params::TRM_MOST
     }
 
+    #[tactic(auto, unfolding(crate::specs::Params::numbers_fit, crate::specs::Params::within))]
     fn numbers_fit(self) -> bool
         ensures { result ≡ numbers_fit self }
     {
-        within(1, Params::N_MOST, self.n)
-            && (self.r <= Params::R_MOST
-                && (self.d <= Params::D_MOST && (self.c <= Params::C_MOST && self.limits_fit())))
+        (1..=Params::N_MOST).contains(&self.n)
+            && self.r <= Params::R_MOST
+            && self.d <= Params::D_MOST
+            && self.c <= Params::C_MOST
+            && self.limits_fit()
     }
 
     // What an open may give, except for TBE and FRTT: every range of document 01 at once.
+    #[tactic(auto, unfolding(crate::specs::Params::params_fit))]
     pub fn fits(self) -> bool
         ensures { result ≡ params_fit self }
     {
-        self.codes_fit() && (self.rates_fit() && self.numbers_fit())
+        self.codes_fit() && self.rates_fit() && self.numbers_fit()
     }
 
     // TBE and FRTT, each with a refusal of its own.
+    #[tactic(auto, unfolding(crate::specs::Params::tbe_fits, crate::specs::Params::within))]
     pub fn tbe_fits(self) -> bool
         ensures { result ≡ tbe_fits self }
     {
-        within(1, Params::TBE_MOST, self.tbe)
+        (1..=Params::TBE_MOST).contains(&self.tbe)
     }
 
+    #[tactic(auto, unfolding(crate::specs::Params::frtt_fits))]
     pub fn frtt_fits(self) -> bool
         ensures { result ≡ frtt_fits self }
     {

@@ -1,13 +1,16 @@
 -- Each answer of the share is a case of the definition.
 use borrow.Author.Rules.{rules}
+use Rattle.std.proofs.lemmas.Result.{err_from_is_err_and}
 use Rattle.port.proofs.Cases.{port-refused, port-unlimited, port-limited}
 use Rattle.port.proofs.port.port.Goals as goal
 
-pub returns-in-Refused : goal.returns-in-Refused
-returns-in-Refused c = let s = c in port-refused _ _ _ s.fair_share.ensures c.in-Refused.is
+pub returns-in_err-rate : goal.returns-in_err-rate
+returns-in_err-rate c =
+    let p = err_from_is_err_and c.from_residual.result c.from_residual.ensures.1 in
+    rw (p.1, p.2) (port-refused _ _ _ c.fair_share.ensures c.in_err-rate.was)
 
-pub returns-in-NoLimit : goal.returns-in-NoLimit
-returns-in-NoLimit c = let s = c in rw c.refusal_or_0.ensures (port-unlimited _ _ _ s.fair_share.ensures (search rules) c.refusal.ensures)
+pub returns-in-None : goal.returns-in-None
+returns-in-None c = port-unlimited _ _ _ c.fair_share.ensures (search rules) c.refusal.ensures
 
-pub returns-in-Limit : goal.returns-in-Limit
-returns-in-Limit c = let r = c in rw c.refusal_or_0-in-Limit.ensures (port-limited _ _ _ r.fair_share.ensures r.in-Limit.is c.limit.ensures)
+pub returns-in-Some : goal.returns-in-Some
+returns-in-Some c = port-limited _ _ _ c.fair_share.ensures (search rules) c.limit.ensures

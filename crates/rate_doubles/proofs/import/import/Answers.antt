@@ -1,10 +1,11 @@
-use mathlib.Core.Path.{sym, subst, ◌∙◌}
+use mathlib.Core.Path.{sym, subst, ap, ◌∙◌}
 use lib.Dec.{T}
 use lib.Ieee.{binary64, fits, to_bits, of_bits}
+use Rattle.std.specs.Prelude.{Ok}
 use Rattle.rate_doubles.proofs.Patterns.{Within, a-number}
 use Rattle.rate_doubles.proofs.Tests.{zero-found, low-refused, high-refused, in-range}
 use Rattle.rate_doubles.proofs.Digits.{split-is}
-use Rattle.rate_doubles.proofs.import.import.Goals.{Then-x-3}
+use Rattle.rate_doubles.proofs.import.import.Goals.{Then-x-3, else-x-2-via-then-x-2+else-x-3, else-x-2-via-else-x-2}
 use Rattle.rate_doubles.proofs.import.import.Goals as goal
 
 within : (c : Then-x-3) → Within c.args.x (to_bits binary64 c.args.x)
@@ -28,12 +29,12 @@ unfolding of_bits
 returns-then-x-3 c =
     let held : T (fits binary64 c.args.x) = subst T (sym c.well_formed.0.1) tt in
     let within : Within c.args.x (to_bits binary64 c.args.x) = in-range c.args.x (held) c.if-x-2.true c.if-x-3.true in
-    c.split.ensures ∙ split-is (within)
-
-pub returns-else-x-3 : goal.returns-else-x-3
-unfolding of_bits
-returns-else-x-3 c = high-refused c.args.x c.if-x.false c.if-x-3.false
+    ap Ok c.split.ensures ∙ split-is (within)
 
 pub returns-else-x-2 : goal.returns-else-x-2
 unfolding of_bits
-returns-else-x-2 c = low-refused c.args.x c.if-x.false c.if-x-2.false
+returns-else-x-2 c =
+    elim c.else-x-2.branch [
+      | else-x-2-via-then-x-2+else-x-3 w ↦ high-refused c.args.x c.if-x.false w.if-x-3.false
+      | else-x-2-via-else-x-2 w ↦ low-refused c.args.x c.if-x.false w.if-x-2.false
+    ]

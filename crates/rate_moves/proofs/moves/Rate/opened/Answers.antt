@@ -1,4 +1,0 @@
-use Rattle.rate_moves.proofs.moves.Rate.opened.Goals as goal
-
-pub returns : goal.returns
-returns c = cc
