@@ -7,7 +7,8 @@ use cell::fields::Fields;
 use cell::read::Cell;
 use laws::refusals::Refusal;
 
-// kind 1 is a data cell, of whose fields only the VPI and the VCI count; 2 is an RM cell.
+// A struct of the C interface, which tells refusal, kind and EFCI by numbers. Kind 1 is a data cell, of whose fields
+// only the VPI and the VCI count; 2 is an RM cell.
 #[repr(C)]
 #[derive(Clone, Copy)]
 pub struct AbrCell {

@@ -4,7 +4,7 @@ use mathlib.Core.Path.{◌≡◌, refl, sym, ◌∙◌}
 use mathlib.Core.Bool.{Bool, true, false, cond, ◌&&◌, and-eq-true_iff}
 use Prim.Native.Nat.{ℕ, ◌≤◌, ◌<◌}
 use native.Mathlib.Omega.{arith}
-use borrow.Author.Tests.{le-leb, lt-leb, leb-true}
+use borrow.Author.Tests.{le-leb, leb-true}
 use lib.Dec.{leb}
 use Rattle.cell.specs.Name.{name_from, vpi_in, vci_in, no_name, address_fits, address_name}
 
@@ -16,15 +16,6 @@ module _ (vpi vci : ℕ) where
 
   pub name-lt : vpi ≤ 255 → vci ≤ 65535 → address_name vpi vci < no_name
   name-lt a b = rw (sym (name_in a b)) (omega (arith, a, b))
-
-  -- outside one or the other
-  pub vpi-out : 255 < vpi → no_name ≡ address_name vpi vci
-  unfolding address_name
-  vpi-out a = simp (lt-leb _ _ a)
-
-  pub vci-out : vpi ≤ 255 → 65535 < vci → no_name ≡ address_name vpi vci
-  unfolding address_name
-  vci-out a b = simp (le-leb _ _ a, lt-leb _ _ b)
 
   -- a pair that makes a name is within the ranges, and the name gives it back
   pub record Named (n : ℕ) : Type 0 where

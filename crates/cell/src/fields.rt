@@ -5,6 +5,7 @@ ghost use Rattle.cell.specs.Fields.{fields_fit};
 use crate::name::{VCI_MOST, VPI_MOST};
 use rate::code::CODE_MOST;
 
+// A struct of the C interface: the fields of one bit are numbers there.
 #[repr(C)]
 #[derive(Clone, Copy)]
 pub struct Fields {

@@ -2,6 +2,7 @@
 ghost use Rattle.std.specs.Prelude.{◌≡◌, ◌≤◌, drop};
 ghost use Rattle.cell_payload.specs.Payload.{word_at, payload_of};
 
+// Six fields and no array: the definitions payload_of and octets_of, and those of the CRC-10, name each word.
 #[derive(Clone, Copy)]
 pub struct Payload {
     pub a: u64,

@@ -18,6 +18,7 @@ fn raised(mark: bool, x: u64) -> u64
 }
 
 // Octet 7.
+#[tactic(auto, unfolding(cell::specs::Turning::turned_marks))]
 fn turned_marks(level: u32, mark: bool, x: u64) -> u64
     ensures { (result ≡ turned_marks level mark x) × (result < 256) }
 {

@@ -1,6 +1,6 @@
 // Receiving a cell (document 01, "Refused because of the input", "Four moves of the allowed rate" and
 // "Turning cells round"; document 02, L13).
-ghost use Rattle.std.specs.Prelude.{◌≡◌, [], length};
+ghost use Rattle.std.specs.Prelude.{[]};
 ghost use Rattle.cell_payload.specs.Payload.{payload_of};
 ghost use Rattle.cell.specs.Fields.{CrcMatches};
 ghost use Rattle.cell.specs.Octets.{payload};
@@ -14,9 +14,10 @@ ghost use Rattle.engine.specs.Contract.{Meets};
 use crate::owner::find_owner;
 use cell::fields::Fields;
 use cell::name::{VCIS, address_name};
+use cell::octets::CELL_OCTETS;
 use cell_payload::payload::payload_at;
 use cell_read::fields::{fields_of, vci_of, vpi_of};
-use cell_read::read::{efci_of, header_refusal, is_data, rm_refusal};
+use cell_read::read::{efci_of, header_checked, is_data, rm_refusal};
 use connection::kind::Kind;
 use connection_destination::receive::{after_data_cell, after_forward_payload};
 use connection_members::path::PATH_VCI;
@@ -54,8 +55,12 @@ fn receive_data(t: &mut [u64; WORDS], vpi: u32, vci: u32, efci: bool) -> Result<
 }
 
 // An RM cell of these fields: a backward cell moves the rate, a forward one is turned round. Refusal 11.
-fn receive_rm(t: &mut [u64; WORDS], cell: &[u8], f: Fields) -> Result<Received, Refusal>
-    requires { (length cell.now ≡ 53) × CrcMatches (payload_of (payload cell.now)) }
+fn receive_rm(
+    t: &mut [u64; WORDS],
+    cell: &[u8; CELL_OCTETS],
+    f: Fields,
+) -> Result<Received, Refusal>
+    requires { CrcMatches (payload_of (payload cell.now)) }
     ensures { Meets (receive_answer (RmCell f)) (λ s. read_step s cell.now (RmCell f)) t.old t.new (received_as result) }
 {
     let name = address_name(f.vpi, f.vci);
@@ -90,7 +95,7 @@ fn receive_rm(t: &mut [u64; WORDS], cell: &[u8], f: Fields) -> Result<Received, 
 pub fn receive(t: &mut [u64; WORDS], cell: &[u8]) -> Result<Received, Refusal>
     ensures { Meets (receive_answer (reading cell.now)) (λ s. receive_step s cell.now) t.old t.new (received_as result) }
 {
-    header_refusal(cell)?;
+    let cell = header_checked(cell)?;
     if is_data(cell) {
         return receive_data(t, vpi_of(cell), vci_of(cell), efci_of(cell));
     }

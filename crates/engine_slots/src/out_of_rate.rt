@@ -5,7 +5,6 @@ ghost use Rattle.model.specs.Returned.{done_as};
 ghost use Rattle.model.specs.Step.{out_of_rate_step};
 
 use crate::send::put_forward;
-use cell::octets::CELL_OCTETS;
 use connection::interval::rested;
 use connection_source::out_of_rate::after_out_of_rate;
 use engine::timed::timed_entry;
@@ -23,9 +22,9 @@ pub fn out_of_rate(
 ) -> Result<(), Refusal>
     ensures { MeetsWriting whole_answer (λ s. out_of_rate_step s name time (length cell.old)) t.old t.new (done_as result) cell.old cell.new }
 {
-    if cell.len() != CELL_OCTETS {
+    let Some(cell) = cell.as_mut_array() else {
         return Err(Refusal::Length);
-    }
+    };
     let i = timed_entry(t, name, time)?;
     let c = load(t, i);
     let last = c.out_of_rate;

@@ -1,5 +1,5 @@
 // A slot that goes to an entry: the cell that it sends, and what that makes of the entry (document 01, "Slots").
-ghost use Rattle.std.specs.Prelude.{◌≡◌, ◌≤◌, ◌<◌, length};
+ghost use Rattle.std.specs.Prelude.{◌≡◌, ◌≤◌, ◌<◌};
 ghost use Rattle.rate.specs.Units.{latest_time};
 ghost use Rattle.cell.specs.Name.{no_name};
 ghost use Rattle.connection.specs.declared.kind.Kind.TheVariants.{Forward, Turned};
@@ -11,6 +11,7 @@ ghost use Rattle.model.specs.State.{capacity};
 
 use crate::data::send_data;
 use cell::name::VCIS;
+use cell::octets::CELL_OCTETS;
 use cell_payload::payload::Payload;
 use cell_write::turned::put_turned;
 use cell_write::write::put_rm;
@@ -28,8 +29,8 @@ use table_store::winner::{update_winner, update_winner_source};
 use table_tournament::winner::leads_neighbour;
 
 // The backward cell that goes: the turned one that waits, else the made one.
-fn put_backward(cell: &mut [u8], name: u32, params: Params, w: Option<Payload>, level: u32)
-    requires { (length cell.old ≡ 53) × (name < no_name) }
+fn put_backward(cell: &mut [u8; CELL_OCTETS], name: u32, params: Params, w: Option<Payload>, level: u32)
+    requires { name < no_name }
     ensures { cell.new ≡ backward_cell name params w level }
 {
     match w {
@@ -39,8 +40,8 @@ fn put_backward(cell: &mut [u8], name: u32, params: Params, w: Option<Payload>, 
 }
 
 // A forward cell, with CLP 1 if it goes out of rate (document 02, L5).
-pub fn put_forward(cell: &mut [u8], clp: u32, name: u32, rate: Rate)
-    requires { (length cell.old ≡ 53) × ((clp ≤ 1) × (name < no_name)) }
+pub fn put_forward(cell: &mut [u8; CELL_OCTETS], clp: u32, name: u32, rate: Rate)
+    requires { (clp ≤ 1) × (name < no_name) }
     ensures { ForwardIn clp name rate cell.new }
 {
     put_rm(cell, clp, forward_fields(name, rate));
@@ -49,8 +50,13 @@ pub fn put_forward(cell: &mut [u8], clp: u32, name: u32, rate: Rate)
 // The winner has the greatest key of all. Its neighbour's is looked at for the sake of the caches: its line, which the
 // replay needs, is then loaded together with the winner's record and not after it. Other cells need less of the record,
 // and their replay comes soon enough.
-fn send_forward(t: &mut [u64; WORDS], time: u64, i: usize, cell: &mut [u8]) -> Option<Sent>
-    requires { (i < capacity) × ((time ≤ latest_time) × (length cell.old ≡ 53)) }
+fn send_forward(
+    t: &mut [u64; WORDS],
+    time: u64,
+    i: usize,
+    cell: &mut [u8; CELL_OCTETS],
+) -> Option<Sent>
+    requires { (i < capacity) × (time ≤ latest_time) }
     ensures { SendsKind Forward time i t.old t.new (slot_as result) cell.old cell.new }
 {
     if !leads_neighbour(t, i) {
@@ -74,8 +80,8 @@ fn send_forward(t: &mut [u64; WORDS], time: u64, i: usize, cell: &mut [u8]) -> O
 }
 
 // Only such a cell changes the receiving side: it no longer waits.
-fn send_turned(t: &mut [u64; WORDS], time: u64, i: usize, cell: &mut [u8]) -> Sent
-    requires { (i < capacity) × ((time ≤ latest_time) × (length cell.old ≡ 53)) }
+fn send_turned(t: &mut [u64; WORDS], time: u64, i: usize, cell: &mut [u8; CELL_OCTETS]) -> Sent
+    requires { (i < capacity) × (time ≤ latest_time) }
     ensures { SendsKind Turned time i t.old t.new (sent_cell_as result) cell.old cell.new }
 {
     let c = load(t, i);
@@ -102,8 +108,8 @@ fn send_turned(t: &mut [u64; WORDS], time: u64, i: usize, cell: &mut [u8]) -> Se
 }
 
 // None if the entry does not win. The first line of the record tells the kind, and is all that a data cell needs.
-pub fn send(t: &mut [u64; WORDS], time: u64, i: usize, cell: &mut [u8]) -> Option<Sent>
-    requires { (i < capacity) × ((time ≤ latest_time) × (length cell.old ≡ 53)) }
+pub fn send(t: &mut [u64; WORDS], time: u64, i: usize, cell: &mut [u8; CELL_OCTETS]) -> Option<Sent>
+    requires { (i < capacity) × (time ≤ latest_time) }
     ensures { Sends time i t.old t.new (slot_as result) cell.old cell.new }
 {
     let line = load_first_line(t, i);

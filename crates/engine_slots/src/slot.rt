@@ -6,7 +6,6 @@ ghost use Rattle.model.specs.Step.{slot_step};
 ghost use Rattle.engine.specs.Contract.{MeetsWriting};
 
 use crate::send::send;
-use cell::octets::CELL_OCTETS;
 use laws::refusals::Refusal;
 use model::answers::Sent;
 use rate::units::LATEST_TIME;
@@ -17,9 +16,9 @@ use table_tournament::slot::slot_winner;
 pub fn slot(t: &mut [u64; WORDS], time: u64, cell: &mut [u8]) -> Result<Option<Sent>, Refusal>
     ensures { MeetsWriting slot_answer (λ s. slot_step s time (length cell.old)) t.old t.new (sent_as result) cell.old cell.new }
 {
-    if cell.len() != CELL_OCTETS {
+    let Some(cell) = cell.as_mut_array() else {
         return Err(Refusal::Length);
-    }
+    };
     if LATEST_TIME < time {
         return Err(Refusal::Time);
     }

@@ -1,3 +1,4 @@
+use borrow.Author.Rules.{rules}
 use Prim.Native.Nat.{ℕ, ◌<◌}
 use Rattle.table_names.specs.Finding.{Located, FindsName}
 use Rattle.connection.proofs.Ranged.{after-backward-cell-ranged, after-forward-cell-ranged}
@@ -57,7 +58,7 @@ returns-then-f-eq1 c =
     }
 
 pub after_forward_payload-next-requires : goal.after_forward_payload-next-requires
-after_forward_payload-next-requires c = subst CrcMatches (sym c.payload_at.ensures) c.requires.1
+after_forward_payload-next-requires c = subst CrcMatches (sym c.payload_at.ensures) c.requires
 
 pub update_destination-comparisons-requires : goal.update_destination-comparisons-requires
 update_destination-comparisons-requires c =
@@ -81,6 +82,6 @@ returns c =
     let a = f.args in
     record {
       meets = λ s w e.
-          turn-done s w e a.cell.now a.f i.in_ok-i.i (entry) (located s w e) ld.load-c.result ld.load-c.ensures o.after_forward_payload-next.result p.if-f-eq1.false f.requires.0
-          (λ j. (f.shared_slice_known-1.given j).fits) p.payload_at.result p.payload_at.ensures o.after_forward_payload-next.ensures c.update_destination-comparisons.ensures f.address_name-name.result f.address_name-name.ensures;
+          turn-done s w e a.cell.now a.f i.in_ok-i.i (entry) (located s w e) ld.load-c.result ld.load-c.ensures o.after_forward_payload-next.result p.if-f-eq1.false (search rules)
+          (λ j. search rules) p.payload_at.result p.payload_at.ensures o.after_forward_payload-next.ensures c.update_destination-comparisons.ensures f.address_name-name.result f.address_name-name.ensures;
     }

@@ -25,19 +25,20 @@ use Rattle.engine_slots.proofs.out_of_rate.out_of_rate.Goals as goal
 in-range : (c : After-load-c) → InRange c.load-c.result
 in-range c = ranged c.args.t.now c.in_ok-i.i c.load-c.ensures
 
-pub returns-then-cell-ne-CELL_OCTETS : goal.returns-then-cell-ne-CELL_OCTETS
-returns-then-cell-ne-CELL_OCTETS c =
+pub returns-in_default : goal.returns-in_default
+returns-in_default c =
     let a = c.args in
-    record { meets = λ s w e. refused-leaves a.t.now a.cell.now _ s 1 e (out-of-rate-short s a.name a.time (length a.cell.now) c.if-cell-ne-CELL_OCTETS.true) }
+    record { meets = λ s w e. refused-leaves a.t.now a.cell.now _ s 1 e (out-of-rate-short s a.name a.time (length a.cell.now) c.in_default.ensures.cases) }
 
 pub returns-in_err-i : goal.returns-in_err-i
 returns-in_err-i c =
-    let fits : length c.args.cell.now ≡ 53 = omega arith in
+    let fits : length c.in-Some.cell.now ≡ 53 = ap length c.in-Some.ensures.cases.same ∙ c.in-Some.ensures.cases.long in
     let a = c.args in
     record {
       meets = λ s w e.
-          rw (refused-with c.from_residual.ensures.1)
-          (refused-leaves a.t.now a.cell.now _ s _ e (out-of-rate-timed s a.name a.time (length a.cell.now) fits ∙ c.in_err-i.ensures s w e _));
+          rw (sym c.in-Some.ensures.cases.same)
+          (rw (refused-with c.from_residual.ensures.1)
+          (refused-leaves a.t.now c.in-Some.cell.now _ s _ e (out-of-rate-timed s a.name a.time (length c.in-Some.cell.now) fits ∙ c.in_err-i.ensures s w e _)));
     }
 
 pub load-c-requires : goal.load-c-requires
@@ -48,8 +49,8 @@ rested-requires c = (in-range c).out_of_rate
 
 pub returns-then-not-rested : goal.returns-then-not-rested
 returns-then-not-rested c =
-    let fits : length c.args.cell.now ≡ 53 = omega arith in
-    let fits-there : length c.args.cell.now ≡ 53 = fits in
+    let fits : length c.in-Some.cell.now ≡ 53 = ap length c.in-Some.ensures.cases.same ∙ c.in-Some.ensures.cases.long in
+    let fits-there : length c.in-Some.cell.now ≡ 53 = fits in
     let found : (s : State) → WellFormed s → c.args.t.now ≡ words s → TimedAt s c.args.name c.args.time c.in_ok-i.i = c.in_ok-i.ensures.found in
     let loaded : (s : State) (w : WellFormed s) (e : c.args.t.now ≡ words s) → c.load-c.result ≡ (found s w e).located.holder = λ s w e. loaded-is s w (found s w e).located e c.in_ok-i.ensures.inside c.load-c.ensures in
     let rested-is : let ld = c in (s : State) (w : WellFormed s) (e : ld.args.t.now ≡ words s) → rested ld.args.time (found s w e).located.holder.out_of_rate ≡ c.rested.result = λ s w e. ap (λ (x : Connection). rested c.args.time x.out_of_rate) (sym (loaded s w e)) ∙ sym c.rested.ensures in
@@ -58,15 +59,16 @@ returns-then-not-rested c =
     let a = k.args in
     record {
       meets = λ s w e.
-          refused-leaves a.t.now a.cell.now _ s 18 e
-          (out-of-rate-soon s a.name a.time (length a.cell.now) (fits-there) (found s w e) (rested-is s w e ∙ c.if-not-rested.true));
+          rw (sym c.in-Some.ensures.cases.same)
+          (refused-leaves a.t.now c.in-Some.cell.now _ s 18 e
+          (out-of-rate-soon s a.name a.time (length c.in-Some.cell.now) (fits-there) (found s w e) (rested-is s w e ∙ c.if-not-rested.true)));
     }
 
 pub put_forward-requires : goal.put_forward-requires
 put_forward-requires c =
     let ld = c in
     let k = ld in
-    (search rules, (omega arith, subst (λ (x : Connection). x.name < no_name) (sym ld.load-c.ensures) (load-named k.args.t.now k.in_ok-i.i)))
+    (omega arith, subst (λ (x : Connection). x.name < no_name) (sym ld.load-c.ensures) (load-named k.args.t.now k.in_ok-i.i))
 
 pub update_out_of_rate-requires : goal.update_out_of_rate-requires
 update_out_of_rate-requires c =
@@ -81,8 +83,8 @@ update_out_of_rate-requires c =
 
 pub returns : goal.returns
 returns c =
-    let fits : length c.args.cell.now ≡ 53 = omega arith in
-    let fits-there : length c.args.cell.now ≡ 53 = fits in
+    let fits : length c.in-Some.cell.now ≡ 53 = ap length c.in-Some.ensures.cases.same ∙ c.in-Some.ensures.cases.long in
+    let fits-there : length c.in-Some.cell.now ≡ 53 = fits in
     let found : (s : State) → WellFormed s → c.args.t.now ≡ words s → TimedAt s c.args.name c.args.time c.in_ok-i.i = c.in_ok-i.ensures.found in
     let loaded : (s : State) (w : WellFormed s) (e : c.args.t.now ≡ words s) → c.load-c.result ≡ (found s w e).located.holder = λ s w e. loaded-is s w (found s w e).located e c.in_ok-i.ensures.inside c.load-c.ensures in
     let rested-is : let ld = c in (s : State) (w : WellFormed s) (e : ld.args.t.now ≡ words s) → rested ld.args.time (found s w e).located.holder.out_of_rate ≡ c.rested.result = λ s w e. ap (λ (x : Connection). rested c.args.time x.out_of_rate) (sym (loaded s w e)) ∙ sym c.rested.ensures in
@@ -94,10 +96,11 @@ returns c =
     let a = k.args in
     record {
       meets = λ s w e.
-          let is = loaded s w e in
-          out-of-rate-out s w e k.in_ok-i.ensures.inside (found s w e).located a.time (length a.cell.now)
-          (out-of-rate-done s a.name a.time (length a.cell.now) (fits-there) (found s w e) (rested-is s w e ∙ e3.if-not-rested.false))
+          rw (sym c.in-Some.ensures.cases.same)
+          (let is = loaded s w e in
+          out-of-rate-out s w e k.in_ok-i.ensures.inside (found s w e).located a.time (length c.in-Some.cell.now)
+          (out-of-rate-done s a.name a.time (length c.in-Some.cell.now) (fits-there) (found s w e) (rested-is s w e ∙ e3.if-not-rested.false))
           (c.update_out_of_rate.ensures
           ∙ ap (λ (x : Connection). out_of_rate_updated a.t.now k.in_ok-i.i x.out_of_rate) (after.after_out_of_rate-next.ensures ∙ ap (after_out_of_rate a.time) is))
-          a.cell.now _ (subst (λ (x : Connection). ForwardIn 1 x.name x.rate put.put_forward.new.cell) is put.put_forward.ensures);
+          c.in-Some.cell.now _ (subst (λ (x : Connection). ForwardIn 1 x.name x.rate put.put_forward.new.cell) is put.put_forward.ensures));
     }

@@ -6,7 +6,7 @@ use Rattle.connection.specs.Parts.{Waiting}
 use Rattle.engine_slots.proofs.send.put_backward.Goals as goal
 
 pub put_rm-requires : goal.put_rm-requires
-put_rm-requires c = (search rules, (search rules, c.made_fields.ensures.1 c.requires.1))
+put_rm-requires c = (search rules, c.made_fields.ensures.1 c.requires)
 
 pub returns-in-None : goal.returns-in-None
 unfolding backward_cell

@@ -5,7 +5,7 @@ use Rattle.cell.specs.Fields.{rm_cell}
 use Rattle.engine_slots.proofs.send.put_forward.Goals as goal
 
 pub put_rm-requires : goal.put_rm-requires
-put_rm-requires c = (search rules, (search rules, c.forward_fields.ensures.fits (omega arith)))
+put_rm-requires c = (search rules, c.forward_fields.ensures.fits (omega arith))
 
 pub returns : goal.returns
 returns c =

@@ -26,7 +26,7 @@ send_data-requires c =
     let line-range : InRange c.load_first_line-line.result = let a = c.args in subst InRange (sym c.load_first_line-line.ensures) (line-ranged (connection_at a.t.now a.i) (load-ranged a.t.now a.i)) in
     let st = c in
     let ld = c in
-    (st.requires.0, (st.requires.1.0, (subst (λ (x : Connection). x.name < no_name) (sym ld.load_first_line-line.ensures) (load-named st.args.t.now st.args.i), (line-range, subst (λ (x : Connection). CountHasRoom x.pace) (sym ld.load_first_line-line.ensures) (load-room st.args.t.now st.args.i)))))
+    (st.requires.0, (st.requires.1, (subst (λ (x : Connection). x.name < no_name) (sym ld.load_first_line-line.ensures) (load-named st.args.t.now st.args.i), (line-range, subst (λ (x : Connection). CountHasRoom x.pace) (sym ld.load_first_line-line.ensures) (load-room st.args.t.now st.args.i)))))
 
 pub returns-in-Forward : goal.returns-in-Forward
 returns-in-Forward c =

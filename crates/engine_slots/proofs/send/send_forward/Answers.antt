@@ -13,12 +13,12 @@ returns-then-not-leads_neighbour c =
 pub put_forward-requires : goal.put_forward-requires
 put_forward-requires c =
     let st = c in
-    (search rules, (search rules, forward-named st.args.time st.args.t.now st.args.i c.load-c.ensures c.sent_forward-next.ensures))
+    (search rules, forward-named st.args.time st.args.t.now st.args.i c.load-c.ensures c.sent_forward-next.ensures)
 
 pub update_winner_source-requires : goal.update_winner_source-requires
 update_winner_source-requires c =
     let st = c in
-    (st.requires.0, forward-in-range st.args.time st.args.t.now st.args.i c.load-c.ensures c.sent_forward-next.ensures st.requires.1.0)
+    (st.requires.0, forward-in-range st.args.time st.args.t.now st.args.i c.load-c.ensures c.sent_forward-next.ensures st.requires.1)
 
 pub returns : goal.returns
 returns c =

@@ -20,11 +20,11 @@ sent_turned-next-requires c =
 
 pub put_backward-requires : goal.put_backward-requires
 put_backward-requires c =
-    let st = c in (search rules, loaded-named st.args.t.now st.args.i c.load-c.ensures)
+    let st = c in loaded-named st.args.t.now st.args.i c.load-c.ensures
 
 pub update_winner-requires : goal.update_winner-requires
 update_winner-requires c =
-    let st = c in (st.requires.0, turned-in-range st.args.time st.args.t.now st.args.i c.load-c.ensures c.sent_turned-next.ensures st.requires.1.0)
+    let st = c in (st.requires.0, turned-in-range st.args.time st.args.t.now st.args.i c.load-c.ensures c.sent_turned-next.ensures st.requires.1)
 
 pub returns : goal.returns
 returns c =
