@@ -29,7 +29,13 @@ use table_store::winner::{update_winner, update_winner_source};
 use table_tournament::winner::leads_neighbour;
 
 // The backward cell that goes: the turned one that waits, else the made one.
-fn put_backward(cell: &mut [u8; CELL_OCTETS], name: u32, params: Params, w: Option<Payload>, level: u32)
+fn put_backward(
+    cell: &mut [u8; CELL_OCTETS],
+    name: u32,
+    params: Params,
+    w: Option<Payload>,
+    level: u32,
+)
     requires { name < no_name }
     ensures { cell.new ≡ backward_cell name params w level }
 {
