@@ -1,5 +1,5 @@
 -- What the choice for a slot says of a table's words. (Document 01, "Slots".)
-use Rattle.std.specs.Prelude.{ℕ, ◌+◌, ◌≤◌, ◌<◌, ◌≡◌, List, get_or, SomeOption, Some, None}
+use Rattle.std.specs.Prelude.{ℕ, ◌+◌, ◌≤◌, ◌<◌, ◌≡◌, List, get_or, Option, Some, None}
 use Rattle.connection.specs.declared.parts.Connection.{Connection}
 use Rattle.connection.specs.Ready.{ready_instant}
 use Rattle.model.specs.State.{State, Entry, free, taken, position, holds, capacity}
