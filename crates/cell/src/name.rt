@@ -15,6 +15,7 @@ pub const VCI_MOST: u32 = 65535;
 pub const NO_NAME: u32 = 16777216;
 
 // The name of a pair; of numbers out of their ranges, the one that no connection has.
+// No Option: the definition address_name, by which every call finds its connection, has that number.
 #[tactic(auto, unfolding(crate::specs::Name::address_name))]
 pub fn address_name(vpi: u32, vci: u32) -> u32
     ensures { result ≡ address_name vpi vci }

@@ -28,6 +28,7 @@ pub const UNANSWERED_MOST: u32 = 8388608;
 
 // The data cells that wait: on a path those of all its members. Of a path also the VCI of the member that was served
 // last, 0 before any (document 02, L13).
+// No Option of a VCI: the word of the table and the definitions turn and with_served have 0 for none.
 #[derive(Clone, Copy)]
 pub struct Queue {
     pub cells: u32,

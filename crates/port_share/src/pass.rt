@@ -12,6 +12,7 @@ pub struct Sums {
 }
 
 // No sum wraps: at most 1,024 numbers, none above the largest rate.
+// A `for` and no chain of iterators, which would go over the demands twice.
 #[tactic(auto, using(crate::proofs::Places::pass_steps))]
 pub fn pass(demands: &[u64], s: u64) -> Sums
     requires { (length demands.now ≤ 1024) × (s ≤ largest_rate) }

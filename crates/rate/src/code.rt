@@ -45,6 +45,7 @@ pub fn rate_of(code: u32) -> u64
 
 // The code of a rate up to the largest, and 0 for what is no rate. The exponent is read off the highest binary
 // digit: a rate with ten of them has exponent 0, and each digit more adds 1.
+// No Option: 0 is the code of rate 0, and the definition code_or_zero has it for a rate above the largest too.
 #[tactic(auto, using(crate::proofs::Octaves::code_steps), unfolding(crate::specs::Code::code_or_zero))]
 pub fn code_or_zero(rate: u64) -> u32
     ensures { result ≡ code_or_zero rate }
