@@ -90,7 +90,7 @@ pub struct AbrSent {
     pub reserved: u32,
 }
 
-// A slot that sent no cell.
+// A slot that sent no cell: the number that C sees, 0 of an idle one.
 fn sent_nothing(refusal: u32) -> AbrSent
     ensures { result ≡ sent_nothing refusal }
 {

@@ -14,7 +14,7 @@ use table::layout::{HALF, RECORD_WIDTH, RECORDS, WORDS};
 use table_entry::load::params_at;
 
 // An instant that never was or never comes.
-const NEVER: u64 = 18446744073709551615;
+const NEVER: u64 = u64::MAX;
 
 // A cell's instant: never, if no cell was sent.
 fn sent_shown(tag: u32, instant: u64) -> u64

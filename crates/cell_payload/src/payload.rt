@@ -13,7 +13,7 @@ pub struct Payload {
     pub f: u64,
 }
 
-// The eight octets from index i on as one word, the first highest.
+// The eight octets from index i on as one word, the first highest. The crate `cell`, above, has a name for the 53.
 fn word_at(cell: &[u8; 53], i: usize) -> u64
     requires { i ≤ 45 }
     ensures { result ≡ word_at cell.now i }

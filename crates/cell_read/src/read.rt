@@ -79,7 +79,8 @@ pub fn rm_refusal(cell: &[u8; CELL_OCTETS]) -> Result<(), Refusal>
     Ok(())
 }
 
-// The refusal that reading the cell meets.
+// The refusal that reading the cell meets. The steps are those of `read`, without the fields, which a port does not
+// pay for twice.
 pub fn refusal(cell: &[u8]) -> Result<(), Refusal>
     ensures { RefusedAsRead cell.now (refusal_or_0 result) }
 {

@@ -26,7 +26,7 @@ use table_store::store::store;
 fn in_range(vpi: u32, vci: u32, params: Params) -> bool
     ensures { result ≡ (address_fits vpi vci && params_fit params) }
 {
-    vpi <= VPI_MOST && (vci <= VCI_MOST && params.fits())
+    vpi <= VPI_MOST && vci <= VCI_MOST && params.fits()
 }
 
 // What every open refuses of its arguments alone: 19, 7, 29, 30, 8.

@@ -42,7 +42,7 @@ pub fn turn(t: &[u64; WORDS], name: u32, last: u16) -> Option<usize>
         MEMBER_CAPACITY,
         word_limit(first + last as u64 + 1),
     );
-    // not `or_else`, whose closure would repeat the contracts of both calls
+    // not `or_else`, whose closure would have to require what the two calls in it require
     match next(t, after, top) {
         Some(i) => Some(i),
         None => next(

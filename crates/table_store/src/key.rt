@@ -13,6 +13,6 @@ pub fn key_of(c: Connection) -> u64
 {
     match ready_instant(c) {
         None => 0,
-        Some(i) => 18446744073709551615 - i,
+        Some(i) => u64::MAX - i,
     }
 }

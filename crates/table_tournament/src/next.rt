@@ -10,5 +10,5 @@ pub fn next_ready(t: &[u64; WORDS]) -> u64
     ensures { GivesNext t.now result }
 {
     let first = keyed_node(t, 1);
-    18446744073709551615 - first.key
+    u64::MAX - first.key
 }
