@@ -23,6 +23,7 @@ use table_names::used::find_free;
 use table_store::store::store;
 
 // The ranges behind refusal 7.
+#[tactic(auto, unfolding(cell::specs::Name::address_fits))]
 fn in_range(vpi: u32, vci: u32, params: Params) -> bool
     ensures { result ≡ (address_fits vpi vci && params_fit params) }
 {

@@ -19,7 +19,7 @@ fn lowest(entries: u64) -> usize
 fn others(entries: u64) -> u64
     ensures { result ≡ 18446744073709551615 - entries }
 {
-    18446744073709551615 - entries
+    !entries
 }
 
 // The lowest entry that is not taken. A bit of the last word may be of no entry; such a bit is 0.
