@@ -55,7 +55,8 @@ pub fn update_source(t: &mut [u64; WORDS], i: usize, c: Connection) -> u32
     rekey(t, i, key_of(c))
 }
 
-// The same at its destination.
+// The same at its destination. Inlined, so that the connection is not copied for the call.
+#[inline(always)]
 pub fn update_destination(t: &mut [u64; WORDS], i: usize, c: Connection) -> u32
     requires { (i < capacity) × InRange c }
     ensures { Updates DestinationMoved t.old t.new i c result }
