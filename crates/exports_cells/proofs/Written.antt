@@ -17,6 +17,7 @@ use Rattle.cell.specs.Turning.{turned_marks, turned_payload, turned_cell}
 use Rattle.cell.specs.Returned.{returned}
 use Rattle.cell.specs.Form.{Framed, Blank}
 use Rattle.cell.specs.Reading.{reading}
+use Rattle.std.specs.Prelude.{Ok, Err}
 use Rattle.laws.specs.declared.refusals.Refusal.TheVariants.{Length, Range}
 use Rattle.laws.specs.Refusals.{refusal_or_0}
 use Rattle.cell.specs.Writing.{writing, buffer_written}
