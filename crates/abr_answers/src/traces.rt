@@ -31,7 +31,7 @@ impl From<Result<Option<Broken>, Refusal>> for AbrVerdict {
             },
             Ok(Some(broken)) => AbrVerdict {
                 refusal: 0,
-                rule: broken.rule.number(),
+                rule: broken.rule,
                 cell: broken.cell,
             },
         }

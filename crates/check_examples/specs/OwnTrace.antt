@@ -4,7 +4,6 @@ use Rattle.std.specs.Prelude.{ℕ, ◌≡◌, true, List, [], ◌∷◌}
 use Rattle.rate_params.specs.declared.params.Params.{Params}
 use Rattle.rate_params.specs.Params.{house_set}
 use Rattle.trace_judge.specs.declared.cells.Cell.{Cell}
-use Rattle.trace_judge.specs.declared.rules.Rule.TheVariants.{FirstForward, Spacing, ForwardDue}
 use Rattle.trace_judge.specs.Rules.{Verdict, Passes, Breaks}
 use Rattle.trace_judge.specs.Octets.{judged_octets}
 use Rattle.model.specs.State.{empty}
@@ -82,9 +81,9 @@ pub record OwnTrace : Type 0 where
   pub zero_cells : own_cells [] (opening 0 33 0 no_minimum) 33 from_zero ≡ cell 0 1 32_000 ∷ cell 29_999_995 3 32_000 ∷ []
   pub zero_passes : verdict_on (cell 0 1 32_000 ∷ cell 29_999_995 3 32_000 ∷ []) ≡ Passes
   -- data before any forward cell
-  pub data_first : verdict_on (cell 0 3 16_384 ∷ []) ≡ Breaks 1 FirstForward
+  pub data_first : verdict_on (cell 0 3 16_384 ∷ []) ≡ Breaks 1 1
   -- the backward cell is not heeded: the third cell goes a gap at the old rate after the second
-  pub not_heeded : verdict_on (cell 0 1 16_384 ∷ cell 31_250_000 2 16_384 ∷ cell 31_250_000 3 15_360 ∷ []) ≡ Breaks 3 Spacing
+  pub not_heeded : verdict_on (cell 0 1 16_384 ∷ cell 31_250_000 2 16_384 ∷ cell 31_250_000 3 15_360 ∷ []) ≡ Breaks 3 2
   -- no forward cell when Trm has passed; and one before
-  pub trm_missed : verdict_on (cell 0 1 16_384 ∷ cell 31_250_000 2 16_384 ∷ cell 168_749_000 3 15_360 ∷ cell 200_000_000 3 15_360 ∷ []) ≡ Breaks 4 ForwardDue
-  pub forward_again : verdict_on (cell 0 1 16_384 ∷ cell 31_250_000 1 16_384 ∷ []) ≡ Breaks 2 ForwardDue
+  pub trm_missed : verdict_on (cell 0 1 16_384 ∷ cell 31_250_000 2 16_384 ∷ cell 168_749_000 3 15_360 ∷ cell 200_000_000 3 15_360 ∷ []) ≡ Breaks 4 3
+  pub forward_again : verdict_on (cell 0 1 16_384 ∷ cell 31_250_000 1 16_384 ∷ []) ≡ Breaks 2 3

@@ -1,4 +1,5 @@
 pub mod Blocks
+pub mod Numbers
 pub mod Rows
 pub mod Tests
 pub mod Trailing

@@ -4,3 +4,4 @@ pub mod Blocks
 pub mod Rows
 pub mod Require
 pub mod Refusals
+pub mod Numbers

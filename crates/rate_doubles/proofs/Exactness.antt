@@ -84,8 +84,8 @@ imports-exactly x f = go (eq x nil) (le one x) (lt x top) refl refl refl
   where
     go : (p q r : Bool) → eq x nil ≡ p → le one x ≡ q → lt x top ≡ r → ImportedExactly x (import_of x)
     go true q r z h l = subst (ImportedExactly x) (zero-found x z) (zero-exact x z)
-    go false false r z h l = subst (ImportedExactly x) (low-refused x z h) (refl, low-unfit x z h)
-    go false true false z h l = subst (ImportedExactly x) (high-refused x z l) (refl, high-unfit x z l)
+    go false false r z h l = subst (ImportedExactly x) (low-refused x z h) (refl, refl, low-unfit x z h)
+    go false true false z h l = subst (ImportedExactly x) (high-refused x z l) (refl, refl, high-unfit x z l)
     go false true true z h l = let w = in-range x f h l in subst (ImportedExactly x) (split-is w) (split-exact w)
 
 -- What is refused, and what not.

@@ -7,6 +7,7 @@ use Rattle.std.specs.Float.Ieee.Digits.{Equals}
 use Rattle.std.specs.Float.Ieee.Exact.{HasValue}
 use Rattle.laws.specs.declared.refusals.Refusal.{Refusal}
 use Rattle.laws.specs.declared.refusals.Refusal.TheVariants.{Double}
+use Rattle.laws.specs.Refusals.{number}
 use Rattle.rate.specs.Units.{largest_rate}
 use Rattle.rate.specs.Code.{rate_of}
 use Rattle.rate_doubles.specs.Import.{Imported, Exact, Below, remainder_of, import_of}
@@ -35,7 +36,7 @@ pub record CodeUnder (x : Float) (code : ℕ) : Type 0 where
 
 -- what each answer says of the double
 abbrev pub ImportedExactly : Float → Result Imported Refusal → Type 0
-ImportedExactly x (Err r) = (r ≡ Double) × Unfit x
+ImportedExactly x (Err r) = (r ≡ Double) × (number r ≡ 20) × Unfit x
 ImportedExactly x (Ok (Exact code)) = CodeUnder x code × Equals x (rate_of code) 512
 ImportedExactly x (Ok (Below code y)) = CodeUnder x code × IsSum x (rate_of code) y
 

@@ -4,6 +4,7 @@ use Rattle.std.specs.Float.{nan, inf, fin, binary64}
 use Rattle.std.specs.Float.Ieee.{up, down, fits}
 use Rattle.laws.specs.declared.refusals.Refusal.{Refusal}
 use Rattle.laws.specs.declared.refusals.Refusal.TheVariants.{Double}
+use Rattle.laws.specs.Refusals.{number}
 use Rattle.rate_doubles.specs.Import.{Exact, import_of}
 
 -- a finite double is the fraction m * up e / down e, with a minus sign if s is true
@@ -17,5 +18,5 @@ pub data Unfit : Float → Type 0 where
 -- they are refused, and no other double is; both zeros are 0x0000
 pub record RefusedExactly : Type 0 where
   pub refused : (x : Float) → Unfit x → import_of x ≡ Err Double
-  pub only : (x : Float) → T (fits binary64 x) → (r : Refusal) → import_of x ≡ Err r → (r ≡ Double) × Unfit x
+  pub only : (x : Float) → T (fits binary64 x) → (r : Refusal) → import_of x ≡ Err r → (r ≡ Double) × (number r ≡ 20) × Unfit x
   pub zeros : (s : Bool) (e : ℤ) → import_of (fin s 0 e) ≡ Ok (Exact 0x0000)

@@ -14,7 +14,7 @@ use Rattle.laws.specs.declared.refusals.Refusal.{Refusal}
 use Rattle.laws.specs.declared.refusals.Refusal.TheVariants.{TraceEnd}
 use Rattle.rate.specs.Units.{largest_rate}
 use Rattle.trace.specs.Numbers.{Number, not_shortest, group_read, read_on, number_at}
-use Rattle.trace_judge.specs.Rules.{Cell, Sent, Rule, Broken, Verdict, broken_or, nothing_sent, with_sent, broken_rule, judged_from}
+use Rattle.trace_judge.specs.Rules.{Cell, Sent, Rule, Broken, Verdict, rule_number, broken_or, nothing_sent, with_sent, broken_rule, judged_from}
 use Rattle.trace_judge.specs.Octets.{Record, ranged, number_within, rate_read, kind_read, since_read, record_at, most_since, Parsed, prepended, record_then, cells_parsed, verdict_of, trm_read, n_read}
 use Rattle.trace.proofs.Groups.{value, no_number, no_end}
 use Rattle.trace_judge.specs.Promises.{EarliestDecides}
@@ -71,7 +71,7 @@ judged≢refused nrm trm h (c ∷ cs) n e = go (broken_rule nrm trm h c) (judged
   where
     go : (b : Option Rule) → judged_from nrm trm (with_sent h c) cs ≢ Err n → broken_or (h.cells + 1) b (judged_from nrm trm (with_sent h c) cs) ≢ Err n
     go None f e = f e
-    go (Some r) f e = unrefused (Some (record { cell = h.cells + 1; rule = r })) n (sym e)
+    go (Some r) f e = unrefused (Some (record { cell = h.cells + 1; rule = rule_number r })) n (sym e)
 
 verdict-refused : (n trm : ℕ) (q : Parsed) (r : Refusal) → verdict_of n trm q ≡ Err r → q ≡ Err r
 unfolding verdict_of

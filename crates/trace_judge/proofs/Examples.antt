@@ -14,15 +14,15 @@ computing = tt
 
 pub ends : Ends
 unfolding computing
-ends = record { empty = refl; n_alone = refl; no_cell = refl; no_kind = refl; no_rate = refl; one_cell = refl; in_number = refl; before_tenth = refl }
+ends = record { is_24 = refl; empty = refl; n_alone = refl; no_cell = refl; no_kind = refl; no_rate = refl; one_cell = refl; in_number = refl; before_tenth = refl }
 
 pub forms : Forms
 unfolding computing
-forms = record { long = refl; long_zero = refl; tenth_zero = refl; over = refl; more = refl; widest = refl }
+forms = record { is_23 = refl; long = refl; long_zero = refl; tenth_zero = refl; over = refl; more = refl; widest = refl }
 
 pub ranges : Ranges
 unfolding computing
-ranges = record { n_low = refl; n_high = refl; trm_high = refl; first_time = refl; kind_low = refl; kind_high = refl; rate_most = refl; rate_high = refl; time_most = refl; time_high = refl }
+ranges = record { is_25 = refl; n_low = refl; n_high = refl; trm_high = refl; first_time = refl; kind_low = refl; kind_high = refl; rate_most = refl; rate_high = refl; time_most = refl; time_high = refl }
 
 pub order : Order
 unfolding computing

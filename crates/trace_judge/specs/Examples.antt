@@ -1,9 +1,10 @@
 -- Traces at the edges of the rules and of the refusals, judged by computing. (Document 02, L11.)
 use Rattle.std.specs.Prelude.{ℕ, suc, ◌-◌, ◌≡◌, List, [], ◌∷◌, ◌++◌, replicate, Err}
 use Rattle.laws.specs.declared.refusals.Refusal.TheVariants.{TraceNumber, TraceEnd, TraceRange}
+use Rattle.laws.specs.Refusals.{number}
 use Rattle.rate.specs.Units.{largest_rate, latest_time}
 use Rattle.trace.specs.Numbers.{written_all}
-use Rattle.trace_judge.specs.Rules.{Verdict, Passes, Breaks, FirstForward, Spacing, ForwardDue}
+use Rattle.trace_judge.specs.Rules.{Verdict, Passes, Breaks}
 use Rattle.trace_judge.specs.Octets.{judged_octets}
 
 -- numbers in their shortest form; three more for each cell: time, kind, rate
@@ -12,6 +13,7 @@ verdict numbers = judged_octets (written_all numbers)
 
 -- 24: the trace is empty, or ends inside a record (n and the Trm number make the first); without a cell it passes
 pub record Ends : Type 0 where
+  pub is_24 : number TraceEnd ≡ 24
   pub empty : judged_octets [] ≡ Err TraceEnd
   pub n_alone : judged_octets (5 ∷ []) ≡ Err TraceEnd
   pub no_cell : judged_octets (5 ∷ 7 ∷ []) ≡ Passes
@@ -23,6 +25,7 @@ pub record Ends : Type 0 where
 
 -- 23: seen at the last octet, or at the tenth, whatever it says of more; and before 25
 pub record Forms : Type 0 where
+  pub is_23 : number TraceNumber ≡ 23
   pub long : judged_octets (133 ∷ 0 ∷ []) ≡ Err TraceNumber
   pub long_zero : judged_octets (128 ∷ 0 ∷ []) ≡ Err TraceNumber
   pub tenth_zero : judged_octets (replicate 9 128 ++ (0 ∷ [])) ≡ Err TraceNumber
@@ -33,6 +36,7 @@ pub record Forms : Type 0 where
 
 -- 25: seen at the number's last octet, so before 24
 pub record Ranges : Type 0 where
+  pub is_25 : number TraceRange ≡ 25
   pub n_low : judged_octets (0 ∷ []) ≡ Err TraceRange
   pub n_high : judged_octets (9 ∷ []) ≡ Err TraceRange
   pub trm_high : judged_octets (8 ∷ 8 ∷ []) ≡ Err TraceRange
@@ -53,27 +57,27 @@ pub record Order : Type 0 where
 
 -- rules 1 and 2
 pub record Sooner : Type 0 where
-  pub data_first : verdict (5 ∷ 7 ∷ 0 ∷ 3 ∷ 512_000 ∷ []) ≡ Breaks 1 FirstForward
-  pub backward_first : verdict (5 ∷ 7 ∷ 0 ∷ 2 ∷ 512_000 ∷ []) ≡ Breaks 1 FirstForward
+  pub data_first : verdict (5 ∷ 7 ∷ 0 ∷ 3 ∷ 512_000 ∷ []) ≡ Breaks 1 1
+  pub backward_first : verdict (5 ∷ 7 ∷ 0 ∷ 2 ∷ 512_000 ∷ []) ≡ Breaks 1 1
   -- the gap at 512,000, and at 1,536, where it is rounded up
   pub at_gap : verdict (5 ∷ 7 ∷ 0 ∷ 1 ∷ 512_000 ∷ 1_000_000 ∷ 3 ∷ 512_000 ∷ []) ≡ Passes
-  pub before_gap : verdict (5 ∷ 7 ∷ 0 ∷ 1 ∷ 512_000 ∷ 999_999 ∷ 3 ∷ 512_000 ∷ []) ≡ Breaks 2 Spacing
+  pub before_gap : verdict (5 ∷ 7 ∷ 0 ∷ 1 ∷ 512_000 ∷ 999_999 ∷ 3 ∷ 512_000 ∷ []) ≡ Breaks 2 2
   pub at_rounded : verdict (5 ∷ 7 ∷ 0 ∷ 1 ∷ 512_000 ∷ 333_333_334 ∷ 3 ∷ 1536 ∷ []) ≡ Passes
-  pub before_rounded : verdict (5 ∷ 7 ∷ 0 ∷ 1 ∷ 512_000 ∷ 333_333_333 ∷ 3 ∷ 1536 ∷ []) ≡ Breaks 2 Spacing
+  pub before_rounded : verdict (5 ∷ 7 ∷ 0 ∷ 1 ∷ 512_000 ∷ 333_333_333 ∷ 3 ∷ 1536 ∷ []) ≡ Breaks 2 2
   -- the first cell's rate is not judged; a later one's may not be 0, however late the cell
   pub first_at_zero : verdict (5 ∷ 7 ∷ 0 ∷ 1 ∷ 0 ∷ []) ≡ Passes
-  pub later_at_zero : verdict (5 ∷ 7 ∷ 0 ∷ 1 ∷ 0 ∷ latest_time ∷ 3 ∷ 0 ∷ []) ≡ Breaks 2 Spacing
+  pub later_at_zero : verdict (5 ∷ 7 ∷ 0 ∷ 1 ∷ 0 ∷ latest_time ∷ 3 ∷ 0 ∷ []) ≡ Breaks 2 2
   -- a cell that breaks rules 2 and 3 breaks the lower one; and the first cell that breaks a rule decides
-  pub lowest : verdict (5 ∷ 7 ∷ 0 ∷ 1 ∷ 512_000 ∷ 999_999 ∷ 1 ∷ 512_000 ∷ []) ≡ Breaks 2 Spacing
-  pub first : verdict (5 ∷ 7 ∷ 0 ∷ 1 ∷ 512_000 ∷ 1_000_000 ∷ 1 ∷ 512_000 ∷ 999_999 ∷ 3 ∷ 512_000 ∷ []) ≡ Breaks 2 ForwardDue
+  pub lowest : verdict (5 ∷ 7 ∷ 0 ∷ 1 ∷ 512_000 ∷ 999_999 ∷ 1 ∷ 512_000 ∷ []) ≡ Breaks 2 2
+  pub first : verdict (5 ∷ 7 ∷ 0 ∷ 1 ∷ 512_000 ∷ 1_000_000 ∷ 1 ∷ 512_000 ∷ 999_999 ∷ 3 ∷ 512_000 ∷ []) ≡ Breaks 2 3
 
 -- rule 3: k = Nrm − 1, with Nrm 2; and Trm from k = 2 on, with the shortest Trm, 781,250
 pub record Due : Type 0 where
   pub second : verdict (1 ∷ 7 ∷ 0 ∷ 1 ∷ 512_000 ∷ 1_000_000 ∷ 3 ∷ 512_000 ∷ 1_000_000 ∷ 1 ∷ 512_000 ∷ []) ≡ Passes
-  pub missed : verdict (1 ∷ 7 ∷ 0 ∷ 1 ∷ 512_000 ∷ 1_000_000 ∷ 3 ∷ 512_000 ∷ 1_000_000 ∷ 2 ∷ 512_000 ∷ []) ≡ Breaks 3 ForwardDue
-  pub early : verdict (1 ∷ 7 ∷ 0 ∷ 1 ∷ 512_000 ∷ 1_000_000 ∷ 1 ∷ 512_000 ∷ []) ≡ Breaks 2 ForwardDue
+  pub missed : verdict (1 ∷ 7 ∷ 0 ∷ 1 ∷ 512_000 ∷ 1_000_000 ∷ 3 ∷ 512_000 ∷ 1_000_000 ∷ 2 ∷ 512_000 ∷ []) ≡ Breaks 3 3
+  pub early : verdict (1 ∷ 7 ∷ 0 ∷ 1 ∷ 512_000 ∷ 1_000_000 ∷ 1 ∷ 512_000 ∷ []) ≡ Breaks 2 3
   pub at_trm : verdict (8 ∷ 0 ∷ 0 ∷ 1 ∷ largest_rate ∷ 1 ∷ 2 ∷ largest_rate ∷ 1 ∷ 3 ∷ largest_rate ∷ 781_248 ∷ 1 ∷ largest_rate ∷ []) ≡ Passes
-  pub after_trm : verdict (8 ∷ 0 ∷ 0 ∷ 1 ∷ largest_rate ∷ 1 ∷ 2 ∷ largest_rate ∷ 1 ∷ 3 ∷ largest_rate ∷ 781_248 ∷ 3 ∷ largest_rate ∷ []) ≡ Breaks 4 ForwardDue
-  pub before_trm : verdict (8 ∷ 0 ∷ 0 ∷ 1 ∷ largest_rate ∷ 1 ∷ 2 ∷ largest_rate ∷ 1 ∷ 3 ∷ largest_rate ∷ 781_247 ∷ 1 ∷ largest_rate ∷ []) ≡ Breaks 4 ForwardDue
+  pub after_trm : verdict (8 ∷ 0 ∷ 0 ∷ 1 ∷ largest_rate ∷ 1 ∷ 2 ∷ largest_rate ∷ 1 ∷ 3 ∷ largest_rate ∷ 781_248 ∷ 3 ∷ largest_rate ∷ []) ≡ Breaks 4 3
+  pub before_trm : verdict (8 ∷ 0 ∷ 0 ∷ 1 ∷ largest_rate ∷ 1 ∷ 2 ∷ largest_rate ∷ 1 ∷ 3 ∷ largest_rate ∷ 781_247 ∷ 1 ∷ largest_rate ∷ []) ≡ Breaks 4 3
   -- with one cell since the last forward one, Trm does not count
   pub one_since : verdict (8 ∷ 0 ∷ 0 ∷ 1 ∷ largest_rate ∷ 1 ∷ 2 ∷ largest_rate ∷ 781_249 ∷ 3 ∷ largest_rate ∷ []) ≡ Passes

@@ -23,7 +23,7 @@ Verdict = Result (Option Broken) Refusal
 abbrev pub Passes : Verdict
 Passes = Ok None
 
-abbrev pub Breaks : (cell : ℕ) → Rule → Verdict
+abbrev pub Breaks : (cell rule : ℕ) → Verdict
 Breaks cell rule = Ok (Some (record { cell = cell; rule = rule }))
 
 abbrev pub is_forward_cell : Cell → Bool
@@ -55,12 +55,12 @@ broken_rule nrm trm h c =
 -- this cell, if it breaks a rule
 abbrev pub broken_at : (cell : ℕ) → Option Rule → Option Broken
 broken_at cell None = None
-broken_at cell (Some rule) = Some (record { cell = cell; rule = rule })
+broken_at cell (Some rule) = Some (record { cell = cell; rule = rule_number rule })
 
 -- this cell, if it breaks a rule, and else what is found in the later ones
 abbrev pub broken_or : (cell : ℕ) → Option Rule → (later : Verdict) → Verdict
 broken_or cell None later = later
-broken_or cell (Some rule) later = Breaks cell rule
+broken_or cell (Some rule) later = Breaks cell (rule_number rule)
 
 -- the cells after these
 unfoldable pub judged_from : (nrm trm : ℕ) → Sent → List Cell → Verdict

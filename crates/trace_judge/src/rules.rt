@@ -39,11 +39,12 @@ pub struct Sent {
     pub k: u64,
 }
 
-// A cell that breaks a rule, counted from 1, and the lowest rule that it breaks.
+// A cell that breaks a rule, counted from 1, and the number of the lowest rule that it breaks. No `Rule`: `with_broken`
+// keeps whatever number it is given.
 #[derive(Clone, Copy, Debug, PartialEq, Eq)]
 pub struct Broken {
     pub cell: u64,
-    pub rule: Rule,
+    pub rule: u32,
 }
 
 #[tactic(auto, unfolding(crate::specs::Rules::too_soon))]
@@ -102,7 +103,7 @@ pub fn with_broken(
     let rule = broken_rule(nrm, trm, sent, c)?;
     Some(Broken {
         cell: sent.cells + 1,
-        rule,
+        rule: rule.number(),
     })
 }
 
