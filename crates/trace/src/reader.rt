@@ -20,6 +20,7 @@ impl<'a> Reader<'a> {
     }
 
     // The number at the reader's offset, and the offset after it.
+    #[inline(always)]
     pub fn read(self) -> Result<(u64, usize), Refusal>
         ensures { result ≡ number_at self.entry.octets.now self.entry.offset }
     {

@@ -17,6 +17,7 @@ pub struct Cell {
 
 // A number and the offset after it. TraceRange if it is out of its range; TraceNumber and TraceEnd as `number_at`.
 #[tactic(auto, unfolding(crate::specs::Octets::ranged, rate_params::specs::Params::within))]
+#[inline(always)]
 pub fn number_within(
     trace: &[u8],
     offset: usize,
