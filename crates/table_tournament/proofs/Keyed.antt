@@ -1,5 +1,5 @@
--- The winner of a leaf and of a match, as the code finds them: one lemma for each way out. The number of a winner, with
--- its mark and without.
+-- The winner of a leaf, as the code finds it: one lemma for each way out. The number of a winner, with its mark and
+-- without.
 use Prim.Native.Nat.{ℕ, ◌+◌, ◌*◌, ◌/◌, ◌%◌, ◌^◌, ◌<◌}
 use mathlib.Core.Path.{◌≡◌, refl, sym, ap, ◌∙◌}
 use mathlib.Core.Logic.{◌≢◌}
@@ -21,7 +21,7 @@ use Rattle.table_tournament.specs.KeyedWinner.{word_mark, leaf_word, keyed_leaf,
 abbrev pub as_keyed : (word key : ℕ) → KeyedWinner
 as_keyed w k = record { word = w; key = k }
 
--- ---- leaves and matches
+-- ---- leaves
 
 module _ (l : List ℕ) (x m : ℕ) where
   pub leaf-none : get_or l (record_from x) 0 ≡ 0 → record { word = 0; key = 0 } ≡ keyed_leaf l x m
